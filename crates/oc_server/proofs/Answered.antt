@@ -8,12 +8,12 @@ use Rattle.oc_model.specs.declared.input.Input.{Input}
 use Rattle.oc_model.specs.declared.message.Message.{Message}
 use Rattle.oc_probe.specs.declared.fault.ProbeFault.{ProbeFault}
 use Rattle.oc_probe.specs.declared.probing.Probing.{Probing}
-use Rattle.oc_reply.specs.Conditions.{unmet}
-use Rattle.oc_reply.specs.declared.verdict.Request.{Request}
-use Rattle.oc_reply.specs.declared.verdict.Verdict.{Verdict}
-use Rattle.oc_reply.specs.declared.verdict.Verdict.TheVariants as verdicts
-use Rattle.oc_reply.specs.declared.waiting.Prospect.{Prospect}
-use Rattle.oc_reply.specs.declared.waiting.Prospect.TheVariants as prospects
+use Rattle.oc_routes.specs.Conditions.{unmet}
+use Rattle.oc_routes.specs.declared.verdict.Request.{Request}
+use Rattle.oc_routes.specs.declared.verdict.Verdict.{Verdict}
+use Rattle.oc_routes.specs.declared.verdict.Verdict.TheVariants as verdicts
+use Rattle.oc_routes.specs.declared.waiting.Prospect.{Prospect}
+use Rattle.oc_routes.specs.declared.waiting.Prospect.TheVariants as prospects
 use Rattle.oc_routes.specs.declared.refused.Refused.{Refused}
 use Rattle.oc_server.specs.Answered.{AreAnswered, AreAnsweredBy, IsAnsweredBy, answer_of, back_of}
 use Rattle.oc_server.specs.Asks.{has_to_wait, obeys, refuses_or, responds, takes_on, takes_up, waiting}
@@ -25,14 +25,14 @@ use Rattle.oc_server.specs.Parts.{nothing}
 use Rattle.oc_server.specs.Rooms.{goes_on, moves, room, room_for}
 use Rattle.oc_server.specs.Rooms as rooms
 use Rattle.oc_server.specs.Sends.{dials_at, dials_it, dials_next, sends}
-use Rattle.oc_server.specs.Turns.{Told, brought, deals, happens, measures, next_peer, probes_it, quickened, takes_at, takes_due, ticked, ticks, ticks_and_sends, turn}
+use Rattle.oc_server.specs.Turns.{Observation, brought, deals, happens, measures, next_peer, probes_it, quickened, takes_at, takes_due, ticked, ticks, ticks_and_sends, turn}
 use Rattle.oc_server.specs.Works.{client_input, pending, work_on}
 use Rattle.oc_server.specs.declared.came.Came.{Came}
 use Rattle.oc_server.specs.declared.came.Came.TheVariants as comes
 use Rattle.oc_server.specs.declared.choosing.TheConstants.{MAX_DIALS}
 use Rattle.oc_server.specs.declared.pace.Pace.{Pace}
 use Rattle.oc_server.specs.declared.work.Pending.{Pending}
-use Rattle.oc_server.specs.declared.work.Place.{Place}
+use Rattle.oc_server.specs.declared.work.Transfer.{Transfer}
 use Rattle.oc_server.specs.declared.work.Work.{Work}
 use Rattle.oc_server.specs.declared.work.Work.TheVariants as works
 
@@ -107,7 +107,7 @@ silent_end pace now seconds s a =
 
 -- What came
 
-silent_moves : (p : Place) (now : ℕ) (what : Prospect) → AreSilent (moves p now what)
+silent_moves : (p : Transfer) (now : ℕ) (what : Prospect) → AreSilent (moves p now what)
 silent_moves p now prospects.Gives = (tt, tt)
 silent_moves p now prospects.Waits = (tt, tt)
 silent_moves p now prospects.Breaks = (tt, tt)
@@ -181,11 +181,11 @@ took_due pace o before seconds s a =
     let ds : List Deed = takes_up o before s a in
     answered_then answers.Ok None s ds (ticks_and_sends pace before seconds s (after_all ds a)) a (took_up o before s a) (silent_end pace before seconds s (after_all ds a))
 
-took_at : (due : Option ℕ) (pace : Pace) (probing : Option Probing) (t : Told) (s : Setting) (a : Running) → AreAnswered s (takes_at due pace probing t s a) a
+took_at : (due : Option ℕ) (pace : Pace) (probing : Option Probing) (t : Observation) (s : Setting) (a : Running) → AreAnswered s (takes_at due pace probing t s a) a
 took_at None pace probing t s a =
     let behind : Running = after (Sees t.event (wait_for pace a.works t.before) t.bytes) a in
     (tt, (tt, dealt pace probing t.came t.now t.median t.started t.seconds s behind))
 took_at (Some place) pace probing t s a = took_due pace (slice_get a.works place) t.before t.seconds s a
 
-pub turn_answers : (pace : Pace) (probing : Option Probing) (t : Told) (s : Setting) (a : Running) → AreAnswered s (turn pace probing t s a) a
+pub turn_answers : (pace : Pace) (probing : Option Probing) (t : Observation) (s : Setting) (a : Running) → AreAnswered s (turn pace probing t s a) a
 turn_answers pace probing t s a = (tt, took_at (due_place a.works (shelf a.node.groups) t.before) pace probing t s a)

@@ -1,8 +1,8 @@
 -- Deeds after deeds.
 use Rattle.std.proofs.Common.{◌≡◌, ℕ, Option, None, Some, List, [], ◌∷◌, ◌++◌, refl, sym, ap, subst, ◌∙◌}
 use Rattle.std.proofs.lemmas.List.{append_assoc}
-use Rattle.oc_events.specs.declared.call.Call.{Call}
-use Rattle.oc_events.specs.declared.counts.Counts.{Counts}
+use Rattle.oc_link.specs.declared.call.Call.{Call}
+use Rattle.oc_link.specs.declared.counts.LinkCounts.{LinkCounts}
 use Rattle.oc_keep.specs.Trials.{after_inputs}
 use Rattle.oc_model.specs.declared.input.Input.{Input}
 use Rattle.oc_model.specs.Node.{Node}
@@ -13,7 +13,7 @@ use Rattle.oc_server.specs.Scenes.{CountsAll}
 
 -- Lists
 
--- the lines of deeds behind deeds
+-- the lines of deeds after deeds
 pub lines_append : (s : Setting) (ds es : List Deed) → lines s (ds ++ es) ≡ lines s ds ++ lines s es
 lines_append s [] es = refl
 lines_append s (d ∷ ds) es = ap (λ (t : List ℕ). line s d ++ t) (lines_append s ds es) ∙ sym (append_assoc (line s d) (lines s ds) (lines s es))
@@ -42,7 +42,7 @@ calls_append s (d ∷ ds) es a =
 
 -- The node
 
--- inputs behind inputs
+-- inputs after inputs
 pub fold_append : (n : Node) (is js : List Input) → after_inputs n (is ++ js) ≡ after_inputs (after_inputs n is) js
 fold_append n [] js = refl
 fold_append n (i ∷ is) js = fold_append (step n i).node is js
@@ -52,7 +52,7 @@ fold_with : (n : Node) (o : Option Input) (is : List Input) → after_inputs n (
 fold_with n None is = refl
 fold_with n (Some i) is = refl
 
--- the node behind a deed
+-- the node after a deed
 node_behind : (d : Deed) (a : Running) → (after d a).node ≡ after_inputs a.node (with_input (input_of d) [])
 node_behind (deeds.Sees e wait bytes) a = refl
 node_behind (deeds.Reads t) a = refl
@@ -72,7 +72,7 @@ node_behind (deeds.Drops c told) a = refl
 node_behind (deeds.Dials place m d) a = refl
 node_behind (deeds.Probes peer d now) a = refl
 
--- the node behind deeds is the fold of their inputs
+-- the node after deeds is the fold of their inputs
 pub nodes_behind : (ds : List Deed) (a : Running) → (after_all ds a).node ≡ after_inputs a.node (inputs_of ds)
 nodes_behind [] a = refl
 nodes_behind (d ∷ ds) a =
@@ -80,9 +80,9 @@ nodes_behind (d ∷ ds) a =
 
 -- Counts
 
--- those of deeds behind deeds
-pub counts_append : (ds es : List Deed) (a b c : Counts) → CountsAll ds a b → CountsAll es b c → CountsAll (ds ++ es) a c
-counts_append [] es a b c first second = subst (λ (x : Counts). CountsAll es x c) first second
+-- those of deeds after deeds
+pub counts_append : (ds es : List Deed) (a b c : LinkCounts) → CountsAll ds a b → CountsAll es b c → CountsAll (ds ++ es) a c
+counts_append [] es a b c first second = subst (λ (x : LinkCounts). CountsAll es x c) first second
 counts_append (deeds.Sees e wait bytes ∷ ds) es a b c (at, one, first) second = (at, one, counts_append ds es at b c first second)
 counts_append (deeds.Reads t ∷ ds) es a b c first second = counts_append ds es a b c first second
 counts_append (deeds.Tells t ∷ ds) es a b c first second = counts_append ds es a b c first second
@@ -102,8 +102,8 @@ counts_append (deeds.Dials place m d ∷ ds) es a b c first second = counts_appe
 counts_append (deeds.Probes peer d now ∷ ds) es a b c first second = counts_append ds es a b c first second
 
 -- deeds never raise the count of failures of `next`
-pub counts_listening : (ds : List Deed) (a b : Counts) → CountsAll ds a b → b.listening ≡ a.listening
-counts_listening [] a b done = ap (λ (x : Counts). x.listening) done
+pub counts_listening : (ds : List Deed) (a b : LinkCounts) → CountsAll ds a b → b.listening ≡ a.listening
+counts_listening [] a b done = ap (λ (x : LinkCounts). x.listening) done
 counts_listening (deeds.Sees e wait bytes ∷ ds) a b (at, one, done) = counts_listening ds at b done ∙ one.listening
 counts_listening (deeds.Reads t ∷ ds) a b done = counts_listening ds a b done
 counts_listening (deeds.Tells t ∷ ds) a b done = counts_listening ds a b done

@@ -15,13 +15,13 @@ use Rattle.oc_model.specs.Step.{kept_at, piece_of, plan, step}
 use Rattle.oc_model.specs.declared.answer.Answer.{Answer}
 use Rattle.oc_model.specs.declared.answer.Answer.TheVariants as answers
 use Rattle.oc_model.specs.declared.input.Input.TheVariants as inputs
-use Rattle.oc_reply.specs.Contents.{begun}
-use Rattle.oc_reply.specs.Shown.{address_in, known_shown, of_shown, reply_at, shown, told_text}
-use Rattle.oc_reply.specs.Waits.{holding}
-use Rattle.oc_reply.specs.declared.hint.Hint.{Hint}
-use Rattle.oc_reply.specs.declared.hint.Hint.TheVariants.{Plain, Here, Of, Known}
-use Rattle.oc_reply.specs.declared.holding.Holding.{Holding}
-use Rattle.oc_reply.specs.declared.showing.Shown.{Shown}
+use Rattle.oc_routes.specs.Contents.{begun}
+use Rattle.oc_routes.specs.Shown.{address_in, known_shown, of_shown, reply_at, shown, told_text}
+use Rattle.oc_routes.specs.Waits.{holding}
+use Rattle.oc_routes.specs.declared.hint.Hint.{Hint}
+use Rattle.oc_routes.specs.declared.hint.Hint.TheVariants.{Plain, Here, Of, Known}
+use Rattle.oc_routes.specs.declared.holding.Holding.{Holding}
+use Rattle.oc_routes.specs.declared.showing.Shown.{Shown}
 use Rattle.oc_routes.specs.Responses.{client_response, served}
 use Rattle.oc_routes.specs.declared.manner.Manner.{Manner}
 use Rattle.oc_routes.specs.declared.manner.Manner.TheVariants.{HeadAlone, Once, Follow}

@@ -2,10 +2,10 @@
 use Rattle.std.proofs.Common.{◌≡◌, ℕ, false, Option, Some, List, [], ◌∷◌, ◌++◌, slice_get, refl, sym, ap, subst, ◌∙◌, arith}
 use Rattle.std.specs.List.{AllByRecursion}
 use Rattle.oc_base.specs.Lawful.{IsNode}
-use Rattle.oc_events.specs.Told.{AddsAll}
-use Rattle.oc_events.specs.declared.call.Call.{Call}
-use Rattle.oc_events.specs.declared.call.Call.TheVariants as acts
-use Rattle.oc_events.specs.declared.counts.Counts.{Counts}
+use Rattle.oc_link.specs.Told.{AddsAll}
+use Rattle.oc_link.specs.declared.call.Call.{Call}
+use Rattle.oc_link.specs.declared.call.Call.TheVariants as acts
+use Rattle.oc_link.specs.declared.counts.LinkCounts.{LinkCounts}
 use Rattle.oc_http.specs.Writing.{probe_text}
 use Rattle.oc_io.specs.DiskView.{DiskView}
 use Rattle.oc_keep.specs.KeptView.{node_of}
@@ -24,7 +24,7 @@ use Rattle.oc_server.proofs.Looking.{looks_none}
 use Rattle.oc_server.proofs.Messages.{one_sendable, receiver_of_sendable, without_place}
 use Rattle.oc_server.proofs.Steps.{did_step}
 
-module _ {D L K : Type 0} (view : D → DiskView) (takes fails : K → List ℕ → K → Type 0) (faults : K → ℕ) (story : L → Option (List Call)) (counts : L → Counts) where
+module _ {D L K : Type 0} (view : D → DiskView) (takes fails : K → List ℕ → K → Type 0) (faults : K → ℕ) (story : L → Option (List Call)) (counts : L → LinkCounts) where
   -- a message was taken out of the outbox and dialled
   pub dialled : (takes_nothing : (k : K) → takes k [] k) (place : ℕ) (m : Message) (d : ℕ) (old : Server D L K) (outbox : List Message) (ds : List Dialling) (link : L) (address text : List ℕ)
       → old.kept.closed ≡ false → slice_get old.outbox place ≡ Some m → outbox ≡ without_at place old.outbox → ds ≡ old.dials ++ dialling d (brings m) ∷ []

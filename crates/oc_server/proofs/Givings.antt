@@ -5,20 +5,20 @@ use Rattle.std.specs.Option.{option_map}
 use Rattle.std.proofs.lemmas.List.{append-nil}
 use Rattle.oc_base.specs.Groups.{bytes_of}
 use Rattle.oc_base.specs.declared.group.Group.{Group}
-use Rattle.oc_events.specs.Stands.{after_finish, stands_after}
-use Rattle.oc_events.specs.declared.stage.Stage.{Stage}
-use Rattle.oc_events.specs.declared.stage.Stage.TheVariants.{Awaiting, Answering, Whole, Broken, Gone}
-use Rattle.oc_events.specs.declared.stage.Standing.{Standing}
-use Rattle.oc_reply.proofs.PieceLaws.{owed_then}
-use Rattle.oc_reply.specs.Contents.{behind, is_last, owed, piece_of}
-use Rattle.oc_reply.specs.declared.content.UnderWay.{UnderWay}
+use Rattle.oc_link.specs.Stands.{after_finish, stands_after}
+use Rattle.oc_link.specs.declared.phase.Phase.{Phase}
+use Rattle.oc_link.specs.declared.phase.Phase.TheVariants.{Awaiting, Answering, Whole, Broken, Gone}
+use Rattle.oc_link.specs.declared.phase.Standing.{Standing}
+use Rattle.oc_routes.proofs.PieceLaws.{owed_then}
+use Rattle.oc_routes.specs.Contents.{behind, is_last, owed, piece_of}
+use Rattle.oc_routes.specs.declared.content.UnderWay.{UnderWay}
 use Rattle.oc_routes.specs.declared.response.Response.{Response}
 use Rattle.oc_server.proofs.Grown.{Grows}
 use Rattle.oc_server.specs.Deeds.{finish, first_piece, first_rest, keeps, piece, rest}
 use Rattle.oc_server.specs.Replying.{IsGivable}
 use Rattle.oc_server.specs.Scenes.{IsFront}
 use Rattle.oc_server.specs.declared.work.Pending.{Pending}
-use Rattle.oc_server.specs.declared.work.Place.{Place}
+use Rattle.oc_server.specs.declared.work.Transfer.{Transfer}
 use Rattle.oc_server.specs.declared.work.Work.{Work}
 use Rattle.oc_server.specs.declared.work.Work.TheVariants as works
 
@@ -35,8 +35,8 @@ pub record IsGiving (ws : List Work) (now later : List Group) (g w : List ℕ) :
   pub givable : IsGivable (content_under work) now
   pub left : w ≡ g ++ owed (content_under work) later
 
--- Of a connection at this stage, with this work, g was given, and its replies are w where the groups are these in the end.
-abbrev pub Holds : Stage → List Work → List Group → List Group → List ℕ → List ℕ → Type 0
+-- Of a connection at this phase, with this work, g was given, and its replies are w where the groups are these in the end.
+abbrev pub Holds : Phase → List Work → List Group → List Group → List ℕ → List ℕ → Type 0
 Holds Awaiting ws now later g w = (ws ≡ []) × (w ≡ g)
 Holds Answering ws now later g w = IsGiving ws now later g w
 Holds Whole ws now later g w = w ≡ g
@@ -44,7 +44,7 @@ Holds Broken ws now later g w = IsFront g w
 Holds Gone ws now later g w = IsFront g w
 
 -- whatever it does, it was given a beginning of its replies
-pub front_of : (stage : Stage) (ws : List Work) (now later : List Group) (g w : List ℕ) → Holds stage ws now later g w → IsFront g w
+pub front_of : (phase : Phase) (ws : List Work) (now later : List Group) (g w : List ℕ) → Holds phase ws now later g w → IsFront g w
 front_of Awaiting ws now later g w h = ([], h.1 ∙ sym (append-nil g))
 front_of Answering ws now later g w h = (owed (content_under h.work) later, h.left)
 front_of Whole ws now later g w h = ([], h ∙ sym (append-nil g))
@@ -60,7 +60,7 @@ givable_grown (Some u) now later grows there = λ chunked.
     ap (λ (x : List ℕ). length x) ((grows u.group).1) ∙ length-append (bytes_of u.group now) ((grows u.group).0) in
     omega (arith, held, long)
 
-pub holds_grown : (stage : Stage) (ws : List Work) (old now later : List Group) (g w : List ℕ) → Grows old now → Holds stage ws old later g w → Holds stage ws now later g w
+pub holds_grown : (phase : Phase) (ws : List Work) (old now later : List Group) (g w : List ℕ) → Grows old now → Holds phase ws old later g w → Holds phase ws now later g w
 holds_grown Awaiting ws old now later g w grows h = h
 holds_grown Answering ws old now later g w grows h =
     record { work = h.work; under_way = h.under_way; givable = givable_grown (content_under h.work) old now grows h.givable; left = h.left }
@@ -69,15 +69,15 @@ holds_grown Broken ws old now later g w grows h = h
 holds_grown Gone ws old now later g w grows h = h
 
 -- the same where nothing was given and nothing is to be answered
-pub holds_still : (stage : Stage) (ws : List Work) (old now later : List Group) (g w : List ℕ) → Grows old now → Holds stage ws old later g w → Holds stage ws now later (g ++ []) (w ++ [])
-holds_still stage ws old now later g w grows h =
-    subst (λ (x : List ℕ). Holds stage ws now later x (w ++ [])) (sym (append-nil g))
-    (subst (λ (x : List ℕ). Holds stage ws now later g x) (sym (append-nil w)) (holds_grown stage ws old now later g w grows h))
+pub holds_still : (phase : Phase) (ws : List Work) (old now later : List Group) (g w : List ℕ) → Grows old now → Holds phase ws old later g w → Holds phase ws now later (g ++ []) (w ++ [])
+holds_still phase ws old now later g w grows h =
+    subst (λ (x : List ℕ). Holds phase ws now later x (w ++ [])) (sym (append-nil g))
+    (subst (λ (x : List ℕ). Holds phase ws now later g x) (sym (append-nil w)) (holds_grown phase ws old now later g w grows h))
 
 -- Pieces
 
 -- what is left of a content
-abbrev pub content_left : Option Place → Option UnderWay
+abbrev pub content_left : Option Transfer → Option UnderWay
 content_left None = None
 content_left (Some p) = Some p.content
 
@@ -88,24 +88,24 @@ behind_givable u n now there = by_test (is_last u n) refl
     by_test true is = tt
     by_test false is = λ chunked. let held = there chunked in omega (arith, held)
 
-left_behind : (p : Place) (t : ℕ) (o : Option UnderWay) → content_left (option_map (λ (u : UnderWay). record p { content = u; since = t }) o) ≡ o
+left_behind : (p : Transfer) (t : ℕ) (o : Option UnderWay) → content_left (option_map (λ (u : UnderWay). record p { content = u; since = t }) o) ≡ o
 left_behind p t None = refl
 left_behind p t (Some u) = refl
 
-pub rest_givable : (p : Place) (t : ℕ) (now : List Group) → IsGivable (Some p.content) now → IsGivable (content_left (rest p t now)) now
+pub rest_givable : (p : Transfer) (t : ℕ) (now : List Group) → IsGivable (Some p.content) now → IsGivable (content_left (rest p t now)) now
 rest_givable p t now there =
     subst (λ (o : Option UnderWay). IsGivable o now) (sym (left_behind p t (behind p.content (length (piece_of p.content now)))))
     (behind_givable p.content (length (piece_of p.content now)) now there)
 
 -- what is owed of a content is its next piece, and what is owed behind that
-pub piece_given : (p : Place) (t : ℕ) (now later : List Group) → Grows now later → IsGivable (Some p.content) now
+pub piece_given : (p : Transfer) (t : ℕ) (now later : List Group) → Grows now later → IsGivable (Some p.content) now
     → owed (Some p.content) later ≡ piece p now ++ owed (content_left (rest p t now)) later
 piece_given p t now later grows there =
     owed_then p.content now later ((grows p.content.group).0) there ((grows p.content.group).1)
     ∙ ap (λ (o : Option UnderWay). piece p now ++ owed o later) (sym (left_behind p t (behind p.content (length (piece_of p.content now)))))
 
 -- the place from which a content is given
-abbrev pub place_from : Pending → Response → ℕ → Option UnderWay → Option Place
+abbrev pub place_from : Pending → Response → ℕ → Option UnderWay → Option Transfer
 place_from r response t o = option_map (λ (u : UnderWay). record {
   connection = r.connection;
   content = u;
@@ -129,21 +129,21 @@ first_givable r response t (Some u) now there =
 -- Behind what was given
 
 -- what is under way is what is left
-abbrev pub works_left : Option Place → List Work
+abbrev pub works_left : Option Transfer → List Work
 works_left None = []
 works_left (Some p) = works.Content p ∷ []
 
-stage_kept : (keep watched : Bool) (st : Standing) (ws : List Work) (now later : List Group) (g w : List ℕ) → ws ≡ [] → w ≡ g
-    → Holds (after_finish (record { keeps = keep; watched = watched }) st).stage ws now later g w
-stage_kept true watched st ws now later g w none is = (none, is)
-stage_kept false watched st ws now later g w none is = is
+phase_kept : (keep watched : Bool) (st : Standing) (ws : List Work) (now later : List Group) (g w : List ℕ) → ws ≡ [] → w ≡ g
+    → Holds (after_finish (record { keeps = keep; watched = watched }) st).phase ws now later g w
+phase_kept true watched st ws now later g w none is = (none, is)
+phase_kept false watched st ws now later g w none is = is
 
 -- where nothing is left the reply is whole
-pub finished : (c d : ℕ) (keep watched : Bool) (left : Option Place) (st : Standing) (ws : List Work) (now later : List Group) (g w : List ℕ)
-    → (d == c) ≡ true → st.stage ≡ Answering → ws ≡ works_left left → IsGivable (content_left left) now → w ≡ g ++ owed (content_left left) later
-    → Holds (stands_after c (finish d keep watched left) st).stage ws now later g w
-finished c d keep watched None st ws now later g w own stage under there is =
-    rw own (stage_kept keep watched st ws now later g w under (is ∙ append-nil g))
-finished c d keep watched (Some p) st ws now later g w own stage under there is =
-    subst (λ (x : Stage). Holds x ws now later g w) (sym stage)
+pub finished : (c d : ℕ) (keep watched : Bool) (left : Option Transfer) (st : Standing) (ws : List Work) (now later : List Group) (g w : List ℕ)
+    → (d == c) ≡ true → st.phase ≡ Answering → ws ≡ works_left left → IsGivable (content_left left) now → w ≡ g ++ owed (content_left left) later
+    → Holds (stands_after c (finish d keep watched left) st).phase ws now later g w
+finished c d keep watched None st ws now later g w own phase under there is =
+    rw own (phase_kept keep watched st ws now later g w under (is ∙ append-nil g))
+finished c d keep watched (Some p) st ws now later g w own phase under there is =
+    subst (λ (x : Phase). Holds x ws now later g w) (sym phase)
     (record { work = works.Content p; under_way = under; givable = there; left = is })

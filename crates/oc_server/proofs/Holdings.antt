@@ -8,7 +8,7 @@ use Rattle.oc_base.specs.Groups.{bytes_of, group_of, or_empty, shelf, shelf_of}
 use Rattle.oc_base.specs.Named.{same_name}
 use Rattle.oc_base.specs.declared.group.Group.{Group}
 use Rattle.oc_base.specs.declared.shelf.Shelf.{Shelf}
-use Rattle.oc_reply.specs.Waits.{holding, holding_of}
+use Rattle.oc_routes.specs.Waits.{holding, holding_of}
 
 -- names are the same from either side
 either_side : (a b : List ℕ) → same_name a b ≡ same_name b a

@@ -4,8 +4,8 @@ use Rattle.std.specs.List.{AllByRecursion}
 use Rattle.std.specs.Option.{option_map}
 use Rattle.oc_keep.specs.Promises.{IsSameNode}
 use Rattle.oc_model.specs.Node.{Header}
-use Rattle.oc_events.specs.declared.event.Event.{Event}
-use Rattle.oc_events.specs.declared.event.Event.TheVariants as events
+use Rattle.oc_link.specs.declared.event.LinkEvent.{LinkEvent}
+use Rattle.oc_link.specs.declared.event.LinkEvent.TheVariants as events
 use Rattle.oc_model.specs.Lawful.{IsInput}
 use Rattle.oc_routes.specs.Lawful.{IsAsked}
 use Rattle.oc_server.specs.Asks.{due_of}
@@ -18,7 +18,7 @@ use Rattle.oc_server.specs.declared.taking_up.Due.TheVariants as dues
 use Rattle.oc_server.specs.declared.work.Pending.{Pending}
 use Rattle.oc_server.specs.declared.dials.Dialling.{Dialling}
 use Rattle.oc_server.specs.declared.server.Server.{Server}
-use Rattle.oc_server.specs.declared.work.Place.{Place}
+use Rattle.oc_server.specs.declared.work.Transfer.{Transfer}
 use Rattle.oc_server.specs.declared.work.Waiting.{Waiting}
 use Rattle.oc_server.specs.declared.work.Work.{Work}
 use Rattle.oc_server.specs.declared.work.Work.TheVariants as works
@@ -26,7 +26,7 @@ use Rattle.oc_server.specs.declared.work.Work.TheVariants as works
 -- Lists
 
 module _ {X : Type 0} (P : X → Type 0) where
-  -- lists one behind the other
+  -- lists one after the other
   pub all_append : (xs ys : List X) → AllByRecursion P xs → AllByRecursion P ys → AllByRecursion P (xs ++ ys)
   all_append [] ys some more = more
   all_append (x ∷ xs) ys some more = (some.0, all_append xs ys some.1 more)
@@ -69,7 +69,7 @@ module _ (nodes me : ℕ) where
   works_with ws w all one = all_append (IsLawfulWork nodes me) ws (w ∷ []) all (one, tt)
 
   -- with what is left of a content
-  pub works_with_content : (p : Option Place) (ws : List Work) → AllByRecursion (IsLawfulWork nodes me) ws → AllByRecursion (IsLawfulWork nodes me) (with_content p ws)
+  pub works_with_content : (p : Option Transfer) (ws : List Work) → AllByRecursion (IsLawfulWork nodes me) ws → AllByRecursion (IsLawfulWork nodes me) (with_content p ws)
   works_with_content None ws all = all
   works_with_content (Some p) ws all = works_with ws (works.Content p) all tt
 
@@ -105,7 +105,7 @@ pub dials_without : (nodes d : ℕ) (ds : List Dialling) → AllByRecursion (IsL
 dials_without nodes d ds all = dials_without_place nodes (dials.place_of d ds) ds all
 
 -- without the dial whose reply an event is
-pub dials_seen : (nodes : ℕ) (e : Event) (ds : List Dialling) → AllByRecursion (IsLawfulDial nodes) ds → AllByRecursion (IsLawfulDial nodes) (dials_behind e ds)
+pub dials_seen : (nodes : ℕ) (e : LinkEvent) (ds : List Dialling) → AllByRecursion (IsLawfulDial nodes) ds → AllByRecursion (IsLawfulDial nodes) (dials_behind e ds)
 dials_seen nodes (events.Reply d coming) ds all = dials_without nodes d ds all
 dials_seen nodes e ds all = all
 
@@ -119,7 +119,7 @@ dial_placed nodes ds None all = tt
 dial_placed nodes ds (Some k) all = dial_there nodes ds k all
 
 -- for what a dial was made whose reply an event is
-pub errand_seen : (nodes : ℕ) (e : Event) (ds : List Dialling) → AllByRecursion (IsLawfulDial nodes) ds → IfSome (errand_in e ds) (IsLawfulErrand nodes)
+pub errand_seen : (nodes : ℕ) (e : LinkEvent) (ds : List Dialling) → AllByRecursion (IsLawfulDial nodes) ds → IfSome (errand_in e ds) (IsLawfulErrand nodes)
 errand_seen nodes (events.Reply d coming) ds all = dial_placed nodes ds (dials.place_of d ds) all
 errand_seen nodes (events.Request a) ds all = tt
 errand_seen nodes (events.Room c) ds all = tt

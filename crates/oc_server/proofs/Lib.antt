@@ -1,4 +1,5 @@
 pub mod Chains
+pub mod Moments
 pub mod Looking
 pub mod Scenes
 pub mod Lawful

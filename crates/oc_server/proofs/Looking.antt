@@ -11,7 +11,8 @@ use Rattle.oc_model.specs.Node.{Control, Header, Node}
 use Rattle.oc_node.specs.OutcomeView.{OutcomeView}
 use Rattle.oc_io.specs.DiskView.{DiskView}
 use Rattle.oc_io.specs.Faults.{NoFall}
-use Rattle.oc_server.specs.Looks.{LookCause, LooksOnly, LookStops}
+use Rattle.oc_server.proofs.Moments.{looks_on, one_look}
+use Rattle.oc_server.specs.Looks.{LookCause, LooksOn, LooksOnly, LookStops, LooksUntil}
 use Rattle.oc_server.specs.Scenes.{KeepsAll, KeepsOne}
 use Rattle.oc_server.specs.declared.ends.TurnEnd.{TurnEnd}
 use Rattle.oc_server.specs.declared.ends.TurnEnd.TheVariants as ends
@@ -31,7 +32,15 @@ named P old new same p = subst (λ (me : ℕ). P (header_of old.node.control) me
 module _ {D : Type 0} (view : D → DiskView) where
   -- no look
   pub looks_none : (k : KeptView D) → k.closed ≡ false → LooksOnly view k k
-  looks_none k is_open = record { is_open = is_open; same = record { me = refl; header = refl }; goes_on = go_on_none view (disks_of k); node = λ honest. refl; generation = λ honest. omega arith }
+  looks_none k is_open = record { is_open = is_open; same = record { me = refl; header = refl }; goes_on = go_on_none view (disks_of k); node = λ honest. refl; generation = λ honest. omega arith; moments = λ honest. (0, refl) }
+
+  -- calls that leave a node after looks at it
+  behind_looks : (a b c : KeptView D) → LooksOnly view a b → (IsHonest view b → LooksUntil view b (disks_of c)) → IsHonest view a → LooksUntil view a (disks_of c)
+  behind_looks a b c p more honest =
+      let first = p.moments honest in
+      looks_on view (header_of a.node.control) a.node.control.me (node_of a) (first.0) (disks_of a) (disks_of b) (disks_of c) (first.1)
+      (subst (λ (n : Node). (k : ℕ) × LooksOn view (header_of a.node.control) a.node.control.me n k (disks_of b) (disks_of c)) (p.node honest)
+      (named (λ h me. (k : ℕ) × LooksOn view h me (node_of b) k (disks_of b) (disks_of c)) a b p.same (more (all_honest view (disks_of a) (disks_of b) p.goes_on honest))))
 
   -- looks one after another
   pub looks_then : (a b c : KeptView D) → LooksOnly view a b → LooksOnly view b c → LooksOnly view a c
@@ -41,13 +50,14 @@ module _ {D : Type 0} (view : D → DiskView) where
     goes_on = all_go_on_then view (disks_of a) (disks_of b) (disks_of c) p.goes_on q.goes_on;
     node = λ honest. q.node (all_honest view (disks_of a) (disks_of b) p.goes_on honest) ∙ p.node honest;
     generation = λ honest. omega (arith, p.generation honest, q.generation (all_honest view (disks_of a) (disks_of b) p.goes_on honest));
+    moments = behind_looks a b c p q.moments;
   }
 
   -- one input
   pub keeps_one : (i : Input) (outcome : OutcomeView) (old new : KeptView D) → old.closed ≡ false → KeepsOne view i outcome old new → KeepsAll view (i ∷ []) old new
   keeps_one i outcome old new is_open keeps = (old, new, outcome, looks_none old is_open, keeps, looks_none new keeps.is_open)
 
-  -- inputs behind inputs
+  -- inputs after inputs
   pub keeps_then : (is js : List Input) (a b c : KeptView D) → KeepsAll view is a b → KeepsAll view js b c → KeepsAll view (is ++ js) a c
   keeps_then [] [] a b c p q = looks_then a b c p q
   keeps_then [] (j ∷ js) a b c p (at, next, outcome, looks, one, rest) = (at, next, outcome, looks_then a b at p looks, one, rest)
@@ -61,7 +71,7 @@ module _ {D : Type 0} (view : D → DiskView) where
       let there = all_honest view (disks_of at) (disks_of next) one.goes_on here in
       omega (arith, looks.generation honest, one.generation here, keeps_no_fall is next b rest there)
 
-  -- why a look behind a look ended
+  -- why a look after a look ended
   look_cause : (end : TurnEnd) (a b c : KeptView D) → LooksOnly view a b → LookCause view end b c → LookCause view end a c
   look_cause ends.Disk a b c p cause = one_rose_after view (disks_of a) (disks_of b) (disks_of c) p.goes_on cause
   look_cause ends.Memory a b c p cause = tt
@@ -71,26 +81,28 @@ module _ {D : Type 0} (view : D → DiskView) where
   look_cause ends.Full a b c p cause = cause
   look_cause ends.Sink a b c p cause = cause
 
-  -- a look behind a look ended
+  -- a look after a look ended
   pub stops_behind : (end : TurnEnd) (a b c : KeptView D) → LooksOnly view a b → LookStops view end b c → LookStops view end a c
   stops_behind end a b c p q = record {
     goes_on = all_go_on_then view (disks_of a) (disks_of b) (disks_of c) p.goes_on q.goes_on;
     leaves = λ honest.
         subst (λ (n : Node). Survives view (header_of a.node.control) a.node.control.me (disks_of c) n) (p.node honest)
         (named (λ h me. Survives view h me (disks_of c) (node_of b)) a b p.same (q.leaves (all_honest view (disks_of a) (disks_of b) p.goes_on honest)));
+    moments = behind_looks a b c p q.moments;
     cause = look_cause end a b c p q.cause;
   }
 
   -- memory ran out in a look at an open node
   pub memory_looks : (k : KeptView D) → (IsHonest view k → NodeSurvives view k (node_of k)) → LookStops view ends.Memory k k
-  memory_looks k survives = record { goes_on = go_on_none view (disks_of k); leaves = survives; cause = tt }
+  memory_looks k survives = record { goes_on = go_on_none view (disks_of k); leaves = survives; moments = λ honest. (0, refl); cause = tt }
 
   -- a call that changed nothing
-  pub looked : (old new : KeptView D) → new.closed ≡ false → StaysTheSame view old new → LooksOnly view old new
-  looked old new is_open same = record {
+  pub looked : (old new : KeptView D) → old.closed ≡ false → new.closed ≡ false → StaysTheSame view old new → LooksOnly view old new
+  looked old new was_open is_open same = record {
     is_open = is_open;
     same = record { me = ap (λ (n : Control). n.me) same.nothing.control; header = ap header_of same.nothing.control };
     goes_on = same.goes_on;
     node = same.node;
     generation = λ honest. omega (arith, same.nothing.store.generation);
+    moments = λ honest. one_look view (header_of old.node.control) old.node.control.me (node_of old) (disks_of old) (disks_of new) same.goes_on (same.any_moment was_open honest);
   }

@@ -1,8 +1,8 @@
--- Parts of a turn, one behind the other.
+-- Parts of a turn, one after the other.
 use Rattle.std.proofs.Common.{◌≡◌, ℕ, false, Option, List, [], ◌∷◌, ◌++◌, refl, sym, ap, subst, ◌∙◌}
 use Rattle.std.proofs.lemmas.List.{append_assoc}
-use Rattle.oc_events.specs.declared.call.Call.{Call}
-use Rattle.oc_events.specs.declared.counts.Counts.{Counts}
+use Rattle.oc_link.specs.declared.call.Call.{Call}
+use Rattle.oc_link.specs.declared.counts.LinkCounts.{LinkCounts}
 use Rattle.oc_io.specs.DiskView.{DiskView}
 use Rattle.oc_keep.specs.KeptView.{IsHonest}
 use Rattle.oc_server.specs.Deeds.{Deed, Running, Setting, after_all}
@@ -42,7 +42,7 @@ cuts_behind before whole deeds u cut = record {
 pub cuts_none : (whole : List Deed) (u : Under) → IsUnder u whole → Cuts whole [] u
 cuts_none whole u is = record { behind = whole; front = refl; next = is }
 
-module _ {D L K : Type 0} (view : D → DiskView) (takes fails : K → List ℕ → K → Type 0) (faults : K → ℕ) (story : L → Option (List Call)) (counts : L → Counts) where
+module _ {D L K : Type 0} (view : D → DiskView) (takes fails : K → List ℕ → K → Type 0) (faults : K → ℕ) (story : L → Option (List Call)) (counts : L → LinkCounts) where
   -- Parts that were done
 
   -- nothing was done
@@ -56,19 +56,19 @@ module _ {D L K : Type 0} (view : D → DiskView) (takes fails : K → List ℕ 
       → Did view takes faults story counts (d ∷ []) a b → Does view takes faults story counts p a b
   does_one d p a b is did = record { deeds = d ∷ []; did = did; are = λ honest. sym (is honest) }
 
-  -- what the node is behind a part
+  -- what the node is after a part
   pub behind_part : (p : Part) (a b : Server D L K) → (does : Does view takes faults story counts p a b) → IsHonest view a.kept
       → running b ≡ after_all (p (setting a) (running a)) (running a)
   behind_part p a b does honest = (does.did.done honest).after ∙ ap (λ (ds : List Deed). after_all ds (running a)) (does.are honest)
 
-  -- the deeds of a part behind another
+  -- the deeds of a part after another
   deeds_behind : (p q : Part) (a b : Server D L K) → Does view takes faults story counts p a b → IsHonest view a.kept
       → q (setting b) (running b) ≡ q (setting a) (after_all (p (setting a) (running a)) (running a))
   deeds_behind p q a b does honest =
       ap (λ (s : Setting). q s (running b)) (setting_stays view takes fails faults story counts a b does.did.same does.did.config does.did.log)
       ∙ ap (λ (r : Running). q (setting a) r) (behind_part p a b does honest)
 
-  -- one part behind another, which was told by what is known there
+  -- one part after another, which was told by what is known there
   pub does_after : (takes_then : (a b c : K) (x y : List ℕ) → takes a x b → takes b y c → takes a (x ++ y) c) (p q r : Part) (a b c : Server D L K)
       → Does view takes faults story counts p a b → (IsHonest view a.kept → r (setting b) (running b) ≡ q (setting b) (running b))
       → Does view takes faults story counts r b c → Does view takes faults story counts (p >> q) a c
@@ -81,7 +81,7 @@ module _ {D L K : Type 0} (view : D → DiskView) (takes fails : K → List ℕ 
         (second.are (still_honest view takes fails faults story counts first.deeds a b first.did honest) ∙ same honest ∙ deeds_behind p q a b first honest);
   }
 
-  -- one part behind another
+  -- one part after another
   pub does_then : (takes_then : (a b c : K) (x y : List ℕ) → takes a x b → takes b y c → takes a (x ++ y) c) (p q : Part) (a b c : Server D L K)
       → Does view takes faults story counts p a b → Does view takes faults story counts q b c → Does view takes faults story counts (p >> q) a c
   does_then takes_then p q a b c first second = does_after takes_then p q q a b c first (λ honest. refl) second
@@ -91,7 +91,7 @@ module _ {D L K : Type 0} (view : D → DiskView) (takes fails : K → List ℕ 
       → Does view takes faults story counts p a b → Does view takes faults story counts q a b
   does_as p q a b same does = record { deeds = does.deeds; did = does.did; are = λ honest. does.are honest ∙ sym (same honest) }
 
-  -- what holds between any two calls holds behind a part
+  -- what holds between any two calls holds after a part
   pub does_serve : (p : Part) (a b : Server D L K) → Does view takes faults story counts p a b → IsServing a → IsServing b
   does_serve p a b does serving = still_serving view takes fails faults story counts does.deeds a b does.did serving
 
@@ -139,7 +139,7 @@ module _ {D L K : Type 0} (view : D → DiskView) (takes fails : K → List ℕ 
     cut = λ honest. cut_after end p q r a b c does same stops honest;
   }
 
-  -- the same behind one deed, which is the first
+  -- the same after one deed, which is the first
   pub one_then : (takes_then : (a b c : K) (x y : List ℕ) → takes a x b → takes b y c → takes a (x ++ y) c) (end : TurnEnd) (d : Deed) (p q r : Part) (a b c : Server D L K)
       → Did view takes faults story counts (d ∷ []) a b → (IsHonest view a.kept → p (setting a) (running a) ≡ (one d >> q) (setting a) (running a)) → (IsHonest view a.kept → r (setting b) (running b) ≡ q (setting b) (running b))
       → (stops : Stops view takes fails faults story counts end r b c) → (whole : Stops view takes fails faults story counts end p a c) × (whole.deeds ≡ d ∷ stops.deeds)

@@ -5,19 +5,20 @@ use Rattle.std.proofs.lemmas.Bool.{eq-eqb, false≢true}
 use Rattle.std.proofs.lemmas.List.{append_assoc, append-nil}
 use Rattle.oc_base.specs.Groups.{shelf}
 use Rattle.oc_base.specs.declared.group.Group.{Group}
-use Rattle.oc_events.proofs.Stories.{stands-then}
-use Rattle.oc_events.specs.Stands.{after_loss, after_request, after_room, is_awaiting, may, sees, standing_of, untouched}
-use Rattle.oc_events.specs.declared.call.Call.{Call}
-use Rattle.oc_events.specs.declared.call.Call.TheVariants as acts
-use Rattle.oc_events.specs.declared.event.Coming.{Coming}
-use Rattle.oc_events.specs.declared.event.Coming.TheVariants.{Open, Ended, Failed}
-use Rattle.oc_events.specs.declared.event.Arrival.{Arrival}
-use Rattle.oc_events.specs.declared.event.Event.{Event}
-use Rattle.oc_events.specs.declared.event.Event.TheVariants as events
-use Rattle.oc_events.specs.declared.event.Loss.{Loss}
-use Rattle.oc_events.specs.declared.stage.Stage.{Stage}
-use Rattle.oc_events.specs.declared.stage.Stage.TheVariants.{Awaiting, Answering, Whole, Broken, Gone}
-use Rattle.oc_events.specs.declared.stage.Standing.{Standing}
+use Rattle.oc_link.proofs.Stories.{stands-then}
+use Rattle.oc_link.specs.Failures.{is_failure}
+use Rattle.oc_link.specs.Stands.{after_loss, after_request, after_room, is_awaiting, may, sees, standing_of, untouched}
+use Rattle.oc_link.specs.declared.call.Call.{Call}
+use Rattle.oc_link.specs.declared.call.Call.TheVariants as acts
+use Rattle.oc_link.specs.declared.event.Coming.{Coming}
+use Rattle.oc_link.specs.declared.event.Coming.TheVariants.{Open, Ended, Failed}
+use Rattle.oc_link.specs.declared.event.Arrival.{Arrival}
+use Rattle.oc_link.specs.declared.event.LinkEvent.{LinkEvent}
+use Rattle.oc_link.specs.declared.event.LinkEvent.TheVariants as events
+use Rattle.oc_link.specs.declared.event.Loss.{Loss}
+use Rattle.oc_link.specs.declared.phase.Phase.{Phase}
+use Rattle.oc_link.specs.declared.phase.Phase.TheVariants.{Awaiting, Answering, Whole, Broken, Gone}
+use Rattle.oc_link.specs.declared.phase.Standing.{Standing}
 use Rattle.oc_http.specs.declared.fault.HttpFault.{HttpFault}
 use Rattle.oc_http.specs.declared.head.Head.{Head}
 use Rattle.oc_http.specs.declared.reply.Reply.{Reply}
@@ -29,20 +30,20 @@ use Rattle.oc_model.specs.Node.{Node}
 use Rattle.oc_model.specs.Step.{step}
 use Rattle.oc_probe.specs.declared.fault.ProbeFault.{ProbeFault}
 use Rattle.oc_probe.specs.declared.probing.Probing.{Probing}
-use Rattle.oc_reply.specs.Asks.{IsInputOf}
-use Rattle.oc_reply.specs.Conditions.{unmet}
-use Rattle.oc_reply.specs.Hints.{asked_with_hint}
-use Rattle.oc_reply.specs.Macs.{is_forged}
-use Rattle.oc_reply.specs.Shown.{response_for}
-use Rattle.oc_reply.specs.Verdicts.{IsVerdict, NodeTerms, answered, fault_met, input_for, is_none, routed, unfinished, unread, verdict_for, whole, with_body}
-use Rattle.oc_reply.specs.declared.hint.Asked.{Asked}
-use Rattle.oc_reply.specs.declared.hint.Hint.{Hint}
-use Rattle.oc_reply.specs.declared.hint.Hint.TheVariants.{Plain, Here, Of, Known}
-use Rattle.oc_reply.specs.declared.verdict.Request.{Request}
-use Rattle.oc_reply.specs.declared.verdict.Verdict.{Verdict}
-use Rattle.oc_reply.specs.declared.verdict.Verdict.TheVariants as verdicts
-use Rattle.oc_reply.specs.declared.waiting.Prospect.{Prospect}
-use Rattle.oc_reply.specs.declared.waiting.Prospect.TheVariants as prospects
+use Rattle.oc_routes.specs.Asks.{IsInputOf}
+use Rattle.oc_routes.specs.Conditions.{unmet}
+use Rattle.oc_routes.specs.Hints.{asked_with_hint}
+use Rattle.oc_routes.specs.Macs.{is_forged}
+use Rattle.oc_routes.specs.Shown.{response_for}
+use Rattle.oc_routes.specs.Verdicts.{IsVerdict, NodeTerms, answered, fault_met, input_for, is_none, routed, unfinished, unread, verdict_for, whole, with_body}
+use Rattle.oc_routes.specs.declared.hint.Asked.{Asked}
+use Rattle.oc_routes.specs.declared.hint.Hint.{Hint}
+use Rattle.oc_routes.specs.declared.hint.Hint.TheVariants.{Plain, Here, Of, Known}
+use Rattle.oc_routes.specs.declared.verdict.Request.{Request}
+use Rattle.oc_routes.specs.declared.verdict.Verdict.{Verdict}
+use Rattle.oc_routes.specs.declared.verdict.Verdict.TheVariants as verdicts
+use Rattle.oc_routes.specs.declared.waiting.Prospect.{Prospect}
+use Rattle.oc_routes.specs.declared.waiting.Prospect.TheVariants as prospects
 use Rattle.oc_routes.specs.Connections.{awaits_continue, is_last}
 use Rattle.oc_routes.specs.Routes.{input_asked}
 use Rattle.oc_routes.specs.declared.fault.RouteFault.{RouteFault}
@@ -62,13 +63,13 @@ use Rattle.oc_server.specs.Deeds.{Deed, Sees, Reads, Accepts, Says, Waits, Runni
 use Rattle.oc_server.specs.Hurries.{came_hurries}
 use Rattle.oc_server.specs.Pace.{wait_until}
 use Rattle.oc_server.specs.Parts.{nothing}
-use Rattle.oc_server.specs.Replying.{HasContent, IsGivable, MayAnswer, stage_on, works_on}
-use Rattle.oc_server.specs.Rooms.{goes_on, has_failed, is_told, moves, room, room_for}
+use Rattle.oc_server.specs.Replying.{HasContent, IsGivable, MayAnswer, phase_on, works_on}
+use Rattle.oc_server.specs.Rooms.{goes_on, is_told, moves, room, room_for}
 use Rattle.oc_server.specs.Rooms as rooms
 use Rattle.oc_server.specs.Telling.{takes_in}
 use Rattle.oc_server.specs.Sends.{dials_at, dials_it, dials_next, sends}
 use Rattle.oc_server.specs.Settled.{Fits, IsSettled}
-use Rattle.oc_server.specs.Turns.{Means, MeansBack, Told, brought, deals, happens, measures, next_peer, probes_it, quickened, takes_at, takes_due, takes_next, takes_one, ticked, ticks, ticks_and_sends, turn}
+use Rattle.oc_server.specs.Turns.{Means, MeansBack, Observation, brought, deals, happens, measures, next_peer, probes_it, quickened, takes_at, takes_due, takes_next, takes_one, ticked, ticks, ticks_and_sends, turn}
 use Rattle.oc_server.specs.Works.{client_input, connection_of, pending, place_on, work_at, work_on}
 use Rattle.oc_server.specs.declared.came.Came.{Came}
 use Rattle.oc_server.specs.declared.came.Came.TheVariants as comes
@@ -77,7 +78,7 @@ use Rattle.oc_server.specs.declared.dials.Errand.{Errand}
 use Rattle.oc_server.specs.declared.dials.Errand.TheVariants as errands
 use Rattle.oc_server.specs.declared.pace.Pace.{Pace}
 use Rattle.oc_server.specs.declared.work.Pending.{Pending}
-use Rattle.oc_server.specs.declared.work.Place.{Place}
+use Rattle.oc_server.specs.declared.work.Transfer.{Transfer}
 use Rattle.oc_server.specs.declared.work.Work.{Work}
 use Rattle.oc_server.specs.declared.work.Work.TheVariants as works
 
@@ -112,7 +113,7 @@ is_alone x w (y ∷ front) behind is =
     let rest : [] ≡ front ++ w ∷ behind = cc in
     absurd (not_none front behind w rest)
 
-alone_at : (stage : Stage) (ws front behind : List Work) (w : Work) → ws ≡ front ++ w ∷ behind → Fits stage ws → (stage ≡ Answering) × (ws ≡ w ∷ [])
+alone_at : (phase : Phase) (ws front behind : List Work) (w : Work) → ws ≡ front ++ w ∷ behind → Fits phase ws → (phase ≡ Answering) × (ws ≡ w ∷ [])
 alone_at Awaiting ws front behind w is fits = absurd (not_none front behind w (sym fits ∙ is))
 alone_at Answering ws front behind w is fits = (refl, fits.1 ∙ ap (λ (x : Work). x ∷ []) (is_alone (fits.0) w front behind (sym (fits.1) ∙ is)))
 alone_at Whole ws front behind w is fits = absurd (not_none front behind w (sym fits ∙ is))
@@ -120,19 +121,19 @@ alone_at Broken ws front behind w is fits = absurd (not_none front behind w (sym
 alone_at Gone ws front behind w is fits = absurd (not_none front behind w (sym fits ∙ is))
 
 -- it is alone on its connection, where a reply is under way
-pub alone : (made : List Call) (ws : List Work) (i : ℕ) (w : Work) → slice_get ws i ≡ Some w → IsSettled made ws → (stage_on (connection_of w) made ≡ Answering) × (works_on (connection_of w) ws ≡ w ∷ [])
+pub alone : (made : List Call) (ws : List Work) (i : ℕ) (w : Work) → slice_get ws i ≡ Some w → IsSettled made ws → (phase_on (connection_of w) made ≡ Answering) × (works_on (connection_of w) ws ≡ w ∷ [])
 alone made ws i w is settled =
     let f = found ws i w is in
-    alone_at (stage_on (connection_of w) made) (works_on (connection_of w) ws) (f.0) (f.1) w (f.2) (settled (connection_of w))
+    alone_at (phase_on (connection_of w) made) (works_on (connection_of w) ws) (f.0) (f.1) w (f.2) (settled (connection_of w))
 
 -- Contents
 
-moved : (s : Setting) (made : List Call) (p : Place) (now : ℕ) (what : Prospect) (a : Running) → HasContent p made a.works → IsSettled made a.works → IsOrderly s made (moves p now what) a
+moved : (s : Setting) (made : List Call) (p : Transfer) (now : ℕ) (what : Prospect) (a : Running) → HasContent p made a.works → IsSettled made a.works → IsOrderly s made (moves p now what) a
 moved s made p now prospects.Gives a has settled = gives s made p now a has settled
 moved s made p now prospects.Waits a has settled = lays s made p a has settled
 moved s made p now prospects.Breaks a has settled = breaks s made p.connection a settled
 
-going_on : (s : Setting) (made : List Call) (p : Place) (now : ℕ) (a : Running) → HasContent p made a.works → IsSettled made a.works → IsOrderly s made (goes_on p now s a) a
+going_on : (s : Setting) (made : List Call) (p : Transfer) (now : ℕ) (a : Running) → HasContent p made a.works → IsSettled made a.works → IsOrderly s made (goes_on p now s a) a
 going_on s made p now a has settled = moved s made p now (prospect_of p (shelf a.node.groups) now) a has settled
 
 at_place : (ws : List Work) (o : Option ℕ) (w : Work) → work_at ws o ≡ Some w → (i : ℕ) × (slice_get ws i ≡ Some w)
@@ -149,7 +150,7 @@ has_room s made c now a settled = by_work (work_on c a.works) refl
     by_work (Some (works.Content p)) is =
         let at = at_place a.works (place_on c a.works) (works.Content p) is in
         let here = alone made a.works (at.0) (works.Content p) (at.1) settled in
-        going_on s made p now a (record { stage = here.0; works = inl (here.1) }) settled
+        going_on s made p now a (record { phase = here.0; works = inl (here.1) }) settled
 
 -- Requests
 
@@ -215,7 +216,7 @@ responding s made r (Some i) now a may is settled =
     (subst (λ (cs : List Call). MayAnswer r.waited r.connection cs a.works) (sym (append-nil (made ++ []) ∙ append-nil made)) may)
     (by_step r.asked.operation r.asked.hint r.last i (back_to (sender_of i) (step a.node i).sends) a.node s.addresses s.key (report_for r.asked.operation (after (Accepts i) a)) is) behind))
 
-taking_on : (s : Setting) (made : List Call) (c : ℕ) (request : Request) (now : ℕ) (a : Running) → stage_on c made ≡ Awaiting → IsInputOf request.operation request.hint request.input → IsSettled made a.works
+taking_on : (s : Setting) (made : List Call) (c : ℕ) (request : Request) (now : ℕ) (a : Running) → phase_on c made ≡ Awaiting → IsInputOf request.operation request.hint request.input → IsSettled made a.works
     → IsOrderly s made (takes_on c request now s a) a
 taking_on s made c request now a may is settled = by_condition (unmet request.operation a.node.control.me (shelf a.node.groups))
   where
@@ -227,7 +228,7 @@ taking_on s made c request now a may is settled = by_condition (unmet request.op
     by_condition (Some why) = refuses_request s made c request.count why a may settled
     by_condition None = by_test (has_to_wait request a.node)
 
-pub obeying : (s : Setting) (made : List Call) (c count : ℕ) (v : Verdict) (now : ℕ) (a : Running) → stage_on c made ≡ Awaiting → HasInput v → IsSettled made a.works → IsOrderly s made (obeys c count v now s a) a
+pub obeying : (s : Setting) (made : List Call) (c count : ℕ) (v : Verdict) (now : ℕ) (a : Running) → phase_on c made ≡ Awaiting → HasInput v → IsSettled made a.works → IsOrderly s made (obeys c count v now s a) a
 obeying s made c count verdicts.Wait now a may is settled = orderly_none s made a settled
 obeying s made c count verdicts.Leave now a may is settled = breaks s made c a settled
 obeying s made c count verdicts.Permit now a may is settled = permits s made c a may settled
@@ -303,9 +304,9 @@ has_input t x bytes v is = subst HasInput (sym is.verdict) (verdict_input t x by
 
 -- What came
 
--- behind what came its connection stands as it says
+-- after what came its connection stands as it says
 abbrev pub IsReadyFor : Came → List Call → List Work → Type 0
-IsReadyFor (comes.Request c count v) made ws = IsSettled made ws × (stage_on c made ≡ Awaiting) × HasInput v
+IsReadyFor (comes.Request c count v) made ws = IsSettled made ws × (phase_on c made ≡ Awaiting) × HasInput v
 IsReadyFor (comes.Gone c loss) made ws = IsLeft c made ws
 IsReadyFor came made ws = IsSettled made ws
 
@@ -326,7 +327,7 @@ probing_it s made (Some peer) started a settled = all_quiet s made (probes_it (S
 pub happening : (s : Setting) (made : List Call) (probing : Option Probing) (came : Came) (now median started : ℕ) (a : Running) → IsReadyFor came made a.works → IsOrderly s made (happens probing came now median started s a) a
 happening s made probing (comes.Request c count v) now median started a ready = obeying s made c count v now a (ready.1) (ready.2) (ready.0)
 happening s made probing (comes.Room c) now median started a ready = has_room s made c now a ready
-happening s made probing (comes.Gone c loss) now median started a ready = drops s made c (has_failed loss && is_told (work_on c a.works)) a ready
+happening s made probing (comes.Gone c loss) now median started a ready = drops s made c (is_failure loss && is_told (work_on c a.works)) a ready
 happening s made probing (comes.Reply input taken) now median started a ready = bringing s made input a ready
 happening s made probing (comes.Probed peer since fault) now median started a ready = no_fault s made peer probing fault median a ready
 happening s made probing comes.Nothing now median started a ready = probing_it s made (next_peer probing a.dials) started a ready
@@ -371,31 +372,31 @@ dealing s made pace probing came now median started seconds a ready =
 
 -- Events
 
-awaited : (stage : Stage) (b c : Bool) → IsTrue (is_awaiting stage && b && c) → stage ≡ Awaiting
+awaited : (phase : Phase) (b c : Bool) → IsTrue (is_awaiting phase && b && c) → phase ≡ Awaiting
 awaited Awaiting b c is = refl
 awaited Answering b c is = absurd (false≢true is)
 awaited Whole b c is = absurd (false≢true is)
 awaited Broken b c is = absurd (false≢true is)
 awaited Gone b c is = absurd (false≢true is)
 
-stage_if : (b : Bool) (x st : Standing) → x.stage ≡ st.stage → (if b then x else st).stage ≡ st.stage
-stage_if true x st same = same
-stage_if false x st same = refl
+phase_if : (b : Bool) (x st : Standing) → x.phase ≡ st.phase → (if b then x else st).phase ≡ st.phase
+phase_if true x st same = same
+phase_if false x st same = refl
 
--- behind an event and a reading of the clock
-abbrev seeing : List Call → Event → List ℕ → ℕ → List Call
+-- after an event and a reading of the clock
+abbrev seeing : List Call → LinkEvent → List ℕ → ℕ → List Call
 seeing made event bytes now = made ++ (acts.Next event bytes ∷ acts.Millis now ∷ [])
 
-seen_stage : (c : ℕ) (made : List Call) (event : Event) (bytes : List ℕ) (now : ℕ) → stage_on c (seeing made event bytes now) ≡ (sees c event (standing_of c made)).stage
-seen_stage c made event bytes now = ap (λ (x : Standing). x.stage) (stands-then c made (acts.Next event bytes ∷ acts.Millis now ∷ []) untouched)
+seen_phase : (c : ℕ) (made : List Call) (event : LinkEvent) (bytes : List ℕ) (now : ℕ) → phase_on c (seeing made event bytes now) ≡ (sees c event (standing_of c made)).phase
+seen_phase c made event bytes now = ap (λ (x : Standing). x.phase) (stands-then c made (acts.Next event bytes ∷ acts.Millis now ∷ []) untouched)
 
 seen_gone : (d : ℕ) (loss : Loss) (made : List Call) (bytes : List ℕ) (now : ℕ) (ws : List Work) → IsSettled made ws → IsLeft d (seeing made (events.Gone d loss) bytes now) ws
 seen_gone d loss made bytes now ws settled = record {
-  stage = seen_stage d made (events.Gone d loss) bytes now ∙ ap (λ (b : Bool). (if b then after_loss (standing_of d made) else standing_of d made).stage) (eq-eqb d d refl);
-  one = one_at_most (stage_on d made) (works_on d ws) (settled d);
+  phase = seen_phase d made (events.Gone d loss) bytes now ∙ ap (λ (b : Bool). (if b then after_loss (standing_of d made) else standing_of d made).phase) (eq-eqb d d refl);
+  one = one_at_most (phase_on d made) (works_on d ws) (settled d);
   others = λ (c : ℕ) (apart : (d == c) ≡ false).
-      subst (λ (x : Stage). Fits x (works_on c ws))
-      (sym (seen_stage c made (events.Gone d loss) bytes now ∙ ap (λ (b : Bool). (if b then after_loss (standing_of c made) else standing_of c made).stage) apart)) (settled c);
+      subst (λ (x : Phase). Fits x (works_on c ws))
+      (sym (seen_phase c made (events.Gone d loss) bytes now ∙ ap (λ (b : Bool). (if b then after_loss (standing_of c made) else standing_of c made).phase) apart)) (settled c);
 }
 
 back_ready : (t : NodeTerms) (errand : Errand) (reading : Result Reply HttpFault) (made : List Call) (ws : List Work) → IsSettled made ws → IsReadyFor (comes_back t.me t.nodes t.key errand reading) made ws
@@ -407,14 +408,14 @@ means_back t lent None coming came made ws means settled = subst (λ (x : Came).
 means_back t lent (Some errand) coming came made ws means settled = subst (λ (x : Came). IsReadyFor x made ws) (sym (means.3)) (back_ready t errand (means.0) made ws settled)
 
 -- what came, where the event could come
-seen_ready : (t : NodeTerms) (lent : List ℕ) (errand : Option Errand) (event : Event) (came : Came) (made : List Call) (bytes : List ℕ) (now : ℕ) (ws : List Work) → Means t lent errand event came
+seen_ready : (t : NodeTerms) (lent : List ℕ) (errand : Option Errand) (event : LinkEvent) (came : Came) (made : List Call) (bytes : List ℕ) (now : ℕ) (ws : List Work) → Means t lent errand event came
     → IsTrue (may event made) → IsSettled made ws → IsReadyFor came (seeing made event bytes now) ws
 seen_ready t lent errand (events.Request x) came made bytes now ws means could settled =
     subst (λ (y : Came). IsReadyFor y (seeing made (events.Request x) bytes now) ws) (sym (means.2)) (
       settled_by made (acts.Next (events.Request x) bytes ∷ acts.Millis now ∷ []) ws (λ c. fits_if (x.connection == c) (after_request (standing_of c made)) (standing_of c made) (works_on c ws) refl (settled c)),
-      seen_stage x.connection made (events.Request x) bytes now
-          ∙ stage_if (x.connection == x.connection) (after_request (standing_of x.connection made)) (standing_of x.connection made) refl
-          ∙ awaited (stage_on x.connection made) (x.number == (standing_of x.connection made).number) (if x.permitted then (standing_of x.connection made).fed else not (standing_of x.connection made).fed) could,
+      seen_phase x.connection made (events.Request x) bytes now
+          ∙ phase_if (x.connection == x.connection) (after_request (standing_of x.connection made)) (standing_of x.connection made) refl
+          ∙ awaited (phase_on x.connection made) (x.number == (standing_of x.connection made).number) (if x.permitted then (standing_of x.connection made).fed else not (standing_of x.connection made).fed) could,
       has_input t x lent (means.0) (means.1),
     )
 seen_ready t lent errand (events.Room d) came made bytes now ws means could settled =
@@ -431,15 +432,15 @@ seen_ready t lent errand events.Quiet came made bytes now ws means could settled
 
 -- Turns
 
--- what came was told by the link, which could tell it behind these calls
-pub record IsTold (t : Told) (made : List Call) : Type 0 where
+-- what came was told by the link, which could tell it after these calls
+pub record IsTold (t : Observation) (made : List Call) : Type 0 where
   pub terms : NodeTerms
   pub lent : List ℕ
   pub errand : Option Errand
   pub means : Means terms lent errand t.event t.came
   pub could : IsTrue (may t.event made)
 
-taking_next : (s : Setting) (made : List Call) (pace : Pace) (probing : Option Probing) (t : Told) (a : Running) → IsTold t made → IsSettled made a.works → IsOrderly s made (takes_next pace probing t s a) a
+taking_next : (s : Setting) (made : List Call) (pace : Pace) (probing : Option Probing) (t : Observation) (a : Running) → IsTold t made → IsSettled made a.works → IsOrderly s made (takes_next pace probing t s a) a
 taking_next s made pace probing t a told settled =
     let saw : Deed = Sees t.event (wait_for pace a.works t.before) t.bytes in
     let behind : Running = after saw a in
@@ -463,7 +464,7 @@ taking_up s made place now a None is settled = orderly_none s made a settled
 taking_up s made place now a (Some (works.Content p)) is settled = orderly_none s made a settled
 taking_up s made place now a (Some (works.Aside p)) is settled =
     let here = alone made a.works place (works.Aside p) is settled in
-    going_on s made p now a (record { stage = here.0; works = inr (here.1) }) settled
+    going_on s made p now a (record { phase = here.0; works = inr (here.1) }) settled
 taking_up s made place now a (Some (works.Waits w)) is settled =
     let here = alone made a.works place (works.Waits w) is settled in
     responding s made (pending w.connection w.request (is_some (client_input w.request.operation w.request.hint)) true) (client_input w.request.operation w.request.hint) now a
@@ -476,16 +477,16 @@ taking_due s made pace place before seconds a settled =
     orderly_then s made ds (ticks_and_sends pace before seconds s (after_all ds a)) a first (ticking_and_sending s (made ++ calls_of s ds a) pace before seconds (after_all ds a) first.settled)
 
 -- what the link told counts where nothing is due
-abbrev pub IsToldAt : Option ℕ → Told → List Call → Type 0
+abbrev pub IsToldAt : Option ℕ → Observation → List Call → Type 0
 IsToldAt None t made = IsTold t made
 IsToldAt (Some place) t made = Unit {0}
 
-taking_at : (due : Option ℕ) (s : Setting) (made : List Call) (pace : Pace) (probing : Option Probing) (t : Told) (a : Running) → IsToldAt due t made → IsSettled made a.works → IsOrderly s made (takes_at due pace probing t s a) a
+taking_at : (due : Option ℕ) (s : Setting) (made : List Call) (pace : Pace) (probing : Option Probing) (t : Observation) (a : Running) → IsToldAt due t made → IsSettled made a.works → IsOrderly s made (takes_at due pace probing t s a) a
 taking_at None s made pace probing t a told settled = taking_next s made pace probing t a told settled
 taking_at (Some place) s made pace probing t a told settled = taking_due s made pace place t.before t.seconds a settled
 
 -- a turn does its deeds in order
-pub turning : (s : Setting) (made : List Call) (pace : Pace) (probing : Option Probing) (t : Told) (a : Running) → IsToldAt (due_place a.works (shelf a.node.groups) t.before) t (made ++ (acts.Millis t.before ∷ []))
+pub turning : (s : Setting) (made : List Call) (pace : Pace) (probing : Option Probing) (t : Observation) (a : Running) → IsToldAt (due_place a.works (shelf a.node.groups) t.before) t (made ++ (acts.Millis t.before ∷ []))
     → IsSettled made a.works → IsOrderly s made (turn pace probing t s a) a
 turning s made pace probing t a told settled =
     quiet_behind s made (Reads t.before) (takes_one pace probing t s a) a tt settled

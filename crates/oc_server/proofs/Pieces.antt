@@ -11,7 +11,7 @@ use Rattle.oc_base.specs.declared.shelf.Shelf.{Shelf}
 use Rattle.oc_chunked.specs.Texts.{chunked_text, chunks_written, end_written}
 use Rattle.oc_io.specs.DiskView.{DiskView}
 use Rattle.oc_keep.specs.KeptView.{IsHonest, KeptView, node_of}
-use Rattle.oc_reply.specs.Contents.{ending, part_of, pieces}
+use Rattle.oc_routes.specs.Contents.{ending, part_of, pieces}
 
 -- Groups that are not held
 

@@ -43,7 +43,7 @@ module _ (nodes : ℕ) where
   made_gauged None peer rate o made = made_mapped (with_measure peer rate) (made_measured peer rate) o made
   made_gauged (Some fault) peer rate o made = made
 
-  -- behind what came
+  -- after what came
   pub made_probed : (came : Came) (now : ℕ) (ds : List Dialling) (o : Option Probing) → IfSome o (IsMadeFor nodes) → IfSome (probed came now ds o) (IsMadeFor nodes)
   made_probed (comes.Request c count verdict) now ds o made = made
   made_probed (comes.Room c) now ds o made = made
@@ -93,7 +93,7 @@ module _ {D L K : Type 0} (old new : Turns D L K) (ready : IsReady old) (serving
   ready_if : IfSome new.probing (IsMadeFor old.server.kept.node.control.nodes) → IsReady new
   ready_if made = record { serving = serving; probing = subst (λ (h : Header). IfSome new.probing (IsMadeFor h.nodes)) (sym same) made }
 
-  -- behind what came
+  -- after what came
   pub ready_then : (came : Came) (now : ℕ) (ds : List Dialling) → new.probing ≡ probed came now ds old.probing → IsReady new
   ready_then came now ds is =
       ready_if (subst (λ (o : Option Probing). IfSome o (IsMadeFor old.server.kept.node.control.nodes)) (sym is) (made_probed old.server.kept.node.control.nodes came now ds old.probing ready.probing))

@@ -2,8 +2,8 @@
 use Rattle.std.proofs.Common.{◌≡◌, ℕ, Bool, true, false, Option, Some, List, [], ◌∷◌, ◌++◌, cond, is_some, length, refl, sym, ap, ◌∙◌}
 use Rattle.oc_base.specs.Groups.{shelf}
 use Rattle.oc_base.specs.declared.shelf.Shelf.{Shelf}
-use Rattle.oc_events.specs.declared.call.Call.{Call}
-use Rattle.oc_events.specs.declared.counts.Counts.{Counts}
+use Rattle.oc_link.specs.declared.call.Call.{Call}
+use Rattle.oc_link.specs.declared.counts.LinkCounts.{LinkCounts}
 use Rattle.oc_io.specs.DiskView.{DiskView}
 use Rattle.oc_keep.specs.KeptView.{IsHonest, KeptView, node_of}
 use Rattle.oc_model.specs.Node.{Node}
@@ -11,10 +11,10 @@ use Rattle.oc_model.specs.Step.{step}
 use Rattle.oc_model.specs.declared.answer.Answer.{Answer}
 use Rattle.oc_model.specs.declared.input.Input.{Input}
 use Rattle.oc_model.specs.declared.message.Message.{Message}
-use Rattle.oc_reply.specs.Conditions.{unmet}
-use Rattle.oc_reply.specs.Reports.{report_of}
-use Rattle.oc_reply.specs.Shown.{response_for}
-use Rattle.oc_reply.specs.declared.verdict.Request.{Request}
+use Rattle.oc_routes.specs.Conditions.{unmet}
+use Rattle.oc_routes.specs.Reports.{report_of}
+use Rattle.oc_routes.specs.Shown.{response_for}
+use Rattle.oc_routes.specs.declared.verdict.Request.{Request}
 use Rattle.oc_routes.specs.declared.refused.Refused.{Refused}
 use Rattle.oc_routes.specs.declared.response.Response.{Response}
 use Rattle.oc_server.specs.Asks.{answers_or_waits, has_to_wait, holding_in, refuses_or, replies, responds, takes_on, waiting}
@@ -57,7 +57,7 @@ pub answers_part : (c now : ℕ) (request : Request) (s : Setting) (a : Running)
 answers_part c now request s a is =
     ap (λ (b : Bool). cond b (Waits (waiting c request now) ∷ []) (responds (pending c request (is_some request.input) false) request.input now s a)) is
 
-module _ {D L K : Type 0} (view : D → DiskView) (takes fails : K → List ℕ → K → Type 0) (faults : K → ℕ) (story : L → Option (List Call)) (counts : L → Counts) where
+module _ {D L K : Type 0} (view : D → DiskView) (takes fails : K → List ℕ → K → Type 0) (faults : K → ℕ) (story : L → Option (List Call)) (counts : L → LinkCounts) where
   -- the files were looked at
   pub looked_on : (takes_nothing : (k : K) → takes k [] k) (old : Server D L K) (kept : KeptView D) → LooksOnly view old.kept kept
       → Does view takes faults story counts nothing old (record old { kept = kept })

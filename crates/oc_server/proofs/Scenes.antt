@@ -1,11 +1,11 @@
--- Scenes behind scenes.
+-- Scenes after scenes.
 use Rattle.std.proofs.Common.{◌≡◌, ◌≤◌, ℕ, false, Option, List, [], ◌++◌, length, refl, sym, ap, subst, ◌∙◌, arith}
 use Rattle.std.proofs.lemmas.List.{append-nil}
 use Rattle.oc_config.specs.Settings.{Settings}
-use Rattle.oc_events.specs.Told.{AddsAll}
-use Rattle.oc_events.specs.declared.call.Call.{Call}
-use Rattle.oc_events.specs.declared.counts.Counts.{Counts}
-use Rattle.oc_events.proofs.Stories.{adds-none, adds-then}
+use Rattle.oc_link.specs.Told.{AddsAll}
+use Rattle.oc_link.specs.declared.call.Call.{Call}
+use Rattle.oc_link.specs.declared.counts.LinkCounts.{LinkCounts}
+use Rattle.oc_link.proofs.Stories.{adds-none, adds-then}
 use Rattle.oc_io.specs.DiskView.{DiskView}
 use Rattle.oc_io.specs.Faults.{NoFall, Rose}
 use Rattle.oc_io.proofs.Counts.{Rose-after}
@@ -19,14 +19,16 @@ use Rattle.oc_model.specs.declared.input.Input.{Input}
 use Rattle.oc_model.specs.Node.{Header, Node}
 use Rattle.oc_model.specs.Step.{step}
 use Rattle.oc_policy.specs.declared.deciding.TheConstants.{MAX_RULES}
-use Rattle.oc_server.specs.Deeds.{Deed, Running, Setting, after_all, calls_of, inputs_of, lines}
+use Rattle.oc_server.specs.Deeds.{Deed, Running, Setting, after_all, calls_of, inputs_of, line, lines}
 use Rattle.oc_server.specs.Looks.{Renews}
+use Rattle.oc_server.specs.Moments.{AtEachPrefix}
 use Rattle.oc_server.specs.Scenes.{AreDone, Breaks, BreaksBehind, Did, HasCause, IsPlaced, IsServing, KeepsAll, LeavesAt, LeavesUnder, Under, Idle, Taking, Noting, WritesAt, running, setting, under_line}
 use Rattle.oc_server.specs.declared.ends.TurnEnd.{TurnEnd}
 use Rattle.oc_server.specs.declared.ends.TurnEnd.TheVariants as ends
 use Rattle.oc_server.specs.declared.log.Log.{Log}
 use Rattle.oc_server.specs.declared.server.Server.{Server}
 use Rattle.oc_server.proofs.Chains.{after_append, calls_append, counts_append, counts_listening, inputs_append, lines_append, nodes_behind}
+use Rattle.oc_server.proofs.Moments.{prefix_then}
 use Rattle.oc_server.proofs.Looking.{go_on_none, keeps_no_fall, keeps_then, looks_none, named}
 
 -- What deeds make of a running node
@@ -35,7 +37,7 @@ use Rattle.oc_server.proofs.Looking.{go_on_none, keeps_no_fall, keeps_then, look
 pub done_none : (s : Setting) (a : Running) (story : Option (List Call)) → AreDone s [] a a story story
 done_none s a story = record { after = refl; calls = adds-none story }
 
--- deeds behind deeds
+-- deeds after deeds
 pub done_then : (s : Setting) (ds es : List Deed) (a b c : Running) (x y z : Option (List Call)) → AreDone s ds a b x y → AreDone s es b c y z → AreDone s (ds ++ es) a c x z
 done_then s ds es a b c x y z first second = record {
   after = second.after ∙ ap (after_all es) first.after ∙ sym (after_append ds es a);
@@ -43,7 +45,7 @@ done_then s ds es a b c x y z first second = record {
       (adds-then (calls_of s ds a) (calls_of s es (after_all ds a)) x y z first.calls (subst (λ (r : Running). AddsAll (calls_of s es r) y z) first.after second.calls));
 }
 
-module _ {D L K : Type 0} (view : D → DiskView) (takes fails : K → List ℕ → K → Type 0) (faults : K → ℕ) (story : L → Option (List Call)) (counts : L → Counts) where
+module _ {D L K : Type 0} (view : D → DiskView) (takes fails : K → List ℕ → K → Type 0) (faults : K → ℕ) (story : L → Option (List Call)) (counts : L → LinkCounts) where
   -- Nothing was done
 
   pub did_none : (takes_nothing : (k : K) → takes k [] k) (a : Server D L K) → a.kept.closed ≡ false → Did view takes faults story counts [] a a
@@ -59,9 +61,10 @@ module _ {D L K : Type 0} (view : D → DiskView) (takes fails : K → List ℕ 
     lawful = λ lawful. lawful;
     text = takes_nothing a.sink;
     done = λ honest. done_none (setting a) (running a) (story a.link);
+    moments = λ honest. (0, refl, refl);
   }
 
-  -- Deeds behind deeds
+  -- Deeds after deeds
 
   -- which node it is, at which addresses, and what it writes
   pub setting_stays : (a b : Server D L K) → IsSameNode a.kept.node.control b.kept.node.control → b.config ≡ a.config → b.log ≡ a.log → setting b ≡ setting a
@@ -93,9 +96,17 @@ module _ {D L K : Type 0} (view : D → DiskView) (takes fails : K → List ℕ 
     done = λ honest. done_then (setting a) ds es (running a) (running b) (running c) (story a.link) (story b.link) (story c.link) (first.done honest)
         (subst (λ (s : Setting). AreDone s es (running b) (running c) (story b.link) (story c.link)) (setting_stays a b first.same first.config first.log)
         (second.done (all_honest view (disks_of a.kept) (disks_of b.kept) first.goes_on honest)));
+    moments = λ honest.
+        prefix_then view (header_of a.kept.node.control) a.kept.node.control.me takes (line (setting a)) ds es (node_of a.kept) (disks_of a.kept) (disks_of b.kept) (disks_of c.kept) a.sink b.sink c.sink (first.moments honest)
+        (subst (λ (n : Node). AtEachPrefix view (header_of a.kept.node.control) a.kept.node.control.me takes (line (setting a)) es n (disks_of b.kept) b.sink (disks_of c.kept) c.sink)
+        (ap (λ (r : Running). r.node) (first.done honest).after ∙ nodes_behind ds (running a))
+        (subst (λ (s : Setting). AtEachPrefix view (header_of a.kept.node.control) a.kept.node.control.me takes (line s) es (node_of b.kept) (disks_of b.kept) b.sink (disks_of c.kept) c.sink)
+        (setting_stays a b first.same first.config first.log)
+        (named (λ h me. AtEachPrefix view h me takes (line (setting b)) es (node_of b.kept) (disks_of b.kept) b.sink (disks_of c.kept) c.sink) a.kept b.kept first.same
+        (second.moments (all_honest view (disks_of a.kept) (disks_of b.kept) first.goes_on honest)))));
   }
 
-  -- What holds between any two calls holds behind deeds
+  -- What holds between any two calls holds after deeds
   pub still_serving : (ds : List Deed) (a b : Server D L K) → Did view takes faults story counts ds a b → IsServing a → IsServing b
   still_serving ds a b did serving = record {
     is_open = did.is_open;
@@ -118,11 +129,11 @@ module _ {D L K : Type 0} (view : D → DiskView) (takes fails : K → List ℕ 
       → Renews view a.kept b.kept → Renews view a.kept c.kept
   still_renewed ds es a b c did more renews honest ripe = omega (arith, renews honest ripe, did_no_fall es b c more (still_honest ds a b did honest))
 
-  -- the node behind deeds is the fold of their inputs
+  -- the node after deeds is the fold of their inputs
   pub did_node : (ds : List Deed) (a b : Server D L K) → Did view takes faults story counts ds a b → IsHonest view a.kept → node_of b.kept ≡ after_inputs (node_of a.kept) (inputs_of ds)
   did_node ds a b did honest = ap (λ (r : Running). r.node) (did.done honest).after ∙ nodes_behind ds (running a)
 
-  -- It ended so behind deeds
+  -- It ended so after deeds
 
   -- behind one list of deeds
   pub breaks_behind : (ds : List Deed) (under : Under) (end : TurnEnd) (a b c : Server D L K)
@@ -139,7 +150,7 @@ module _ {D L K : Type 0} (view : D → DiskView) (takes fails : K → List ℕ 
       → Did view takes faults story counts ds a b → BreaksBehind view takes fails faults story counts end es under b c → BreaksBehind view takes fails faults story counts end (ds ++ es) under a c
   breaks_then takes_then ds es under end a b c did (at, more, breaks) = (at, did_then takes_then ds es a b at did more, breaks)
 
-  -- What is left where it ended so behind deeds
+  -- What is left where it ended so after deeds
 
   under_of : (a b c : KeptView D) (under : Under) (n m : Node) → IsSameNode a.node.control b.node.control → m ≡ n → LeavesUnder view b c m under → LeavesUnder view a c n under
   under_of a b c (Taking i) n m same is leaves =
@@ -173,7 +184,7 @@ module _ {D L K : Type 0} (view : D → DiskView) (takes fails : K → List ℕ 
       write_then takes_then takes_fails a.sink b.sink c.sink end (lines (setting a) ds) (under_line (setting a) under) did.text
       (subst (λ (s : Setting). WritesAt takes fails b.sink c.sink end [] (under_line s under)) (setting_stays a b did.same did.config did.log) breaks.text)
 
-  cause_of : (a b c : KeptView D) (end : TurnEnd) (under : Under) (x y z : K) (p q r : Counts) → AllGoOn view (disks_of a) (disks_of b) → NoFall (faults x) (faults y) → q.listening ≡ p.listening
+  cause_of : (a b c : KeptView D) (end : TurnEnd) (under : Under) (x y z : K) (p q r : LinkCounts) → AllGoOn view (disks_of a) (disks_of b) → NoFall (faults x) (faults y) → q.listening ≡ p.listening
       → HasCause view faults end under b c y z q r → HasCause view faults end under a c x z p r
   cause_of a b c ends.Disk under x y z p q r on few same cause = one_rose_after view (disks_of a) (disks_of b) (disks_of c) on cause
   cause_of a b c ends.Sink under x y z p q r on few same cause = Rose-after _ _ _ few cause

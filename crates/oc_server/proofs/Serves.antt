@@ -1,7 +1,7 @@
 -- Turns one after another.
 use Rattle.std.proofs.Common.{◌≡◌, ℕ, zero, suc, Bool, Option, List, [], ◌++◌, refl, sym, subst}
-use Rattle.oc_events.specs.declared.call.Call.{Call}
-use Rattle.oc_events.specs.declared.counts.Counts.{Counts}
+use Rattle.oc_link.specs.declared.call.Call.{Call}
+use Rattle.oc_link.specs.declared.counts.LinkCounts.{LinkCounts}
 use Rattle.oc_io.specs.DiskView.{DiskView}
 use Rattle.oc_server.specs.Deeds.{Deed}
 use Rattle.oc_server.specs.Runs.{ServeEnds, Serves, ServesUpTo, Turned}
@@ -11,8 +11,8 @@ use Rattle.oc_server.specs.declared.ends.TurnEnd.TheVariants as ends
 use Rattle.oc_server.specs.declared.turns.Turns.{Turns}
 use Rattle.oc_server.proofs.Scenes.{breaks_then, did_none, did_then, still_serving}
 
-module _ {D L K : Type 0} (view : D → DiskView) (takes fails : K → List ℕ → K → Type 0) (faults : K → ℕ) (story : L → Option (List Call)) (counts : L → Counts) where
-  -- another turn behind so many
+module _ {D L K : Type 0} (view : D → DiskView) (takes fails : K → List ℕ → K → Type 0) (faults : K → ℕ) (story : L → Option (List Call)) (counts : L → LinkCounts) where
+  -- another turn after this many
   pub serves_more : (n m : ℕ) (served : Bool) (a b c : Turns D L K) → m ≡ suc n → Serves view takes faults story counts n a b → Turned view takes faults story counts served b c
       → Serves view takes faults story counts m a c
   serves_more n m served a b c is some last = subst (λ (k : ℕ). Serves view takes faults story counts k a c) (sym is) (further n a some)
@@ -41,7 +41,7 @@ module _ {D L K : Type 0} (view : D → DiskView) (takes fails : K → List ℕ 
       let more = serves_did takes_nothing takes_then n at b (still_serving view takes fails faults story counts turned.does.deeds a.server at.server first serving) rest in
       (turned.does.deeds ++ more.0, did_then view takes fails faults story counts takes_then turned.does.deeds more.0 a.server at.server b.server first more.1)
 
-  -- and where they ended early, the deeds behind which they did
+  -- and where they ended early, the deeds after which they did
   pub up_to_broken : (takes_nothing : (k : K) → takes k [] k) (takes_then : (a b c : K) (x y : List ℕ) → takes a x b → takes b y c → takes a (x ++ y) c) (most : ℕ) (end : TurnEnd) (a c : Turns D L K)
       → IsServing a.server → ServesUpTo view takes fails faults story counts most end a c
       → (deeds : List Deed) × (under : Under) × BreaksBehind view takes fails faults story counts end deeds under a.server c.server

@@ -2,13 +2,13 @@
 use Rattle.std.proofs.Common.{◌≡◌, ℕ, Bool, false, Option, None, Some, List, [], ◌∷◌, ◌++◌, refl, sym, ap, subst, ◌∙◌, arith}
 use Rattle.std.proofs.lemmas.List.{append-nil}
 use Rattle.std.specs.List.{AllByRecursion}
-use Rattle.oc_events.specs.Counts.{CountsFailure}
-use Rattle.oc_events.specs.Told.{AddsAll, GivesEvent, Told}
-use Rattle.oc_events.specs.declared.call.Call.{Call}
-use Rattle.oc_events.specs.declared.call.Call.TheVariants as acts
-use Rattle.oc_events.specs.declared.counts.Counts.{Counts}
-use Rattle.oc_events.specs.declared.event.Event.{Event}
-use Rattle.oc_events.proofs.Stories.{adds-then}
+use Rattle.oc_link.specs.Counts.{CountsFailure}
+use Rattle.oc_link.specs.Told.{AddsAll, GivesEvent, Told}
+use Rattle.oc_link.specs.declared.call.Call.{Call}
+use Rattle.oc_link.specs.declared.call.Call.TheVariants as acts
+use Rattle.oc_link.specs.declared.counts.LinkCounts.{LinkCounts}
+use Rattle.oc_link.specs.declared.event.LinkEvent.{LinkEvent}
+use Rattle.oc_link.proofs.Stories.{adds-then}
 use Rattle.oc_io.specs.DiskView.{DiskView}
 use Rattle.oc_io.specs.Faults.{NoFall}
 use Rattle.oc_keep.specs.Files.{AllGoOn, Survives}
@@ -19,19 +19,21 @@ use Rattle.oc_model.specs.Node.{Node}
 use Rattle.oc_server.specs.Deeds.{Deed, Running, after, calls, finish, input_of, line, with_input}
 use Rattle.oc_server.specs.Giving.{LookBreaks}
 use Rattle.oc_server.specs.Looks.{LooksOnly, LookStops}
+use Rattle.oc_server.specs.Moments.{TakesOne}
 use Rattle.oc_server.specs.Noting.{LineStops, NoteBreaks}
 use Rattle.oc_server.specs.Scenes.{AreDone, Breaks, CountsAll, Did, IsLawful, IsLawfulWork, KeepsAll, Idle, running, setting}
 use Rattle.oc_server.specs.declared.dials.Dialling.{Dialling}
 use Rattle.oc_server.specs.declared.ends.TurnEnd.{TurnEnd}
 use Rattle.oc_server.specs.declared.ends.TurnEnd.TheVariants as ends
 use Rattle.oc_server.specs.declared.server.Server.{Server}
-use Rattle.oc_server.specs.declared.work.Place.{Place}
+use Rattle.oc_server.specs.declared.work.Transfer.{Transfer}
 use Rattle.oc_server.specs.declared.work.Work.{Work}
 use Rattle.oc_server.proofs.Lawful.{lawful_of}
 use Rattle.oc_server.proofs.Looking.{go_on_none, looks_none, memory_looks}
+use Rattle.oc_server.proofs.Moments.{prefix_none, prefix_one}
 use Rattle.oc_server.proofs.Scenes.{done_none}
 
-module _ {D L K : Type 0} (view : D → DiskView) (takes fails : K → List ℕ → K → Type 0) (faults : K → ℕ) (story : L → Option (List Call)) (counts : L → Counts) where
+module _ {D L K : Type 0} (view : D → DiskView) (takes fails : K → List ℕ → K → Type 0) (faults : K → ℕ) (story : L → Option (List Call)) (counts : L → LinkCounts) where
   -- One deed that takes no input
 
   pub did_step : (d : Deed) (old new : Server D L K) → input_of d ≡ None → new.config ≡ old.config → new.log ≡ old.log
@@ -55,6 +57,11 @@ module _ {D L K : Type 0} (view : D → DiskView) (takes fails : K → List ℕ 
       after = is honest;
       calls = subst (λ (cs : List Call). AddsAll cs (story old.link) (story new.link)) (sym (append-nil (calls (setting old) d (running old)))) (made honest);
     };
+    moments = λ honest.
+        prefix_one view (header_of old.kept.node.control) old.kept.node.control.me takes (line (setting old)) d (node_of old.kept) (disks_of old.kept) (disks_of new.kept) (disks_of new.kept) old.sink new.sink
+        (looks.moments honest)
+        (subst (λ (o : Option Input). TakesOne view (header_of old.kept.node.control) old.kept.node.control.me o (node_of old.kept) (disks_of new.kept) (disks_of new.kept)) (sym none) refl)
+        text;
   }
 
   -- one that changes what is under way and the link
@@ -77,7 +84,7 @@ module _ {D L K : Type 0} (view : D → DiskView) (takes fails : K → List ℕ 
       did_step d old (record old { sink = sink; works = ws; link = link }) none refl refl text few counted (looks_none view old.kept is_open)
       (lawful_of old (record old { sink = sink; works = ws; link = link }) (record { me = refl; header = refl }) (λ all. all) lawful (λ all. all)) (λ honest. is) (λ honest. made)
 
-  -- one behind a look that changes what is under way and the link
+  -- one after a look that changes what is under way and the link
   pub did_given : (takes_nothing : (k : K) → takes k [] k) (d : Deed) (old : Server D L K) (kept : KeptView D) (ws left : List Work) (link : L) → input_of d ≡ None → line (setting old) d ≡ []
       → LooksOnly view old.kept kept → CountsAll (d ∷ []) (counts old.link) (counts link)
       → (AllByRecursion (IsLawfulWork old.kept.node.control.nodes old.kept.node.control.me) old.works → AllByRecursion (IsLawfulWork old.kept.node.control.nodes old.kept.node.control.me) ws)
@@ -111,6 +118,9 @@ module _ {D L K : Type 0} (view : D → DiskView) (takes fails : K → List ℕ 
         let now : running new ≡ running old = is_same honest in
         subst (λ (r : Running). AreDone (setting old) [] (running old) r (story old.link) (story new.link)) (sym now)
         (subst (λ (l : L). AreDone (setting old) [] (running old) (running old) (story old.link) (story l)) (sym link) (done_none (setting old) (running old) (story old.link)));
+    moments = λ honest.
+        prefix_none view (header_of old.kept.node.control) old.kept.node.control.me takes (line (setting old)) (node_of old.kept) (disks_of old.kept) (disks_of new.kept) old.sink new.sink
+        (looks.moments honest) sink;
   }
     where
       is_same : IsHonest view old.kept → running new ≡ running old
@@ -128,6 +138,7 @@ module _ {D L K : Type 0} (view : D → DiskView) (takes fails : K → List ℕ 
   look_breaks takes_nothing ends.Memory old new sink told counted stops = record {
     text = subst (λ (k : K). takes old.sink [] k) (sym sink) (takes_nothing old.sink);
     leaves = stops.leaves;
+    moments = stops.moments;
     goes_on = stops.goes_on;
     cause = tt;
     meets = tt;
@@ -137,6 +148,7 @@ module _ {D L K : Type 0} (view : D → DiskView) (takes fails : K → List ℕ 
   look_breaks takes_nothing ends.Disk old new sink told counted stops = record {
     text = subst (λ (k : K). takes old.sink [] k) (sym sink) (takes_nothing old.sink);
     leaves = stops.leaves;
+    moments = stops.moments;
     goes_on = stops.goes_on;
     cause = stops.cause;
     meets = tt;
@@ -172,6 +184,7 @@ module _ {D L K : Type 0} (view : D → DiskView) (takes fails : K → List ℕ 
   link_breaks takes_nothing old new kept sink told failed survives = record {
     text = subst (λ (k : K). takes old.sink [] k) (sym sink) (takes_nothing old.sink);
     leaves = subst (λ (k : KeptView D). IsHonest view old.kept → Survives view (header_of old.kept.node.control) old.kept.node.control.me (disks_of k) (node_of old.kept)) (sym kept) survives;
+    moments = λ honest. (0, ap (λ (k : KeptView D). disks_of k) kept);
     goes_on = subst (λ (k : KeptView D). AllGoOn view (disks_of old.kept) (disks_of k)) (sym kept) (go_on_none view (disks_of old.kept));
     cause = failed.listening;
     meets = tt;
@@ -185,6 +198,7 @@ module _ {D L K : Type 0} (view : D → DiskView) (takes fails : K → List ℕ 
   line_breaks ends.Sink text old new kept told counted (front, is, failed, rose) survives = record {
     text = (front, is, failed);
     leaves = subst (λ (k : KeptView D). IsHonest view old.kept → Survives view (header_of old.kept.node.control) old.kept.node.control.me (disks_of k) (node_of old.kept)) (sym kept) survives;
+    moments = λ honest. (0, ap (λ (k : KeptView D). disks_of k) kept);
     goes_on = subst (λ (k : KeptView D). AllGoOn view (disks_of old.kept) (disks_of k)) (sym kept) (go_on_none view (disks_of old.kept));
     cause = rose;
     meets = tt;
@@ -198,7 +212,7 @@ module _ {D L K : Type 0} (view : D → DiskView) (takes fails : K → List ℕ 
   line_breaks ends.Disk text old new kept told counted stops survives = absurd stops
   line_breaks ends.Full text old new kept told counted stops survives = absurd stops
 
-module _ {D L K : Type 0} (view : D → DiskView) (takes fails : K → List ℕ → K → Type 0) (faults : K → ℕ) (story : L → Option (List Call)) (counts : L → Counts) where
+module _ {D L K : Type 0} (view : D → DiskView) (takes fails : K → List ℕ → K → Type 0) (faults : K → ℕ) (story : L → Option (List Call)) (counts : L → LinkCounts) where
   -- the same of a line that is another text
   pub line_breaks_as : (end : TurnEnd) (text other : List ℕ) (old new : Server D L K) → text ≡ other → new.kept ≡ old.kept → story new.link ≡ story old.link → counts new.link ≡ counts old.link
       → LineStops fails faults end text old.sink new.sink → (IsHonest view old.kept → NodeSurvives view old.kept (node_of old.kept)) → NoteBreaks view takes fails faults story counts end other old new
@@ -212,7 +226,7 @@ put_first old text new none is = is ∙ ap (λ (t : List ℕ). t ++ text) none
 -- What the link tells
 
 -- an event came by some bytes
-pub event_bytes : (event : Event) (lent : List ℕ) (a b : Option (List Call)) → Told (GivesEvent event lent) a b → (bytes : List ℕ) × AddsAll (acts.Next event bytes ∷ []) a b
+pub event_bytes : (event : LinkEvent) (lent : List ℕ) (a b : Option (List Call)) → Told (GivesEvent event lent) a b → (bytes : List ℕ) × AddsAll (acts.Next event bytes ∷ []) a b
 event_bytes event lent a None told = ([], tt)
 event_bytes event lent None (Some b) told = absurd told
 event_bytes event lent (Some a) (Some b) told = (told.bytes, told.made)
@@ -220,9 +234,9 @@ event_bytes event lent (Some a) (Some b) told = (told.bytes, told.made)
 -- What a connection is given
 
 -- a text, and the end of the reply where nothing is left of it
-pub gave : (c : ℕ) (bytes text : List ℕ) (keeps told : Bool) (rest left : Option Place) (a b d : Option (List Call)) → bytes ≡ text → rest ≡ left
+pub gave : (c : ℕ) (bytes text : List ℕ) (keeps told : Bool) (rest left : Option Transfer) (a b d : Option (List Call)) → bytes ≡ text → rest ≡ left
     → AddsAll (acts.Give c bytes ∷ []) a b → AddsAll (finish c keeps told rest) b d → AddsAll (acts.Give c text ∷ finish c keeps told left) a d
 gave c bytes text keeps told rest left a b d same is given finished =
     subst (λ (t : List ℕ). AddsAll (acts.Give c t ∷ finish c keeps told left) a d) same
-    (subst (λ (p : Option Place). AddsAll (acts.Give c bytes ∷ finish c keeps told p) a d) is
+    (subst (λ (p : Option Transfer). AddsAll (acts.Give c bytes ∷ finish c keeps told p) a d) is
     (adds-then (acts.Give c bytes ∷ []) (finish c keeps told rest) a b d given finished))

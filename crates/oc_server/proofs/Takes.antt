@@ -1,12 +1,12 @@
 -- One input is taken, or it is not.
-use Rattle.std.proofs.Common.{◌≡◌, ℕ, zero, suc, take, drop, IsTrue, false, true, List, Option, [], ◌∷◌, ◌++◌, inr, refl, sym, ap, subst, ◌∙◌}
+use Rattle.std.proofs.Common.{◌≡◌, ℕ, zero, suc, take, drop, IsTrue, false, true, List, Option, [], ◌∷◌, ◌++◌, Some, inl, inr, refl, sym, ap, subst, ◌∙◌}
 use Rattle.std.proofs.lemmas.List.{append-nil}
 use Rattle.std.specs.List.{AllByRecursion}
 use Rattle.oc_base.specs.declared.shelf.Shelf.{Shelf}
-use Rattle.oc_events.specs.Told.{AddsAll}
-use Rattle.oc_events.specs.declared.call.Call.{Call}
-use Rattle.oc_events.specs.declared.counts.Counts.{Counts}
-use Rattle.oc_events.proofs.Stories.{adds-none}
+use Rattle.oc_link.specs.Told.{AddsAll}
+use Rattle.oc_link.specs.declared.call.Call.{Call}
+use Rattle.oc_link.specs.declared.counts.LinkCounts.{LinkCounts}
+use Rattle.oc_link.proofs.Stories.{adds-none}
 use Rattle.oc_io.specs.DiskView.{DiskView}
 use Rattle.oc_io.specs.Faults.{NoFall}
 use Rattle.oc_keep.specs.Calls.{IsSameOnFiles, RefusesInput}
@@ -28,6 +28,7 @@ use Rattle.oc_routes.specs.Inputs.{HasLine}
 use Rattle.oc_wire.specs.Spelling.{HasSpelling}
 use Rattle.oc_server.specs.Deeds.{Accepts, Deed, Running, Takes, after, calls, for_outbox, input_of, line, sender_of, taken_line, with_input}
 use Rattle.oc_server.specs.Noting.{LineStops}
+use Rattle.oc_server.specs.Moments.{TakesOne}
 use Rattle.oc_server.specs.Outboxes.{with_messages}
 use Rattle.oc_server.specs.Scenes.{Breaks, CountsAll, Did, IsFront, IsLawfulDial, IsLawfulWork, KeepStops, KeepsAll, KeepsOne, Taking, end_of, running, setting}
 use Rattle.oc_server.specs.Sending.{AreSendable}
@@ -37,6 +38,7 @@ use Rattle.oc_server.specs.declared.ends.TurnEnd.TheVariants as ends
 use Rattle.oc_server.specs.declared.server.Server.{Server}
 use Rattle.oc_server.specs.declared.work.Work.{Work}
 use Rattle.oc_server.proofs.Looking.{go_on_none, keeps_one, named}
+use Rattle.oc_server.proofs.Moments.{prefix_one}
 use Rattle.oc_server.proofs.Messages.{lawful_are, kept_sendable, with_sendable}
 use Rattle.oc_server.proofs.Lawful.{lawful_of}
 
@@ -70,18 +72,21 @@ module _ {D : Type 0} (view : D → DiskView) (law : Law view) (old new : KeptVi
       let yes : old.closed ≡ true = closed refl in let no = is_open in absurd cc
   keep_stops keeps.Memory is_open same closed refused moments survives = record {
     leaves = open_leaves same.node same.goes_on refused.node (refused.why.still ∙ is_open) survives;
+    any_moment = moments;
     goes_on = same.goes_on;
     cause = tt;
     meets = tt;
   }
   keep_stops keeps.Full is_open same closed refused moments survives = record {
     leaves = open_leaves same.node same.goes_on refused.node (refused.why.1.still ∙ is_open) survives;
+    any_moment = moments;
     goes_on = same.goes_on;
     cause = full_still refused.why.1.nothing refused.why.0;
     meets = (refused.why.0, refused.why.1.nothing);
   }
   keep_stops keeps.Disk is_open same closed refused moments survives = record {
     leaves = λ honest. leaves_now view (header_of old.node.control) old.node.control.me (disks_of old) (disks_of new) (SameAsEither (node_of old) (step (node_of old) i).node) law (all_honest view (disks_of old) (disks_of new) same.goes_on honest) (moments honest);
+    any_moment = moments;
     goes_on = same.goes_on;
     cause = refused.why.1.rose;
     meets = refused.why.0;
@@ -89,17 +94,17 @@ module _ {D : Type 0} (view : D → DiskView) (law : Law view) (old new : KeptVi
 
 -- A server that takes an input
 
-module _ {D L K : Type 0} (view : D → DiskView) (takes fails : K → List ℕ → K → Type 0) (faults : K → ℕ) (story : L → Option (List Call)) (counts : L → Counts) where
+module _ {D L K : Type 0} (view : D → DiskView) (takes fails : K → List ℕ → K → Type 0) (faults : K → ℕ) (story : L → Option (List Call)) (counts : L → LinkCounts) where
   -- an input was taken with its line, and these of its messages went to the outbox
   did_input : (d : Deed) (i : Input) (outcome : OutcomeView) (kept : List Message → List Message) (old new : Server D L K)
-      → (KeepsAll view (i ∷ []) old.kept new.kept → KeepsAll view (with_input (input_of d) []) old.kept new.kept) → line (setting old) d ≡ taken_line old.log old.kept.node.control.me i
+      → input_of d ≡ Some i → line (setting old) d ≡ taken_line old.log old.kept.node.control.me i
       → ((a : Running) → after d a ≡ record a { node = (step a.node i).node; outbox = with_messages a.outbox (kept (step a.node i).sends) }) → ((a : Running) → calls (setting old) d a ≡ [])
       → CountsAll (d ∷ []) (counts old.link) (counts old.link)
       → ((ms : List Message) → AreSendable old.kept.node.control.nodes ms → AreSendable old.kept.node.control.nodes (kept ms))
       → old.kept.closed ≡ false → KeepsOne view i outcome old.kept new.kept → takes old.sink (taken_line old.log old.kept.node.control.me i) new.sink → NoFall (faults old.sink) (faults new.sink)
       → new.config ≡ old.config → new.log ≡ old.log → new.link ≡ old.link → new.works ≡ old.works → new.dials ≡ old.dials → new.outbox ≡ with_messages old.outbox (kept outcome.sends)
       → Did view takes faults story counts (d ∷ []) old new
-  did_input d i outcome kept old new input lined behind silent counted can is_open keeps text few config log link works dials outbox = record {
+  did_input d i outcome kept old new own lined behind silent counted can is_open keeps text few config log link works dials outbox = record {
     is_open = keeps.is_open;
     same = keeps.same;
     config = config;
@@ -107,7 +112,7 @@ module _ {D L K : Type 0} (view : D → DiskView) (takes fails : K → List ℕ 
     goes_on = keeps.goes_on;
     no_fall = few;
     counted = subst (λ (l : L). CountsAll (d ∷ []) (counts old.link) (counts l)) (sym link) counted;
-    keeps = input (keeps_one view i outcome old.kept new.kept is_open keeps);
+    keeps = subst (λ (o : Option Input). KeepsAll view (with_input o []) old.kept new.kept) (sym own) (keeps_one view i outcome old.kept new.kept is_open keeps);
     lawful = lawful_of old new keeps.same
         (λ before. subst (λ (ms : List Message). AreSendable old.kept.node.control.nodes ms) (sym outbox) (with_sendable old.kept.node.control.nodes old.outbox (kept outcome.sends) before (can outcome.sends keeps.sendable)))
         (λ before. subst (λ (ws : List Work). AllByRecursion (IsLawfulWork old.kept.node.control.nodes old.kept.node.control.me) ws) (sym works) before)
@@ -118,6 +123,11 @@ module _ {D L K : Type 0} (view : D → DiskView) (takes fails : K → List ℕ 
       calls = subst (λ (cs : List Call). AddsAll cs (story old.link) (story new.link)) (sym (append-nil (calls (setting old) d (running old)) ∙ silent (running old)))
           (subst (λ (l : L). AddsAll [] (story old.link) (story l)) (sym link) (adds-none (story old.link)));
     };
+    moments = λ honest.
+        prefix_one view (header_of old.kept.node.control) old.kept.node.control.me takes (line (setting old)) d (node_of old.kept) (disks_of old.kept) (disks_of old.kept) (disks_of new.kept) old.sink new.sink
+        (0, refl)
+        (subst (λ (o : Option Input). TakesOne view (header_of old.kept.node.control) old.kept.node.control.me o (node_of old.kept) (disks_of old.kept) (disks_of new.kept)) (sym own) (record { goes_on = keeps.goes_on; any_moment = keeps.any_moment honest }))
+        (subst (λ (t : List ℕ). takes old.sink t new.sink) (sym lined) text);
   }
     where
       is : IsHonest view old.kept
@@ -134,25 +144,25 @@ module _ {D L K : Type 0} (view : D → DiskView) (takes fails : K → List ℕ 
       → takes old.sink (taken_line old.log old.kept.node.control.me i) new.sink → NoFall (faults old.sink) (faults new.sink)
       → new.config ≡ old.config → new.log ≡ old.log → new.link ≡ old.link → new.works ≡ old.works → new.dials ≡ old.dials → new.outbox ≡ with_messages old.outbox outcome.sends
       → Did view takes faults story counts (Takes i ∷ []) old new
-  did_take i outcome old new = did_input (Takes i) i outcome (λ ms. ms) old new (λ k. k) refl (λ a. refl) (λ a. refl) refl (λ ms all. all)
+  did_take i outcome old new = did_input (Takes i) i outcome (λ ms. ms) old new refl refl (λ a. refl) (λ a. refl) refl (λ ms all. all)
 
   -- all but what goes back to the sender
   pub did_accept : (i : Input) (outcome : OutcomeView) (old new : Server D L K) → old.kept.closed ≡ false → KeepsOne view i outcome old.kept new.kept
       → takes old.sink (taken_line old.log old.kept.node.control.me i) new.sink → NoFall (faults old.sink) (faults new.sink)
       → new.config ≡ old.config → new.log ≡ old.log → new.link ≡ old.link → new.works ≡ old.works → new.dials ≡ old.dials → new.outbox ≡ with_messages old.outbox (for_outbox i outcome.sends)
       → Did view takes faults story counts (Accepts i ∷ []) old new
-  did_accept i outcome old new = did_input (Accepts i) i outcome (for_outbox i) old new (λ k. k) refl (λ a. refl) (λ a. refl) refl (λ ms all. kept_sendable old.kept.node.control.nodes ms (sender_of i) all)
+  did_accept i outcome old new = did_input (Accepts i) i outcome (for_outbox i) old new refl refl (λ a. refl) (λ a. refl) refl (λ ms all. kept_sendable old.kept.node.control.nodes ms (sender_of i) all)
 
   -- an input that was not taken wrote nothing
   pub keep_breaks : (takes_nothing : (k : K) → takes k [] k) (end : TurnEnd) (i : Input) (old new : Server D L K)
       → new.sink ≡ old.sink → story new.link ≡ story old.link → counts new.link ≡ counts old.link
       → KeepStops view end i old.kept new.kept → Breaks view takes fails faults story counts end (Taking i) old new
   keep_breaks takes_nothing ends.Disk i old new sink told counted stops =
-      record { text = subst (λ (k : K). takes old.sink [] k) (sym sink) (takes_nothing old.sink); leaves = stops.leaves; goes_on = stops.goes_on; cause = stops.cause; meets = stops.meets; told = told; counted = counted }
+      record { text = subst (λ (k : K). takes old.sink [] k) (sym sink) (takes_nothing old.sink); leaves = stops.leaves; moments = λ honest. inl (record { goes_on = stops.goes_on; any_moment = stops.any_moment honest }); goes_on = stops.goes_on; cause = stops.cause; meets = stops.meets; told = told; counted = counted }
   keep_breaks takes_nothing ends.Full i old new sink told counted stops =
-      record { text = subst (λ (k : K). takes old.sink [] k) (sym sink) (takes_nothing old.sink); leaves = stops.leaves; goes_on = stops.goes_on; cause = stops.cause; meets = stops.meets; told = told; counted = counted }
+      record { text = subst (λ (k : K). takes old.sink [] k) (sym sink) (takes_nothing old.sink); leaves = stops.leaves; moments = λ honest. inl (record { goes_on = stops.goes_on; any_moment = stops.any_moment honest }); goes_on = stops.goes_on; cause = stops.cause; meets = stops.meets; told = told; counted = counted }
   keep_breaks takes_nothing ends.Memory i old new sink told counted stops =
-      record { text = subst (λ (k : K). takes old.sink [] k) (sym sink) (takes_nothing old.sink); leaves = stops.leaves; goes_on = stops.goes_on; cause = tt; meets = tt; told = told; counted = counted }
+      record { text = subst (λ (k : K). takes old.sink [] k) (sym sink) (takes_nothing old.sink); leaves = stops.leaves; moments = λ honest. inl (record { goes_on = stops.goes_on; any_moment = stops.any_moment honest }); goes_on = stops.goes_on; cause = tt; meets = tt; told = told; counted = counted }
   keep_breaks takes_nothing ends.Served i old new sink told counted stops = absurd stops.cause
   keep_breaks takes_nothing ends.Quiet i old new sink told counted stops = absurd stops.cause
   keep_breaks takes_nothing ends.Link i old new sink told counted stops = absurd stops.cause
@@ -162,7 +172,7 @@ module _ {D L K : Type 0} (view : D → DiskView) (takes fails : K → List ℕ 
   pub memory_before : (takes_nothing : (k : K) → takes k [] k) (i : Input) (old : Server D L K) → (IsHonest view old.kept → NodeSurvives view old.kept (node_of old.kept))
       → Breaks view takes fails faults story counts ends.Memory (Taking i) old old
   memory_before takes_nothing i old survives =
-      record { text = takes_nothing old.sink; leaves = survives; goes_on = go_on_none view (disks_of old.kept); cause = tt; meets = tt; told = refl; counted = refl }
+      record { text = takes_nothing old.sink; leaves = survives; moments = λ honest. inr refl; goes_on = go_on_none view (disks_of old.kept); cause = tt; meets = tt; told = refl; counted = refl }
 
   -- the output failed in the line of an input that the files have
   pub write_breaks : (end : TurnEnd) (i : Input) (outcome : OutcomeView) (old new : Server D L K) → story new.link ≡ story old.link → counts new.link ≡ counts old.link
@@ -175,6 +185,7 @@ module _ {D L K : Type 0} (view : D → DiskView) (takes fails : K → List ℕ 
         subst (λ (n : Node). Survives view (header_of old.kept.node.control) old.kept.node.control.me (disks_of new.kept) n) (kept.node honest)
         (named (λ h me. Survives view h me (disks_of new.kept) (node_of new.kept)) old.kept new.kept kept.same (kept.survives honest)) in
         record { each = λ a b c may. inr (left.each a b c may) };
+    moments = λ honest. inl (record { goes_on = kept.goes_on; any_moment = kept.any_moment honest });
     goes_on = kept.goes_on;
     cause = rose;
     meets = kept.fits;
@@ -188,7 +199,7 @@ module _ {D L K : Type 0} (view : D → DiskView) (takes fails : K → List ℕ 
   write_breaks ends.Disk i outcome old new told counted kept stops = absurd stops
   write_breaks ends.Full i outcome old new told counted kept stops = absurd stops
 
-module _ {D L K : Type 0} (view : D → DiskView) (takes fails : K → List ℕ → K → Type 0) (faults : K → ℕ) (story : L → Option (List Call)) (counts : L → Counts) where
+module _ {D L K : Type 0} (view : D → DiskView) (takes fails : K → List ℕ → K → Type 0) (faults : K → ℕ) (story : L → Option (List Call)) (counts : L → LinkCounts) where
   -- the same of a line that is another text
   pub write_breaks_as : (end : TurnEnd) (i : Input) (outcome : OutcomeView) (old new : Server D L K) (text : List ℕ) → text ≡ taken_line old.log old.kept.node.control.me i → story new.link ≡ story old.link → counts new.link ≡ counts old.link
       → KeepsOne view i outcome old.kept new.kept → LineStops fails faults end text old.sink new.sink

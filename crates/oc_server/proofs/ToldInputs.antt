@@ -1,8 +1,8 @@
 -- Inputs that are taken, with what is told of them.
 use Rattle.std.proofs.Common.{◌≡◌, ℕ, false, Option, None, Some, List, [], ◌∷◌, ◌++◌, refl, ap, ◌∙◌}
 use Rattle.oc_base.specs.declared.cert.Child.{Child}
-use Rattle.oc_events.specs.declared.call.Call.{Call}
-use Rattle.oc_events.specs.declared.counts.Counts.{Counts}
+use Rattle.oc_link.specs.declared.call.Call.{Call}
+use Rattle.oc_link.specs.declared.counts.LinkCounts.{LinkCounts}
 use Rattle.oc_io.specs.DiskView.{DiskView}
 use Rattle.oc_keep.specs.KeptView.{IsHonest, node_of}
 use Rattle.oc_model.specs.declared.answer.Answer.{Answer}
@@ -36,7 +36,7 @@ told_same logs.Brief n x i (Some b) answer known is says =
     ∙ ap (λ (a : Answer). asked_line (told_input n.control.me i) a ++ lost_lines x (at_stake n.control i) ++ moved_line n.control.kept.mode x) says
     ∙ ap (λ (y : Control). asked_line (told_input n.control.me i) (step n i).answer ++ lost_lines y (at_stake n.control i) ++ moved_line n.control.kept.mode y) is
 
-module _ {D L K : Type 0} (view : D → DiskView) (takes fails : K → List ℕ → K → Type 0) (faults : K → ℕ) (story : L → Option (List Call)) (counts : L → Counts) (takes_nothing : (k : K) → takes k [] k)
+module _ {D L K : Type 0} (view : D → DiskView) (takes fails : K → List ℕ → K → Type 0) (faults : K → ℕ) (story : L → Option (List Call)) (counts : L → LinkCounts) (takes_nothing : (k : K) → takes k [] k)
     (takes_then : (a b c : K) (x y : List ℕ) → takes a x b → takes b y c → takes a (x ++ y) c)
     (d : Deed) (p : Part) (i : Input) (a : Server D L K) (part : p (setting a) (running a) ≡ d ∷ Says (told_of a.log (node_of a.kept) i) ∷ [])
     (behind : (after d (running a)).node ≡ (step (node_of a.kept) i).node) where

@@ -3,7 +3,7 @@ use Rattle.std.proofs.Common.{◌≡◌, IsTrue, false, true, Bool, refl, ap, su
 use Rattle.oc_content.specs.ContentFile.{groups_in}
 use Rattle.oc_content.specs.ContentView.{ContentView}
 use Rattle.oc_keep.specs.Files.{AllGoOn, SameDurable, Survives}
-use Rattle.oc_keep.specs.KeptView.{IsHonest, KeptView, NodeSurvives, disks_of, header_of, node_of}
+use Rattle.oc_keep.specs.KeptView.{AtAnyMoment, IsHonest, KeptView, NodeSurvives, disks_of, header_of, node_of}
 use Rattle.oc_keep.specs.Calls.{FailsToReady, FailsToTidy, KeepsNode, StaysTheSame, Tidies}
 use Rattle.oc_keep.specs.Promises.{Closes, IsSameNode}
 use Rattle.oc_keep.specs.declared.errors.ReadyError.{ReadyError}
@@ -16,8 +16,9 @@ use Rattle.oc_model.specs.declared.input.Input.{Input}
 use Rattle.oc_io.specs.DiskView.{DiskView}
 use Rattle.oc_io.specs.Faults.{NoFall}
 use Rattle.oc_server.specs.declared.ends.TurnEnd.TheVariants as ends
-use Rattle.oc_server.specs.Looks.{LooksOnly, LookStops, end_of_ready, end_of_tidy}
+use Rattle.oc_server.specs.Looks.{LooksOnly, LookStops, LooksUntil, end_of_ready, end_of_tidy}
 use Rattle.oc_server.proofs.Looking.{named}
+use Rattle.oc_server.proofs.Moments.{one_look}
 
 module _ {D : Type 0} (view : D → DiskView) (old new : KeptView D) where
   -- with the same control state and the same content it is the same node
@@ -37,6 +38,7 @@ module _ {D : Type 0} (view : D → DiskView) (old new : KeptView D) where
     goes_on = keeps.goes_on;
     node = λ honest. same_node keeps.control keeps.content;
     generation = λ honest. grows turned tidies;
+    moments = λ honest. one_look view (header_of old.node.control) old.node.control.me (node_of old) (disks_of old) (disks_of new) keeps.goes_on (keeps.any_moment is_open honest);
   }
     where
       still : (t : Bool) → Tidies view t old new → new.closed ≡ old.closed
@@ -48,6 +50,10 @@ module _ {D : Type 0} (view : D → DiskView) (old new : KeptView D) where
       grows false same = omega (arith, ap (λ (k : KeptView D). k.store.generation) same)
 
 module _ {D : Type 0} (view : D → DiskView) (law : Law view) (old new : KeptView D) where
+  -- one call, at every moment of which a crash leaves the node
+  looked_once : AllGoOn view (disks_of old) (disks_of new) → AtAnyMoment view old new (SameDurable (node_of old)) → LooksUntil view old (disks_of new)
+  looked_once on leaves = one_look view (header_of old.node.control) old.node.control.me (node_of old) (disks_of old) (disks_of new) on leaves
+
   stays : new.node.control ≡ old.node.control → new.content ≡ old.content → AllGoOn view (disks_of old) (disks_of new) → new.closed ≡ false
       → (new.closed ≡ false → IsHonest view new → NodeSurvives view new (node_of new)) → IsHonest view old → Survives view (header_of old.node.control) old.node.control.me (disks_of new) (node_of old)
   stays control content on is_open survives honest =
@@ -63,11 +69,13 @@ module _ {D : Type 0} (view : D → DiskView) (law : Law view) (old new : KeptVi
   tidy_stops tidies.Memory is_open keeps closed fails survives = record {
     goes_on = keeps.goes_on;
     leaves = stays keeps.control keeps.content keeps.goes_on (fails.still ∙ is_open) survives;
+    moments = λ honest. looked_once keeps.goes_on (keeps.any_moment is_open honest);
     cause = tt;
   }
   tidy_stops tidies.Disk is_open keeps closed fails survives = record {
     goes_on = keeps.goes_on;
     leaves = λ honest. leaves_now view (header_of old.node.control) old.node.control.me (disks_of old) (disks_of new) (SameDurable (node_of old)) law (all_honest view (disks_of old) (disks_of new) keeps.goes_on honest) (keeps.any_moment is_open honest);
+    moments = λ honest. looked_once keeps.goes_on (keeps.any_moment is_open honest);
     cause = fails.rose;
   }
 
@@ -76,6 +84,7 @@ module _ {D : Type 0} (view : D → DiskView) (law : Law view) (old new : KeptVi
   read_stops is_open same closes = record {
     goes_on = same.goes_on;
     leaves = λ honest. leaves_now view (header_of old.node.control) old.node.control.me (disks_of old) (disks_of new) (SameDurable (node_of old)) law (all_honest view (disks_of old) (disks_of new) same.goes_on honest) (same.any_moment is_open honest);
+    moments = λ honest. looked_once same.goes_on (same.any_moment is_open honest);
     cause = closes.rose;
   }
 
@@ -91,6 +100,7 @@ module _ {D : Type 0} (view : D → DiskView) (law : Law view) (old new : KeptVi
         subst (λ (n : Node). Survives view (header_of old.node.control) old.node.control.me (disks_of new) n) (same.node honest)
         (named (λ h me. Survives view h me (disks_of new) (node_of new)) old new (same_id view old new same.nothing.control)
         (survives (fails ∙ is_open) (all_honest view (disks_of old) (disks_of new) same.goes_on honest)));
+    moments = λ honest. looked_once same.goes_on (same.any_moment is_open honest);
     cause = tt;
   }
   ready_stops readies.Disk i is_open same closed fails survives = read_stops is_open same fails.1

@@ -4,19 +4,19 @@ use Rattle.std.specs.Prelude.{IsTrue}
 use Rattle.std.proofs.lemmas.Bool.{eq-eqb, ne_eqb}
 use Rattle.oc_base.specs.Groups.{shelf}
 use Rattle.oc_config.specs.Settings.{Settings}
-use Rattle.oc_events.specs.Stands.{may}
-use Rattle.oc_events.specs.Told.{AddsAll, GivesEvent, Told as Telling}
-use Rattle.oc_events.specs.Traffic.{held}
-use Rattle.oc_events.specs.declared.call.Call.{Call}
-use Rattle.oc_events.specs.declared.call.Call.TheVariants as acts
-use Rattle.oc_events.specs.declared.counts.Counts.{Counts}
-use Rattle.oc_events.specs.declared.event.Event.{Event}
-use Rattle.oc_events.specs.declared.event.Event.TheVariants as events
-use Rattle.oc_events.proofs.Stories.{adds-then}
+use Rattle.oc_link.specs.Stands.{may}
+use Rattle.oc_link.specs.Told.{AddsAll, GivesEvent, Told as Telling}
+use Rattle.oc_link.specs.Traffic.{held}
+use Rattle.oc_link.specs.declared.call.Call.{Call}
+use Rattle.oc_link.specs.declared.call.Call.TheVariants as acts
+use Rattle.oc_link.specs.declared.counts.LinkCounts.{LinkCounts}
+use Rattle.oc_link.specs.declared.event.LinkEvent.{LinkEvent}
+use Rattle.oc_link.specs.declared.event.LinkEvent.TheVariants as events
+use Rattle.oc_link.proofs.Stories.{adds-then}
 use Rattle.oc_io.specs.DiskView.{DiskView}
 use Rattle.oc_keep.specs.KeptView.{IsHonest, node_of}
 use Rattle.oc_probe.specs.declared.probing.Probing.{Probing}
-use Rattle.oc_reply.specs.Verdicts.{NodeTerms, terms_of}
+use Rattle.oc_routes.specs.Verdicts.{NodeTerms, terms_of}
 use Rattle.oc_base.specs.declared.shelf.Shelf.{Shelf}
 use Rattle.oc_model.specs.Node.{Header}
 use Rattle.oc_server.specs.Choices.{due_place, wait_for}
@@ -27,7 +27,7 @@ use Rattle.oc_server.specs.Parts.{Does, Part, Stops, nothing, one, ◌>>◌}
 use Rattle.oc_server.specs.Runs.{CouldCome, DealStops, Dealt, IsLent, IsMeasured, IsRead, MayRead, behind_reading, due_in, is_something, is_served, lent_in, reads_by, NextStops, NextTaken, Turned, TurnStops}
 use Rattle.oc_server.specs.Scenes.{Breaks, Did, Idle, IsServing, running, setting}
 use Rattle.oc_server.specs.Hurries.{came_hurries}
-use Rattle.oc_server.specs.Turns.{Means, Told, deals, happens, quickened, takes_due, ticks_and_sends, pace_behind, paced, probed, probing_behind, takes_at, takes_next, takes_one, ticked, ticks, turn}
+use Rattle.oc_server.specs.Turns.{Means, Observation, deals, happens, quickened, takes_due, ticks_and_sends, pace_behind, paced, probed, probing_behind, takes_at, takes_next, takes_one, ticked, ticks, turn}
 use Rattle.oc_server.specs.declared.came.Came.{Came}
 use Rattle.oc_server.specs.declared.came.Came.TheVariants as comes
 use Rattle.oc_server.specs.declared.dials.Errand.{Errand}
@@ -64,18 +64,18 @@ cancel [] ys zs e = e
 cancel (x ∷ xs) ys zs e = let rest : xs ++ ys ≡ xs ++ zs = cc in cancel xs ys zs rest
 
 -- the bytes of an event that was told are those of its deed
-same_bytes : (event : Event) (calls now : List Call) (x y : List ℕ) → now ≡ calls ++ acts.Next event x ∷ [] → now ≡ calls ++ acts.Next event y ∷ [] → x ≡ y
+same_bytes : (event : LinkEvent) (calls now : List Call) (x y : List ℕ) → now ≡ calls ++ acts.Next event x ∷ [] → now ≡ calls ++ acts.Next event y ∷ [] → x ≡ y
 same_bytes event calls now x y p q =
     let e : acts.Next event x ∷ [] ≡ acts.Next event y ∷ [] = cancel calls (acts.Next event x ∷ []) (acts.Next event y ∷ []) (sym p ∙ q) in cc
 
 -- what is lent is what the story says, as far as it is looked at
-pub record Lent (a z : Option (List Call)) (event : Event) (bytes lent : List ℕ) : Type 0 where
+pub record Lent (a z : Option (List Call)) (event : LinkEvent) (bytes lent : List ℕ) : Type 0 where
   pub bytes_lent : List ℕ
   pub is_lent : IsLent a z event bytes bytes_lent
   pub could : CouldCome a z event
   pub means : (t : NodeTerms) (errand : Option Errand) (came : Came) → Means t lent errand event came → Means t bytes_lent errand event came
 
-lent_by : (event : Event) (calls now end : List Call) (bytes lent : List ℕ) → GivesEvent event lent calls now → now ≡ calls ++ acts.Next event bytes ∷ [] → Lent (Some calls) (Some end) event bytes lent
+lent_by : (event : LinkEvent) (calls now end : List Call) (bytes lent : List ℕ) → GivesEvent event lent calls now → now ≡ calls ++ acts.Next event bytes ∷ [] → Lent (Some calls) (Some end) event bytes lent
 lent_by (events.Request a) calls now end bytes lent told is =
     record { bytes_lent = lent; is_lent = told.lends ∙ ap (λ (cs : List Call). held a.connection cs) is; could = told.could; means = λ t errand came m. m }
 lent_by (events.Reply d coming) calls now end bytes lent told is =
@@ -84,14 +84,14 @@ lent_by (events.Room c) calls now end bytes lent told is = record { bytes_lent =
 lent_by (events.Gone c loss) calls now end bytes lent told is = record { bytes_lent = bytes; is_lent = refl; could = told.could; means = λ t errand came m. m }
 lent_by events.Quiet calls now end bytes lent told is = record { bytes_lent = bytes; is_lent = refl; could = told.could; means = λ t errand came m. m }
 
-pub lent_is : (event : Event) (bytes lent : List ℕ) (more : List Call) (a b z : Option (List Call)) → Telling (GivesEvent event lent) a b → AddsAll (acts.Next event bytes ∷ []) a b → AddsAll more b z
+pub lent_is : (event : LinkEvent) (bytes lent : List ℕ) (more : List Call) (a b z : Option (List Call)) → Telling (GivesEvent event lent) a b → AddsAll (acts.Next event bytes ∷ []) a b → AddsAll more b z
     → Lent a z event bytes lent
 lent_is event bytes lent more None b z told adds behind = record { bytes_lent = lent; is_lent = tt; could = tt; means = λ t errand came m. m }
 lent_is event bytes lent more (Some calls) b None told adds behind = record { bytes_lent = lent; is_lent = tt; could = tt; means = λ t errand came m. m }
 lent_is event bytes lent more (Some calls) None (Some end) told adds behind = absurd behind
 lent_is event bytes lent more (Some calls) (Some now) (Some end) told adds behind = lent_by event calls now end bytes lent told adds
 
-module _ {D L K : Type 0} (view : D → DiskView) (takes fails : K → List ℕ → K → Type 0) (faults : K → ℕ) (story : L → Option (List Call)) (counts : L → Counts) where
+module _ {D L K : Type 0} (view : D → DiskView) (takes fails : K → List ℕ → K → Type 0) (faults : K → ℕ) (story : L → Option (List Call)) (counts : L → LinkCounts) where
   -- What is kept to read heads
 
   pub did_heads : (ds : List Deed) (a b c : Server D L K) → c ≡ record b { heads = c.heads } → Did view takes faults story counts ds a b → Did view takes faults story counts ds a c
@@ -107,6 +107,7 @@ module _ {D L K : Type 0} (view : D → DiskView) (takes fails : K → List ℕ 
     lawful = λ lawful. let more = did.lawful lawful in record { sendable = more.sendable; works = more.works; dials = more.dials };
     text = did.text;
     done = λ honest. did.done honest;
+    moments = did.moments;
   })
 
   pub serving_heads : (b c : Server D L K) → c ≡ record b { heads = c.heads } → IsServing b → IsServing c
@@ -119,7 +120,7 @@ module _ {D L K : Type 0} (view : D → DiskView) (takes fails : K → List ℕ 
 
   -- What is told of a node at two moments
 
-  -- the story of the link behind deeds
+  -- the story of the link after deeds
   told_behind : (ds : List Deed) (a b : Server D L K) → Did view takes faults story counts ds a b → IsHonest view a.kept → AddsAll (calls_of (setting a) ds (running a)) (story a.link) (story b.link)
   told_behind ds a b did honest = (did.done honest).calls
 
@@ -144,20 +145,20 @@ module _ {D L K : Type 0} (view : D → DiskView) (takes fails : K → List ℕ 
         ∙ ap (λ (ls : List Shelf). due_place b.works ls before) (sym (held (still_honest view takes fails faults story counts (Reads before ∷ []) a b did honest)))
 
     -- what a turn does by what was due
-    one_by : (due : Option ℕ) (pace : Pace) (probing : Option Probing) (t : Told) → t.before ≡ before → (IsHonest view a.kept → due_in a before ≡ due) → IsHonest view a.kept
+    one_by : (due : Option ℕ) (pace : Pace) (probing : Option Probing) (t : Observation) → t.before ≡ before → (IsHonest view a.kept → due_in a before ≡ due) → IsHonest view a.kept
         → takes_at due pace probing t (setting b) (running b) ≡ takes_one pace probing t (setting b) (running b)
     one_by due pace probing t begins is honest =
         ap (λ (o : Option ℕ). takes_at o pace probing t (setting b) (running b))
         (sym (is honest) ∙ ap (λ (r : Running). due_place r.works (shelf r.node.groups) before) (sym (did.done honest).after)
         ∙ ap (λ (n : ℕ). due_place b.works (shelf (node_of b.kept).groups) n) (sym begins))
 
-    pub does_turn : (due : Option ℕ) (pace : Pace) (probing : Option Probing) (t : Told) → t.before ≡ before → (IsHonest view a.kept → due_in a before ≡ due)
+    pub does_turn : (due : Option ℕ) (pace : Pace) (probing : Option Probing) (t : Observation) → t.before ≡ before → (IsHonest view a.kept → due_in a before ≡ due)
         → Does view takes faults story counts (takes_at due pace probing t) b c → Does view takes faults story counts (turn pace probing t) a c
     does_turn due pace probing t begins is does =
         subst (λ (n : ℕ). Does view takes faults story counts (one (Reads n) >> takes_one pace probing t) a c) (sym begins)
         (does_after view takes fails faults story counts takes_then (one (Reads before)) (takes_one pace probing t) (takes_at due pace probing t) a b c first (one_by due pace probing t begins is) does)
 
-    pub stops_turn : (end : TurnEnd) (due : Option ℕ) (pace : Pace) (probing : Option Probing) (t : Told) → t.before ≡ before → (IsHonest view a.kept → due_in a before ≡ due)
+    pub stops_turn : (end : TurnEnd) (due : Option ℕ) (pace : Pace) (probing : Option Probing) (t : Observation) → t.before ≡ before → (IsHonest view a.kept → due_in a before ≡ due)
         → (stops : Stops view takes fails faults story counts end (takes_at due pace probing t) b c)
         → (whole : Stops view takes fails faults story counts end (turn pace probing t) a c) × (whole.deeds ≡ Reads before ∷ stops.deeds)
     stops_turn end due pace probing t begins is stops =
@@ -165,7 +166,7 @@ module _ {D L K : Type 0} (view : D → DiskView) (takes fails : K → List ℕ 
         (λ honest. ap (λ (n : ℕ). (one (Reads n) >> takes_one pace probing t) (setting a) (running a)) begins) (one_by due pace probing t begins is) stops
 
     -- the story when the link was asked
-    lent_then : (event : Event) (bytes lent : List ℕ) (more : List Call) (x y z : Option (List Call)) → AddsAll (acts.Millis before ∷ []) x y → AddsAll more y z
+    lent_then : (event : LinkEvent) (bytes lent : List ℕ) (more : List Call) (x y z : Option (List Call)) → AddsAll (acts.Millis before ∷ []) x y → AddsAll more y z
         → IsLent y z event bytes lent → IsLent (behind_reading before x) z event bytes lent
     lent_then event bytes lent more None y z made behind is = tt
     lent_then event bytes lent more (Some calls) y None made behind is = tt
@@ -173,7 +174,7 @@ module _ {D L K : Type 0} (view : D → DiskView) (takes fails : K → List ℕ 
     lent_then event bytes lent more (Some calls) (Some now) (Some end) made behind is =
         is ∙ ap (λ (cs : List Call). lent_in event bytes (cs ++ acts.Next event bytes ∷ [])) made
 
-    could_then : (event : Event) (more : List Call) (x y z : Option (List Call)) → AddsAll (acts.Millis before ∷ []) x y → AddsAll more y z → CouldCome y z event → CouldCome (behind_reading before x) z event
+    could_then : (event : LinkEvent) (more : List Call) (x y z : Option (List Call)) → AddsAll (acts.Millis before ∷ []) x y → AddsAll more y z → CouldCome y z event → CouldCome (behind_reading before x) z event
     could_then event more None y z made behind could = tt
     could_then event more (Some calls) y None made behind could = tt
     could_then event more (Some calls) None (Some end) made behind could = absurd behind
@@ -181,12 +182,12 @@ module _ {D L K : Type 0} (view : D → DiskView) (takes fails : K → List ℕ 
 
   -- One thing that happened
 
-  module _ (takes_nothing : (k : K) → takes k [] k) (takes_then : (a b c : K) (x y : List ℕ) → takes a x b → takes b y c → takes a (x ++ y) c) (old : Turns D L K) (before wait : ℕ) (event : Event) (bytes : List ℕ) (b : Server D L K)
+  module _ (takes_nothing : (k : K) → takes k [] k) (takes_then : (a b c : K) (x y : List ℕ) → takes a x b → takes b y c → takes a (x ++ y) c) (old : Turns D L K) (before wait : ℕ) (event : LinkEvent) (bytes : List ℕ) (b : Server D L K)
       (is : wait ≡ wait_for old.pace old.server.works before) (did : Did view takes faults story counts (Sees event wait bytes ∷ []) old.server b) where
     abbrev sees : Deed
     sees = Sees event (wait_for old.pace old.server.works before) bytes
 
-    abbrev told_with : Came → ℕ → ℕ → ℕ → ℕ → Told
+    abbrev told_with : Came → ℕ → ℕ → ℕ → ℕ → Observation
     told_with came now median started seconds =
         record { before = before; event = event; bytes = bytes; came = came; now = now; median = median; started = started; seconds = seconds }
 
@@ -314,7 +315,7 @@ module _ {D L K : Type 0} (view : D → DiskView) (takes fails : K → List ℕ 
   -- A turn
 
   module _ (takes_nothing : (k : K) → takes k [] k) (takes_then : (a b c : K) (x y : List ℕ) → takes a x b → takes b y c → takes a (x ++ y) c) (old : Turns D L K) (before : ℕ) (b : Server D L K) (new : Turns D L K) (did : Did view takes faults story counts (Reads before ∷ []) old.server b) where
-    abbrev told_due : ℕ → Told
+    abbrev told_due : ℕ → Observation
     told_due seconds = record { before = before; event = events.Quiet; bytes = []; came = comes.Nothing; now = 0; median = 0; started = 0; seconds = seconds }
 
     -- some work was due
@@ -344,7 +345,7 @@ module _ {D L K : Type 0} (view : D → DiskView) (takes fails : K → List ℕ 
     -- none was due
     module _ (is : IsHonest view old.server.kept → due_in old.server before ≡ None) where
       -- what was read of the link is what it told in this turn
-      read_then : (t : Told) (more : List Call) → t.before ≡ before → IsHonest view old.server.kept → AddsAll more (story b.link) (story new.server.link)
+      read_then : (t : Observation) (more : List Call) → t.before ≡ before → IsHonest view old.server.kept → AddsAll more (story b.link) (story new.server.link)
           → IsRead (record old { server = b }) (story b.link) (story new.server.link) t → MayRead story (due_in old.server t.before) old new.server t
       read_then t more begins honest behind read =
           subst (λ (n : ℕ). MayRead story (due_in old.server n) old new.server t) (sym begins)
@@ -379,7 +380,7 @@ module _ {D L K : Type 0} (view : D → DiskView) (takes fails : K → List ℕ 
             ∙ ap (λ (o : Option ℕ). probing_behind o taken.told old.server.dials old.probing) (sym (due_told taken.told taken.begins honest));
       }
         where
-          due_told : (t : Told) → t.before ≡ before → IsHonest view old.server.kept → due_in old.server t.before ≡ None
+          due_told : (t : Observation) → t.before ≡ before → IsHonest view old.server.kept → due_in old.server t.before ≡ None
           due_told t begins honest = ap (λ (n : ℕ). due_in old.server n) begins ∙ is honest
 
       pub stopped_next : (end : TurnEnd) → NextStops view takes fails faults story counts end before (record old { server = b }) new → TurnStops view takes fails faults story counts end old new

@@ -1,12 +1,12 @@
 -- Turns one after another do their deeds in order.
 use Rattle.std.proofs.Common.{◌≡◌, ◌⊎◌, ◌<◌, ℕ, Bool, zero, suc, Option, None, Some, List, [], ◌∷◌, ◌++◌, length, inl, inr, refl, sym, ap, subst, ◌∙◌, arith}
 use Rattle.std.proofs.lemmas.List.{append_assoc, append-nil}
-use Rattle.oc_events.specs.Told.{AddsAll}
-use Rattle.oc_events.specs.declared.call.Call.{Call}
-use Rattle.oc_events.specs.declared.call.Call.TheVariants as acts
-use Rattle.oc_events.specs.declared.counts.Counts.{Counts}
-use Rattle.oc_events.specs.declared.stage.Stage.TheVariants.{Answering, Awaiting, Whole}
-use Rattle.oc_events.specs.declared.stage.Stage.{Stage}
+use Rattle.oc_link.specs.Told.{AddsAll}
+use Rattle.oc_link.specs.declared.call.Call.{Call}
+use Rattle.oc_link.specs.declared.call.Call.TheVariants as acts
+use Rattle.oc_link.specs.declared.counts.LinkCounts.{LinkCounts}
+use Rattle.oc_link.specs.declared.phase.Phase.TheVariants.{Answering, Awaiting, Whole}
+use Rattle.oc_link.specs.declared.phase.Phase.{Phase}
 use Rattle.oc_io.specs.DiskView.{DiskView}
 use Rattle.oc_keep.specs.KeptView.{IsHonest}
 use Rattle.oc_probe.specs.declared.probing.Probing.{Probing}
@@ -17,11 +17,11 @@ use Rattle.oc_server.proofs.Scenes.{setting_stays, still_honest}
 use Rattle.oc_server.proofs.Settled.{IsOrderly, ordered_front, ordered_then, orderly_none, orderly_then}
 use Rattle.oc_server.specs.Choices.{wait_for}
 use Rattle.oc_server.specs.Deeds.{Deed, Reads, Running, Sees, Setting, after_all, calls_of, errand_in}
-use Rattle.oc_server.specs.Replying.{IsOrdered, stage_on, works_on}
+use Rattle.oc_server.specs.Replying.{IsOrdered, phase_on, works_on}
 use Rattle.oc_server.specs.Runs.{CouldCome, MayRead, ServeEnds, Serves, ServesUpTo, Turned, TurnStops, behind_reading, due_in, reads_by}
 use Rattle.oc_server.specs.Scenes.{running, setting}
 use Rattle.oc_server.specs.Settled.{AreServed, Fits, IsSettled, deeds_of, deeds_until, deeds_up_to}
-use Rattle.oc_server.specs.Turns.{Told, takes_at, turn}
+use Rattle.oc_server.specs.Turns.{Observation, takes_at, turn}
 use Rattle.oc_server.specs.declared.ends.TurnEnd.{TurnEnd}
 use Rattle.oc_server.specs.declared.ends.TurnEnd.TheVariants as ends
 use Rattle.oc_server.specs.declared.pace.Pace.{Pace}
@@ -56,7 +56,7 @@ short (x ∷ y ∷ []) behind more d e is few =
 short (x ∷ y ∷ z ∷ xs) behind more d e is few = absurd (omega (arith, few))
 
 -- where one only asked what happened nothing else was done
-asked_only : (due : Option ℕ) (s : Setting) (made : List Call) (pace : Pace) (probing : Option Probing) (t : Told) (a : Running) (deeds behind : List Deed) → due ≡ None
+asked_only : (due : Option ℕ) (s : Setting) (made : List Call) (pace : Pace) (probing : Option Probing) (t : Observation) (a : Running) (deeds behind : List Deed) → due ≡ None
     → Reads t.before ∷ takes_at due pace probing t s a ≡ deeds ++ behind → length deeds < 3 → IsOrdered s made deeds a
 asked_only (Some place) s made pace probing t a deeds behind none is few = let no : Some place ≡ None = none in absurd (cc no)
 asked_only None s made pace probing t a deeds behind none is few =
@@ -69,7 +69,7 @@ due_or_asked : (due : Option ℕ) → (due ≡ None) ⊎ ((place : ℕ) × (due 
 due_or_asked None = inl refl
 due_or_asked (Some place) = inr (place, refl)
 
--- Deeds behind deeds
+-- Deeds after deeds
 
 calls_joined : (s : Setting) (made at later : List Call) (ds es : List Deed) (a : Running) → at ≡ made ++ calls_of s ds a → later ≡ at ++ calls_of s es (after_all ds a) → later ≡ made ++ calls_of s (ds ++ es) a
 calls_joined s made at later ds es a first second =
@@ -80,9 +80,9 @@ calls_joined s made at later ds es a first second =
 
 -- From nothing under way
 
-idle : (made : List Call) (ws : List Work) (c : ℕ) → IsSettled made ws → ws ≡ [] → stage_on c made ≡ Answering → ⊥
-idle made ws c settled none stage =
-    let fits : Fits Answering (works_on c ws) = subst (λ (x : Stage). Fits x (works_on c ws)) stage (settled c) in
+idle : (made : List Call) (ws : List Work) (c : ℕ) → IsSettled made ws → ws ≡ [] → phase_on c made ≡ Answering → ⊥
+idle made ws c settled none phase =
+    let fits : Fits Answering (works_on c ws) = subst (λ (x : Phase). Fits x (works_on c ws)) phase (settled c) in
     let one : [] ≡ fits.0 ∷ [] = sym (ap (works_on c) none) ∙ fits.1 in
     absurd (cc one)
 
@@ -93,12 +93,12 @@ served_in_order s made later a deeds none settled calls ordered = record {
   front = λ (c : ℕ). given_front s made deeds a c none (idle made a.works c settled none) ordered;
   whole = λ c ended.
       given_whole s made deeds a c none (idle made a.works c settled none) ordered
-      (subst (λ (cs : List Call). (stage_on c cs ≡ Awaiting) ⊎ (stage_on c cs ≡ Whole)) calls ended);
+      (subst (λ (cs : List Call). (phase_on c cs ≡ Awaiting) ⊎ (phase_on c cs ≡ Whole)) calls ended);
 }
 
-module _ {D L K : Type 0} (view : D → DiskView) (takes fails : K → List ℕ → K → Type 0) (faults : K → ℕ) (story : L → Option (List Call)) (counts : L → Counts) where
-  -- what was read was told behind these calls
-  told_at : (due : Option ℕ) (old new : Turns D L K) (t : Told) (made later : List Call) → story old.server.link ≡ Some made → story new.server.link ≡ Some later → MayRead story due old new.server t
+module _ {D L K : Type 0} (view : D → DiskView) (takes fails : K → List ℕ → K → Type 0) (faults : K → ℕ) (story : L → Option (List Call)) (counts : L → LinkCounts) where
+  -- what was read was told after these calls
+  told_at : (due : Option ℕ) (old new : Turns D L K) (t : Observation) (made later : List Call) → story old.server.link ≡ Some made → story new.server.link ≡ Some later → MayRead story due old new.server t
       → IsToldAt due t (made ++ (acts.Millis t.before ∷ []))
   told_at (Some place) old new t made later before behind read = tt
   told_at None old new t made later before behind read = record {
@@ -111,10 +111,10 @@ module _ {D L K : Type 0} (view : D → DiskView) (takes fails : K → List ℕ 
   }
 
   -- the deeds of a turn
-  abbrev pub turn_of : Turns D L K → Told → List Deed
+  abbrev pub turn_of : Turns D L K → Observation → List Deed
   turn_of old t = turn old.pace old.probing t (setting old.server) (running old.server)
 
-  whole_turn : (old new : Turns D L K) (t : Told) (made later : List Call) → story old.server.link ≡ Some made → story new.server.link ≡ Some later → MayRead story (due_in old.server t.before) old new.server t
+  whole_turn : (old new : Turns D L K) (t : Observation) (made later : List Call) → story old.server.link ≡ Some made → story new.server.link ≡ Some later → MayRead story (due_in old.server t.before) old new.server t
       → IsSettled made old.server.works → IsOrderly (setting old.server) made (turn_of old t) (running old.server)
   whole_turn old new t made later before behind read settled =
       turning (setting old.server) made old.pace old.probing t (running old.server) (told_at (due_in old.server t.before) old new t made later before behind read) settled

@@ -9,14 +9,14 @@ use Rattle.oc_model.specs.declared.input.Input.{Input}
 use Rattle.oc_model.specs.declared.message.Message.{Message}
 use Rattle.oc_model.specs.Node.{Node}
 use Rattle.oc_model.specs.Step.{step}
-use Rattle.oc_reply.specs.Conditions.{unmet}
-use Rattle.oc_reply.specs.Reports.{report_of}
-use Rattle.oc_reply.specs.Shown.{response_for}
-use Rattle.oc_reply.specs.Waits.{holding, is_to_wait}
-use Rattle.oc_reply.specs.declared.holding.Holding.{Holding}
-use Rattle.oc_reply.specs.declared.verdict.Request.{Request}
-use Rattle.oc_reply.specs.declared.verdict.Verdict.{Verdict}
-use Rattle.oc_reply.specs.declared.verdict.Verdict.TheVariants as verdicts
+use Rattle.oc_routes.specs.Conditions.{unmet}
+use Rattle.oc_routes.specs.Reports.{report_of}
+use Rattle.oc_routes.specs.Shown.{response_for}
+use Rattle.oc_routes.specs.Waits.{holding, is_to_wait}
+use Rattle.oc_routes.specs.declared.holding.Holding.{Holding}
+use Rattle.oc_routes.specs.declared.verdict.Request.{Request}
+use Rattle.oc_routes.specs.declared.verdict.Verdict.{Verdict}
+use Rattle.oc_routes.specs.declared.verdict.Verdict.TheVariants as verdicts
 use Rattle.oc_routes.specs.declared.refused.Refused.{Refused}
 use Rattle.oc_routes.specs.declared.response.Response.{Response}
 use Rattle.oc_routes.specs.declared.routes.Operation.{Operation}

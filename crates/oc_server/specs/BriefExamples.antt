@@ -14,7 +14,7 @@ use Rattle.oc_server.specs.declared.log.Log.TheVariants.{Brief, Inputs}
 abbrev new : ℕ → Node
 new me = new_node (record { nodes = 3; chain = 1; chunk = 4096; areas = 0 ∷ 0 ∷ 0 ∷ [] }) me
 
--- node 1 behind its first tick, which acts as root
+-- node 1 after its first tick, which acts as root
 abbrev root : Node
 root = (step (new 1) (inputs.Tick 0)).node
 

@@ -1,7 +1,7 @@
 -- What came back on a dial, as it is read.
 use Rattle.std.specs.Prelude.{ℕ, Bool, false, ◌==◌, ◌&&◌, if◌then◌else◌, Option, Some, None, Result, Ok, Err, List, ◌++◌, length}
-use Rattle.oc_events.specs.ArrivedView.{ArrivedView, FailsBehind, GivesFront, IsAtEnd, arrived}
-use Rattle.oc_events.specs.declared.event.Coming.{Coming}
+use Rattle.oc_link.specs.ArrivedView.{ArrivedView, FailsBehind, GivesFront, IsAtEnd, arrived}
+use Rattle.oc_link.specs.declared.event.Coming.{Coming}
 use Rattle.oc_http.specs.Taking.{RefusesReply, SaysReply, Took}
 use Rattle.oc_http.specs.declared.fault.HttpFault.{HttpFault}
 use Rattle.oc_http.specs.declared.fault.HttpFault.TheVariants as https

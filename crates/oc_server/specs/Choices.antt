@@ -3,11 +3,11 @@ use Rattle.std.specs.Prelude.{ℕ, ◌-◌, min, fold, Bool, true, false, not, �
 use Rattle.std.specs.List.{count_by, list_any, range_with_len}
 use Rattle.oc_base.specs.declared.shelf.Shelf.{Shelf}
 use Rattle.oc_model.specs.declared.message.Message.{Message}
-use Rattle.oc_reply.specs.Waits.{holding, is_due, left_of, prospect}
-use Rattle.oc_reply.specs.declared.waiting.Follower.{Follower}
-use Rattle.oc_reply.specs.declared.waiting.Prospect.{Prospect}
-use Rattle.oc_reply.specs.declared.waiting.Prospect.TheVariants as prospects
-use Rattle.oc_reply.specs.declared.waiting.TheConstants.{FOLLOW_MILLIS, IDLE_MILLIS}
+use Rattle.oc_routes.specs.Waits.{holding, is_due, left_of, prospect}
+use Rattle.oc_routes.specs.declared.waiting.Follower.{Follower}
+use Rattle.oc_routes.specs.declared.waiting.Prospect.{Prospect}
+use Rattle.oc_routes.specs.declared.waiting.Prospect.TheVariants as prospects
+use Rattle.oc_routes.specs.declared.waiting.TheConstants.{FOLLOW_MILLIS, IDLE_MILLIS}
 use Rattle.oc_routes.specs.declared.routes.Operation.{Operation}
 use Rattle.oc_routes.specs.declared.routes.Operation.TheVariants as asks
 use Rattle.oc_server.specs.Dials.{is_fetch}
@@ -17,14 +17,14 @@ use Rattle.oc_server.specs.declared.dials.Dialling.{Dialling}
 use Rattle.oc_server.specs.declared.dials.Errand.{Errand}
 use Rattle.oc_server.specs.declared.dials.Errand.TheVariants as errands
 use Rattle.oc_server.specs.declared.pace.Pace.{Pace}
-use Rattle.oc_server.specs.declared.work.Place.{Place}
+use Rattle.oc_server.specs.declared.work.Transfer.{Transfer}
 use Rattle.oc_server.specs.declared.work.Work.{Work}
 use Rattle.oc_server.specs.declared.work.Work.TheVariants as works
 
 -- What is due by itself
 
 -- what becomes of a content at this time, by what the node holds
-abbrev pub prospect_of : Place → List Shelf → ℕ → Prospect
+abbrev pub prospect_of : Transfer → List Shelf → ℕ → Prospect
 prospect_of p lines now = prospect p.content (holding p.content.group lines) (now - p.since)
 
 abbrev pub is_waiting : Prospect → Bool

@@ -2,10 +2,10 @@
 use Rattle.std.specs.Prelude.{ℕ, Bool, true, false, if◌then◌else◌, Option, None, Some, List, [], ◌∷◌, ◌++◌, codes, length, slice_index_or, nat_le, ◌+◌, ◌-◌, ◌^◌}
 use Rattle.std.specs.Option.{option_map}
 use Rattle.oc_base.specs.declared.group.Group.{Group}
-use Rattle.oc_events.specs.declared.call.Call.{Call}
-use Rattle.oc_events.specs.declared.call.Call.TheVariants as acts
-use Rattle.oc_events.specs.declared.event.Event.{Event}
-use Rattle.oc_events.specs.declared.event.Event.TheVariants as events
+use Rattle.oc_link.specs.declared.call.Call.{Call}
+use Rattle.oc_link.specs.declared.call.Call.TheVariants as acts
+use Rattle.oc_link.specs.declared.event.LinkEvent.{LinkEvent}
+use Rattle.oc_link.specs.declared.event.LinkEvent.TheVariants as events
 use Rattle.oc_http.specs.Writing.{probe_text}
 use Rattle.oc_http.specs.declared.framing.Persistence.{Persistence}
 use Rattle.oc_http.specs.declared.framing.Persistence.TheVariants.{Close, Keep}
@@ -14,8 +14,8 @@ use Rattle.oc_model.specs.declared.input.Input.TheVariants.{Delivered}
 use Rattle.oc_model.specs.declared.message.Message.{Message}
 use Rattle.oc_model.specs.Node.{Node}
 use Rattle.oc_model.specs.Step.{step}
-use Rattle.oc_reply.specs.Contents.{begun, behind, piece_of, piece_text}
-use Rattle.oc_reply.specs.declared.content.UnderWay.{UnderWay}
+use Rattle.oc_routes.specs.Contents.{begun, behind, piece_of, piece_text}
+use Rattle.oc_routes.specs.declared.content.UnderWay.{UnderWay}
 use Rattle.oc_routes.specs.Inputs.{input_line}
 use Rattle.oc_routes.specs.Refusals.{refusal_text, why_text}
 use Rattle.oc_routes.specs.Replies.{others, reply_to}
@@ -36,7 +36,7 @@ use Rattle.oc_server.specs.declared.dials.Errand.TheVariants as errands
 use Rattle.oc_server.specs.declared.log.Log.{Log}
 use Rattle.oc_server.specs.declared.log.Log.TheVariants.{Brief, Inputs}
 use Rattle.oc_server.specs.declared.work.Pending.{Pending}
-use Rattle.oc_server.specs.declared.work.Place.{Place}
+use Rattle.oc_server.specs.declared.work.Transfer.{Transfer}
 use Rattle.oc_server.specs.declared.work.Waiting.{Waiting}
 use Rattle.oc_server.specs.declared.work.Work.{Work}
 use Rattle.oc_server.specs.declared.work.Work.TheVariants as works
@@ -63,7 +63,7 @@ pub record Running : Type 0 where
 
 pub data Deed : Type 0 where
   -- the link was asked, with this wait, and told this event, by which these bytes came
-  Sees : Event → ℕ → List ℕ → Deed
+  Sees : LinkEvent → ℕ → List ℕ → Deed
   -- the clock gave this number of milliseconds
   Reads : ℕ → Deed
   -- the clock gave this number of seconds
@@ -87,9 +87,9 @@ pub data Deed : Type 0 where
   -- a connection was broken off
   BreaksOff : ℕ → Deed
   -- the next piece of a content was given at this time
-  Gives : Place → ℕ → Deed
+  Gives : Transfer → ℕ → Deed
   -- a content has nothing to give until its group has grown
-  LaysAside : Place → Deed
+  LaysAside : Transfer → Deed
   -- a connection is over; true where a line says that its reply was not sent
   Drops : ℕ → Bool → Deed
   -- the message at this place of the outbox was dialled under this number
@@ -125,14 +125,14 @@ line s d = []
 -- What a content gives
 
 -- the next piece as it is sent
-abbrev pub piece : Place → List Group → List ℕ
+abbrev pub piece : Transfer → List Group → List ℕ
 piece p groups = piece_text p.content (piece_of p.content groups)
 
 -- the content behind it, if anything is left
-abbrev pub place_behind : Place → ℕ → ℕ → Option Place
+abbrev pub place_behind : Transfer → ℕ → ℕ → Option Transfer
 place_behind p now count = option_map (λ (u : UnderWay). record p { content = u; since = now }) (behind p.content count)
 
-abbrev pub rest : Place → ℕ → List Group → Option Place
+abbrev pub rest : Transfer → ℕ → List Group → Option Transfer
 rest p now groups = place_behind p now (length (piece_of p.content groups))
 
 abbrev pub keeps : Persistence → Bool
@@ -152,7 +152,7 @@ content_in (asks.Client group area start manner) range = content_at group range
 content_in asked range = None
 
 -- the place from which it is given
-abbrev pub place_of : Pending → Response → ℕ → Option Place
+abbrev pub place_of : Pending → Response → ℕ → Option Transfer
 place_of r response now = option_map (λ (u : UnderWay). record {
   connection = r.connection;
   content = u;
@@ -162,11 +162,11 @@ place_of r response now = option_map (λ (u : UnderWay). record {
 }) (content_in r.asked.operation response.content)
 
 -- the first piece of a content, and what is left of it
-abbrev pub first_piece : Option Place → List Group → List ℕ
+abbrev pub first_piece : Option Transfer → List Group → List ℕ
 first_piece None groups = []
 first_piece (Some p) groups = piece p groups
 
-abbrev pub first_rest : Option Place → ℕ → List Group → Option Place
+abbrev pub first_rest : Option Transfer → ℕ → List Group → Option Transfer
 first_rest None now groups = None
 first_rest (Some p) now groups = rest p now groups
 
@@ -194,17 +194,17 @@ abbrev pub for_outbox : Input → List Message → List Message
 for_outbox i sends = others_than (sender_of i) sends
 
 -- with what is left of a content
-abbrev pub with_content : Option Place → List Work → List Work
+abbrev pub with_content : Option Transfer → List Work → List Work
 with_content None ws = ws
 with_content (Some p) ws = ws ++ works.Content p ∷ []
 
 -- a dial whose reply came is over
-abbrev pub dials_behind : Event → List Dialling → List Dialling
+abbrev pub dials_behind : LinkEvent → List Dialling → List Dialling
 dials_behind (events.Reply d coming) ds = dials.without d ds
 dials_behind e ds = ds
 
 -- for what the dial was made whose reply an event is
-abbrev pub errand_in : Event → List Dialling → Option Errand
+abbrev pub errand_in : LinkEvent → List Dialling → Option Errand
 errand_in (events.Reply d coming) ds = dials.errand_of d ds
 errand_in e ds = None
 
@@ -225,8 +225,8 @@ after d a = a
 
 -- The calls of a deed
 
--- behind a whole reply the connection ends, or its next request is awaited; where a line was written, one says that it was not sent
-abbrev pub finish : ℕ → Bool → Bool → Option Place → List Call
+-- after a whole reply the connection ends, or its next request is awaited; where a line was written, one says that it was not sent
+abbrev pub finish : ℕ → Bool → Bool → Option Transfer → List Call
 finish c keeps watched None = acts.Finish c (record { keeps = keeps; watched = watched }) ∷ []
 finish c keeps watched (Some left) = []
 

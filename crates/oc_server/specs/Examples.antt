@@ -1,17 +1,17 @@
 -- Worked examples: short runs of deeds, with their calls, their lines and what is left under way.
 use Rattle.std.specs.Prelude.{◌≡◌, ℕ, true, false, Option, None, Some, List, [], ◌∷◌, ◌++◌, codes}
 use Rattle.oc_base.specs.Groups.{bytes_of}
-use Rattle.oc_events.specs.declared.call.Call.TheVariants as acts
-use Rattle.oc_events.specs.declared.event.Coming.TheVariants.{Open, Ended}
-use Rattle.oc_events.specs.declared.event.Event.{Event}
-use Rattle.oc_events.specs.declared.event.Event.TheVariants as events
+use Rattle.oc_link.specs.declared.call.Call.TheVariants as acts
+use Rattle.oc_link.specs.declared.event.Coming.TheVariants.{Open, Ended}
+use Rattle.oc_link.specs.declared.event.LinkEvent.{LinkEvent}
+use Rattle.oc_link.specs.declared.event.LinkEvent.TheVariants as events
 use Rattle.oc_http.specs.declared.framing.Persistence.{Persistence}
 use Rattle.oc_http.specs.declared.framing.Persistence.TheVariants.{Close, Keep}
 use Rattle.oc_model.specs.Node.{new_node}
 use Rattle.oc_model.specs.declared.input.Input.TheVariants as inputs
 use Rattle.oc_model.specs.declared.message.Body.TheVariants as bodies
 use Rattle.oc_model.specs.declared.message.Message.{Message}
-use Rattle.oc_reply.specs.declared.hint.Hint.TheVariants.{Plain}
+use Rattle.oc_routes.specs.declared.hint.Hint.TheVariants.{Plain}
 use Rattle.oc_routes.specs.Inputs.{input_line}
 use Rattle.oc_routes.specs.declared.manner.Manner.TheVariants.{Once}
 use Rattle.oc_routes.specs.declared.response.GroupRange.{GroupRange}
@@ -24,7 +24,7 @@ use Rattle.oc_server.specs.Dials.{dialling}
 use Rattle.oc_server.specs.declared.dials.Errand.TheVariants as errands
 use Rattle.oc_server.specs.declared.work.Pending.{Pending}
 use Rattle.oc_server.specs.declared.log.Log.TheVariants.{Inputs}
-use Rattle.oc_server.specs.declared.work.Place.{Place}
+use Rattle.oc_server.specs.declared.work.Transfer.{Transfer}
 use Rattle.oc_server.specs.declared.work.Work.TheVariants as works
 
 -- node 1 of 2, at these addresses
@@ -36,7 +36,7 @@ abbrev started : List Message → Running
 started outbox = record { node = new_node (record { nodes = 2; chain = 1; chunk = 4096; areas = 0 ∷ 0 ∷ [] }) 1; outbox = outbox; works = []; dials = [] }
 
 -- a request of a connection has come
-abbrev came : ℕ → Event
+abbrev came : ℕ → LinkEvent
 came c = events.Request (record { connection = c; number = 1; permitted = false; coming = Open })
 
 -- a request that is to be answered, whose line was written
@@ -68,7 +68,7 @@ abbrev head_deed : Deed
 head_deed = Replies (pending 8 40 (asks.Client (codes "/a") 0 0 Once)) (response (codes "200:") (Some six_bytes) Keep) 5
 
 -- what is left behind the first three
-abbrev left : Place
+abbrev left : Transfer
 left = record { connection = 8; content = record { group = codes "/a"; at = 3; end = 6; chunked = false }; keeps = true; told = true; since = 5 }
 
 abbrev content : List Deed
@@ -82,7 +82,7 @@ look = record { from = 1; to = 2; body = bodies.Look }
 abbrev dial : List Deed
 dial = Dials 0 look 3 ∷ []
 
-abbrev reply : Event
+abbrev reply : LinkEvent
 reply = events.Reply 3 Ended
 
 -- what these runs do

@@ -4,9 +4,9 @@ use Rattle.oc_base.specs.Groups.{shelf}
 use Rattle.oc_model.specs.declared.answer.Answer.{Answer}
 use Rattle.oc_model.specs.declared.input.Input.{Input}
 use Rattle.oc_model.specs.Node.{Node}
-use Rattle.oc_reply.specs.Conditions.{unmet}
-use Rattle.oc_reply.specs.declared.verdict.Verdict.{Verdict}
-use Rattle.oc_reply.specs.declared.verdict.Verdict.TheVariants as verdicts
+use Rattle.oc_routes.specs.Conditions.{unmet}
+use Rattle.oc_routes.specs.declared.verdict.Verdict.{Verdict}
+use Rattle.oc_routes.specs.declared.verdict.Verdict.TheVariants as verdicts
 use Rattle.oc_routes.specs.Responses.{publish_status, seal_status}
 use Rattle.oc_routes.specs.declared.refused.Refused.{Refused}
 use Rattle.oc_routes.specs.declared.routes.Operation.{Operation}

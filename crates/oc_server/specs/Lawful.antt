@@ -4,7 +4,7 @@ use Rattle.std.specs.List.{AllByRecursion}
 use Rattle.oc_base.specs.Lawful.{IsNode}
 use Rattle.oc_model.specs.Lawful.{IsInput}
 use Rattle.oc_probe.specs.declared.probing.Probing.{Probing}
-use Rattle.oc_reply.specs.Asks.{IsLawfulVerdict}
+use Rattle.oc_routes.specs.Asks.{IsLawfulVerdict}
 use Rattle.oc_server.specs.Scenes.{IsServing}
 use Rattle.oc_server.specs.declared.came.Came.{Came}
 use Rattle.oc_server.specs.declared.came.Came.TheVariants as comes

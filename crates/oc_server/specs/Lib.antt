@@ -6,6 +6,7 @@ pub mod Sending
 pub mod Looks
 pub mod Brief
 pub mod Deeds
+pub mod Moments
 pub mod Scenes
 pub mod Noting
 pub mod Giving

@@ -1,7 +1,7 @@
 -- A line of no input.
 use Rattle.std.specs.Prelude.{ℕ, Option, List}
-use Rattle.oc_events.specs.declared.call.Call.{Call}
-use Rattle.oc_events.specs.declared.counts.Counts.{Counts}
+use Rattle.oc_link.specs.declared.call.Call.{Call}
+use Rattle.oc_link.specs.declared.counts.LinkCounts.{LinkCounts}
 use Rattle.oc_io.specs.DiskView.{DiskView}
 use Rattle.oc_io.specs.Faults.{Rose}
 use Rattle.oc_server.specs.Scenes.{Breaks, IsFront, Idle, Noting}
@@ -15,7 +15,7 @@ LineStops fails faults ends.Sink line old new = (front : List ℕ) × IsFront fr
 LineStops fails faults end line old new = ⊥
 
 -- it ended with this line, or before it because memory ran out
-abbrev pub NoteBreaks : {D L K : Type 0} → (D → DiskView) → (K → List ℕ → K → Type 0) → (K → List ℕ → K → Type 0) → (K → ℕ) → (L → Option (List Call)) → (L → Counts) → TurnEnd → List ℕ → Server D L K → Server D L K → Type 0
+abbrev pub NoteBreaks : {D L K : Type 0} → (D → DiskView) → (K → List ℕ → K → Type 0) → (K → List ℕ → K → Type 0) → (K → ℕ) → (L → Option (List Call)) → (L → LinkCounts) → TurnEnd → List ℕ → Server D L K → Server D L K → Type 0
 NoteBreaks view takes fails faults story counts ends.Memory line old new = Breaks view takes fails faults story counts ends.Memory Idle old new
 NoteBreaks view takes fails faults story counts ends.Sink line old new = Breaks view takes fails faults story counts ends.Sink (Noting line) old new
 NoteBreaks view takes fails faults story counts end line old new = ⊥

@@ -1,7 +1,7 @@
 -- A part of a turn: the deeds that a running node does then. And what of it was done where it ended partway through.
 use Rattle.std.specs.Prelude.{◌≡◌, ℕ, true, Option, List, [], ◌∷◌, ◌++◌, codes}
-use Rattle.oc_events.specs.declared.call.Call.{Call}
-use Rattle.oc_events.specs.declared.counts.Counts.{Counts}
+use Rattle.oc_link.specs.declared.call.Call.{Call}
+use Rattle.oc_link.specs.declared.counts.LinkCounts.{LinkCounts}
 use Rattle.oc_io.specs.DiskView.{DiskView}
 use Rattle.oc_keep.specs.KeptView.{IsHonest}
 use Rattle.oc_routes.specs.Refusals.{why_text}
@@ -26,7 +26,7 @@ abbrev pub ◌>>◌ : Part → Part → Part
 (p >> q) s a = p s a ++ q s (after_all (p s a) a)
 
 -- The part was done.
-pub record Does {D L K : Type 0} (view : D → DiskView) (takes : K → List ℕ → K → Type 0) (faults : K → ℕ) (story : L → Option (List Call)) (counts : L → Counts) (part : Part) (old new : Server D L K) : Type 0 where
+pub record Does {D L K : Type 0} (view : D → DiskView) (takes : K → List ℕ → K → Type 0) (faults : K → ℕ) (story : L → Option (List Call)) (counts : L → LinkCounts) (part : Part) (old new : Server D L K) : Type 0 where
   pub deeds : List Deed
   pub did : Did view takes faults story counts deeds old new
   pub are : IsHonest view old.kept → deeds ≡ part (setting old) (running old)
@@ -54,7 +54,7 @@ pub record Cuts (whole deeds : List Deed) (under : Under) : Type 0 where
   pub next : IsUnder under behind
 
 -- A front of the part was done, and then it ended so.
-pub record Stops {D L K : Type 0} (view : D → DiskView) (takes fails : K → List ℕ → K → Type 0) (faults : K → ℕ) (story : L → Option (List Call)) (counts : L → Counts) (end : TurnEnd) (part : Part) (old new : Server D L K) : Type 0 where
+pub record Stops {D L K : Type 0} (view : D → DiskView) (takes fails : K → List ℕ → K → Type 0) (faults : K → ℕ) (story : L → Option (List Call)) (counts : L → LinkCounts) (end : TurnEnd) (part : Part) (old new : Server D L K) : Type 0 where
   pub deeds : List Deed
   pub under : Under
   pub breaks : BreaksBehind view takes fails faults story counts end deeds under old new

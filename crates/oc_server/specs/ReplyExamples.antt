@@ -1,16 +1,16 @@
 -- Worked examples of what a connection is given.
 use Rattle.std.specs.Prelude.{◌≡◌, ℕ, true, false, None, Some, List, [], ◌∷◌, codes}
-use Rattle.oc_events.specs.Traffic.{given}
+use Rattle.oc_link.specs.Traffic.{given}
 use Rattle.oc_http.specs.declared.framing.Persistence.TheVariants.{Keep}
 use Rattle.oc_model.specs.Node.{new_node}
 use Rattle.oc_model.specs.declared.input.Input.TheVariants as inputs
-use Rattle.oc_reply.specs.declared.hint.Hint.TheVariants.{Of}
+use Rattle.oc_routes.specs.declared.hint.Hint.TheVariants.{Of}
 use Rattle.oc_routes.specs.declared.manner.Manner.TheVariants.{Follow}
 use Rattle.oc_routes.specs.declared.routes.Operation.TheVariants as asks
 use Rattle.oc_server.specs.Deeds.{Accepts, BreaksOff, Deed, Gives, Permits, Replies, Running, Setting, after_all, calls_of}
 use Rattle.oc_server.specs.Replying.{IsOrdered, replies}
 use Rattle.oc_server.specs.declared.log.Log.TheVariants.{Inputs}
-use Rattle.oc_server.specs.declared.work.Place.{Place}
+use Rattle.oc_server.specs.declared.work.Transfer.{Transfer}
 
 -- node 1 of 2, which holds three bytes of a group
 abbrev node_one : Setting
@@ -32,7 +32,7 @@ head_of_six = Replies
     5
 
 -- what is left of them behind the first three
-abbrev other_three : Place
+abbrev other_three : Transfer
 other_three = record { connection = 8; content = record { group = codes "/a"; at = 3; end = 6; chunked = false }; keeps = true; told = true; since = 5 }
 
 -- three bytes are given, three more are published, and given

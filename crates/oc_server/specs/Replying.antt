@@ -2,17 +2,17 @@
 use Rattle.std.specs.Prelude.{◌≡◌, ◌⊎◌, ℕ, ◌==◌, Bool, true, false, if◌then◌else◌, Option, None, Some, List, [], ◌∷◌, ◌++◌, filter}
 use Rattle.oc_base.specs.Groups.{shelf}
 use Rattle.oc_base.specs.declared.group.Group.{Group}
-use Rattle.oc_events.specs.Stands.{standing_of}
-use Rattle.oc_events.specs.declared.call.Call.{Call}
-use Rattle.oc_events.specs.declared.stage.Stage.{Stage}
-use Rattle.oc_events.specs.declared.stage.Stage.TheVariants.{Awaiting, Answering, Gone}
+use Rattle.oc_link.specs.Stands.{standing_of}
+use Rattle.oc_link.specs.declared.call.Call.{Call}
+use Rattle.oc_link.specs.declared.phase.Phase.{Phase}
+use Rattle.oc_link.specs.declared.phase.Phase.TheVariants.{Awaiting, Answering, Gone}
 use Rattle.oc_model.specs.declared.answer.Answer.{Answer}
-use Rattle.oc_reply.specs.Contents.{IsThere, owed}
-use Rattle.oc_reply.specs.Shown.{response_for}
-use Rattle.oc_reply.specs.Waits.{holding, holding_of}
-use Rattle.oc_reply.specs.declared.content.UnderWay.{UnderWay}
-use Rattle.oc_reply.specs.declared.hint.Hint.{Hint}
-use Rattle.oc_reply.specs.declared.holding.Holding.{Holding}
+use Rattle.oc_routes.specs.Contents.{IsThere, owed}
+use Rattle.oc_routes.specs.Shown.{response_for}
+use Rattle.oc_routes.specs.Waits.{holding, holding_of}
+use Rattle.oc_routes.specs.declared.content.UnderWay.{UnderWay}
+use Rattle.oc_routes.specs.declared.hint.Hint.{Hint}
+use Rattle.oc_routes.specs.declared.holding.Holding.{Holding}
 use Rattle.oc_routes.specs.Refusals.{refusal_text}
 use Rattle.oc_routes.specs.declared.connections.TheConstants.{CONTINUE}
 use Rattle.oc_routes.specs.declared.response.Response.{Response}
@@ -21,7 +21,7 @@ use Rattle.oc_routes.specs.declared.routes.Operation.TheVariants as asks
 use Rattle.oc_server.specs.Deeds.{Deed, Permits, Waits, Replies, Refuses, Gives, LaysAside, Drops, Running, Setting, after, calls, content_in}
 use Rattle.oc_server.specs.Works.{connection_of}
 use Rattle.oc_server.specs.declared.work.Pending.{Pending}
-use Rattle.oc_server.specs.declared.work.Place.{Place}
+use Rattle.oc_server.specs.declared.work.Transfer.{Transfer}
 use Rattle.oc_server.specs.declared.work.Waiting.{Waiting}
 use Rattle.oc_server.specs.declared.work.Work.{Work}
 use Rattle.oc_server.specs.declared.work.Work.TheVariants as works
@@ -29,8 +29,8 @@ use Rattle.oc_server.specs.declared.work.Work.TheVariants as works
 -- Which deeds may be done, after these calls
 
 -- how a connection stands
-abbrev pub stage_on : ℕ → List Call → Stage
-stage_on c made = (standing_of c made).stage
+abbrev pub phase_on : ℕ → List Call → Phase
+phase_on c made = (standing_of c made).phase
 
 -- what is under way on a connection
 abbrev pub works_on : ℕ → List Work → List Work
@@ -38,8 +38,8 @@ works_on c ws = filter (λ w. connection_of w == c) ws
 
 -- a request is answered that has come, or that has waited
 abbrev pub MayAnswer : Bool → ℕ → List Call → List Work → Type 0
-MayAnswer false c made ws = stage_on c made ≡ Awaiting
-MayAnswer true c made ws = (stage_on c made ≡ Answering) × (w : Waiting) × (works_on c ws ≡ works.Waits w ∷ [])
+MayAnswer false c made ws = phase_on c made ≡ Awaiting
+MayAnswer true c made ws = (phase_on c made ≡ Answering) × (w : Waiting) × (works_on c ws ≡ works.Waits w ∷ [])
 
 -- what is given as chunks is there
 abbrev pub IsGivable : Option UnderWay → List Group → Type 0
@@ -47,19 +47,19 @@ IsGivable None groups = Unit {0}
 IsGivable (Some u) groups = u.chunked ≡ true → IsThere u groups
 
 -- the content is under way, and nothing else on its connection
-pub record HasContent (p : Place) (made : List Call) (ws : List Work) : Type 0 where
-  pub stage : stage_on p.connection made ≡ Answering
+pub record HasContent (p : Transfer) (made : List Call) (ws : List Work) : Type 0 where
+  pub phase : phase_on p.connection made ≡ Answering
   pub works : (works_on p.connection ws ≡ works.Content p ∷ []) ⊎ (works_on p.connection ws ≡ works.Aside p ∷ [])
 
 -- A connection is given something where its request has come, or as its content goes on, and dropped where it is gone.
 abbrev pub MayDo : Deed → List Call → Running → Type 0
-MayDo (Permits c) made a = stage_on c made ≡ Awaiting
-MayDo (Waits w) made a = stage_on w.connection made ≡ Awaiting
+MayDo (Permits c) made a = phase_on c made ≡ Awaiting
+MayDo (Waits w) made a = phase_on w.connection made ≡ Awaiting
 MayDo (Replies r response now) made a = MayAnswer r.waited r.connection made a.works × IsGivable (content_in r.asked.operation response.content) a.node.groups
-MayDo (Refuses c count why) made a = stage_on c made ≡ Awaiting
+MayDo (Refuses c count why) made a = phase_on c made ≡ Awaiting
 MayDo (Gives p now) made a = HasContent p made a.works
 MayDo (LaysAside p) made a = HasContent p made a.works
-MayDo (Drops c told) made a = stage_on c made ≡ Gone
+MayDo (Drops c told) made a = phase_on c made ≡ Gone
 MayDo d made a = Unit {0}
 
 -- each deed may be done behind those before it

@@ -2,24 +2,24 @@
 use Rattle.std.specs.Prelude.{◌≡◌, ◌⊎◌, ℕ, zero, suc, ◌<◌, Bool, true, false, IsTrue, Option, None, Some, List, [], ◌∷◌, ◌++◌, length}
 use Rattle.std.specs.Option.{option_map}
 use Rattle.oc_base.specs.Groups.{shelf}
-use Rattle.oc_events.specs.Stands.{may}
-use Rattle.oc_events.specs.Traffic.{held}
-use Rattle.oc_events.specs.declared.call.Call.{Call}
-use Rattle.oc_events.specs.declared.call.Call.TheVariants as acts
-use Rattle.oc_events.specs.declared.counts.Counts.{Counts}
-use Rattle.oc_events.specs.declared.event.Event.{Event}
-use Rattle.oc_events.specs.declared.event.Event.TheVariants as events
+use Rattle.oc_link.specs.Stands.{may}
+use Rattle.oc_link.specs.Traffic.{held}
+use Rattle.oc_link.specs.declared.call.Call.{Call}
+use Rattle.oc_link.specs.declared.call.Call.TheVariants as acts
+use Rattle.oc_link.specs.declared.counts.LinkCounts.{LinkCounts}
+use Rattle.oc_link.specs.declared.event.LinkEvent.{LinkEvent}
+use Rattle.oc_link.specs.declared.event.LinkEvent.TheVariants as events
 use Rattle.oc_io.specs.DiskView.{DiskView}
 use Rattle.oc_keep.specs.KeptView.{IsHonest, node_of}
 use Rattle.oc_probe.specs.Rates.{IsMedian, rate_of, rates_of, with_rate}
 use Rattle.oc_probe.specs.declared.probing.Probing.{Probing}
-use Rattle.oc_reply.specs.Verdicts.{NodeTerms, terms_of}
+use Rattle.oc_routes.specs.Verdicts.{NodeTerms, terms_of}
 use Rattle.oc_server.specs.Choices.{due_place}
 use Rattle.oc_server.specs.Deeds.{dials_behind, errand_in}
 use Rattle.oc_server.specs.Hurries.{came_hurries}
 use Rattle.oc_server.specs.Looks.{Renews}
 use Rattle.oc_server.specs.Parts.{Does, Stops}
-use Rattle.oc_server.specs.Turns.{Means, Told, deals, pace_behind, paced, probed, probing_behind, quickened, takes_next, turn}
+use Rattle.oc_server.specs.Turns.{Means, Observation, deals, pace_behind, paced, probed, probing_behind, quickened, takes_next, turn}
 use Rattle.oc_server.specs.declared.came.Came.{Came}
 use Rattle.oc_server.specs.declared.came.Came.TheVariants as comes
 use Rattle.oc_server.specs.declared.ends.TurnEnd.{TurnEnd}
@@ -37,18 +37,18 @@ due_in s before = due_place s.works (shelf (node_of s.kept).groups) before
 
 -- What was read
 
--- what an event lends behind these calls
-abbrev pub lent_in : Event → List ℕ → List Call → List ℕ
+-- what an event lends after these calls
+abbrev pub lent_in : LinkEvent → List ℕ → List Call → List ℕ
 lent_in (events.Request a) bytes calls = held a.connection calls
 lent_in event bytes calls = bytes
 
 -- where a story was told when the link was asked, and is told now, these bytes were lent
-abbrev pub IsLent : Option (List Call) → Option (List Call) → Event → List ℕ → List ℕ → Type 0
+abbrev pub IsLent : Option (List Call) → Option (List Call) → LinkEvent → List ℕ → List ℕ → Type 0
 IsLent (Some calls) (Some now) event bytes lent = lent ≡ lent_in event bytes (calls ++ acts.Next event bytes ∷ [])
 IsLent old new event bytes lent = Unit {0}
 
 -- where a story was told when the link was asked, and is told now, the event could come then
-abbrev pub CouldCome : Option (List Call) → Option (List Call) → Event → Type 0
+abbrev pub CouldCome : Option (List Call) → Option (List Call) → LinkEvent → Type 0
 CouldCome (Some calls) (Some now) event = IsTrue (may event calls)
 CouldCome old new event = Unit {0}
 
@@ -69,7 +69,7 @@ IsMedianIn (Some probing) peer rate None = ⊥
 IsMedianIn (Some probing) peer rate (Some median) = IsMedian (with_rate (rates_of probing.gauge peer) rate) median
 
 -- What came is what the link told, which was asked at that point of its story, as it was read.
-pub record IsRead {D L K : Type 0} (old : Turns D L K) (asked now : Option (List Call)) (t : Told) : Type 0 where
+pub record IsRead {D L K : Type 0} (old : Turns D L K) (asked now : Option (List Call)) (t : Observation) : Type 0 where
   pub lent : List ℕ
   pub is_lent : IsLent asked now t.event t.bytes lent
   pub could : CouldCome asked now t.event
@@ -81,7 +81,7 @@ abbrev pub behind_reading : ℕ → Option (List Call) → Option (List Call)
 behind_reading before story = option_map (λ calls. calls ++ acts.Millis before ∷ []) story
 
 -- it is so where nothing was due
-abbrev pub MayRead : {D L K : Type 0} → (L → Option (List Call)) → Option ℕ → Turns D L K → Server D L K → Told → Type 0
+abbrev pub MayRead : {D L K : Type 0} → (L → Option (List Call)) → Option ℕ → Turns D L K → Server D L K → Observation → Type 0
 MayRead story None old new t = IsRead old (behind_reading t.before (story old.server.link)) (story new.link) t
 MayRead story (Some place) old new t = Unit {0}
 
@@ -93,7 +93,7 @@ is_something comes.Nothing = false
 is_something came = true
 
 -- What came was dealt with.
-pub record Dealt {D L K : Type 0} (view : D → DiskView) (takes : K → List ℕ → K → Type 0) (faults : K → ℕ) (story : L → Option (List Call)) (counts : L → Counts) (came : Came) (now : ℕ) (old new : Turns D L K) : Type 0 where
+pub record Dealt {D L K : Type 0} (view : D → DiskView) (takes : K → List ℕ → K → Type 0) (faults : K → ℕ) (story : L → Option (List Call)) (counts : L → LinkCounts) (came : Came) (now : ℕ) (old new : Turns D L K) : Type 0 where
   pub median : ℕ
   pub started : ℕ
   pub seconds : ℕ
@@ -103,7 +103,7 @@ pub record Dealt {D L K : Type 0} (view : D → DiskView) (takes : K → List �
   pub probing : new.probing ≡ probed came now old.server.dials old.probing
 
 -- A front of that was done, and then it ended so.
-pub record DealStops {D L K : Type 0} (view : D → DiskView) (takes fails : K → List ℕ → K → Type 0) (faults : K → ℕ) (story : L → Option (List Call)) (counts : L → Counts) (end : TurnEnd) (came : Came) (now : ℕ) (old new : Turns D L K) : Type 0 where
+pub record DealStops {D L K : Type 0} (view : D → DiskView) (takes fails : K → List ℕ → K → Type 0) (faults : K → ℕ) (story : L → Option (List Call)) (counts : L → LinkCounts) (end : TurnEnd) (came : Came) (now : ℕ) (old new : Turns D L K) : Type 0 where
   pub median : ℕ
   pub started : ℕ
   pub seconds : ℕ
@@ -111,8 +111,8 @@ pub record DealStops {D L K : Type 0} (view : D → DiskView) (takes fails : K �
   pub stops : Stops view takes fails faults story counts end (deals old.pace old.probing came now median started seconds) old.server new.server
 
 -- One thing that happened at the link was taken, in a turn that began at this time.
-pub record NextTaken {D L K : Type 0} (view : D → DiskView) (takes : K → List ℕ → K → Type 0) (faults : K → ℕ) (story : L → Option (List Call)) (counts : L → Counts) (before : ℕ) (served : Bool) (old new : Turns D L K) : Type 0 where
-  pub told : Told
+pub record NextTaken {D L K : Type 0} (view : D → DiskView) (takes : K → List ℕ → K → Type 0) (faults : K → ℕ) (story : L → Option (List Call)) (counts : L → LinkCounts) (before : ℕ) (served : Bool) (old new : Turns D L K) : Type 0 where
+  pub told : Observation
   pub begins : told.before ≡ before
   pub does : Does view takes faults story counts (takes_next old.pace old.probing told) old.server new.server
   pub read : IsHonest view old.server.kept → IsRead old (story old.server.link) (story new.server.link) told
@@ -121,8 +121,8 @@ pub record NextTaken {D L K : Type 0} (view : D → DiskView) (takes : K → Lis
   pub probing : IsHonest view old.server.kept → new.probing ≡ probed told.came told.now (dials_behind told.event old.server.dials) old.probing
 
 -- A front of that was done, and then it ended so. What came was read, where more was done than to ask for it.
-pub record NextStops {D L K : Type 0} (view : D → DiskView) (takes fails : K → List ℕ → K → Type 0) (faults : K → ℕ) (story : L → Option (List Call)) (counts : L → Counts) (end : TurnEnd) (before : ℕ) (old new : Turns D L K) : Type 0 where
-  pub told : Told
+pub record NextStops {D L K : Type 0} (view : D → DiskView) (takes fails : K → List ℕ → K → Type 0) (faults : K → ℕ) (story : L → Option (List Call)) (counts : L → LinkCounts) (end : TurnEnd) (before : ℕ) (old new : Turns D L K) : Type 0 where
+  pub told : Observation
   pub begins : told.before ≡ before
   pub stops : Stops view takes fails faults story counts end (takes_next old.pace old.probing told) old.server new.server
   pub read : IsHonest view old.server.kept → (length stops.deeds < 2) ⊎ IsRead old (story old.server.link) (story new.server.link) told
@@ -135,8 +135,8 @@ is_served (Some place) came = true
 is_served None came = is_something came
 
 -- A turn was done, and served something or not.
-pub record Turned {D L K : Type 0} (view : D → DiskView) (takes : K → List ℕ → K → Type 0) (faults : K → ℕ) (story : L → Option (List Call)) (counts : L → Counts) (served : Bool) (old new : Turns D L K) : Type 0 where
-  pub told : Told
+pub record Turned {D L K : Type 0} (view : D → DiskView) (takes : K → List ℕ → K → Type 0) (faults : K → ℕ) (story : L → Option (List Call)) (counts : L → LinkCounts) (served : Bool) (old new : Turns D L K) : Type 0 where
+  pub told : Observation
   pub renews : Renews view old.server.kept new.server.kept
   pub does : Does view takes faults story counts (turn old.pace old.probing told) old.server new.server
   pub read : IsHonest view old.server.kept → MayRead story (due_in old.server told.before) old new.server told
@@ -145,28 +145,28 @@ pub record Turned {D L K : Type 0} (view : D → DiskView) (takes : K → List �
   pub probing : IsHonest view old.server.kept → new.probing ≡ probing_behind (due_in old.server told.before) told old.server.dials old.probing
 
 -- A front of a turn was done, and then it ended so. What came was read, where more was done than to ask for it.
-pub record TurnStops {D L K : Type 0} (view : D → DiskView) (takes fails : K → List ℕ → K → Type 0) (faults : K → ℕ) (story : L → Option (List Call)) (counts : L → Counts) (end : TurnEnd) (old new : Turns D L K) : Type 0 where
-  pub told : Told
+pub record TurnStops {D L K : Type 0} (view : D → DiskView) (takes fails : K → List ℕ → K → Type 0) (faults : K → ℕ) (story : L → Option (List Call)) (counts : L → LinkCounts) (end : TurnEnd) (old new : Turns D L K) : Type 0 where
+  pub told : Observation
   pub stops : Stops view takes fails faults story counts end (turn old.pace old.probing told) old.server new.server
   pub read : IsHonest view old.server.kept → (length stops.deeds < 3) ⊎ MayRead story (due_in old.server told.before) old new.server told
 
 -- Turns one after another
 
-abbrev pub Serves : {D L K : Type 0} → (D → DiskView) → (K → List ℕ → K → Type 0) → (K → ℕ) → (L → Option (List Call)) → (L → Counts) → ℕ → Turns D L K → Turns D L K → Type 0
+abbrev pub Serves : {D L K : Type 0} → (D → DiskView) → (K → List ℕ → K → Type 0) → (K → ℕ) → (L → Option (List Call)) → (L → LinkCounts) → ℕ → Turns D L K → Turns D L K → Type 0
 Serves {D} {L} {K} view takes faults story counts zero old new = new ≡ old
 Serves {D} {L} {K} view takes faults story counts (suc n) old new = (served : Bool) × (at : Turns D L K)
     × Turned view takes faults story counts served old at × Serves view takes faults story counts n at new
 
 -- fewer turns than `most`, and then one that ended so partway through
-pub record ServesUpTo {D L K : Type 0} (view : D → DiskView) (takes fails : K → List ℕ → K → Type 0) (faults : K → ℕ) (story : L → Option (List Call)) (counts : L → Counts) (most : ℕ) (end : TurnEnd) (old new : Turns D L K) : Type 0 where
+pub record ServesUpTo {D L K : Type 0} (view : D → DiskView) (takes fails : K → List ℕ → K → Type 0) (faults : K → ℕ) (story : L → Option (List Call)) (counts : L → LinkCounts) (most : ℕ) (end : TurnEnd) (old new : Turns D L K) : Type 0 where
   pub done : ℕ
   pub few : done < most
   pub at : Turns D L K
   pub serves : Serves view takes faults story counts done old at
   pub stops : TurnStops view takes fails faults story counts end at new
 
--- so many turns ended so
-abbrev pub ServeEnds : {D L K : Type 0} → (D → DiskView) → (K → List ℕ → K → Type 0) → (K → List ℕ → K → Type 0) → (K → ℕ) → (L → Option (List Call)) → (L → Counts) → ℕ → TurnEnd → Turns D L K → Turns D L K → Type 0
+-- this many turns ended so
+abbrev pub ServeEnds : {D L K : Type 0} → (D → DiskView) → (K → List ℕ → K → Type 0) → (K → List ℕ → K → Type 0) → (K → ℕ) → (L → Option (List Call)) → (L → LinkCounts) → ℕ → TurnEnd → Turns D L K → Turns D L K → Type 0
 ServeEnds view takes fails faults story counts most ends.Served old new = Serves view takes faults story counts most old new
 ServeEnds view takes fails faults story counts most ends.Quiet old new = ⊥
 ServeEnds view takes fails faults story counts most end old new = ServesUpTo view takes fails faults story counts most end old new

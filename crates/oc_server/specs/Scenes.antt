@@ -1,29 +1,30 @@
 -- A running node with its files, its output and its link, from one moment to a later one.
-use Rattle.std.specs.Prelude.{◌≡◌, ◌≤◌, ℕ, false, Option, IfSome, List, [], ◌∷◌, ◌++◌, length, slice_index_or, ◌-◌}
+use Rattle.std.specs.Prelude.{◌≡◌, ◌≤◌, ◌⊎◌, ℕ, false, Option, IfSome, List, [], ◌∷◌, ◌++◌, length, slice_index_or, ◌-◌}
 use Rattle.std.specs.List.{AllByRecursion}
 use Rattle.oc_base.specs.Lawful.{IsNode}
-use Rattle.oc_events.specs.Counts.{CountsEvent, CountsFailure}
-use Rattle.oc_events.specs.Told.{AddsAll}
-use Rattle.oc_events.specs.declared.call.Call.{Call}
-use Rattle.oc_events.specs.declared.counts.Counts.{Counts}
+use Rattle.oc_link.specs.Counts.{CountsEvent, CountsFailure}
+use Rattle.oc_link.specs.Told.{AddsAll}
+use Rattle.oc_link.specs.declared.call.Call.{Call}
+use Rattle.oc_link.specs.declared.counts.LinkCounts.{LinkCounts}
 use Rattle.oc_http.specs.Writing.{IsHost}
 use Rattle.oc_io.specs.DiskView.{DiskView}
 use Rattle.oc_io.specs.Faults.{NoFall, Rose}
-use Rattle.oc_keep.specs.Files.{AllGoOn, Leaves, OneRose, SameAsEither, Survives}
-use Rattle.oc_keep.specs.KeptView.{IsFullAt, IsHonest, KeptView, NodeSurvives, disks_of, header_of, node_of}
+use Rattle.oc_keep.specs.Files.{Disks, AllGoOn, Leaves, OneRose, SameAsEither, Survives}
+use Rattle.oc_keep.specs.KeptView.{AtAnyMoment, IsFullAt, IsHonest, KeptView, NodeSurvives, disks_of, header_of, node_of}
 use Rattle.oc_keep.specs.Promises.{ChangesNothing, IsSameNode}
 use Rattle.oc_keep.specs.ReadyView.{told_of}
 use Rattle.oc_keep.specs.declared.errors.KeepError.{KeepError}
 use Rattle.oc_keep.specs.declared.errors.KeepError.TheVariants as keeps
 use Rattle.oc_model.specs.declared.input.Input.{Input}
 use Rattle.oc_model.specs.Lawful.{IsInput}
-use Rattle.oc_model.specs.Node.{Node}
+use Rattle.oc_model.specs.Node.{Header, Node}
 use Rattle.oc_model.specs.Step.{step}
 use Rattle.oc_node.specs.OutcomeView.{OutcomeView}
 use Rattle.oc_policy.specs.declared.deciding.TheConstants.{MAX_RULES}
 use Rattle.oc_routes.specs.Lawful.{IsAsked}
-use Rattle.oc_server.specs.Deeds.{Deed, Sees, Running, Setting, after_all, calls_of, inputs_of, lines, taken_line}
-use Rattle.oc_server.specs.Looks.{LooksOnly}
+use Rattle.oc_server.specs.Deeds.{Deed, Sees, Running, Setting, after_all, calls_of, inputs_of, line, lines, taken_line}
+use Rattle.oc_server.specs.Looks.{LooksOn, LooksOnly, RunsSafely}
+use Rattle.oc_server.specs.Moments.{AtEachPrefix}
 use Rattle.oc_server.specs.Sending.{AreSendable}
 use Rattle.oc_server.specs.Works.{client_input}
 use Rattle.oc_server.specs.declared.dials.Dialling.{Dialling}
@@ -95,6 +96,7 @@ pub record KeepsOne {D : Type 0} (view : D → DiskView) (i : Input) (outcome : 
   pub node : IsHonest view old → node_of new ≡ (step (node_of old) i).node
   pub survives : IsHonest view old → NodeSurvives view new (node_of new)
   pub generation : IsHonest view old → new.store.generation ≡ old.store.generation
+  pub any_moment : IsHonest view old → AtAnyMoment view old new (SameAsEither (node_of old) (step (node_of old) i).node)
 
 -- these inputs were taken one after another, and between them the files were only looked at or turned over
 abbrev pub KeepsAll : {D : Type 0} → (D → DiskView) → List Input → KeptView D → KeptView D → Type 0
@@ -102,9 +104,9 @@ KeepsAll {D} view [] old new = LooksOnly view old new
 KeepsAll {D} view (i ∷ is) old new = (at next : KeptView D) × (outcome : OutcomeView) × LooksOnly view old at × KeepsOne view i outcome at next × KeepsAll view is next new
 
 -- how the counts of a link change: an event tells of one failure at most and waits no longer than it may, and nothing else changes them
-abbrev pub CountsAll : List Deed → Counts → Counts → Type 0
+abbrev pub CountsAll : List Deed → LinkCounts → LinkCounts → Type 0
 CountsAll [] old new = new ≡ old
-CountsAll (Sees event wait bytes ∷ ds) old new = (at : Counts) × CountsEvent event wait old at × CountsAll ds at new
+CountsAll (Sees event wait bytes ∷ ds) old new = (at : LinkCounts) × CountsEvent event wait old at × CountsAll ds at new
 CountsAll (d ∷ ds) old new = CountsAll ds old new
 
 -- what deeds make of a running node, and of the story of its link
@@ -113,7 +115,7 @@ pub record AreDone (s : Setting) (deeds : List Deed) (a b : Running) (old new : 
   pub calls : AddsAll (calls_of s deeds a) old new
 
 -- The deeds were done: their lines were written, no disk and no output failed, and no file was full for an input.
-pub record Did {D L K : Type 0} (view : D → DiskView) (takes : K → List ℕ → K → Type 0) (faults : K → ℕ) (story : L → Option (List Call)) (counts : L → Counts) (deeds : List Deed) (old new : Server D L K) : Type 0 where
+pub record Did {D L K : Type 0} (view : D → DiskView) (takes : K → List ℕ → K → Type 0) (faults : K → ℕ) (story : L → Option (List Call)) (counts : L → LinkCounts) (deeds : List Deed) (old new : Server D L K) : Type 0 where
   pub is_open : new.kept.closed ≡ false
   pub same : IsSameNode old.kept.node.control new.kept.node.control
   pub config : new.config ≡ old.config
@@ -125,6 +127,8 @@ pub record Did {D L K : Type 0} (view : D → DiskView) (takes : K → List ℕ 
   pub lawful : IsLawful old → IsLawful new
   pub text : takes old.sink (lines (setting old) deeds) new.sink
   pub done : IsHonest view old.kept → AreDone (setting old) deeds (running old) (running new) (story old.link) (story new.link)
+  pub moments : IsHonest view old.kept
+      → AtEachPrefix view (header_of old.kept.node.control) old.kept.node.control.me takes (line (setting old)) deeds (node_of old.kept) (disks_of old.kept) old.sink (disks_of new.kept) new.sink
 
 -- What is under way where it ends
 
@@ -152,6 +156,11 @@ LeavesAt view old new ends.Disk n under = LeavesUnder view old new n under
 LeavesAt view old new ends.Sink n under = LeavesUnder view old new n under
 LeavesAt view old new end n under = LeavesUnder view old new n Idle
 
+-- Until it ended so, with this under way, every crash at any moment left the node; with one more input under way, before it or after it.
+abbrev pub EndsOn : {D : Type 0} → (D → DiskView) → Header → ℕ → Node → Under → Disks D → Disks D → Type 0
+EndsOn view h me n (Taking i) d e = RunsSafely view h me d e (SameAsEither n (step n i).node) ⊎ (e ≡ d)
+EndsOn view h me n under d e = (k : ℕ) × LooksOn view h me n k d e
+
 abbrev pub IsFront : List ℕ → List ℕ → Type 0
 IsFront front whole = (behind : List ℕ) × (whole ≡ front ++ behind)
 
@@ -161,7 +170,7 @@ WritesAt takes fails old new ends.Sink text line = (front : List ℕ) × IsFront
 WritesAt takes fails old new end text line = takes old text new
 
 -- why it ended
-abbrev pub HasCause : {D K : Type 0} → (D → DiskView) → (K → ℕ) → TurnEnd → Under → KeptView D → KeptView D → K → K → Counts → Counts → Type 0
+abbrev pub HasCause : {D K : Type 0} → (D → DiskView) → (K → ℕ) → TurnEnd → Under → KeptView D → KeptView D → K → K → LinkCounts → LinkCounts → Type 0
 HasCause view faults ends.Disk under old new sink after before behind = OneRose view (disks_of old) (disks_of new)
 HasCause view faults ends.Sink under old new sink after before behind = Rose (faults sink) (faults after)
 HasCause view faults ends.Full (Taking i) old new sink after before behind = IsFullAt new i
@@ -180,14 +189,15 @@ MeetsFull view ends.Sink (Taking i) old new = ¬ IsFullAt old i
 MeetsFull view end under old new = Unit {0}
 
 -- the link was asked in vain where it ended so, and else nothing happened there
-abbrev pub CountsAt : TurnEnd → Counts → Counts → Type 0
+abbrev pub CountsAt : TurnEnd → LinkCounts → LinkCounts → Type 0
 CountsAt ends.Link old new = CountsFailure old new
 CountsAt end old new = new ≡ old
 
 -- It ended so at once, perhaps with one input or one line under way.
-pub record Breaks {D L K : Type 0} (view : D → DiskView) (takes fails : K → List ℕ → K → Type 0) (faults : K → ℕ) (story : L → Option (List Call)) (counts : L → Counts) (end : TurnEnd) (under : Under) (old new : Server D L K) : Type 0 where
+pub record Breaks {D L K : Type 0} (view : D → DiskView) (takes fails : K → List ℕ → K → Type 0) (faults : K → ℕ) (story : L → Option (List Call)) (counts : L → LinkCounts) (end : TurnEnd) (under : Under) (old new : Server D L K) : Type 0 where
   pub text : WritesAt takes fails old.sink new.sink end [] (under_line (setting old) under)
   pub leaves : IsHonest view old.kept → LeavesAt view old.kept new.kept end (node_of old.kept) under
+  pub moments : IsHonest view old.kept → EndsOn view (header_of old.kept.node.control) old.kept.node.control.me (node_of old.kept) under (disks_of old.kept) (disks_of new.kept)
   pub goes_on : AllGoOn view (disks_of old.kept) (disks_of new.kept)
   pub cause : HasCause view faults end under old.kept new.kept old.sink new.sink (counts old.link) (counts new.link)
   pub meets : MeetsFull view end under old.kept new.kept
@@ -195,7 +205,7 @@ pub record Breaks {D L K : Type 0} (view : D → DiskView) (takes fails : K → 
   pub counted : CountsAt end (counts old.link) (counts new.link)
 
 -- These deeds were done, and then it ended so at once.
-abbrev pub BreaksBehind : {D L K : Type 0} → (D → DiskView) → (K → List ℕ → K → Type 0) → (K → List ℕ → K → Type 0) → (K → ℕ) → (L → Option (List Call)) → (L → Counts) → TurnEnd → List Deed → Under → Server D L K → Server D L K → Type 0
+abbrev pub BreaksBehind : {D L K : Type 0} → (D → DiskView) → (K → List ℕ → K → Type 0) → (K → List ℕ → K → Type 0) → (K → ℕ) → (L → Option (List Call)) → (L → LinkCounts) → TurnEnd → List Deed → Under → Server D L K → Server D L K → Type 0
 BreaksBehind {D} {L} {K} view takes fails faults story counts end deeds under old new = (at : Server D L K)
     × Did view takes faults story counts deeds old at × Breaks view takes fails faults story counts end under at new
 
@@ -218,6 +228,7 @@ KeepCause view end i old new = ⊥
 -- an input was not taken into the files
 pub record KeepStops {D : Type 0} (view : D → DiskView) (end : TurnEnd) (i : Input) (old new : KeptView D) : Type 0 where
   pub leaves : IsHonest view old → LeavesAt view old new end (node_of old) (Taking i)
+  pub any_moment : IsHonest view old → AtAnyMoment view old new (SameAsEither (node_of old) (step (node_of old) i).node)
   pub goes_on : AllGoOn view (disks_of old) (disks_of new)
   pub cause : KeepCause view end i old new
   pub meets : MeetsFull view end (Taking i) old new

@@ -1,15 +1,15 @@
 -- Worked examples of turns and their parts.
 use Rattle.std.specs.Prelude.{◌≡◌, ℕ, true, false, None, Some, List, [], ◌∷◌, codes}
 use Rattle.oc_base.specs.declared.shelf.Shelf.{Shelf}
-use Rattle.oc_events.specs.declared.event.Event.TheVariants as events
-use Rattle.oc_events.specs.declared.event.Loss.TheVariants as losses
+use Rattle.oc_link.specs.declared.event.LinkEvent.TheVariants as events
+use Rattle.oc_link.specs.declared.event.Loss.TheVariants as losses
 use Rattle.oc_model.specs.Node.{new_node}
 use Rattle.oc_model.specs.declared.input.Input.TheVariants as inputs
 use Rattle.oc_model.specs.declared.message.Body.TheVariants as bodies
 use Rattle.oc_model.specs.declared.message.Message.{Message}
-use Rattle.oc_reply.specs.declared.hint.Hint.TheVariants.{Plain}
-use Rattle.oc_reply.specs.declared.verdict.Request.{Request}
-use Rattle.oc_reply.specs.declared.verdict.Verdict.TheVariants as verdicts
+use Rattle.oc_routes.specs.declared.hint.Hint.TheVariants.{Plain}
+use Rattle.oc_routes.specs.declared.verdict.Request.{Request}
+use Rattle.oc_routes.specs.declared.verdict.Verdict.TheVariants as verdicts
 use Rattle.oc_routes.specs.declared.manner.Manner.TheVariants.{Follow}
 use Rattle.oc_routes.specs.declared.routes.Operation.TheVariants as asks
 use Rattle.oc_server.specs.Asks.{obeys, waiting}
@@ -18,12 +18,12 @@ use Rattle.oc_server.specs.Deeds.{Accepts, BreaksOff, Drops, Gives, LaysAside, P
 use Rattle.oc_server.specs.Dials.{dialling}
 use Rattle.oc_server.specs.Pace.{first_pace}
 use Rattle.oc_server.specs.Rooms.{gone, room}
-use Rattle.oc_server.specs.Turns.{Told, ticks, turn}
+use Rattle.oc_server.specs.Turns.{Observation, ticks, turn}
 use Rattle.oc_server.specs.declared.came.Came.TheVariants as comes
 use Rattle.oc_server.specs.declared.dials.Errand.TheVariants as errands
 use Rattle.oc_server.specs.declared.pace.Pace.{Pace}
 use Rattle.oc_server.specs.declared.log.Log.TheVariants.{Inputs}
-use Rattle.oc_server.specs.declared.work.Place.{Place}
+use Rattle.oc_server.specs.declared.work.Transfer.{Transfer}
 use Rattle.oc_server.specs.declared.work.Work.{Work}
 use Rattle.oc_server.specs.declared.work.Work.TheVariants as works
 
@@ -40,7 +40,7 @@ abbrev held : List Work → Running
 held ws = after_all (Accepts (inputs.Publish (codes "/a") (codes "abc")) ∷ []) (started ws)
 
 -- a content of connection 8 that goes up to byte 6, from this byte on
-abbrev place : ℕ → Place
+abbrev place : ℕ → Transfer
 place at = record { connection = 8; content = record { group = codes "/a"; at = at; end = 6; chunked = false }; keeps = true; told = true; since = 5 }
 
 abbrev shelf_line : ℕ → List Shelf
@@ -54,7 +54,7 @@ abbrev fetch : Message
 fetch = record { from = 1; to = 2; body = bodies.Fetch [] }
 
 -- what a quiet turn is told
-abbrev quiet : Told
+abbrev quiet : Observation
 quiet = record { before = 0; event = events.Quiet; bytes = []; came = comes.Nothing; now = 5; median = 0; started = 5; seconds = 7 }
 
 -- a client that follows the group has all of it

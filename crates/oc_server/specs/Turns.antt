@@ -3,9 +3,9 @@ use Rattle.std.specs.Prelude.{◌≡◌, ℕ, ◌-◌, min, Bool, ◌==◌, if�
 use Rattle.std.specs.Option.{option_map}
 use Rattle.oc_base.specs.Groups.{shelf}
 use Rattle.oc_base.specs.declared.limits.TheConstants.{MAX_RATE, MAX_TIME}
-use Rattle.oc_events.specs.declared.event.Coming.{Coming}
-use Rattle.oc_events.specs.declared.event.Event.{Event}
-use Rattle.oc_events.specs.declared.event.Event.TheVariants as events
+use Rattle.oc_link.specs.declared.event.Coming.{Coming}
+use Rattle.oc_link.specs.declared.event.LinkEvent.{LinkEvent}
+use Rattle.oc_link.specs.declared.event.LinkEvent.TheVariants as events
 use Rattle.oc_http.specs.declared.fault.HttpFault.{HttpFault}
 use Rattle.oc_http.specs.declared.reply.Reply.{Reply}
 use Rattle.oc_model.specs.declared.input.Input.{Input}
@@ -17,8 +17,8 @@ use Rattle.oc_probe.specs.Turns.{turned}
 use Rattle.oc_probe.specs.declared.fault.ProbeFault.{ProbeFault}
 use Rattle.oc_probe.specs.declared.fault.ProbeFault.TheVariants as faults
 use Rattle.oc_probe.specs.declared.probing.Probing.{Probing}
-use Rattle.oc_reply.specs.Verdicts.{IsVerdict, NodeTerms}
-use Rattle.oc_reply.specs.declared.verdict.Verdict.{Verdict}
+use Rattle.oc_routes.specs.Verdicts.{IsVerdict, NodeTerms}
+use Rattle.oc_routes.specs.declared.verdict.Verdict.{Verdict}
 use Rattle.oc_server.specs.Asks.{obeys, takes_up}
 use Rattle.oc_server.specs.Brought.{HadMemory, IsReading, comes_back}
 use Rattle.oc_server.specs.Choices.{due_place, free_number, wait_for}
@@ -45,7 +45,7 @@ MeansBack t lent (Some errand) coming came = (reading : Result Reply HttpFault) 
 MeansBack t lent None coming came = came ≡ comes.Nothing
 
 -- What an event is that lends these bytes, to a node that reads requests by these terms, where the dial whose reply it is was made for this.
-abbrev pub Means : NodeTerms → List ℕ → Option Errand → Event → Came → Type 0
+abbrev pub Means : NodeTerms → List ℕ → Option Errand → LinkEvent → Came → Type 0
 Means t lent errand (events.Request a) came = (v : Verdict) × IsVerdict t a lent v × (came ≡ comes.Request a.connection (length lent) v)
 Means t lent errand (events.Room c) came = came ≡ comes.Room c
 Means t lent errand (events.Gone c loss) came = came ≡ comes.Gone c loss
@@ -53,14 +53,14 @@ Means t lent errand (events.Reply d coming) came = MeansBack t lent errand comin
 Means t lent errand events.Quiet came = came ≡ comes.Nothing
 
 -- What the link and the clock tell in a turn. What a turn does not ask for may be anything.
-pub record Told : Type 0 where
+pub record Observation : Type 0 where
   -- the time when it begins
   pub before : ℕ
   -- what happened, by which bytes, and what that is
-  pub event : Event
+  pub event : LinkEvent
   pub bytes : List ℕ
   pub came : Came
-  -- the time behind that
+  -- the time after that
   pub now : ℕ
   -- the median of the rates of the peer that was probed
   pub median : ℕ
@@ -148,7 +148,7 @@ deals pace probing came now median started seconds s a =
 -- A turn
 
 -- one thing that happened at the link is taken
-abbrev pub takes_next : Pace → Option Probing → Told → Part
+abbrev pub takes_next : Pace → Option Probing → Observation → Part
 takes_next pace probing t s a =
     (one (Sees t.event (wait_for pace a.works t.before) t.bytes) >> (one (Reads t.now) >> deals pace probing t.came t.now t.median t.started t.seconds)) s a
 
@@ -157,15 +157,15 @@ abbrev pub takes_due : Pace → Option Work → ℕ → ℕ → Part
 takes_due pace work before seconds = takes_up work before >> ticks_and_sends pace before seconds
 
 -- the work at a place, which is due by itself, is taken up; else one thing that happened
-abbrev pub takes_at : Option ℕ → Pace → Option Probing → Told → Part
+abbrev pub takes_at : Option ℕ → Pace → Option Probing → Observation → Part
 takes_at None pace probing t s a = takes_next pace probing t s a
 takes_at (Some place) pace probing t s a = takes_due pace (slice_get a.works place) t.before t.seconds s a
 
-abbrev pub takes_one : Pace → Option Probing → Told → Part
+abbrev pub takes_one : Pace → Option Probing → Observation → Part
 takes_one pace probing t s a = takes_at (due_place a.works (shelf a.node.groups) t.before) pace probing t s a
 
 -- What a turn does, by what it is told.
-abbrev pub turn : Pace → Option Probing → Told → Part
+abbrev pub turn : Pace → Option Probing → Observation → Part
 turn pace probing t = one (Reads t.before) >> takes_one pace probing t
 
 -- Behind a turn
@@ -173,8 +173,8 @@ turn pace probing t = one (Reads t.before) >> takes_one pace probing t
 abbrev pub paced : Pace → ℕ → Pace
 paced pace now = if wait_until pace now == 0 then after_tick now pace else pace
 
--- the pace behind a turn in which the work at this place was due, or none was
-abbrev pub pace_behind : Option ℕ → Pace → Told → Node → Pace
+-- the pace after a turn in which the work at this place was due, or none was
+abbrev pub pace_behind : Option ℕ → Pace → Observation → Node → Pace
 pace_behind None pace t n = paced (quickened (came_hurries t.came n) pace) t.now
 pace_behind (Some place) pace t n = paced pace t.before
 
@@ -191,12 +191,12 @@ abbrev pub rotated : List Dialling → Probing → Probing
 rotated [] p = record p { rotation = record p.rotation { coming = turned p.rotation.coming } }
 rotated ds p = p
 
--- what it probes with, behind what came at this time while these dials were under way
+-- what it probes with, after what came at this time while these dials were under way
 abbrev pub probed : Came → ℕ → List Dialling → Option Probing → Option Probing
 probed (comes.Probed peer since fault) now ds p = gauged fault peer (rate_of since now) p
 probed comes.Nothing now ds p = option_map (rotated ds) p
 probed came now ds p = p
 
-abbrev pub probing_behind : Option ℕ → Told → List Dialling → Option Probing → Option Probing
+abbrev pub probing_behind : Option ℕ → Observation → List Dialling → Option Probing → Option Probing
 probing_behind None t ds p = probed t.came t.now (dials_behind t.event ds) p
 probing_behind (Some place) t ds p = p

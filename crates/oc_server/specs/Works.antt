@@ -2,9 +2,9 @@
 use Rattle.std.specs.Prelude.{ℕ, ◌==◌, Bool, Option, None, Some, List, position, remove, slice_get}
 use Rattle.oc_model.specs.declared.input.Input.{Input}
 use Rattle.oc_model.specs.declared.input.Input.TheVariants as inputs
-use Rattle.oc_reply.specs.Verdicts.{input_for}
-use Rattle.oc_reply.specs.declared.hint.Hint.{Hint}
-use Rattle.oc_reply.specs.declared.verdict.Request.{Request}
+use Rattle.oc_routes.specs.Verdicts.{input_for}
+use Rattle.oc_routes.specs.declared.hint.Hint.{Hint}
+use Rattle.oc_routes.specs.declared.verdict.Request.{Request}
 use Rattle.oc_routes.specs.declared.routes.Operation.{Operation}
 use Rattle.oc_routes.specs.declared.routes.Operation.TheVariants as asks
 use Rattle.oc_server.specs.declared.work.Pending.{Pending}

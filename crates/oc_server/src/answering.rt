@@ -5,10 +5,10 @@ ghost use Rattle.oc_base.specs.Groups.{shelf};
 ghost use Rattle.oc_keep.specs.KeptView.{IsHonest, node_of};
 ghost use Rattle.oc_model.specs.Lawful.{IsInput};
 ghost use Rattle.oc_model.specs.Step.{step};
-ghost use Rattle.oc_reply.specs.Asks.{IsLawfulAsk, IsLawfulVerdict};
-ghost use Rattle.oc_reply.specs.Conditions as conditions;
-ghost use Rattle.oc_reply.specs.Reports.{report_of};
-ghost use Rattle.oc_reply.specs.Shown.{response_for};
+ghost use Rattle.oc_routes.specs.Asks.{IsLawfulAsk, IsLawfulVerdict};
+ghost use Rattle.oc_routes.specs.Conditions as conditions;
+ghost use Rattle.oc_routes.specs.Reports.{report_of};
+ghost use Rattle.oc_routes.specs.Shown.{response_for};
 ghost use Rattle.oc_routes.specs.Lawful.{IsAsked};
 ghost use Rattle.oc_wire.specs.Spelling.{HasSpelling};
 ghost use Rattle.oc_server.specs.Asks.{answer_now, answers_or_waits, has_to_wait, holding_in, obeys, replies, responds, takes_on};
@@ -24,12 +24,14 @@ use crate::taking::Accepted;
 use crate::work::{Pending, Waiting, client_input, pending_of};
 use oc_base::{Memory, Shelf};
 use oc_config::Config;
-use oc_events::{ConnectionId, Link};
 use oc_io::{Disk, Sink};
 use oc_keep::{Kept, ReadyError};
+use oc_link::{ConnectionId, Link};
 use oc_model::{Answer, Input};
-use oc_reply::{Holding, Request, Seen, Told, Verdict, is_to_wait, report_of, respond_to};
-use oc_routes::{Manner, Network, Operation, Refused, Response};
+use oc_routes::{
+    Directory, Holding, Manner, Operation, Refused, Request, Response, Seen, StepOutcome, Verdict,
+    is_to_wait, report_of, respond_to,
+};
 use std::alloc::Global;
 
 impl<D: Disk, L: Link, K: Sink> Server<D, L, K> {
@@ -212,7 +214,7 @@ fn waiting(connection: ConnectionId, request: Request, now: u64) -> Waiting
 fn unmet<D: Disk>(kept: &Kept<D>, operation: &Operation) -> Option<Refused>
     ensures { IsHonest D.view kept.now → result ≡ conditions.unmet operation.now kept.now.node.control.me (shelf (node_of kept.now).groups) }
 {
-    oc_reply::unmet(operation, kept.node().id(), kept.shelf())
+    oc_routes::unmet(operation, kept.node().id(), kept.shelf())
 }
 
 /// What a request is answered by a node that is so.
@@ -229,12 +231,12 @@ fn response_to(
         (holding_in pending.now.asked.operation seen.now.shelf.now) config.now.addresses config.now.key
         (report_of pending.now.asked.operation seen.now.node.now.control seen.now.shelf.now seen.now.messages)) }
 {
-    let told = Told {
+    let told = StepOutcome {
         answer: accepted.answer,
         back: accepted.back.as_ref(),
         holding: holding_for(&pending.asked.operation, seen.shelf),
     };
-    let network = Network {
+    let network = Directory {
         addresses: &config.addresses,
         key: config.key.as_ref(),
     };
@@ -318,7 +320,7 @@ fn end_of(error: ReadyError) -> TurnEnd
     }
 }
 
-/// Whether the next tick is to come soon behind this answer: what was asked added to a group, or closed it.
+/// Whether the next tick is to come soon after this answer: what was asked added to a group, or closed it.
 fn hurries(operation: &Operation, answer: Answer) -> bool
     ensures { result ≡ hurries operation.now answer }
 {

@@ -1,20 +1,20 @@
 //! What a turn asks of its link: one thing that happened, and the time.
 
 ghost use Rattle.std.specs.Prelude.{◌≡◌, ◌∷◌, [], Ok, List, ℕ, IfErr, IfOk};
-ghost use Rattle.oc_events.specs.Told.{NextGives};
+ghost use Rattle.oc_link.specs.Told.{NextGives};
 ghost use Rattle.oc_server.specs.Deeds.{Reads, Sees, Tells, dials_behind, errand_in};
 ghost use Rattle.oc_server.specs.Scenes.{Breaks, Did, IsServing, Idle};
 
 use crate::dials::{Dials, Errand};
 use crate::ends::TurnEnd;
 use crate::server::Server;
-use oc_events::{Event, Link};
 use oc_io::{Disk, Sink};
+use oc_link::{Link, LinkEvent};
 
 /// One thing that happened, and for what a dial was made whose reply it is.
 #[derive(Clone, Copy, Debug)]
 pub struct Happened {
-    pub event: Event,
+    pub event: LinkEvent,
     pub errand: Option<Errand>,
 }
 
@@ -56,12 +56,12 @@ impl<D: Disk, L: Link, K: Sink> Server<D, L, K> {
 }
 
 /// Takes out the dial whose reply an event is.
-fn errand_in(dials: &mut Dials, event: &Event) -> Option<Errand>
+fn errand_in(dials: &mut Dials, event: &LinkEvent) -> Option<Errand>
     ensures errand { result ≡ errand_in event.now dials.old }
     ensures rest { dials.new ≡ dials_behind event.now dials.old }
 {
     match event {
-        Event::Reply(dial, _) => dials.take(*dial),
+        LinkEvent::Reply(dial, _) => dials.take(*dial),
         _ => None,
     }
 }

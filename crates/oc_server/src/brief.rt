@@ -1,16 +1,14 @@
 //! The lines of a node for people and log collectors.
 
 ghost use Rattle.std.specs.Prelude.{◌≡◌, ◌++◌, IfOk, OnOk, Some, codes, decimal};
-ghost use Rattle.oc_replay.specs.Bodies.{rank_or_dash, rank_text};
-ghost use Rattle.oc_replay.specs.Lines.{answer_text};
-ghost use Rattle.oc_replay.specs.Shows.{mode_text};
 ghost use Rattle.oc_server.specs.Brief.{asked_line, at_stake, has_lease, is_still, lost_line, lost_lines, moved_line, place_line, ranked, told_answer, told_first, told_input};
 ghost use Rattle.oc_server.specs.Telling.{IsBefore, IsNoted, told_behind};
 
 use crate::log::Log;
-use oc_base::{Child, GroupName, Memory, NodeId, Rank, put, put_number, put_with_number};
+use oc_base::{Child, GroupName, Memory, NodeId, Rank, put, put_with_number};
 use oc_model::{Answer, Input, Mode};
 use oc_node::Node;
+use oc_replay::{put_answer, put_mode, put_rank_or_dash};
 use oc_state::children::children;
 use oc_state::modes::{in_tree, is_asking, is_idle};
 use std::alloc::Global;
@@ -158,28 +156,6 @@ fn put_told_answer(out: &mut Vec<u8>, answer: Answer) -> Result<(), Memory>
     }
 }
 
-/// Puts the word of an answer.
-fn put_answer(out: &mut Vec<u8>, answer: Answer) -> Result<(), Memory>
-    ensures { OnOk result (out.new.items ≡ out.old.items ++ answer_text answer) }
-{
-    match answer {
-        Answer::Ok => put(out, b"ok"),
-        Answer::Ignored => put(out, b"ignored"),
-        Answer::Gap => put(out, b"gap"),
-        Answer::NotSource => put(out, b"notsource"),
-        Answer::NoGroup => put(out, b"nogroup"),
-        Answer::Groups => put(out, b"groups"),
-        Answer::TooLong => put(out, b"toolong"),
-        Answer::Own => put(out, b"own"),
-        Answer::Fixed => put(out, b"fixed"),
-        Answer::Waiting => put(out, b"waiting"),
-        Answer::Spent => put(out, b"spent"),
-        Answer::Sealed => put(out, b"sealed"),
-        Answer::Redirect(node) => put_with_number(out, b"redirect ", u64::from(node.0)),
-        Answer::Serve(count) => put_with_number(out, b"serve ", count),
-    }
-}
-
 /// Puts a line for each of these children that has no lease now.
 fn put_lost(out: &mut Vec<u8>, children: &[Child], node: &Node) -> Result<(), Memory>
     ensures { OnOk result (out.new.items ≡ out.old.items ++ lost_lines node.now.control children.now) }
@@ -254,18 +230,6 @@ fn put_place(out: &mut Vec<u8>, node: &Node) -> Result<(), Memory>
     put(out, b"\n")
 }
 
-/// Puts a mode, with its peer.
-fn put_mode(out: &mut Vec<u8>, mode: Mode) -> Result<(), Memory>
-    ensures { OnOk result (out.new.items ≡ out.old.items ++ mode_text mode) }
-{
-    match mode {
-        Mode::Idle => put(out, b"idle"),
-        Mode::Asking(peer) => put_with_number(out, b"asking ", u64::from(peer.0)),
-        Mode::Joined(parent) => put_with_number(out, b"joined ", u64::from(parent.0)),
-        Mode::Acting => put(out, b"acting"),
-    }
-}
-
 /// Puts the rank of a node of this mode, if it is in the tree.
 fn put_ranked(out: &mut Vec<u8>, mode: Mode, rank: Option<Rank>) -> Result<(), Memory>
     ensures { OnOk result (out.new.items ≡ out.old.items ++ ranked mode rank) }
@@ -275,22 +239,4 @@ fn put_ranked(out: &mut Vec<u8>, mode: Mode, rank: Option<Rank>) -> Result<(), M
     }
     put(out, b" rank ")?;
     put_rank_or_dash(out, rank)
-}
-
-/// Puts a rank, and `-` where there is none.
-fn put_rank_or_dash(out: &mut Vec<u8>, rank: Option<Rank>) -> Result<(), Memory>
-    ensures { OnOk result (out.new.items ≡ out.old.items ++ rank_or_dash rank) }
-{
-    match rank {
-        None => put(out, b"-"),
-        Some(rank) => put_rank(out, rank),
-    }
-}
-
-/// Puts `E.D`.
-fn put_rank(out: &mut Vec<u8>, rank: Rank) -> Result<(), Memory>
-    ensures { OnOk result (out.new.items ≡ out.old.items ++ rank_text rank) }
-{
-    put_number(out, rank.epoch)?;
-    put_with_number(out, b".", u64::from(rank.depth))
 }

@@ -1,10 +1,10 @@
 ghost use Rattle.std.specs.Prelude.{◌≡◌};
 
 use oc_base::NodeId;
-use oc_events::{ConnectionId, Loss};
+use oc_link::{ConnectionId, Loss};
 use oc_model::Input;
 use oc_probe::ProbeFault;
-use oc_reply::Verdict;
+use oc_routes::Verdict;
 
 /// What came by an event, once its bytes were read.
 #[derive(Debug, Drop)]

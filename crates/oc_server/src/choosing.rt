@@ -7,12 +7,11 @@ ghost use Rattle.oc_server.specs.Choices as choices;
 use crate::dials::{Dialling, Errand};
 use crate::outbox::{Outbox, is_fetch};
 use crate::pace::Pace;
-use crate::work::{Place, Waiting, Work};
+use crate::work::{Transfer, Waiting, Work};
 use oc_base::Shelf;
-use oc_events::DialId;
+use oc_link::DialId;
 use oc_model::Message;
-use oc_reply::{FOLLOW_MILLIS, Follower, Holding, IDLE_MILLIS, Prospect, millis_left};
-use oc_routes::Operation;
+use oc_routes::{FOLLOW_MILLIS, Follower, Holding, IDLE_MILLIS, Operation, Prospect, millis_left};
 use std::collections::VecDeque;
 
 /// How many dials may be under way.
@@ -57,7 +56,7 @@ fn is_over(waiting: &Waiting, shelf: &[Shelf], now: u64) -> bool
 }
 
 /// What becomes of a content.
-pub(crate) fn prospect_of(place: &Place, shelf: &[Shelf], now: u64) -> Prospect
+pub(crate) fn prospect_of(place: &Transfer, shelf: &[Shelf], now: u64) -> Prospect
     ensures { result ≡ prospect_of place.now shelf.now now }
 {
     let holding = Holding::in_shelf(shelf, &place.content.group);

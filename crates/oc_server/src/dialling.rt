@@ -2,8 +2,8 @@
 
 ghost use Rattle.std.specs.Prelude.{◌≡◌, ◌<◌, ◌∷◌, ◌++◌, [], OnErr, OnOk, IfErr, IfOk, length, slice_get, Some};
 ghost use Rattle.oc_base.specs.Lawful.{IsNode};
-ghost use Rattle.oc_events.specs.Told.{AddsAll};
-ghost use Rattle.oc_events.specs.declared.call.Call.TheVariants as acts;
+ghost use Rattle.oc_link.specs.Told.{AddsAll};
+ghost use Rattle.oc_link.specs.declared.call.Call.TheVariants as acts;
 ghost use Rattle.oc_http.specs.Writing.{IsHost};
 ghost use Rattle.oc_model.specs.declared.message.Message.{Message};
 ghost use Rattle.oc_wire.specs.Macs.{request_of};
@@ -19,9 +19,9 @@ use crate::outbox::is_fetch;
 use crate::server::Server;
 use oc_base::{Memory, NodeId};
 use oc_config::Config;
-use oc_events::{DialId, Link};
 use oc_http::write_probe;
 use oc_io::{Disk, Sink};
+use oc_link::{DialId, Link};
 use oc_model::Message;
 use oc_wire::to_http;
 use std::alloc::Global;

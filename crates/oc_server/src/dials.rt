@@ -2,7 +2,7 @@ ghost use Rattle.std.specs.Prelude.{◌≡◌, ◌++◌, ◌∷◌, [], OnErr, O
 ghost use Rattle.oc_server.specs.Dials.{place_of};
 
 use oc_base::{Memory, NodeId};
-use oc_events::DialId;
+use oc_link::DialId;
 use std::alloc::Global;
 use std::marker::Model;
 

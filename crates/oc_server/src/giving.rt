@@ -2,10 +2,10 @@
 
 ghost use Rattle.std.specs.Prelude.{◌≡◌, ◌≤◌, ◌∷◌, ◌++◌, [], OnErr, OnOk, IfErr, IfOk, List, ℕ, false, true, length, take, vec_len};
 ghost use Rattle.oc_chunked.specs.Texts.{chunked_text};
-ghost use Rattle.oc_events.specs.Told.{AddsAll};
+ghost use Rattle.oc_link.specs.Told.{AddsAll};
 ghost use Rattle.oc_keep.specs.KeptView.{IsHonest, node_of};
-ghost use Rattle.oc_reply.specs.Contents.{ending, part_of, piece_of, pieces};
-ghost use Rattle.oc_reply.specs.Contents as contents;
+ghost use Rattle.oc_routes.specs.Contents.{ending, part_of, piece_of, pieces};
+ghost use Rattle.oc_routes.specs.Contents as contents;
 ghost use Rattle.oc_server.specs.Deeds.{BreaksOff, Gives, LaysAside, Permits, Replies, Waits, content_at, content_in, finish, first_piece, first_rest, piece, place_behind, rest, takes_request, with_content};
 ghost use Rattle.oc_server.specs.Deeds as deeds;
 ghost use Rattle.oc_server.specs.Giving.{LookBreaks};
@@ -14,16 +14,15 @@ ghost use Rattle.oc_server.specs.Scenes.{Breaks, Did, IsLawfulWaiting, IsServing
 
 use crate::ends::TurnEnd;
 use crate::server::Server;
-use crate::work::{Pending, Place, Waiting, Work};
+use crate::work::{Pending, Transfer, Waiting, Work};
 use crate::works::Works;
 use oc_base::{GroupName, Memory, put};
 use oc_chunked::chunk_text;
-use oc_events::{ConnectionId, Ending, Link};
 use oc_http::Persistence;
 use oc_io::{Disk, Sink};
 use oc_keep::{Kept, KeptRead};
-use oc_reply::{PIECE_BYTES, UnderWay};
-use oc_routes::{CONTINUE, GroupRange, Operation, Response};
+use oc_link::{ConnectionId, Ending, Link};
+use oc_routes::{CONTINUE, GroupRange, Operation, PIECE_BYTES, Response, UnderWay};
 use std::alloc::Global;
 
 /// The end of a chunked text (RFC 9112, section 7.1).
@@ -33,7 +32,7 @@ const LAST_CHUNK: &[u8] = b"0\r\n\r\n";
 #[derive(Drop)]
 struct Piece {
     text: Vec<u8>,
-    rest: Option<Place>,
+    rest: Option<Transfer>,
 }
 
 impl<D: Disk, L: Link, K: Sink> Server<D, L, K> {
@@ -88,7 +87,7 @@ impl<D: Disk, L: Link, K: Sink> Server<D, L, K> {
     }
 
     /// Gives the next piece of a content.
-    pub fn gives(&mut self, place: Place, now: u64) -> Result<(), TurnEnd>
+    pub fn gives(&mut self, place: Transfer, now: u64) -> Result<(), TurnEnd>
         requires { IsServing self.old }
         ensures did { OnOk result (Did D.view K.takes K.faults L.story L.counts (Gives place now ∷ []) self.old self.new) }
         ensures breaks { IfErr result (λ end. LookBreaks D.view K.takes K.fails K.faults L.story L.counts end self.old self.new) }
@@ -107,7 +106,7 @@ impl<D: Disk, L: Link, K: Sink> Server<D, L, K> {
     }
 
     /// A content has nothing to give until its group has grown.
-    pub fn lays_aside(&mut self, place: Place) -> Result<(), TurnEnd>
+    pub fn lays_aside(&mut self, place: Transfer) -> Result<(), TurnEnd>
         requires { IsServing self.old }
         ensures did { OnOk result (Did D.view K.takes K.faults L.story L.counts (LaysAside place ∷ []) self.old self.new) }
         ensures breaks { IfErr result (λ end. (end ≡ TurnEnd.Memory) × Breaks D.view K.takes K.fails K.faults L.story L.counts end Idle self.old self.new) }
@@ -129,11 +128,11 @@ impl<D: Disk, L: Link, K: Sink> Server<D, L, K> {
 }
 
 /// The place from which the content of a response is given, if it has one.
-fn place_of(request: &Pending, response: &Response, now: u64) -> Option<Place>
+fn place_of(request: &Pending, response: &Response, now: u64) -> Option<Transfer>
     ensures { result ≡ deeds.place_of request.now response.now now }
 {
     let content = content_in(&request.asked.operation, response.content)?;
-    Some(Place {
+    Some(Transfer {
         connection: request.connection,
         content,
         keeps: keeps(response.connection),
@@ -164,7 +163,7 @@ fn content_at(group: GroupName, range: Option<GroupRange>) -> Option<UnderWay>
 }
 
 /// What is left of a content is under way.
-fn begin_rest(works: &mut Works, left: &Option<Place>) -> Result<(), Memory>
+fn begin_rest(works: &mut Works, left: &Option<Transfer>) -> Result<(), Memory>
     ensures begun { OnOk result (works.new ≡ with_content left.now works.old) }
     ensures fails { OnErr result (works.new ≡ works.old) }
 {
@@ -195,7 +194,7 @@ fn take_request<L: Link>(link: &mut L, request: &Pending)
 }
 
 /// Says that a reply is whole, where nothing of it is left.
-fn finish<L: Link>(link: &mut L, connection: ConnectionId, ending: Ending, left: &Option<Place>)
+fn finish<L: Link>(link: &mut L, connection: ConnectionId, ending: Ending, left: &Option<Transfer>)
     ensures calls { AddsAll (finish connection ending.keeps ending.watched left.now) (L.story link.old) (L.story link.new) }
     ensures counts { L.counts link.new ≡ L.counts link.old }
 {
@@ -218,7 +217,7 @@ fn joined(alloc: Global, first: &[u8], more: &[u8]) -> Result<Vec<u8>, Memory>
 fn first_piece<D: Disk>(
     alloc: Global,
     kept: &mut Kept<D>,
-    place: &Option<Place>,
+    place: &Option<Transfer>,
     now: u64,
 ) -> Result<Piece, TurnEnd>
     requires { kept.old.closed ≡ false }
@@ -240,7 +239,7 @@ fn first_piece<D: Disk>(
 fn next_piece<D: Disk>(
     alloc: Global,
     kept: &mut Kept<D>,
-    place: &Place,
+    place: &Transfer,
     now: u64,
 ) -> Result<Piece, TurnEnd>
     requires { kept.old.closed ≡ false }
@@ -257,12 +256,12 @@ fn next_piece<D: Disk>(
     Ok(Piece { text, rest })
 }
 
-/// The place behind this many bytes more of its content, if anything is left.
-fn place_behind(place: &Place, count: usize, now: u64) -> Option<Place>
+/// The place after this many bytes more of its content, if anything is left.
+fn place_behind(place: &Transfer, count: usize, now: u64) -> Option<Transfer>
     ensures { result ≡ place_behind place.now now count }
 {
     let content = place.content.behind(count)?;
-    Some(Place {
+    Some(Transfer {
         connection: place.connection,
         content,
         keeps: place.keeps,

@@ -1,9 +1,9 @@
 //! What came by an event, read from the bytes that the link lends.
 
 ghost use Rattle.std.specs.Prelude.{◌≡◌, ◌≤◌, IfErr, IfOk, IfSome, None, length, option_map};
-ghost use Rattle.oc_events.specs.declared.event.Event.TheVariants as events;
+ghost use Rattle.oc_link.specs.declared.event.LinkEvent.TheVariants as events;
 ghost use Rattle.oc_policy.specs.declared.deciding.TheConstants.{MAX_RULES};
-ghost use Rattle.oc_reply.specs.Verdicts.{terms_of};
+ghost use Rattle.oc_routes.specs.Verdicts.{terms_of};
 ghost use Rattle.oc_server.specs.Lawful.{IsLawfulCame};
 ghost use Rattle.oc_server.specs.Runs.{reads_by};
 ghost use Rattle.oc_server.specs.Scenes.{Breaks, Idle, IsLawfulErrand, IsServing};
@@ -17,11 +17,11 @@ use crate::reading::{Hearer, comes_back};
 use crate::server::Server;
 use oc_base::Memory;
 use oc_config::Config;
-use oc_events::{Arrival, Coming, Event, Link};
 use oc_http::HeadReader;
 use oc_io::{Disk, Sink};
 use oc_keep::Kept;
-use oc_reply::{Terms, judge};
+use oc_link::{Arrival, Coming, Link, LinkEvent};
+use oc_routes::{Terms, judge};
 use std::alloc::Global;
 
 impl<D: Disk, L: Link, K: Sink> Server<D, L, K> {
@@ -47,11 +47,11 @@ impl<D: Disk, L: Link, K: Sink> Server<D, L, K> {
         ensures same { self.new ≡ record self.old { heads = self.new.heads } }
     {
         match &happened.event {
-            Event::Request(arrival) => self.hears(*arrival),
-            Event::Room(connection) => Ok(Came::Room(*connection)),
-            Event::Gone(connection, loss) => Ok(Came::Gone(*connection, *loss)),
-            Event::Reply(_, coming) => self.hears_back(happened.errand, *coming),
-            Event::Quiet => Ok(Came::Nothing),
+            LinkEvent::Request(arrival) => self.hears(*arrival),
+            LinkEvent::Room(connection) => Ok(Came::Room(*connection)),
+            LinkEvent::Gone(connection, loss) => Ok(Came::Gone(*connection, *loss)),
+            LinkEvent::Reply(_, coming) => self.hears_back(happened.errand, *coming),
+            LinkEvent::Quiet => Ok(Came::Nothing),
         }
     }
 

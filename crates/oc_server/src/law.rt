@@ -2,21 +2,21 @@
 
 ghost use Rattle.std.specs.Prelude.{◌≡◌, ◌≢◌, ◌⊎◌, ℕ, Bool, List, [], ◌++◌};
 ghost use Rattle.oc_base.specs.declared.group.Group.{Group};
-ghost use Rattle.oc_events.specs.Traffic.{given};
-ghost use Rattle.oc_events.specs.declared.call.Call.{Call};
-ghost use Rattle.oc_events.specs.declared.stage.Stage.TheVariants.{Answering, Awaiting, Whole};
+ghost use Rattle.oc_link.specs.Traffic.{given};
+ghost use Rattle.oc_link.specs.declared.call.Call.{Call};
+ghost use Rattle.oc_link.specs.declared.phase.Phase.TheVariants.{Answering, Awaiting, Whole};
 ghost use Rattle.oc_model.specs.Node.{Node};
 ghost use Rattle.oc_model.specs.Step.{step};
 ghost use Rattle.oc_model.specs.declared.answer.Answer.{Answer};
 ghost use Rattle.oc_model.specs.declared.input.Input.TheVariants.{Client as ClientInput};
-ghost use Rattle.oc_reply.specs.declared.hint.Hint.{Hint};
-ghost use Rattle.oc_reply.specs.declared.hint.Hint.TheVariants.{Here};
+ghost use Rattle.oc_routes.specs.declared.hint.Hint.{Hint};
+ghost use Rattle.oc_routes.specs.declared.hint.Hint.TheVariants.{Here};
 ghost use Rattle.oc_routes.specs.declared.manner.Manner.{Manner};
 ghost use Rattle.oc_routes.specs.declared.routes.Operation.TheVariants.{Client};
 ghost use Rattle.oc_server.specs.Deeds.{Deed, Running, Setting, after_all, calls_of};
 ghost use Rattle.oc_server.specs.Examples.{AreRuns};
 ghost use Rattle.oc_server.specs.ReplyExamples.{AreReplied};
-ghost use Rattle.oc_server.specs.Replying.{IsGivable, IsOrdered, client_content, replies, stage_on};
+ghost use Rattle.oc_server.specs.Replying.{IsGivable, IsOrdered, client_content, replies, phase_on};
 ghost use Rattle.oc_server.specs.Scenes.{IsFront};
 
 /// Worked examples of short runs come out as they should. They are computed.
@@ -25,15 +25,15 @@ pub fn examples_compute()
 {}
 
 /// Whatever a running node does from a moment at which nothing is under way: each connection was given a beginning of the
-/// replies to its requests, one behind the other, and all of them where its next request is awaited or its last reply is
+/// replies to its requests, one after the other, and all of them where its next request is awaited or its last reply is
 /// whole.
 pub fn connections_are_given_their_replies()
     ensures front { (s : Setting) (made : List Call) (deeds : List Deed) (a : Running) (c : ℕ)
-        → a.works ≡ [] → stage_on c made ≢ Answering → IsOrdered s made deeds a
+        → a.works ≡ [] → phase_on c made ≢ Answering → IsOrdered s made deeds a
         → IsFront (given c (calls_of s deeds a)) (replies c deeds (after_all deeds a).node.groups) }
     ensures whole { (s : Setting) (made : List Call) (deeds : List Deed) (a : Running) (c : ℕ)
-        → a.works ≡ [] → stage_on c made ≢ Answering → IsOrdered s made deeds a
-        → (stage_on c (made ++ calls_of s deeds a) ≡ Awaiting) ⊎ (stage_on c (made ++ calls_of s deeds a) ≡ Whole)
+        → a.works ≡ [] → phase_on c made ≢ Answering → IsOrdered s made deeds a
+        → (phase_on c (made ++ calls_of s deeds a) ≡ Awaiting) ⊎ (phase_on c (made ++ calls_of s deeds a) ≡ Whole)
         → given c (calls_of s deeds a) ≡ replies c deeds (after_all deeds a).node.groups }
     ensures examples { AreReplied }
 {}

@@ -4,19 +4,20 @@
 //! output. What it does is a list of deeds: `specs/Deeds` says of each what it makes of the node, which line it writes
 //! and which calls it makes on the link. Each method of a `Server` does one deed. Its contract says that the deed was
 //! done (`Did`), or how it broke (`Breaks`): why, what every crash leaves, and which part of a line was written
-//! (`specs/Scenes`). What holds between any two calls is `IsServing`.
+//! (`specs/Scenes`). While deeds are done every crash at any moment leaves the node of a prefix of them
+//! (`specs/Moments`). What holds between any two calls is `IsServing`.
 //!
 //! What a node writes of its inputs goes by its [`Log`]: a line for each, or what people and log collectors are told of it
 //! (`specs/Brief`).
 //!
-//! A content under way is a place in a group and not bytes ([`Place`]): each piece is read when it is given, so nothing
+//! A content under way is a place in a group and not bytes ([`Transfer`]): each piece is read when it is given, so nothing
 //! grows with its length. A follower that has all of a group waits ([`Waiting`]). [`connections_are_given_their_replies`]
 //! says that whatever is done in whatever order, each connection is given the replies to its requests.
 //!
 //! Which deeds make a turn is a function: `specs/Turns` says what a running node does in a turn by what the link and the
 //! clock tell ([`Turns::turn`], and [`Turns::serve`] for one turn after another). The contract of a turn says that these
 //! deeds were done, or that a front of them was done, what was under way behind it, and how it ended (`specs/Runs`). What
-//! came is what the bytes of the link say, read by the definitions of `oc_reply` and `oc_http`. Turns do their deeds in the
+//! came is what the bytes of the link say, read by the definitions of `oc_routes` and `oc_http`. Turns do their deeds in the
 //! order that the replies ask for, however many are done and wherever the last one ends ([`turns_are_in_order`]).
 #![tactic(auto)]
 
@@ -66,5 +67,5 @@ pub use server::Server;
 pub use taking::Accepted;
 pub use turn_law::{brief_lines_compute, turns_compute};
 pub use turns::Turns;
-pub use work::{Pending, Place, Waiting, Work};
+pub use work::{Pending, Transfer, Waiting, Work};
 pub use works::Works;

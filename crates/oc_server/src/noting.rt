@@ -2,7 +2,7 @@
 
 ghost use Rattle.std.specs.Prelude.{◌≡◌, ◌++◌, ◌⊎◌, ◌∷◌, [], OnOk, IfErr, Some, codes, option_map, true};
 ghost use Rattle.oc_routes.specs.Refusals.{refusal_text, why_text};
-ghost use Rattle.oc_events.specs.Told.{AddsAll};
+ghost use Rattle.oc_link.specs.Told.{AddsAll};
 ghost use Rattle.oc_io.specs.Faults.{NoFall};
 ghost use Rattle.oc_server.specs.Deeds.{Drops, Notes, Refuses, drop_line, note_line, refuses};
 ghost use Rattle.oc_server.specs.Noting.{LineStops, NoteBreaks};
@@ -11,8 +11,8 @@ ghost use Rattle.oc_server.specs.Scenes.{Breaks, Did, IsServing};
 use crate::ends::TurnEnd;
 use crate::server::Server;
 use oc_base::{Memory, put};
-use oc_events::{ConnectionId, Ending, Link};
 use oc_io::{Disk, Sink, write_all};
+use oc_link::{ConnectionId, Ending, Link};
 use oc_routes::{Refused, put_refusal_line, refusal_reply};
 
 /// The line of a reply that could not be sent.

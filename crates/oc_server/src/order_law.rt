@@ -1,8 +1,8 @@
 //! The law of the order in which deeds are done.
 
 ghost use Rattle.std.specs.Prelude.{◌≡◌, ℕ, Bool, Option, Some, List, [], ◌∷◌};
-ghost use Rattle.oc_events.specs.declared.call.Call.{Call};
-ghost use Rattle.oc_events.specs.declared.call.Call.TheVariants.{Listen};
+ghost use Rattle.oc_link.specs.declared.call.Call.{Call};
+ghost use Rattle.oc_link.specs.declared.call.Call.TheVariants.{Listen};
 ghost use Rattle.oc_keep.specs.KeptView.{IsHonest};
 ghost use Rattle.oc_probe.specs.declared.probing.Probing.{Probing};
 ghost use Rattle.oc_server.specs.Answered.{AreAnswered};
@@ -11,13 +11,13 @@ ghost use Rattle.oc_server.specs.Replying.{IsOrdered};
 ghost use Rattle.oc_server.specs.Runs.{ServeEnds, Turned};
 ghost use Rattle.oc_server.specs.Scenes.{running, setting};
 ghost use Rattle.oc_server.specs.Settled.{AreServed, IsSettled, deeds_until};
-ghost use Rattle.oc_server.specs.Turns.{Told, turn};
+ghost use Rattle.oc_server.specs.Turns.{Observation, turn};
 ghost use Rattle.oc_server.specs.declared.ends.TurnEnd.{TurnEnd};
 ghost use Rattle.oc_server.specs.declared.pace.Pace.{Pace};
 ghost use Rattle.oc_server.specs.declared.turns.Turns.{Turns};
 
-use oc_events::Link;
 use oc_io::{Disk, Sink};
+use oc_link::Link;
 
 /// A turn does its deeds in order, and behind it the works fit each connection as they did before. It answers each request
 /// by the step of its input. So whatever number of turns are done, and wherever the last ends partway through: each
@@ -30,7 +30,7 @@ pub fn turns_are_in_order<D: Disk, L: Link, K: Sink>()
         → L.story old.server.link ≡ Some made → L.story new.server.link ≡ Some later → IsSettled made old.server.works
         → IsOrdered (setting old.server) made (turn old.pace old.probing turned.told (setting old.server) (running old.server)) (running old.server)
         × IsSettled later new.server.works }
-    ensures answers { (pace : Pace) (probing : Option Probing) (told : Told) (s : Setting) (a : Running) → AreAnswered s (turn pace probing told s a) a }
+    ensures answers { (pace : Pace) (probing : Option Probing) (told : Observation) (s : Setting) (a : Running) → AreAnswered s (turn pace probing told s a) a }
     ensures serve { (most : ℕ) (end : TurnEnd) (old new : Turns D L K) (made later : List Call) → IsHonest D.view old.server.kept
         → L.story old.server.link ≡ Some made → L.story new.server.link ≡ Some later → old.server.works ≡ [] → IsSettled made old.server.works
         → (ended : ServeEnds D.view K.takes K.fails K.faults L.story L.counts most end old new)

@@ -9,8 +9,8 @@ ghost use Rattle.oc_server.specs.declared.choosing.TheConstants.{MAX_DIALS as MO
 use crate::choosing::{MAX_DIALS, free_number, next_to_dial};
 use crate::ends::TurnEnd;
 use crate::server::Server;
-use oc_events::Link;
 use oc_io::{Disk, Sink};
+use oc_link::Link;
 
 impl<D: Disk, L: Link, K: Sink> Server<D, L, K> {
     /// Dials messages, as long as one may be dialled.

@@ -3,10 +3,10 @@ use crate::log::Log;
 use crate::outbox::Outbox;
 use crate::works::Works;
 use oc_config::Config;
-use oc_events::Link;
 use oc_http::HeadReader;
 use oc_io::{Disk, Sink};
 use oc_keep::Kept;
+use oc_link::Link;
 use std::alloc::Global;
 
 /// A running node: its files, what it has still to send and to answer, its configuration, and what it reaches the

@@ -2,8 +2,9 @@
 
 ghost use Rattle.std.specs.Prelude.{◌≡◌, ◌&&◌, IfErr, OnOk};
 ghost use Rattle.std.specs.Option.{option_copied};
+ghost use Rattle.oc_link.specs.Failures.{is_failure};
 ghost use Rattle.oc_server.specs.Parts.{Does, Stops};
-ghost use Rattle.oc_server.specs.Rooms.{goes_on, gone, has_failed, is_told, room};
+ghost use Rattle.oc_server.specs.Rooms.{goes_on, gone, is_told, room};
 ghost use Rattle.oc_server.specs.Rooms as rooms;
 ghost use Rattle.oc_server.specs.Scenes.{IsServing};
 ghost use Rattle.oc_server.specs.Works.{place_on, work_on};
@@ -11,10 +12,10 @@ ghost use Rattle.oc_server.specs.Works.{place_on, work_on};
 use crate::choosing::prospect_of;
 use crate::ends::TurnEnd;
 use crate::server::Server;
-use crate::work::{Place, Work};
-use oc_events::{ConnectionId, Link, Loss};
+use crate::work::{Transfer, Work};
 use oc_io::{Disk, Sink};
-use oc_reply::Prospect;
+use oc_link::{ConnectionId, Link, Loss};
+use oc_routes::Prospect;
 
 impl<D: Disk, L: Link, K: Sink> Server<D, L, K> {
     /// A connection has room for more of its reply.
@@ -30,7 +31,7 @@ impl<D: Disk, L: Link, K: Sink> Server<D, L, K> {
     }
 
     /// A content is given its next piece, is laid aside, or is broken off.
-    pub fn goes_on(&mut self, place: Place, now: u64) -> Result<(), TurnEnd>
+    pub fn goes_on(&mut self, place: Transfer, now: u64) -> Result<(), TurnEnd>
         requires { IsServing self.old }
         ensures did { OnOk result (Does D.view K.takes K.faults L.story L.counts (goes_on place now) self.old self.new) }
         ensures breaks { IfErr result (λ end. Stops D.view K.takes K.fails K.faults L.story L.counts end (goes_on place now) self.old self.new) }
@@ -57,7 +58,7 @@ impl<D: Disk, L: Link, K: Sink> Server<D, L, K> {
 }
 
 /// The content that is given on a connection.
-fn content_on(works: &[Work], connection: ConnectionId) -> Option<Place>
+fn content_on(works: &[Work], connection: ConnectionId) -> Option<Transfer>
     ensures { result ≡ rooms.content_in (work_on connection works.now) }
 {
     match work_on(works, connection) {
@@ -99,7 +100,7 @@ fn is_told(works: &[Work], connection: ConnectionId) -> bool
 
 /// Whether a line tells of this loss, where one was written for the request or not.
 fn tells(loss: Loss, told: bool) -> bool
-    ensures { result ≡ (has_failed loss && told) }
+    ensures { result ≡ (is_failure loss && told) }
 {
     match loss {
         Loss::Failed => told,

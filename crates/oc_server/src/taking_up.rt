@@ -13,10 +13,10 @@ ghost use Rattle.oc_server.specs.Turns.{brought, measured, notes_fault, probe_no
 use crate::choosing::free_number;
 use crate::ends::TurnEnd;
 use crate::server::Server;
-use crate::work::{Pending, Place, Waiting, Work, client_input, pending_of};
+use crate::work::{Pending, Transfer, Waiting, Work, client_input, pending_of};
 use oc_base::{MAX_TIME, Memory, NodeId, put, put_number};
-use oc_events::Link;
 use oc_io::{Disk, Sink};
+use oc_link::Link;
 use oc_model::Input;
 use oc_probe::ProbeFault;
 use std::alloc::Global;
@@ -25,7 +25,7 @@ use std::alloc::Global;
 #[derive(Debug, Drop)]
 pub(crate) enum Due {
     /// A content goes on.
-    Aside(Place),
+    Aside(Transfer),
     /// A client that waits is answered.
     Waits(Pending),
     Nothing,

@@ -17,8 +17,8 @@ use crate::ends::TurnEnd;
 use crate::noting::write_line;
 use crate::server::Server;
 use crate::taking::Accepted;
-use oc_events::Link;
 use oc_io::{Disk, Sink};
+use oc_link::Link;
 use oc_model::{Answer, Input};
 
 impl<D: Disk, L: Link, K: Sink> Server<D, L, K> {

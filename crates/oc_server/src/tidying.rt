@@ -7,9 +7,9 @@ ghost use Rattle.oc_server.specs.Scenes.{Breaks, Did, IsServing, Idle};
 
 use crate::ends::TurnEnd;
 use crate::server::Server;
-use oc_events::Link;
 use oc_io::{Disk, Sink};
 use oc_keep::{Kept, TidyError};
+use oc_link::Link;
 
 impl<D: Disk, L: Link, K: Sink> Server<D, L, K> {
     /// Turns the control files over, where they are ripe.

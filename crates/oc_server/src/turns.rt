@@ -16,8 +16,8 @@ use crate::ends::TurnEnd;
 use crate::pace::Pace;
 use crate::server::Server;
 use oc_base::{MAX_RATE, MAX_TIME, NodeId};
-use oc_events::Link;
 use oc_io::{Disk, Sink};
+use oc_link::Link;
 use oc_model::Input;
 use oc_probe::{ProbeFault, Probing, rate_of};
 

@@ -1,18 +1,17 @@
 ghost use Rattle.std.specs.Prelude.{◌≡◌};
 ghost use Rattle.oc_server.specs.Works.{client_input, pending};
 
-use oc_events::ConnectionId;
+use oc_link::ConnectionId;
 use oc_model::Input;
-use oc_reply::{Asked, Hint, Request, UnderWay};
-use oc_routes::Operation;
+use oc_routes::{Asked, Hint, Operation, Request, UnderWay};
 
 /// A content under way on a connection.
 #[derive(Clone, Copy, Debug)]
-pub struct Place {
+pub struct Transfer {
     pub connection: ConnectionId,
     /// What is still to be given of which group.
     pub content: UnderWay,
-    /// Whether the connection's next request is awaited behind it.
+    /// Whether the connection's next request is awaited after it.
     pub keeps: bool,
     /// Whether a line was written for its request, so that a line says where it can't be sent.
     pub told: bool,
@@ -95,9 +94,9 @@ pub(crate) fn client_input(operation: &Operation, hint: Hint) -> Option<Input>
 #[derive(Debug, Drop)]
 pub enum Work {
     /// A content, whose next piece is given when there is room.
-    Content(Place),
+    Content(Transfer),
     /// A content with nothing to give until its group has grown.
-    Aside(Place),
+    Aside(Transfer),
     /// A follower that waits.
     Waits(Waiting),
 }

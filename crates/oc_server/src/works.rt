@@ -3,7 +3,7 @@ ghost use Rattle.oc_server.specs.Works.{place_on};
 
 use crate::work::Work;
 use oc_base::Memory;
-use oc_events::ConnectionId;
+use oc_link::ConnectionId;
 use std::alloc::Global;
 use std::marker::Model;
 

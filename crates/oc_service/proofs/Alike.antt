@@ -3,22 +3,22 @@ use Rattle.std.proofs.Common.{◌≡◌, ◌∙◌, ℕ, ◌+◌, Bool, true, fa
 use Rattle.std.specs.Prelude.{◌==◌, if◌then◌else◌}
 use Rattle.std.proofs.lemmas.List.{append_assoc}
 use Rattle.oc_base.specs.Groups.{shelf}
-use Rattle.oc_events.proofs.Stories.{read-then, taken-then}
-use Rattle.oc_events.specs.Traffic.{given, held, read, taken}
-use Rattle.oc_events.specs.declared.call.Call.{Call}
-use Rattle.oc_events.specs.declared.call.Call.TheVariants.{Next}
-use Rattle.oc_events.specs.declared.event.Arrival.{Arrival}
-use Rattle.oc_events.specs.declared.event.Coming.{Coming}
-use Rattle.oc_events.specs.declared.event.Coming.TheVariants.{Open}
-use Rattle.oc_events.specs.declared.event.Event.TheVariants.{Request}
+use Rattle.oc_link.proofs.Stories.{read-then, taken-then}
+use Rattle.oc_link.specs.Traffic.{given, held, read, taken}
+use Rattle.oc_link.specs.declared.call.Call.{Call}
+use Rattle.oc_link.specs.declared.call.Call.TheVariants.{Next}
+use Rattle.oc_link.specs.declared.event.Arrival.{Arrival}
+use Rattle.oc_link.specs.declared.event.Coming.{Coming}
+use Rattle.oc_link.specs.declared.event.Coming.TheVariants.{Open}
+use Rattle.oc_link.specs.declared.event.LinkEvent.TheVariants.{Request}
 use Rattle.oc_probe.specs.declared.probing.Probing.{Probing}
-use Rattle.oc_reply.specs.Verdicts.{IsVerdict, NodeTerms, arrival}
-use Rattle.oc_reply.specs.declared.verdict.Verdict.{Verdict}
-use Rattle.oc_reply.specs.declared.verdict.Verdict.TheVariants as verdicts
+use Rattle.oc_routes.specs.Verdicts.{IsVerdict, NodeTerms, arrival}
+use Rattle.oc_routes.specs.declared.verdict.Verdict.{Verdict}
+use Rattle.oc_routes.specs.declared.verdict.Verdict.TheVariants as verdicts
 use Rattle.oc_routes.specs.Refusals.{refusal_text}
 use Rattle.oc_server.specs.Choices.{due_place, wait_for}
 use Rattle.oc_server.specs.Deeds.{Reads, Running, Sees, Setting, after, calls_of, refuses}
-use Rattle.oc_server.specs.Turns.{Means, Told, takes_at, ticks_and_sends, turn}
+use Rattle.oc_server.specs.Turns.{Means, Observation, takes_at, ticks_and_sends, turn}
 use Rattle.oc_server.specs.declared.came.Came.{Came}
 use Rattle.oc_server.specs.declared.came.Came.TheVariants as comes
 use Rattle.oc_server.specs.declared.dials.Errand.{Errand}
@@ -31,7 +31,7 @@ two_pieces : (b : Bool) (first more : List ℕ) → (if b then first else []) ++
 two_pieces true first more = sym (append_assoc first more [])
 two_pieces false first more = refl
 
--- two pieces of a request that came one behind the other
+-- two pieces of a request that came one after the other
 pub held_cut : (c d number next : ℕ) (permitted permits : Bool) (coming later : Coming) (calls : List Call) (first more : List ℕ)
     → held c (calls ++ (Next (Request (arrival d number permitted coming)) first ∷ Next (Request (arrival d next permits later)) more ∷ []))
     ≡ held c (calls ++ (Next (Request (arrival d next permits later)) (first ++ more) ∷ []))
@@ -49,7 +49,7 @@ refused_alike : (c d count more : ℕ) (text : Option (List ℕ)) (calls : List 
 refused_alike c d count more None calls = refl
 refused_alike c d count more (Some text) calls = refl
 
-alike_at : (due : Option ℕ) (pace : Pace) (probing : Option Probing) (t : Told) (a b : Arrival) (bytes other : List ℕ) (d count more : ℕ) (v : Verdict) (s : Setting) (r : Running)
+alike_at : (due : Option ℕ) (pace : Pace) (probing : Option Probing) (t : Observation) (a b : Arrival) (bytes other : List ℕ) (d count more : ℕ) (v : Verdict) (s : Setting) (r : Running)
     → AreAlike s (Reads t.before ∷ takes_at due pace probing (told_request t a bytes (comes.Request d count v)) s r) (Reads t.before ∷ takes_at due pace probing (told_request t b other (comes.Request d more v)) s r) r
 alike_at (Some place) pace probing t a b bytes other d count more v s r = record { lines_are = refl; given_are = λ c. refl; node_is = refl }
 alike_at None pace probing t a b bytes other d count more verdicts.Wait s r = record { lines_are = refl; given_are = λ c. refl; node_is = refl }
@@ -62,7 +62,7 @@ alike_at None pace probing t a b bytes other d count more (verdicts.Refuse why) 
   node_is = refl;
 }
 
-alike_turn : (pace : Pace) (probing : Option Probing) (t : Told) (a b : Arrival) (bytes other : List ℕ) (d count more : ℕ) (v w : Verdict) (x y : Came) (s : Setting) (r : Running)
+alike_turn : (pace : Pace) (probing : Option Probing) (t : Observation) (a b : Arrival) (bytes other : List ℕ) (d count more : ℕ) (v w : Verdict) (x y : Came) (s : Setting) (r : Running)
     → x ≡ comes.Request d count v → y ≡ comes.Request d more w → v ≡ w → AreAlike s (turn pace probing (told_request t a bytes x) s r) (turn pace probing (told_request t b other y) s r) r
 alike_turn pace probing t a b bytes other d count more v w x y s r first second same =
     subst (λ (p : Came). AreAlike s (turn pace probing (told_request t a bytes p) s r) (turn pace probing (told_request t b other y) s r) r) (sym first)
@@ -72,7 +72,7 @@ alike_turn pace probing t a b bytes other d count more v w x y s r first second 
 
 module _ (one : (t : NodeTerms) (a : Arrival) (bytes : List ℕ) (v w : Verdict) → IsVerdict t a bytes v → IsVerdict t a bytes w → v ≡ w) where
   -- the same bytes
-  pub same_alike : (n : NodeTerms) (pace : Pace) (probing : Option Probing) (t : Told) (s : Setting) (r : Running) (a : Arrival) (lent bytes other : List ℕ) (e f : Option Errand) (x y : Came)
+  pub same_alike : (n : NodeTerms) (pace : Pace) (probing : Option Probing) (t : Observation) (s : Setting) (r : Running) (a : Arrival) (lent bytes other : List ℕ) (e f : Option Errand) (x y : Came)
       → Means n lent e (Request a) x → Means n lent f (Request a) y → AreAlike s (turn pace probing (told_request t a bytes x) s r) (turn pace probing (told_request t a other y) s r) r
   same_alike n pace probing t s r a lent bytes other e f x y first second =
       alike_turn pace probing t a a bytes other a.connection (length lent) (length lent) (first.0) (second.0) x y s r (first.2) (second.2)
@@ -81,7 +81,7 @@ module _ (one : (t : NodeTerms) (a : Arrival) (bytes : List ℕ) (v w : Verdict)
   -- a front of them, by which it is answered already, and all of them
   pub early_alike : ((t : NodeTerms) (c number : ℕ) (permitted : Bool) (coming : Coming) (bytes more : List ℕ) (v : Verdict)
       → IsVerdict t (arrival c number permitted Open) bytes v → (v ≡ verdicts.Wait → ⊥) → IsVerdict t (arrival c number permitted coming) (bytes ++ more) v)
-      → (n : NodeTerms) (pace : Pace) (probing : Option Probing) (t : Told) (s : Setting) (r : Running) (c number : ℕ) (permitted : Bool) (coming : Coming) (lent more bytes other : List ℕ) (e f : Option Errand) (x y : Came)
+      → (n : NodeTerms) (pace : Pace) (probing : Option Probing) (t : Observation) (s : Setting) (r : Running) (c number : ℕ) (permitted : Bool) (coming : Coming) (lent more bytes other : List ℕ) (e f : Option Errand) (x y : Came)
       → Means n lent e (Request (arrival c number permitted Open)) x → (x ≡ comes.Request c (length lent) verdicts.Wait → ⊥) → Means n (lent ++ more) f (Request (arrival c number permitted coming)) y
       → AreAlike s (turn pace probing (told_request t (arrival c number permitted Open) bytes x) s r) (turn pace probing (told_request t (arrival c number permitted coming) other y) s r) r
   early_alike cut n pace probing t s r c number permitted coming lent more bytes other e f x y first decided second =

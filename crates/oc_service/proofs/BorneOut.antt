@@ -5,17 +5,17 @@ use Rattle.std.proofs.lemmas.Bool.{false≢true}
 use Rattle.std.proofs.lemmas.List.{append_assoc, take-append-drop}
 use Rattle.oc_base.specs.Groups.{shelf}
 use Rattle.oc_base.specs.declared.shelf.Shelf.{Shelf}
-use Rattle.oc_events.specs.Counts.{CountsEvent}
-use Rattle.oc_events.specs.Failures.{RisesAt, fails_reading, has_failed}
-use Rattle.oc_events.specs.declared.call.Call.{Call}
-use Rattle.oc_events.specs.declared.counts.Counts.{Counts}
-use Rattle.oc_events.specs.declared.event.Arrival.{Arrival}
-use Rattle.oc_events.specs.declared.event.Coming.{Coming}
-use Rattle.oc_events.specs.declared.event.Coming.TheVariants.{Open, Ended, Failed}
-use Rattle.oc_events.specs.declared.event.Event.{Event}
-use Rattle.oc_events.specs.declared.event.Event.TheVariants as events
-use Rattle.oc_events.specs.declared.event.Loss.{Loss}
-use Rattle.oc_events.specs.declared.event.Loss.TheVariants as losses
+use Rattle.oc_link.specs.Counts.{CountsEvent}
+use Rattle.oc_link.specs.Failures.{RisesAt, fails_reading, has_failed, is_failure}
+use Rattle.oc_link.specs.declared.call.Call.{Call}
+use Rattle.oc_link.specs.declared.counts.LinkCounts.{LinkCounts}
+use Rattle.oc_link.specs.declared.event.Arrival.{Arrival}
+use Rattle.oc_link.specs.declared.event.Coming.{Coming}
+use Rattle.oc_link.specs.declared.event.Coming.TheVariants.{Open, Ended, Failed}
+use Rattle.oc_link.specs.declared.event.LinkEvent.{LinkEvent}
+use Rattle.oc_link.specs.declared.event.LinkEvent.TheVariants as events
+use Rattle.oc_link.specs.declared.event.Loss.{Loss}
+use Rattle.oc_link.specs.declared.event.Loss.TheVariants as losses
 use Rattle.oc_http.specs.Answers.{IsDecided}
 use Rattle.oc_http.specs.declared.fault.HttpFault.{HttpFault}
 use Rattle.oc_http.specs.declared.fault.HttpFault.TheVariants as http
@@ -26,17 +26,17 @@ use Rattle.oc_model.specs.declared.input.Input.TheVariants.{Measured}
 use Rattle.oc_model.specs.declared.message.Message.{Message}
 use Rattle.oc_probe.specs.declared.fault.ProbeFault.{ProbeFault}
 use Rattle.oc_probe.specs.declared.probing.Probing.{Probing}
-use Rattle.oc_reply.specs.Conditions.{unmet, unmet_at, unmet_by}
-use Rattle.oc_reply.specs.Hints.{asked_with_hint}
-use Rattle.oc_reply.specs.Macs.{is_forged}
-use Rattle.oc_reply.specs.Verdicts.{IsVerdict, NodeTerms, answered, fault_met, is_none, routed, unfinished, unread, verdict_for, whole, with_body}
-use Rattle.oc_reply.specs.Waits.{holding}
-use Rattle.oc_reply.specs.declared.hint.Asked.{Asked}
-use Rattle.oc_reply.specs.declared.verdict.Request.{Request}
-use Rattle.oc_reply.specs.declared.verdict.Verdict.{Verdict}
-use Rattle.oc_reply.specs.declared.verdict.Verdict.TheVariants as verdicts
-use Rattle.oc_reply.specs.declared.waiting.Prospect.{Prospect}
-use Rattle.oc_reply.specs.declared.waiting.Prospect.TheVariants as prospects
+use Rattle.oc_routes.specs.Conditions.{unmet, unmet_at, unmet_by}
+use Rattle.oc_routes.specs.Hints.{asked_with_hint}
+use Rattle.oc_routes.specs.Macs.{is_forged}
+use Rattle.oc_routes.specs.Verdicts.{IsVerdict, NodeTerms, answered, fault_met, is_none, routed, unfinished, unread, verdict_for, whole, with_body}
+use Rattle.oc_routes.specs.Waits.{holding}
+use Rattle.oc_routes.specs.declared.hint.Asked.{Asked}
+use Rattle.oc_routes.specs.declared.verdict.Request.{Request}
+use Rattle.oc_routes.specs.declared.verdict.Verdict.{Verdict}
+use Rattle.oc_routes.specs.declared.verdict.Verdict.TheVariants as verdicts
+use Rattle.oc_routes.specs.declared.waiting.Prospect.{Prospect}
+use Rattle.oc_routes.specs.declared.waiting.Prospect.TheVariants as prospects
 use Rattle.oc_routes.specs.Connections.{awaits_continue, is_last}
 use Rattle.oc_routes.specs.Routes.{input_asked}
 use Rattle.oc_routes.specs.declared.refused.Refused.{Refused}
@@ -54,7 +54,7 @@ use Rattle.oc_server.specs.Rooms.{goes_on, is_told, moves, room, room_for}
 use Rattle.oc_server.specs.Rooms as rooms
 use Rattle.oc_server.specs.Scenes.{CountsAll}
 use Rattle.oc_server.specs.Sends.{dials_at, dials_it, dials_next, sends}
-use Rattle.oc_server.specs.Turns.{Means, MeansBack, Told, brought, deals, happens, measures, next_peer, probes_it, quickened, takes_at, takes_due, ticked, ticks, ticks_and_sends}
+use Rattle.oc_server.specs.Turns.{Means, MeansBack, Observation, brought, deals, happens, measures, next_peer, probes_it, quickened, takes_at, takes_due, ticked, ticks, ticks_and_sends}
 use Rattle.oc_server.specs.Works.{client_input, pending, work_on}
 use Rattle.oc_server.specs.declared.came.Came.{Came}
 use Rattle.oc_server.specs.declared.came.Came.TheVariants as comes
@@ -63,7 +63,7 @@ use Rattle.oc_server.specs.declared.dials.Errand.{Errand}
 use Rattle.oc_server.specs.declared.dials.Errand.TheVariants as errands
 use Rattle.oc_server.specs.declared.pace.Pace.{Pace}
 use Rattle.oc_server.specs.declared.work.Pending.{Pending}
-use Rattle.oc_server.specs.declared.work.Place.{Place}
+use Rattle.oc_server.specs.declared.work.Transfer.{Transfer}
 use Rattle.oc_server.specs.declared.work.Work.{Work}
 use Rattle.oc_server.specs.declared.work.Work.TheVariants as works
 use Rattle.oc_updown.specs.declared.measure_lines.Measure.{Measure}
@@ -87,12 +87,12 @@ both : (a b : Bool) → (a && b) ≡ true → (a ≡ true) × (b ≡ true)
 both true b is = (refl, is)
 both false b is = absurd (false≢true is)
 
-mild_one : (event : Event) (d : Deed) → is_mild d ≡ true → IsBorneOut event d
+mild_one : (event : LinkEvent) (d : Deed) → is_mild d ≡ true → IsBorneOut event d
 mild_one event (Refuses c count why) is = absurd (false≢true is)
 mild_one event (Drops c told) is = absurd (false≢true is)
 mild_one event d is = tt
 
-borne_mild : (event : Event) (ds : List Deed) → all_mild ds ≡ true → AreBorneOut event ds
+borne_mild : (event : LinkEvent) (ds : List Deed) → all_mild ds ≡ true → AreBorneOut event ds
 borne_mild event [] is = tt
 borne_mild event (d ∷ ds) is =
     let parts = both (is_mild d) (all_mild ds) is in
@@ -108,12 +108,12 @@ one_at_most : (ds : List Deed) → length (take 1 ds) ≤ 1
 one_at_most [] = omega arith
 one_at_most (d ∷ ds) = omega arith
 
--- deeds behind which any may come
-borne_then : (event : Event) (ds es : List Deed) → AreBorneOut event ds → ((last : Event) → AreBorneOut last es) → AreBorneOut event (ds ++ es)
+-- deeds after which any may come
+borne_then : (event : LinkEvent) (ds es : List Deed) → AreBorneOut event ds → ((last : LinkEvent) → AreBorneOut last es) → AreBorneOut event (ds ++ es)
 borne_then event [] es first more = more event
 borne_then event (d ∷ ds) es first more = (first.0, borne_then (told_last event d) ds es (first.1) more)
 
-borne_front : (event : Event) (ds es : List Deed) → AreBorneOut event (ds ++ es) → AreBorneOut event ds
+borne_front : (event : LinkEvent) (ds es : List Deed) → AreBorneOut event (ds ++ es) → AreBorneOut event ds
 borne_front event [] es all = tt
 borne_front event (d ∷ ds) es all = (all.0, borne_front (told_last event d) ds es (all.1))
 
@@ -214,7 +214,7 @@ read_fails t x bytes v is = subst (λ (w : Verdict). FailsBy (has_failed x.comin
 
 -- What is done with a request
 
-refused : (event : Event) (c count : ℕ) (why : Refused) → (why ≡ refusals.Source → IsTrue (fails_reading event)) → IsBorneOut event (Refuses c count why)
+refused : (event : LinkEvent) (c count : ℕ) (why : Refused) → (why ≡ refusals.Source → IsTrue (fails_reading event)) → IsBorneOut event (Refuses c count why)
 refused event c count refusals.Source fails = fails refl
 refused event c count why fails = tt
 
@@ -249,7 +249,7 @@ mild_responds : (r : Pending) (input : Option Input) (now : ℕ) (s : Setting) (
 mild_responds r None now s a = refl
 mild_responds r (Some i) now s a = refl
 
-taken_on : (event : Event) (c : ℕ) (request : Request) (now : ℕ) (s : Setting) (a : Running) → AreBorneOut event (takes_on c request now s a)
+taken_on : (event : LinkEvent) (c : ℕ) (request : Request) (now : ℕ) (s : Setting) (a : Running) → AreBorneOut event (takes_on c request now s a)
 taken_on event c request now s a = by_condition (unmet request.operation a.node.control.me (shelf a.node.groups)) refl
   where
     by_test : (b : Bool) → AreBorneOut event (if b then Waits (waiting c request now) ∷ [] else responds (pending c request (is_some request.input) false) request.input now s a)
@@ -261,7 +261,7 @@ taken_on event c request now s a = by_condition (unmet request.operation a.node.
         (refused event c request.count why (λ source. absurd (subst (λ (x : Refused). IsOther x) source (unmet_other request.operation a.node.control.me (shelf a.node.groups) why is))), tt)
     by_condition None is = by_test (has_to_wait request a.node)
 
-obeyed : (event : Event) (c count : ℕ) (v : Verdict) (now : ℕ) (s : Setting) (a : Running) → FailsBy (fails_reading event) v → AreBorneOut event (obeys c count v now s a)
+obeyed : (event : LinkEvent) (c count : ℕ) (v : Verdict) (now : ℕ) (s : Setting) (a : Running) → FailsBy (fails_reading event) v → AreBorneOut event (obeys c count v now s a)
 obeyed event c count verdicts.Wait now s a fails = tt
 obeyed event c count verdicts.Leave now s a fails = (tt, tt)
 obeyed event c count verdicts.Permit now s a fails = (tt, tt)
@@ -270,7 +270,7 @@ obeyed event c count (verdicts.Ask request) now s a fails = taken_on event c req
 
 -- What else came
 
-mild_moves : (p : Place) (now : ℕ) (what : Prospect) → all_mild (moves p now what) ≡ true
+mild_moves : (p : Transfer) (now : ℕ) (what : Prospect) → all_mild (moves p now what) ≡ true
 mild_moves p now prospects.Gives = refl
 mild_moves p now prospects.Waits = refl
 mild_moves p now prospects.Breaks = refl
@@ -281,7 +281,7 @@ mild_room (Some (works.Content p)) now s a = mild_moves p now (prospect_of p (sh
 mild_room (Some (works.Aside p)) now s a = refl
 mild_room (Some (works.Waits w)) now s a = refl
 
-dropped : (d c : ℕ) (loss : Loss) (told : Bool) → IsBorneOut (events.Gone d loss) (Drops c (rooms.has_failed loss && told))
+dropped : (d c : ℕ) (loss : Loss) (told : Bool) → IsBorneOut (events.Gone d loss) (Drops c (is_failure loss && told))
 dropped d c losses.Failed true = refl
 dropped d c losses.Failed false = tt
 dropped d c losses.GaveWay told = tt
@@ -300,15 +300,15 @@ mild_probe None started s a = refl
 mild_probe (Some peer) started s a = refl
 
 -- what came back on a dial
-back_borne : (t : NodeTerms) (event : Event) (errand : Errand) (reading : Result Reply HttpFault) (probing : Option Probing) (now median started : ℕ) (s : Setting) (a : Running)
+back_borne : (t : NodeTerms) (event : LinkEvent) (errand : Errand) (reading : Result Reply HttpFault) (probing : Option Probing) (now median started : ℕ) (s : Setting) (a : Running)
     → AreBorneOut event (happens probing (comes_back t.me t.nodes t.key errand reading) now median started s a)
 back_borne t event (errands.Message to fetch) reading probing now median started s a = borne_mild event (brought (input_of t.me t.nodes t.key to reading) s a) (mild_brought (input_of t.me t.nodes t.key to reading) s a)
 back_borne t event (errands.Probe peer since) reading probing now median started s a = borne_mild event (measures probing peer (fault_of reading) median s a) (mild_measures probing peer (fault_of reading) median s a)
 
-nothing_borne : (event : Event) (probing : Option Probing) (now median started : ℕ) (s : Setting) (a : Running) → AreBorneOut event (happens probing comes.Nothing now median started s a)
+nothing_borne : (event : LinkEvent) (probing : Option Probing) (now median started : ℕ) (s : Setting) (a : Running) → AreBorneOut event (happens probing comes.Nothing now median started s a)
 nothing_borne event probing now median started s a = borne_mild event (probes_it (next_peer probing a.dials) started s a) (mild_probe (next_peer probing a.dials) started s a)
 
-back_means : (t : NodeTerms) (event : Event) (lent : List ℕ) (errand : Option Errand) (coming : Coming) (came : Came) → MeansBack t lent errand coming came
+back_means : (t : NodeTerms) (event : LinkEvent) (lent : List ℕ) (errand : Option Errand) (coming : Coming) (came : Came) → MeansBack t lent errand coming came
     → (probing : Option Probing) (now median started : ℕ) (s : Setting) (a : Running) → AreBorneOut event (happens probing came now median started s a)
 back_means t event lent None coming came means probing now median started s a =
     subst (λ (x : Came). AreBorneOut event (happens probing x now median started s a)) (sym means) (nothing_borne event probing now median started s a)
@@ -316,7 +316,7 @@ back_means t event lent (Some errand) coming came means probing now median start
     subst (λ (x : Came). AreBorneOut event (happens probing x now median started s a)) (sym (means.3)) (back_borne t event errand (means.0) probing now median started s a)
 
 -- what is done with what an event means
-happened : (t : NodeTerms) (lent : List ℕ) (errand : Option Errand) (event : Event) (came : Came) → Means t lent errand event came
+happened : (t : NodeTerms) (lent : List ℕ) (errand : Option Errand) (event : LinkEvent) (came : Came) → Means t lent errand event came
     → (probing : Option Probing) (now median started : ℕ) (s : Setting) (a : Running) → AreBorneOut event (happens probing came now median started s a)
 happened t lent errand (events.Request x) came means probing now median started s a =
     subst (λ (y : Came). AreBorneOut (events.Request x) (happens probing y now median started s a)) (sym (means.2))
@@ -344,7 +344,7 @@ mild_due pace o before seconds s a =
     let ds : List Deed = takes_up o before s a in
     mild_then ds (ticks_and_sends pace before seconds s (after_all ds a)) (taken_up o before s a) (mild_end pace before seconds s (after_all ds a))
 
-dealt : (event : Event) (pace : Pace) (probing : Option Probing) (came : Came) (now median started seconds : ℕ) (s : Setting) (a : Running) → AreBorneOut event (happens probing came now median started s a)
+dealt : (event : LinkEvent) (pace : Pace) (probing : Option Probing) (came : Came) (now median started seconds : ℕ) (s : Setting) (a : Running) → AreBorneOut event (happens probing came now median started s a)
     → AreBorneOut event (deals pace probing came now median started seconds s a)
 dealt event pace probing came now median started seconds s a borne =
     let ds : List Deed = happens probing came now median started s a in
@@ -352,7 +352,7 @@ dealt event pace probing came now median started seconds s a borne =
     borne_then event ds (ticks_and_sends soon now seconds s (after_all ds a)) borne
     (λ last. borne_mild last (ticks_and_sends soon now seconds s (after_all ds a)) (mild_end soon now seconds s (after_all ds a)))
 
-turn_at : (event : Event) (terms : NodeTerms) (calls : Option (List Call)) (due : Option ℕ) (s : Setting) (t : Told) (m : Machine) → MayHear terms calls due t m
+turn_at : (event : LinkEvent) (terms : NodeTerms) (calls : Option (List Call)) (due : Option ℕ) (s : Setting) (t : Observation) (m : Machine) → MayHear terms calls due t m
     → AreBorneOut event (Reads t.before ∷ takes_at due m.pace m.probing t s m.running)
 turn_at event terms calls None s t m heard =
     let behind : Running = after (Sees t.event (wait_for m.pace m.running.works t.before) t.bytes) m.running in
@@ -360,10 +360,10 @@ turn_at event terms calls None s t m heard =
 turn_at event terms calls (Some place) s t m heard =
     borne_mild event (Reads t.before ∷ takes_due m.pace (slice_get m.running.works place) t.before t.seconds s m.running) (mild_due m.pace (slice_get m.running.works place) t.before t.seconds s m.running)
 
-turn_borne : (event : Event) (terms : NodeTerms) (calls : Option (List Call)) (s : Setting) (t : Told) (m : Machine) → MayHear terms calls (due_at t m) t m → AreBorneOut event (turn_deeds s t m)
+turn_borne : (event : LinkEvent) (terms : NodeTerms) (calls : Option (List Call)) (s : Setting) (t : Observation) (m : Machine) → MayHear terms calls (due_at t m) t m → AreBorneOut event (turn_deeds s t m)
 turn_borne event terms calls s t m heard = turn_at event terms calls (due_at t m) s t m heard
 
-turns_borne : (event : Event) (terms : NodeTerms) (calls : Option (List Call)) (s : Setting) (ts : List Told) (m : Machine) → AreHeard s terms calls ts m → AreBorneOut event (turns_deeds s ts m)
+turns_borne : (event : LinkEvent) (terms : NodeTerms) (calls : Option (List Call)) (s : Setting) (ts : List Observation) (m : Machine) → AreHeard s terms calls ts m → AreBorneOut event (turns_deeds s ts m)
 turns_borne event terms calls s [] m heard = tt
 turns_borne event terms calls s (t ∷ ts) m heard =
     borne_then event (turn_deeds s t m) (turns_deeds s ts (behind_turn s t m)) (turn_borne event terms calls s t m (heard.0))
@@ -379,7 +379,7 @@ own_mild : (me : ℕ) (ms : List Measure) → all_mild (own_measures me ms) ≡ 
 own_mild me [] = refl
 own_mild me (x ∷ ms) = mild_own (Measured x.peer x.rate x.hops) (x.from == me) (own_measures me ms) (own_mild me ms)
 
-pub node_borne : (event : Event) (terms : NodeTerms) (calls : Option (List Call)) (s : Setting) (ms : List Measure) (ts : List Told) (m : Machine) → AreHeard s terms calls ts (begun s ms m)
+pub node_borne : (event : LinkEvent) (terms : NodeTerms) (calls : Option (List Call)) (s : Setting) (ms : List Measure) (ts : List Observation) (m : Machine) → AreHeard s terms calls ts (begun s ms m)
     → AreBorneOut event (node_deeds s ms ts m)
 node_borne event terms calls s ms ts m heard =
     borne_then event (begins s ms m.running.node) (turns_deeds s ts (begun s ms m)) (borne_mild event (begins s ms m.running.node) (own_mild s.me ms))
@@ -387,7 +387,7 @@ node_borne event terms calls s ms ts m heard =
 
 -- An early end
 
--- no more deeds than so many are a front of these
+-- no more deeds than this many are a front of these
 front_of : (xs ys gs : List Deed) (k : ℕ) → gs ≡ xs ++ ys → length xs ≤ k → (rest : List Deed) × (take k gs ≡ xs ++ rest)
 front_of [] ys gs k is few = (take k gs, refl)
 front_of (x ∷ xs) ys gs zero is few = absurd (omega (arith, few))
@@ -411,7 +411,7 @@ front_of_few (x ∷ xs) ys (d ∷ ds) es k is few =
     (more.0, ap (λ (y : Deed). y ∷ (ds ++ take k es)) first ∙ ap (λ (zs : List Deed). x ∷ zs) (more.1))
 
 -- where nothing is due a turn begins with three deeds that tell of no failure
-mild_begin : (due : Option ℕ) (s : Setting) (t : Told) (m : Machine) → due ≡ None → all_mild (take 3 (Reads t.before ∷ takes_at due m.pace m.probing t s m.running)) ≡ true
+mild_begin : (due : Option ℕ) (s : Setting) (t : Observation) (m : Machine) → due ≡ None → all_mild (take 3 (Reads t.before ∷ takes_at due m.pace m.probing t s m.running)) ≡ true
 mild_begin None s t m none = refl
 mild_begin (Some place) s t m none = let no : Some place ≡ None = none in absurd (cc no)
 
@@ -420,7 +420,7 @@ due_or_none None = inl refl
 due_or_none (Some place) = inr (place, refl)
 
 -- what was done of all, and of one more turn, and the one deed under way
-module _ (event : Event) (terms : NodeTerms) (calls : Option (List Call)) (s : Setting) (ms : List Measure) (ts : List Told) (last : Told) (m : Machine)
+module _ (event : LinkEvent) (terms : NodeTerms) (calls : Option (List Call)) (s : Setting) (ms : List Measure) (ts : List Observation) (last : Observation) (m : Machine)
     (heard : AreHeard s terms calls ts (begun s ms m)) where
   abbrev all : List Deed
   all = node_deeds s ms ts m
@@ -428,7 +428,7 @@ module _ (event : Event) (terms : NodeTerms) (calls : Option (List Call)) (s : S
   abbrev turn : List Deed
   turn = turn_deeds s last (node_behind s ms ts m)
 
-  -- behind a turn that was heard
+  -- after a turn that was heard
   heard_borne : (later : Option (List Call)) → MayHear terms later (due_at last (node_behind s ms ts m)) last (node_behind s ms ts m) → AreBorneOut event (all ++ turn)
   heard_borne later last_heard =
       borne_then event all turn (node_borne event terms calls s ms ts m heard) (λ x. turn_borne x terms later s last (node_behind s ms ts m) last_heard)
@@ -465,19 +465,19 @@ module _ (event : Event) (terms : NodeTerms) (calls : Option (List Call)) (s : S
 
 -- By the counts of the link
 
-rise_one : (event : Event) (wait : ℕ) (old now : Counts) (d : Deed) → CountsEvent event wait old now → IsBorneOut event d → RisesFor d old now
+rise_one : (event : LinkEvent) (wait : ℕ) (old now : LinkCounts) (d : Deed) → CountsEvent event wait old now → IsBorneOut event d → RisesFor d old now
 rise_one event wait old now (Refuses c count refusals.Source) counts borne = subst (λ (b : Bool). RisesAt b old.reading now.reading) borne counts.reading
 rise_one event wait old now (Drops c true) counts borne = subst (λ (b : Bool). RisesAt b old.writing now.writing) borne counts.writing
 rise_one event wait old now d counts borne = tt
 
-rise_since : (event : Event) (wait : ℕ) (ds : List Deed) (old now new : Counts) → CountsEvent event wait old now → AreBorneOut event ds → CountsAll ds now new → RiseForLines old now ds new
+rise_since : (event : LinkEvent) (wait : ℕ) (ds : List Deed) (old now new : LinkCounts) → CountsEvent event wait old now → AreBorneOut event ds → CountsAll ds now new → RiseForLines old now ds new
 rise_since event wait [] old now new counts borne all = all
 rise_since event wait (Sees next most bytes ∷ ds) old now new counts borne (at, one, all) = (at, one, rise_since next most ds now at new one (borne.1) all)
 rise_since event wait (d ∷ ds) old now new counts borne all = (rise_one event wait old now d counts (borne.0), rise_since event wait ds old now new counts (borne.1) all)
 
 -- nothing rises where nothing happens
-quiet_counts : (old : Counts) → CountsEvent events.Quiet 0 old old
+quiet_counts : (old : LinkCounts) → CountsEvent events.Quiet 0 old old
 quiet_counts old = record { listening = refl; reading = refl; writing = refl; dialling = refl; waited = omega arith }
 
-pub rise_for_lines : (ds : List Deed) (old new : Counts) → AreBorneOut events.Quiet ds → CountsAll ds old new → RiseForLines old old ds new
+pub rise_for_lines : (ds : List Deed) (old new : LinkCounts) → AreBorneOut events.Quiet ds → CountsAll ds old new → RiseForLines old old ds new
 rise_for_lines ds old new borne all = rise_since events.Quiet 0 ds old old new (quiet_counts old) borne all

@@ -5,8 +5,8 @@ use Rattle.oc_http.specs.declared.head.Head.{Head}
 use Rattle.oc_model.specs.declared.input.Input.TheVariants as inputs
 use Rattle.oc_model.specs.declared.message.Message.{Message}
 use Rattle.oc_policy.specs.declared.rule.Rule.{Rule}
-use Rattle.oc_reply.proofs.Spared.{head_spared as spared}
-use Rattle.oc_reply.specs.Hints.{asked_with_hint}
+use Rattle.oc_routes.proofs.SparedReplies.{head_spared as spared}
+use Rattle.oc_routes.specs.Hints.{asked_with_hint}
 use Rattle.oc_routes.proofs.Spared.{IsSpared as IsHeadFault}
 use Rattle.oc_routes.specs.Routes.{delivered, input_asked}
 use Rattle.oc_routes.specs.declared.refused.Refused.{Refused}

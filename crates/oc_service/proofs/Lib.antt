@@ -5,6 +5,7 @@ mod Replies
 mod HeadFaults
 mod BorneOut
 mod Alike
+mod AtAnyMoment
 mod Headers
 mod Places
 mod Probes

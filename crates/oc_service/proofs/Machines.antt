@@ -1,19 +1,19 @@
 -- Turns of a server, as turns of the machine of what a node does.
 use Rattle.std.proofs.Common.{◌≡◌, ◌∙◌, ℕ, zero, suc, Bool, false, Option, None, Some, List, [], ◌∷◌, ◌++◌, length, refl, sym, ap, ap₂, subst}
 use Rattle.oc_config.specs.Settings.{Settings}
-use Rattle.oc_events.specs.Told.{AddsAll}
-use Rattle.oc_events.specs.declared.call.Call.{Call}
-use Rattle.oc_events.specs.declared.counts.Counts.{Counts}
+use Rattle.oc_link.specs.Told.{AddsAll}
+use Rattle.oc_link.specs.declared.call.Call.{Call}
+use Rattle.oc_link.specs.declared.counts.LinkCounts.{LinkCounts}
 use Rattle.oc_io.specs.DiskView.{DiskView}
 use Rattle.oc_keep.specs.KeptView.{IsHonest}
 use Rattle.oc_keep.specs.Promises.{IsSameNode}
 use Rattle.oc_model.specs.Node.{Header}
-use Rattle.oc_reply.specs.Verdicts.{NodeTerms, terms_of}
+use Rattle.oc_routes.specs.Verdicts.{NodeTerms, terms_of}
 use Rattle.oc_server.specs.Deeds.{Deed, Running, Setting, after_all, calls_of}
 use Rattle.oc_server.specs.Runs.{MayRead, Serves, Turned, due_in, reads_by}
 use Rattle.oc_server.specs.Scenes.{Did, running, setting}
 use Rattle.oc_server.specs.Settled.{deeds_of}
-use Rattle.oc_server.specs.Turns.{Told, turn}
+use Rattle.oc_server.specs.Turns.{Observation, turn}
 use Rattle.oc_server.specs.declared.pace.Pace.{Pace}
 use Rattle.oc_server.specs.declared.server.Server.{Server}
 use Rattle.oc_server.specs.declared.turns.Turns.{Turns}
@@ -35,11 +35,11 @@ reads_stay a b same config =
     ∙ ap (λ (h : Header). terms_of a.kept.node.control.me h.nodes b.config.rules b.config.key) same.header
     ∙ ap (λ (c : Settings). terms_of a.kept.node.control.me a.kept.node.control.nodes c.rules c.key) config
 
-module _ {D L K : Type 0} (view : D → DiskView) (takes fails : K → List ℕ → K → Type 0) (faults : K → ℕ) (story : L → Option (List Call)) (counts : L → Counts)
+module _ {D L K : Type 0} (view : D → DiskView) (takes fails : K → List ℕ → K → Type 0) (faults : K → ℕ) (story : L → Option (List Call)) (counts : L → LinkCounts)
     (takes_nothing : (k : K) → takes k [] k) (takes_then : (a b c : K) (x y : List ℕ) → takes a x b → takes b y c → takes a (x ++ y) c) where
   -- Turns that were made, as turns of the machine.
   pub record Made (n : ℕ) (old new : Turns D L K) : Type 0 where
-    pub told : List Told
+    pub told : List Observation
     pub many : length told ≡ n
     pub deeds : List Deed
     pub did : Did view takes faults story counts deeds old.server new.server
@@ -51,7 +51,7 @@ module _ {D L K : Type 0} (view : D → DiskView) (takes fails : K → List ℕ 
         → until (story new.server.link) all ≡ all_calls_behind (setting old.server) told (machine old) (until (story old.server.link) all)
 
   -- what came in a turn
-  pub heard_at : (due : Option ℕ) (old : Turns D L K) (new : Server D L K) (t : Told) (all : Option (List Call)) → Follows (story new.link) all
+  pub heard_at : (due : Option ℕ) (old : Turns D L K) (new : Server D L K) (t : Observation) (all : Option (List Call)) → Follows (story new.link) all
       → MayRead story due old new t → MayHear (reads_by old.server) (until (story old.server.link) all) due t (machine old)
   heard_at None old new t all follows read = record {
     lent = read.lent;
@@ -61,7 +61,7 @@ module _ {D L K : Type 0} (view : D → DiskView) (takes fails : K → List ℕ 
   }
   heard_at (Some place) old new t all follows read = tt
 
-  -- the machine behind a turn
+  -- the machine after a turn
   behind_one : {served : Bool} (old at : Turns D L K) → (turned : Turned view takes faults story counts served old at) → IsHonest view old.server.kept
       → machine at ≡ behind_turn (setting old.server) turned.told (machine old)
   behind_one old at turned honest =

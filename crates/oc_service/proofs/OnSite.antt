@@ -2,12 +2,12 @@
 use Rattle.std.proofs.Common.{◌≡◌, ◌⊎◌, ◌∙◌, ℕ, ◌+◌, ◌<◌, false, Option, List, [], ◌∷◌, ◌++◌, length, inl, inr, refl, sym, ap, ap₂, subst}
 use Rattle.oc_content.specs.ContentFile.{groups_in}
 use Rattle.oc_config.specs.Settings.{Settings}
-use Rattle.oc_events.specs.Told.{AddsAll}
-use Rattle.oc_events.specs.declared.call.Call.{Call}
-use Rattle.oc_events.specs.declared.call.Call.TheVariants as acts
-use Rattle.oc_events.specs.declared.counts.Counts.{Counts}
-use Rattle.oc_events.specs.declared.event.Event.TheVariants.{Quiet}
-use Rattle.oc_events.proofs.Stories.{adds-then}
+use Rattle.oc_link.specs.Told.{AddsAll}
+use Rattle.oc_link.specs.declared.call.Call.{Call}
+use Rattle.oc_link.specs.declared.call.Call.TheVariants as acts
+use Rattle.oc_link.specs.declared.counts.LinkCounts.{LinkCounts}
+use Rattle.oc_link.specs.declared.event.LinkEvent.TheVariants.{Quiet}
+use Rattle.oc_link.proofs.Stories.{adds-then}
 use Rattle.oc_io.specs.DiskView.{DiskView}
 use Rattle.oc_io.specs.Faults.{Rose}
 use Rattle.oc_keep.proofs.Runs.{all_go_on_then, one_rose_after}
@@ -19,20 +19,22 @@ use Rattle.oc_keep.specs.Trials.{after_inputs, first_node}
 use Rattle.oc_model.specs.declared.input.Input.{Input}
 use Rattle.oc_model.specs.Node.{Control, Header, Node}
 use Rattle.oc_model.specs.Step.{step}
-use Rattle.oc_reply.specs.Verdicts.{NodeTerms, terms_of}
+use Rattle.oc_routes.specs.Verdicts.{NodeTerms, terms_of}
 use Rattle.oc_server.specs.Answered.{AreAnswered}
-use Rattle.oc_server.specs.Deeds.{Deed, Setting, calls_of, inputs_of, lines}
+use Rattle.oc_server.specs.Deeds.{Deed, Setting, calls_of, inputs_of, line, lines}
+use Rattle.oc_server.specs.Moments.{AtEachPrefix}
 use Rattle.oc_server.specs.Parts.{Cuts}
 use Rattle.oc_server.specs.Runs.{reads_by}
-use Rattle.oc_server.specs.Scenes.{BreaksBehind, CountsAll, Did, HasCause, Idle, LeavesAt, LeavesUnder, Noting, Taking, Under, WritesAt, running, setting, under_line}
-use Rattle.oc_server.specs.Turns.{Told}
+use Rattle.oc_server.specs.Scenes.{BreaksBehind, CountsAll, Did, EndsOn, HasCause, Idle, LeavesAt, LeavesUnder, Noting, Taking, Under, WritesAt, running, setting, under_line}
+use Rattle.oc_server.specs.Turns.{Observation}
 use Rattle.oc_server.specs.declared.ends.TurnEnd.{TurnEnd}
 use Rattle.oc_server.specs.declared.ends.TurnEnd.TheVariants as ends
 use Rattle.oc_server.specs.declared.log.Log.{Log}
 use Rattle.oc_server.specs.declared.server.Server.{Server}
 use Rattle.oc_server.specs.declared.turns.Turns.{Turns}
-use Rattle.oc_server.proofs.Scenes.{broken_cause, broken_leaves, broken_text, did_node}
+use Rattle.oc_server.proofs.Scenes.{broken_cause, broken_leaves, broken_text, did_node, still_honest}
 use Rattle.oc_service.specs.OnSite.{DidOn, HasCauseOn, LeavesBehind, LeavesOne, NodeEnds, Stops, WasDeaf, Writes, at_run, header_of_settings, heard_before, machine_on, node_calls, setting_of, terms_in}
+use Rattle.oc_service.specs.AtAnyMoment.{AlwaysRecovers}
 use Rattle.oc_service.specs.Failures.{AreBorneOut}
 use Rattle.oc_service.specs.Loading.{IsLoaded}
 use Rattle.oc_service.specs.declared.site.Site.{Site}
@@ -43,11 +45,12 @@ use Rattle.oc_service.specs.WhatNodeGives.{ServesFrom}
 use Rattle.oc_service.specs.WhatNodeHears.{AreHeard, MayHear, all_calls_behind, until}
 use Rattle.oc_service.specs.declared.running.NodeEnd.TheVariants.{Turned}
 use Rattle.oc_service.specs.declared.running.Task.{Task}
+use Rattle.oc_service.proofs.AtAnyMoment.{prefix_of}
 use Rattle.oc_service.proofs.BorneOut.{front_borne, node_borne}
 use Rattle.oc_service.proofs.Replies.{front_answered, node_answered, serves_until}
 use Rattle.oc_service.proofs.Stories.{Follows, follows_adds, until_then}
 
-module _ {D L K : Type 0} (view : D → DiskView) (takes fails : K → List ℕ → K → Type 0) (faults : K → ℕ) (story : L → Option (List Call)) (counts : L → Counts)
+module _ {D L K : Type 0} (view : D → DiskView) (takes fails : K → List ℕ → K → Type 0) (faults : K → ℕ) (story : L → Option (List Call)) (counts : L → LinkCounts)
     (takes_nothing : (k : K) → takes k [] k) (takes_then : (a b c : K) (x y : List ℕ) → takes a x b → takes b y c → takes a (x ++ y) c)
     (takes_fails : (a b c : K) (x y : List ℕ) → takes a x b → fails b y c → fails a (x ++ y) c)
     (task : Task) (d : Disks D) (first last : Turns D L K)
@@ -105,7 +108,7 @@ module _ {D L K : Type 0} (view : D → DiskView) (takes fails : K → List ℕ 
     heard_is : (all : Option (List Call)) → Follows (story link) all → until (story link) all ≡ heard_before c me (story first.server.link) all
     heard_is all follows = until_then (acts.Listen (listens_at c.listens me) ∷ []) (story first.server.link) (story link) all adds_listen follows
 
-    heard_on : AreHonest view d → (told : List Told) → Follows (story link) (story last.server.link)
+    heard_on : AreHonest view d → (told : List Observation) → Follows (story link) (story last.server.link)
         → AreHeard (setting first.server) (reads_by first.server) (until (story link) (story last.server.link)) told (begun (setting first.server) c.measures (machine first))
         → AreHeard (setting_of c task) (terms_in c me) (heard_before c me (story first.server.link) (story last.server.link)) told (begun (setting_of c task) c.measures m)
     heard_on honest told follows heard =
@@ -121,12 +124,12 @@ module _ {D L K : Type 0} (view : D → DiskView) (takes fails : K → List ℕ 
         (subst (λ (x : Machine). AddsAll (calls_of (setting_of c task) deeds x.running) (story link) (story last.server.link)) (begins honest)
         (subst (λ (x : Setting). AddsAll (calls_of x deeds (running first.server)) (story link) (story last.server.link)) setting_is adds))
 
-    abbrev Choice : List Told → Told → List Deed → Setting → NodeTerms → Machine → Option (List Call) → Type 0
+    abbrev Choice : List Observation → Observation → List Deed → Setting → NodeTerms → Machine → Option (List Call) → Type 0
     Choice told next deeds s terms y calls =
         (length deeds < length (node_deeds s c.measures told y) + 3)
         ⊎ MayHear terms (all_calls_behind s told (begun s c.measures y) calls) (due_at next (node_behind s c.measures told y)) next (node_behind s c.measures told y)
 
-    last_on : AreHonest view d → (told : List Told) (next : Told) (deeds : List Deed) → Follows (story link) (story last.server.link)
+    last_on : AreHonest view d → (told : List Observation) (next : Observation) (deeds : List Deed) → Follows (story link) (story last.server.link)
         → (length deeds < length (node_deeds (setting first.server) c.measures told (machine first)) + 3)
         ⊎ MayHear (reads_by first.server) (all_calls_behind (setting first.server) told (begun (setting first.server) c.measures (machine first)) (until (story link) (story last.server.link)))
         (due_at next (node_behind (setting first.server) c.measures told (machine first))) next (node_behind (setting first.server) c.measures told (machine first))
@@ -152,18 +155,35 @@ module _ {D L K : Type 0} (view : D → DiskView) (takes fails : K → List ℕ 
         (subst (λ (x : Setting). ServesFrom x deeds (running first.server) (story link) (story last.server.link)) setting_is
         (serves (honest_kept honest) (ap (λ (x : Machine). x.running.works) (begins honest))))))
 
+    -- at each prefix of deeds, and behind them
+    moments_on : AreHonest view d → (deeds : List Deed) (at : Server D L K) → Did view takes faults story counts deeds l at → (under : Under)
+        → EndsOn view (header_of at.kept.node.control) at.kept.node.control.me (node_of at.kept) under (disks_of at.kept) e → AlwaysRecovers view h me deeds under d e
+    moments_on honest deeds at did under behind = record {
+      loaded = disks_of first.server.kept;
+      done = disks_of at.kept;
+      load = record { goes_on = safely.goes_on; any_moment = safely.any_moment honest };
+      prefixes = prefix_of view h me takes (line (setting first.server)) deeds at_first_node (disks_of first.server.kept) first.server.sink (disks_of at.kept) at.sink
+          (subst (λ (n : Node). AtEachPrefix view h me takes (line (setting first.server)) deeds n (disks_of first.server.kept) first.server.sink (disks_of at.kept) at.sink) (loaded.node honest)
+          (named (λ x y. AtEachPrefix view x y takes (line (setting first.server)) deeds (node_of first.server.kept) (disks_of first.server.kept) first.server.sink (disks_of at.kept) at.sink) (did.moments (honest_kept honest))));
+      ends = subst (λ (n : Node). EndsOn view h me (after_inputs n (inputs_of deeds)) under (disks_of at.kept) e) (loaded.node honest)
+          (subst (λ (n : Node). EndsOn view h me n under (disks_of at.kept) e) (did_node view takes fails faults story counts deeds l at did (honest_kept honest))
+          (named (λ x y. EndsOn view x y (node_of at.kept) under (disks_of at.kept) e)
+          (subst (λ (x : Header). EndsOn view x first.server.kept.node.control.me (node_of at.kept) under (disks_of at.kept) e) did.same.header
+          (subst (λ (y : ℕ). EndsOn view (header_of at.kept.node.control) y (node_of at.kept) under (disks_of at.kept) e) did.same.me behind))));
+    }
+
     -- All turns
 
-    deeds_on : AreHonest view d → (told : List Told) (deeds : List Deed) → (IsHonest view first.server.kept → deeds ≡ node_deeds (setting first.server) c.measures told (machine first))
+    deeds_on : AreHonest view d → (told : List Observation) (deeds : List Deed) → (IsHonest view first.server.kept → deeds ≡ node_deeds (setting first.server) c.measures told (machine first))
         → deeds ≡ node_deeds (setting_of c task) c.measures told m
     deeds_on honest told deeds are = are (honest_kept honest) ∙ ap₂ (λ (x : Setting) (y : Machine). node_deeds x c.measures told y) setting_is (begins honest)
 
-    heard_told : AreHonest view d → (told : List Told) (deeds : List Deed) → Did view takes faults story counts deeds l last.server
+    heard_told : AreHonest view d → (told : List Observation) (deeds : List Deed) → Did view takes faults story counts deeds l last.server
         → (IsHonest view first.server.kept → AreHeard (setting first.server) (reads_by first.server) (until (story link) (story last.server.link)) told (begun (setting first.server) c.measures (machine first)))
         → AreHeard (setting_of c task) (terms_in c me) (heard_before c me (story first.server.link) (story last.server.link)) told (begun (setting_of c task) c.measures m)
     heard_told honest told deeds did heard = heard_on honest told (follows_adds (calls_of (setting l) deeds (running l)) (story link) (story last.server.link) (did.done (honest_kept honest)).calls) (heard (honest_kept honest))
 
-    did_on : (told : List Told) (deeds : List Deed) → length told ≡ task.turns → Did view takes faults story counts deeds l last.server
+    did_on : (told : List Observation) (deeds : List Deed) → length told ≡ task.turns → Did view takes faults story counts deeds l last.server
         → (IsHonest view first.server.kept → deeds ≡ node_deeds (setting first.server) c.measures told (machine first))
         → (IsHonest view first.server.kept → AreHeard (setting first.server) (reads_by first.server) (until (story link) (story last.server.link)) told (begun (setting first.server) c.measures (machine first)))
         → ServesAll deeds
@@ -181,7 +201,7 @@ module _ {D L K : Type 0} (view : D → DiskView) (takes fails : K → List ℕ 
       failures = λ honest.
           subst (λ (ds : List Deed). AreBorneOut Quiet ds) (sym (deeds_on honest told deeds are))
           (node_borne Quiet (terms_in c me) (heard_before c me (story first.server.link) (story last.server.link)) (setting_of c task) c.measures told m (heard_told honest told deeds did heard));
-      counted = subst (λ (x : Counts). CountsAll deeds x (counts last.server.link)) listens.counted did.counted;
+      counted = subst (λ (x : LinkCounts). CountsAll deeds x (counts last.server.link)) listens.counted did.counted;
       goes_on = all_go_on_then view d (disks_of first.server.kept) e safely.goes_on did.goes_on;
       survives = λ honest.
           subst (λ (n : Node). Survives view h me e (after_inputs n (inputs_of deeds))) (loaded.node honest)
@@ -190,6 +210,7 @@ module _ {D L K : Type 0} (view : D → DiskView) (takes fails : K → List ℕ 
           (subst (λ (x : Header). Survives view x first.server.kept.node.control.me e (node_of last.server.kept)) did.same.header
           (subst (λ (y : ℕ). Survives view (header_of last.server.kept.node.control) y e (node_of last.server.kept)) did.same.me
           (recovers did.is_open (all_honest view (disks_of first.server.kept) e did.goes_on (honest_kept honest)))))));
+      moments = λ honest. moments_on honest deeds last.server did Idle (0, refl);
     }
 
     -- An early end
@@ -209,7 +230,7 @@ module _ {D L K : Type 0} (view : D → DiskView) (takes fails : K → List ℕ 
     behind_on ends.Memory n under p = one_on n Idle p
 
     module _ (deeds : List Deed) (under : Under) where
-      -- the node behind the deeds
+      -- the node after the deeds
       abbrev n : Node
       n = after_inputs at_first_node (inputs_of deeds)
 
@@ -232,7 +253,7 @@ module _ {D L K : Type 0} (view : D → DiskView) (takes fails : K → List ℕ 
           → HasCauseOn view end u n d e (counts first.server.link) (counts last.server.link)
       cause_on ends.Disk u breaks cause = one_rose_after view d (disks_of first.server.kept) e safely.goes_on cause
       cause_on ends.Sink u breaks cause = tt
-      cause_on ends.Link u breaks cause = subst (λ (x : Counts). Rose x.listening (counts last.server.link).listening) listens.counted cause
+      cause_on ends.Link u breaks cause = subst (λ (x : LinkCounts). Rose x.listening (counts last.server.link).listening) listens.counted cause
       cause_on ends.Full (Taking i) breaks cause = full_on i breaks
       cause_on ends.Full Idle breaks cause = cause
       cause_on ends.Full (Noting line) breaks cause = cause
@@ -244,6 +265,10 @@ module _ {D L K : Type 0} (view : D → DiskView) (takes fails : K → List ℕ 
       goes_on_all end (at, did, breaks) =
           all_go_on_then view d (disks_of first.server.kept) e safely.goes_on
           (all_go_on_then view (disks_of first.server.kept) (disks_of at.kept) e did.goes_on breaks.goes_on)
+
+      moments_all : (end : TurnEnd) → BreaksBehind view takes fails faults story counts end deeds under l last.server → AreHonest view d → AlwaysRecovers view h me deeds under d e
+      moments_all end (at, did, breaks) honest =
+          moments_on honest deeds at did under (breaks.moments (still_honest view takes fails faults story counts deeds l at did (honest_kept honest)))
 
       adds_all : (end : TurnEnd) → BreaksBehind view takes fails faults story counts end deeds under l last.server → AreHonest view d
           → AddsAll (calls_of (setting l) deeds (running l)) (story link) (story last.server.link)
@@ -313,6 +338,7 @@ module _ {D L K : Type 0} (view : D → DiskView) (takes fails : K → List ℕ 
           leaves = λ honest.
               subst (λ (x : Node). LeavesBehind view h me e end (after_inputs x (inputs_of r.deeds)) r.under) (loaded.node honest)
               (behind_on link listens end _ r.under (broken_leaves view takes fails faults story counts r.deeds r.under end l last.server breaks (honest_kept honest)));
+          moments = moments_all link listens r.deeds r.under end breaks;
           cause = cause_on link listens r.deeds r.under end r.under breaks (broken_cause view takes fails faults story counts r.deeds r.under end l last.server breaks);
         },
       )
@@ -325,6 +351,13 @@ module _ {D L K : Type 0} (view : D → DiskView) (takes fails : K → List ℕ 
       survives = λ honest.
           subst (λ (n : Node). Survives view h me e n) (loaded.node honest)
           (subst (λ (x : Server D L K). Survives view h me (disks_of x.kept) (node_of first.server.kept)) (sym deaf.rest) (loaded.survives honest));
+      moments = λ honest. record {
+        loaded = disks_of first.server.kept;
+        done = disks_of first.server.kept;
+        load = record { goes_on = safely.goes_on; any_moment = safely.any_moment honest };
+        prefixes = (0, refl, refl);
+        ends = (0, ap (λ (x : Server D L K). disks_of x.kept) deaf.rest);
+      };
       calls = deaf.calls;
       counted = deaf.counted;
     },
@@ -342,12 +375,12 @@ module _ {D L K : Type 0} (view : D → DiskView) (takes fails : K → List ℕ 
   ends_on ends.Memory r = halts_on ends.Memory r
 
 -- how it ended, of these files, links and outputs
-abbrev pub EndsAs : {D L K : Type 0} → (D → DiskView) → (K → List ℕ → K → Type 0) → (K → List ℕ → K → Type 0) → (K → ℕ) → (L → Option (List Call)) → (L → Counts) → Settings → Task → Disks D → TurnEnd → Disks D → L → L → K → K → Type 0
+abbrev pub EndsAs : {D L K : Type 0} → (D → DiskView) → (K → List ℕ → K → Type 0) → (K → List ℕ → K → Type 0) → (K → ℕ) → (L → Option (List Call)) → (L → LinkCounts) → Settings → Task → Disks D → TurnEnd → Disks D → L → L → K → K → Type 0
 EndsAs view takes fails faults story counts s task d end e l m k j =
     NodeEnds (at_run view story counts s task d e l m) (λ text. takes k text j) (λ text. fails k text j × Rose (faults k) (faults j)) (setting_of s task) (Turned end)
 
 -- the same of what it was handed and what came back
-pub told_of : {D L K : Type 0} (view : D → DiskView) (takes fails : K → List ℕ → K → Type 0) (faults : K → ℕ) (story : L → Option (List Call)) (counts : L → Counts)
+pub told_of : {D L K : Type 0} (view : D → DiskView) (takes fails : K → List ℕ → K → Type 0) (faults : K → ℕ) (story : L → Option (List Call)) (counts : L → LinkCounts)
     (takes_nothing : (k : K) → takes k [] k) (takes_then : (a b c : K) (x y : List ℕ) → takes a x b → takes b y c → takes a (x ++ y) c)
     (takes_fails : (a b c : K) (x y : List ℕ) → takes a x b → fails b y c → fails a (x ++ y) c)
     (s : Settings) (task : Task) (site back : Site D L K) (first last : Turns D L K) → IsLoaded view s task site first

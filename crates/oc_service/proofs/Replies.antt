@@ -2,10 +2,10 @@
 use Rattle.std.proofs.Common.{◌≡◌, ◌⊎◌, ◌∙◌, ℕ, Option, None, Some, List, [], ◌∷◌, ◌++◌, refl, sym, ap, subst}
 use Rattle.std.specs.Prelude.{◌==◌, if◌then◌else◌, Bool, true, false}
 use Rattle.std.proofs.lemmas.List.{append_assoc}
-use Rattle.oc_events.specs.Told.{AddsAll}
-use Rattle.oc_events.specs.declared.call.Call.{Call}
-use Rattle.oc_events.specs.declared.stage.Stage.{Stage}
-use Rattle.oc_events.specs.declared.stage.Stage.TheVariants.{Answering, Awaiting, Whole}
+use Rattle.oc_link.specs.Told.{AddsAll}
+use Rattle.oc_link.specs.declared.call.Call.{Call}
+use Rattle.oc_link.specs.declared.phase.Phase.{Phase}
+use Rattle.oc_link.specs.declared.phase.Phase.TheVariants.{Answering, Awaiting, Whole}
 use Rattle.oc_model.specs.Node.{Node}
 use Rattle.oc_model.specs.declared.answer.Answer.{Answer}
 use Rattle.oc_model.specs.declared.answer.Answer.TheVariants as answers
@@ -19,10 +19,10 @@ use Rattle.oc_server.proofs.Settled.{AllQuiet, all_quiet, ordered_front, ordered
 use Rattle.oc_server.specs.Answered.{AreAnswered, AreAnsweredBy, answer_of, back_of}
 use Rattle.oc_server.specs.Deeds.{Deed, Running, Setting, Takes, after, after_all, calls_of}
 use Rattle.oc_server.specs.Parts.{Cuts}
-use Rattle.oc_server.specs.Replying.{IsOrdered, stage_on}
+use Rattle.oc_server.specs.Replying.{IsOrdered, phase_on}
 use Rattle.oc_server.specs.Scenes.{Under}
 use Rattle.oc_server.specs.Settled.{AreServed, Fits, IsSettled}
-use Rattle.oc_server.specs.Turns.{Told}
+use Rattle.oc_server.specs.Turns.{Observation}
 use Rattle.oc_server.specs.declared.work.Work.{Work}
 use Rattle.oc_updown.specs.declared.measure_lines.Measure.{Measure}
 use Rattle.oc_service.specs.WhatNodeDoes.{Machine, begins, begun, behind_turn, behind_turns, node_behind, node_deeds, own_measure, own_measures, turn_deeds, turns_deeds}
@@ -62,9 +62,9 @@ begins_works s ms n a = own_works s.me ms a
 -- Deeds in order, from nothing under way
 
 -- no reply is under way where nothing is
-none_answering : (made : List Call) (c : ℕ) → IsSettled made [] → stage_on c made ≡ Answering → ⊥
-none_answering made c settled stage =
-    let fits : Fits Answering [] = subst (λ (x : Stage). Fits x []) stage (settled c) in
+none_answering : (made : List Call) (c : ℕ) → IsSettled made [] → phase_on c made ≡ Answering → ⊥
+none_answering made c settled phase =
+    let fits : Fits Answering [] = subst (λ (x : Phase). Fits x []) phase (settled c) in
     let one : [] ≡ fits.0 ∷ [] = fits.1 in
     absurd (cc one)
 
@@ -75,7 +75,7 @@ in_order s made later deeds a none settled calls ordered = record {
   front = λ (c : ℕ). given_front s made deeds a c none (none_answering made c settled) ordered;
   whole = λ c ended.
       given_whole s made deeds a c none (none_answering made c settled) ordered
-      (subst (λ (cs : List Call). (stage_on c cs ≡ Awaiting) ⊎ (stage_on c cs ≡ Whole)) calls ended);
+      (subst (λ (cs : List Call). (phase_on c cs ≡ Awaiting) ⊎ (phase_on c cs ≡ Whole)) calls ended);
 }
 
 settled_with : (made : List Call) (ws : List Work) → ws ≡ [] → IsSettled made [] → IsSettled made ws
@@ -102,7 +102,7 @@ module _ (s : Setting) (own : List Deed) (a : Running) (quiet : AllQuiet own) (n
       subst (λ (cs : List Call). IsSettled cs []) (sym calls)
       (subst (λ (x : List Work). IsSettled (made ++ calls_of s own a) x) left (all_quiet s made own a quiet (settled_with made a.works none settled)).settled)
 
-  -- told of the stories before, between and behind
+  -- told of the stories before, between and after
   pub serves_behind : (ds : List Deed) (b : Running) (x y z : Option (List Call)) → (after_all own a).works ≡ [] → b ≡ after_all own a → AddsAll (calls_of s own a) x y → Follows y z
       → ((made later : List Call) → y ≡ Some made → z ≡ Some later → IsSettled made [] → AreServed s made later ds b) → ServesFrom s (own ++ ds) a x z
   serves_behind ds b x y None left is adds follows served = tt
@@ -128,7 +128,7 @@ serves_until s ds a (Some x) (Some z) serves = serves
 
 -- Each request is answered by the step of its input
 
--- deeds behind which any may come
+-- deeds after which any may come
 answered_then : (answer : Answer) (back : Option Message) (s : Setting) (ds es : List Deed) (a : Running) → AreAnsweredBy answer back s ds a
     → ((x : Answer) (y : Option Message) → AreAnsweredBy x y s es (after_all ds a)) → AreAnsweredBy answer back s (ds ++ es) a
 answered_then answer back s [] es a first more = more answer back
@@ -149,10 +149,10 @@ own_answered answer back s me (x ∷ ms) a =
     (λ p q. own_answered p q s me ms (after_all (own_measure me x) a))
 
 -- a turn begins with a reading of the clock, so it is all the same what was answered before
-turn_answered : (answer : Answer) (back : Option Message) (s : Setting) (t : Told) (m : Machine) → AreAnsweredBy answer back s (turn_deeds s t m) m.running
+turn_answered : (answer : Answer) (back : Option Message) (s : Setting) (t : Observation) (m : Machine) → AreAnsweredBy answer back s (turn_deeds s t m) m.running
 turn_answered answer back s t m = turn_answers m.pace m.probing t s m.running
 
-turns_answered : (answer : Answer) (back : Option Message) (s : Setting) (ts : List Told) (m : Machine) → AreAnsweredBy answer back s (turns_deeds s ts m) m.running
+turns_answered : (answer : Answer) (back : Option Message) (s : Setting) (ts : List Observation) (m : Machine) → AreAnsweredBy answer back s (turns_deeds s ts m) m.running
 turns_answered answer back s [] m = tt
 turns_answered answer back s (t ∷ ts) m =
     answered_then answer back s (turn_deeds s t m) (turns_deeds s ts (behind_turn s t m)) m.running (turn_answered answer back s t m)
@@ -161,21 +161,21 @@ turns_answered answer back s (t ∷ ts) m =
 begins_answered : (answer : Answer) (back : Option Message) (s : Setting) (ms : List Measure) (n : Node) (a : Running) → AreAnsweredBy answer back s (begins s ms n) a
 begins_answered answer back s ms n a = (tt, own_answered answer back s s.me ms a)
 
-pub node_answered : (s : Setting) (ms : List Measure) (ts : List Told) (m : Machine) → AreAnswered s (node_deeds s ms ts m) m.running
+pub node_answered : (s : Setting) (ms : List Measure) (ts : List Observation) (m : Machine) → AreAnswered s (node_deeds s ms ts m) m.running
 node_answered s ms ts m =
     answered_then answers.Ok None s (begins s ms m.running.node) (turns_deeds s ts (begun s ms m)) m.running (begins_answered answers.Ok None s ms m.running.node m.running)
     (λ p q. turns_answered p q s ts (begun s ms m))
 
--- the node behind turns is the one behind their deeds
-turns_behind : (s : Setting) (ts : List Told) (m : Machine) → (behind_turns s ts m).running ≡ after_all (turns_deeds s ts m) m.running
+-- the node after turns is the one after their deeds
+turns_behind : (s : Setting) (ts : List Observation) (m : Machine) → (behind_turns s ts m).running ≡ after_all (turns_deeds s ts m) m.running
 turns_behind s [] m = refl
 turns_behind s (t ∷ ts) m = turns_behind s ts (behind_turn s t m) ∙ sym (after_append (turn_deeds s t m) (turns_deeds s ts (behind_turn s t m)) m.running)
 
-pub node_behind_deeds : (s : Setting) (ms : List Measure) (ts : List Told) (m : Machine) → (node_behind s ms ts m).running ≡ after_all (node_deeds s ms ts m) m.running
+pub node_behind_deeds : (s : Setting) (ms : List Measure) (ts : List Observation) (m : Machine) → (node_behind s ms ts m).running ≡ after_all (node_deeds s ms ts m) m.running
 node_behind_deeds s ms ts m = turns_behind s ts (begun s ms m) ∙ sym (after_append (begins s ms m.running.node) (turns_deeds s ts (begun s ms m)) m.running)
 
 -- a front of all that is done, and of one more turn
-pub front_answered : (s : Setting) (ms : List Measure) (ts : List Told) (last : Told) (m : Machine) (deeds : List Deed) (under : Under)
+pub front_answered : (s : Setting) (ms : List Measure) (ts : List Observation) (last : Observation) (m : Machine) (deeds : List Deed) (under : Under)
     → Cuts (node_deeds s ms ts m ++ turn_deeds s last (node_behind s ms ts m)) deeds under → AreAnswered s deeds m.running
 front_answered s ms ts last m deeds under cut =
     answered_front answers.Ok None s deeds cut.behind m.running

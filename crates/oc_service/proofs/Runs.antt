@@ -3,21 +3,21 @@ use Rattle.std.proofs.Common.{◌≡◌, ◌⊎◌, ◌∙◌, ℕ, ◌+◌, ◌
 use Rattle.std.specs.Prelude.{◌==◌, if◌then◌else◌, Bool, true, false}
 use Rattle.std.specs.Option.{option_map}
 use Rattle.std.proofs.lemmas.List.{append_assoc}
-use Rattle.oc_events.specs.Told.{AddsAll}
-use Rattle.oc_events.specs.declared.call.Call.{Call}
-use Rattle.oc_events.specs.declared.counts.Counts.{Counts}
-use Rattle.oc_events.specs.declared.event.Event.TheVariants as events
+use Rattle.oc_link.specs.Told.{AddsAll}
+use Rattle.oc_link.specs.declared.call.Call.{Call}
+use Rattle.oc_link.specs.declared.counts.LinkCounts.{LinkCounts}
+use Rattle.oc_link.specs.declared.event.LinkEvent.TheVariants as events
 use Rattle.oc_io.specs.DiskView.{DiskView}
 use Rattle.oc_keep.specs.KeptView.{IsHonest, KeptView, node_of}
 use Rattle.oc_model.specs.declared.input.Input.{Input}
 use Rattle.oc_model.specs.declared.input.Input.TheVariants.{Measured}
-use Rattle.oc_reply.specs.Verdicts.{NodeTerms}
+use Rattle.oc_routes.specs.Verdicts.{NodeTerms}
 use Rattle.oc_server.specs.Deeds.{Deed, Running, Setting, Takes, after_all, calls_of}
 use Rattle.oc_server.specs.Parts.{Cuts, Stops}
 use Rattle.oc_server.specs.Runs.{MayRead, ServeEnds, ServesUpTo, TurnStops, due_in, reads_by}
 use Rattle.oc_server.specs.Scenes.{BreaksBehind, Did, running, setting}
 use Rattle.oc_server.specs.Settled.{AreServed, IsSettled, deeds_until, deeds_up_to}
-use Rattle.oc_server.specs.Turns.{Told}
+use Rattle.oc_server.specs.Turns.{Observation}
 use Rattle.oc_server.specs.declared.came.Came.TheVariants as comes
 use Rattle.oc_server.specs.declared.ends.TurnEnd.{TurnEnd}
 use Rattle.oc_server.specs.declared.ends.TurnEnd.TheVariants as ends
@@ -52,7 +52,7 @@ none_more : (cs : List Call) → cs ≡ [] → (calls : Option (List Call)) → 
 none_more cs is None = refl
 none_more cs is (Some p) = ap Some (ap (λ (x : List Call). p ++ x) is ∙ append-nil p)
 
-module _ {D L K : Type 0} (view : D → DiskView) (takes fails : K → List ℕ → K → Type 0) (faults : K → ℕ) (story : L → Option (List Call)) (counts : L → Counts)
+module _ {D L K : Type 0} (view : D → DiskView) (takes fails : K → List ℕ → K → Type 0) (faults : K → ℕ) (story : L → Option (List Call)) (counts : L → LinkCounts)
     (takes_nothing : (k : K) → takes k [] k) (takes_then : (a b c : K) (x y : List ℕ) → takes a x b → takes b y c → takes a (x ++ y) c)
     (most : ℕ) (old : Turns D L K) (listening : Server D L K) (listens : Listens story counts old.server listening) where
   abbrev me : ℕ
@@ -191,7 +191,7 @@ module _ {D L K : Type 0} (view : D → DiskView) (takes fails : K → List ℕ 
 
       -- what a turn that ended partway through was told
       module _ (end : TurnEnd) (new : Turns D L K) (few : n < most) (turn_stops : TurnStops view takes fails faults story counts end last new) where
-        abbrev last_told : Told
+        abbrev last_told : Observation
         last_told = turn_stops.told
 
         abbrev stop_deeds : List Deed
@@ -283,7 +283,7 @@ module _ {D L K : Type 0} (view : D → DiskView) (takes fails : K → List ℕ 
   -- It ended before its first turn
 
   -- that turn would be told something
-  abbrev no_told : Told
+  abbrev no_told : Observation
   no_told = record { before = 0; event = events.Quiet; bytes = []; came = comes.Nothing; now = 0; median = 0; started = 0; seconds = 0 }
 
   module _ (end : TurnEnd) (new : Turns D L K) (stops : Stops view takes fails faults story counts end (begins_with old.server.config.measures) listening new.server) where

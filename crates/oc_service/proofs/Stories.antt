@@ -1,9 +1,9 @@
 -- The calls of a link until some moment, where the link tells them to the end.
 use Rattle.std.proofs.Common.{◌≡◌, ℕ, Option, None, Some, List, ◌++◌, refl, ap}
 use Rattle.std.specs.Option.{option_map}
-use Rattle.oc_events.specs.Told.{AddsAll, Told as ToldBy}
-use Rattle.oc_events.specs.declared.call.Call.{Call}
-use Rattle.oc_events.specs.declared.event.Event.{Event}
+use Rattle.oc_link.specs.Told.{AddsAll, Told as ToldBy}
+use Rattle.oc_link.specs.declared.call.Call.{Call}
+use Rattle.oc_link.specs.declared.event.LinkEvent.{LinkEvent}
 use Rattle.oc_server.specs.Runs.{IsLent, behind_reading}
 use Rattle.oc_service.specs.WhatNodeHears.{until}
 
@@ -37,7 +37,7 @@ until_then cs None (Some q) (Some all) adds follows = absurd adds
 until_then cs (Some p) (Some q) (Some all) adds follows = ap Some adds
 
 -- what was lent, by the calls until then
-pub lent_until : (before : ℕ) (x y all : Option (List Call)) (event : Event) (bytes lent : List ℕ) → Follows y all
+pub lent_until : (before : ℕ) (x y all : Option (List Call)) (event : LinkEvent) (bytes lent : List ℕ) → Follows y all
     → IsLent (behind_reading before x) y event bytes lent → IsLent (behind_reading before (until x all)) (until x all) event bytes lent
 lent_until before None y None event bytes lent follows is = tt
 lent_until before None y (Some all) event bytes lent follows is = tt

@@ -1,9 +1,9 @@
 -- The run of a node ends well where nothing fails that may.
 use Rattle.std.proofs.Common.{inl, inr, ℕ, Option, List, length}
-use Rattle.oc_check.proofs.Complete.{only_memory}
+use Rattle.oc_keep.proofs.Complete.{only_memory}
 use Rattle.oc_config.specs.Settings.{Settings}
-use Rattle.oc_events.specs.declared.call.Call.{Call}
-use Rattle.oc_events.specs.declared.counts.Counts.{Counts}
+use Rattle.oc_link.specs.declared.call.Call.{Call}
+use Rattle.oc_link.specs.declared.counts.LinkCounts.{LinkCounts}
 use Rattle.oc_io.specs.DiskView.{DiskView}
 use Rattle.oc_io.specs.Faults.{Rose}
 use Rattle.oc_keep.specs.Files.{Disks, AreHonest, OneRose}
@@ -14,7 +14,7 @@ use Rattle.oc_service.specs.declared.running.NodeEnd.{NodeEnd}
 use Rattle.oc_service.specs.declared.running.NodeEnd.TheVariants.{Load, Turned}
 use Rattle.oc_service.specs.declared.running.Task.{Task}
 
-module _ {D L : Type 0} (view : D → DiskView) (story : L → Option (List Call)) (counts : L → Counts) (written cut_off : List ℕ → Type 0) (c : Settings) (task : Task) (old new : Disks D) (link after : L)
+module _ {D L : Type 0} (view : D → DiskView) (story : L → Option (List Call)) (counts : L → LinkCounts) (written cut_off : List ℕ → Type 0) (c : Settings) (task : Task) (old new : Disks D) (link after : L)
     (honest : AreHonest view old) (files : HoldFiles view (length c.addresses) old) (sound : OneRose view old new → ⊥)
     (asked : Rose (counts link).listening (counts after).listening → ⊥) (sink : (text : List ℕ) → cut_off text → ⊥) where
   pub unfailed : (end : NodeEnd) → NodeEnds (at_run view story counts c task old new link after) written cut_off (setting_of c task) end → EndsUnfailed end

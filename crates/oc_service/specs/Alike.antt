@@ -1,14 +1,14 @@
 -- Turns that do alike with a request.
 use Rattle.std.specs.Prelude.{◌≡◌, ℕ, List}
-use Rattle.oc_events.specs.Traffic.{given}
-use Rattle.oc_events.specs.declared.event.Arrival.{Arrival}
-use Rattle.oc_events.specs.declared.event.Event.TheVariants.{Request}
+use Rattle.oc_link.specs.Traffic.{given}
+use Rattle.oc_link.specs.declared.event.Arrival.{Arrival}
+use Rattle.oc_link.specs.declared.event.LinkEvent.TheVariants.{Request}
 use Rattle.oc_server.specs.Deeds.{Deed, Running, Setting, after_all, calls_of, lines}
-use Rattle.oc_server.specs.Turns.{Told}
+use Rattle.oc_server.specs.Turns.{Observation}
 use Rattle.oc_server.specs.declared.came.Came.{Came}
 
 -- a turn is told a request, by which these bytes came new, and which means this
-abbrev pub told_request : Told → Arrival → List ℕ → Came → Told
+abbrev pub told_request : Observation → Arrival → List ℕ → Came → Observation
 told_request t a bytes came = record t { event = Request a; bytes = bytes; came = came }
 
 -- From one node two lists of deeds write the same lines, give each connection the same, and leave the same node.

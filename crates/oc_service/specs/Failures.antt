@@ -1,39 +1,39 @@
 -- Lines that tell of a failure: `! source` and `! write`.
 use Rattle.std.specs.Prelude.{◌≡◌, true, IsTrue, List, [], ◌∷◌}
-use Rattle.oc_events.specs.Counts.{CountsEvent}
-use Rattle.oc_events.specs.Failures.{fails_reading, fails_writing}
-use Rattle.oc_events.specs.declared.counts.Counts.{Counts}
-use Rattle.oc_events.specs.declared.event.Event.{Event}
+use Rattle.oc_link.specs.Counts.{CountsEvent}
+use Rattle.oc_link.specs.Failures.{fails_reading, fails_writing}
+use Rattle.oc_link.specs.declared.counts.LinkCounts.{LinkCounts}
+use Rattle.oc_link.specs.declared.event.LinkEvent.{LinkEvent}
 use Rattle.oc_io.specs.Faults.{Rose}
 use Rattle.oc_routes.specs.declared.refused.Refused.TheVariants.{Source}
 use Rattle.oc_server.specs.Deeds.{Deed, Drops, Refuses, Sees}
 
--- what the link told last, behind a deed
-abbrev pub told_last : Event → Deed → Event
+-- what the link told last, after a deed
+abbrev pub told_last : LinkEvent → Deed → LinkEvent
 told_last event (Sees new wait bytes) = new
 told_last event d = event
 
 -- `! source` is written where the link told last that a request could not be read, and `! write` where it told that a reply could not be sent
-abbrev pub IsBorneOut : Event → Deed → Type 0
+abbrev pub IsBorneOut : LinkEvent → Deed → Type 0
 IsBorneOut event (Refuses c count Source) = IsTrue (fails_reading event)
 IsBorneOut event (Drops c true) = IsTrue (fails_writing event)
 IsBorneOut event d = Unit {0}
 
-abbrev pub AreBorneOut : Event → List Deed → Type 0
+abbrev pub AreBorneOut : LinkEvent → List Deed → Type 0
 AreBorneOut event [] = Unit {0}
 AreBorneOut event (d ∷ ds) = IsBorneOut event d × AreBorneOut (told_last event d) ds
 
 -- By the counts of the link
 
 -- the count of what such a line tells rose from `old` to `now`
-abbrev pub RisesFor : Deed → Counts → Counts → Type 0
+abbrev pub RisesFor : Deed → LinkCounts → LinkCounts → Type 0
 RisesFor (Refuses c count Source) old now = Rose old.reading now.reading
 RisesFor (Drops c true) old now = Rose old.writing now.writing
 RisesFor d old now = Unit {0}
 
 -- The counts of a link go from `now` to `new` over these deeds, and what it told last before made `now` of `old`: each line of a failure is
 -- written where its count rose by what the link told last.
-abbrev pub RiseForLines : Counts → Counts → List Deed → Counts → Type 0
+abbrev pub RiseForLines : LinkCounts → LinkCounts → List Deed → LinkCounts → Type 0
 RiseForLines old now [] new = new ≡ now
-RiseForLines old now (Sees event wait bytes ∷ ds) new = (at : Counts) × CountsEvent event wait now at × RiseForLines now at ds new
+RiseForLines old now (Sees event wait bytes ∷ ds) new = (at : LinkCounts) × CountsEvent event wait now at × RiseForLines now at ds new
 RiseForLines old now (d ∷ ds) new = RisesFor d old now × RiseForLines old now ds new

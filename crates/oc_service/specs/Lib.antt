@@ -2,6 +2,7 @@ pub mod WhatNodeDoes
 pub mod WhatNodeHears
 pub mod WhatNodeGives
 pub mod Failures
+pub mod AtAnyMoment
 pub mod Alike
 pub mod Examples
 pub mod Running

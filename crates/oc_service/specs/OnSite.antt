@@ -2,12 +2,12 @@
 use Rattle.std.specs.Prelude.{◌≡◌, ◌⊎◌, ℕ, ◌+◌, ◌<◌, Bool, true, false, Option, Some, None, List, [], ◌∷◌, ◌++◌, length, replicate, take}
 use Rattle.std.specs.Option.{option_map}
 use Rattle.oc_config.specs.Settings.{Settings}
-use Rattle.oc_events.specs.Counts.{CountsFailure}
-use Rattle.oc_events.specs.Told.{AddsAll}
-use Rattle.oc_events.specs.declared.call.Call.{Call}
-use Rattle.oc_events.specs.declared.call.Call.TheVariants as acts
-use Rattle.oc_events.specs.declared.counts.Counts.{Counts}
-use Rattle.oc_events.specs.declared.event.Event.TheVariants.{Quiet}
+use Rattle.oc_link.specs.Counts.{CountsFailure}
+use Rattle.oc_link.specs.Told.{AddsAll}
+use Rattle.oc_link.specs.declared.call.Call.{Call}
+use Rattle.oc_link.specs.declared.call.Call.TheVariants as acts
+use Rattle.oc_link.specs.declared.counts.LinkCounts.{LinkCounts}
+use Rattle.oc_link.specs.declared.event.LinkEvent.TheVariants.{Quiet}
 use Rattle.oc_io.specs.DiskView.{DiskView}
 use Rattle.oc_io.specs.Faults.{Rose}
 use Rattle.oc_keep.specs.Files.{Disks, AllGoOn, AreHonest, Leaves, OneRose, SameAsEither, Survives}
@@ -21,13 +21,14 @@ use Rattle.oc_model.specs.Node.{Header, Node}
 use Rattle.oc_model.specs.Step.{step}
 use Rattle.oc_probe.specs.Turns.{others}
 use Rattle.oc_probe.specs.declared.probing.Probing.{Probing}
-use Rattle.oc_reply.specs.Verdicts.{NodeTerms, terms_of}
+use Rattle.oc_routes.specs.Verdicts.{NodeTerms, terms_of}
 use Rattle.oc_server.specs.Deeds.{Deed, Setting, calls_of, inputs_of, lines}
 use Rattle.oc_server.specs.Parts.{Cuts}
 use Rattle.oc_server.specs.Scenes.{CountsAll, IsFront, Idle, Taking, Under, under_line}
-use Rattle.oc_server.specs.Turns.{Told}
+use Rattle.oc_server.specs.Turns.{Observation}
 use Rattle.oc_server.specs.declared.ends.TurnEnd.{TurnEnd}
 use Rattle.oc_server.specs.declared.ends.TurnEnd.TheVariants as ends
+use Rattle.oc_service.specs.AtAnyMoment.{AlwaysRecovers}
 use Rattle.oc_service.specs.Failures.{AreBorneOut}
 use Rattle.oc_service.specs.Running.{listens_at}
 use Rattle.oc_service.specs.WhatNodeDoes.{Machine, at_first, begun, due_at, node_behind, node_deeds, turn_deeds}
@@ -76,9 +77,10 @@ heard_before c me old new = option_map (λ (cs : List Call). cs ++ acts.Listen (
 -- All turns
 
 -- The deeds are those of what a node does, in this many turns, by what its link told. Each made its calls, each connection was given the
--- replies to its requests, a line of a failure was written only where its link told of one, and every crash leaves the node that took their inputs.
-pub record DidOn {D L : Type 0} (view : D → DiskView) (story : L → Option (List Call)) (counts : L → Counts) (c : Settings) (task : Task) (deeds : List Deed) (old new : Disks D) (link after : L) : Type 0 where
-  pub told : List Told
+-- replies to its requests, a line of a failure was written only where its link told of one, and every crash leaves the node that took their
+-- inputs, at every moment of the run those of a prefix.
+pub record DidOn {D L : Type 0} (view : D → DiskView) (story : L → Option (List Call)) (counts : L → LinkCounts) (c : Settings) (task : Task) (deeds : List Deed) (old new : Disks D) (link after : L) : Type 0 where
+  pub told : List Observation
   pub many : length told ≡ task.turns
   pub are : AreHonest view old → deeds ≡ node_deeds (setting_of c task) c.measures told (machine_on view c task old)
   pub heard : AreHonest view old
@@ -89,6 +91,7 @@ pub record DidOn {D L : Type 0} (view : D → DiskView) (story : L → Option (L
   pub counted : CountsAll deeds (counts link) (counts after)
   pub goes_on : AllGoOn view old new
   pub survives : AreHonest view old → Survives view (header_of_settings c) task.me new (after_inputs (first_node view (header_of_settings c) task.me old) (inputs_of deeds))
+  pub moments : AreHonest view old → AlwaysRecovers view (header_of_settings c) task.me deeds Idle old new
 
 -- An early end
 
@@ -107,7 +110,7 @@ abbrev pub IsFullFor : {D : Type 0} → (D → DiskView) → Input → Node → 
 IsFullFor {D} view i n old new = (k : KeptView D) × (disks_of k ≡ new) × IsFullAt k i × (AreHonest view old → node_of k ≡ n)
 
 -- why it ended, where its output is not to blame: a file is full for the input that is under way, and for nothing else
-abbrev pub HasCauseOn : {D : Type 0} → (D → DiskView) → TurnEnd → Under → Node → Disks D → Disks D → Counts → Counts → Type 0
+abbrev pub HasCauseOn : {D : Type 0} → (D → DiskView) → TurnEnd → Under → Node → Disks D → Disks D → LinkCounts → LinkCounts → Type 0
 HasCauseOn view ends.Disk under n old new before behind = OneRose view old new
 HasCauseOn view ends.Link under n old new before behind = Rose before.listening behind.listening
 HasCauseOn view ends.Full (Taking i) n old new before behind = IsFullFor view i n old new
@@ -116,12 +119,12 @@ HasCauseOn view ends.Served under n old new before behind = ⊥
 HasCauseOn view ends.Quiet under n old new before behind = ⊥
 HasCauseOn view end under n old new before behind = Unit {0}
 
--- It ended so behind these deeds, a front of what a node does: behind whole turns, in the midst of one that is told `last`, or before the
+-- It ended so after these deeds, a front of what a node does: after whole turns, in the midst of one that is told `last`, or before the
 -- first. What came in that one was read, where more was done in it than to ask the link. Each connection was given the replies to its requests
 -- until then, and a line of a failure was written, or begun, only where its link told of one.
-pub record StoppedOn {D L : Type 0} (view : D → DiskView) (story : L → Option (List Call)) (counts : L → Counts) (c : Settings) (task : Task) (end : TurnEnd) (deeds : List Deed) (under : Under) (old new : Disks D) (link after : L) : Type 0 where
-  pub told : List Told
-  pub last : Told
+pub record StoppedOn {D L : Type 0} (view : D → DiskView) (story : L → Option (List Call)) (counts : L → LinkCounts) (c : Settings) (task : Task) (end : TurnEnd) (deeds : List Deed) (under : Under) (old new : Disks D) (link after : L) : Type 0 where
+  pub told : List Observation
+  pub last : Observation
   pub few : length told < task.turns + 1
   pub cut : AreHonest view old
       → Cuts (node_deeds (setting_of c task) c.measures told (machine_on view c task old) ++ turn_deeds (setting_of c task) last (node_behind (setting_of c task) c.measures told (machine_on view c task old))) deeds under
@@ -137,12 +140,14 @@ pub record StoppedOn {D L : Type 0} (view : D → DiskView) (story : L → Optio
   pub failures : (honest : AreHonest view old) → AreBorneOut Quiet (deeds ++ take 1 (cut honest).behind)
   pub goes_on : AllGoOn view old new
   pub leaves : AreHonest view old → LeavesBehind view (header_of_settings c) task.me new end (after_inputs (first_node view (header_of_settings c) task.me old) (inputs_of deeds)) under
+  pub moments : AreHonest view old → AlwaysRecovers view (header_of_settings c) task.me deeds under old new
   pub cause : HasCauseOn view end under (after_inputs (first_node view (header_of_settings c) task.me old) (inputs_of deeds)) old new (counts link) (counts after)
 
 -- its link could not wait where the node listens: nothing was done
-pub record WasDeaf {D L : Type 0} (view : D → DiskView) (story : L → Option (List Call)) (counts : L → Counts) (c : Settings) (task : Task) (old new : Disks D) (link after : L) : Type 0 where
+pub record WasDeaf {D L : Type 0} (view : D → DiskView) (story : L → Option (List Call)) (counts : L → LinkCounts) (c : Settings) (task : Task) (old new : Disks D) (link after : L) : Type 0 where
   pub goes_on : AllGoOn view old new
   pub survives : AreHonest view old → Survives view (header_of_settings c) task.me new (first_node view (header_of_settings c) task.me old)
+  pub moments : AreHonest view old → AlwaysRecovers view (header_of_settings c) task.me [] Idle old new
   pub calls : story after ≡ story link
   pub counted : CountsFailure (counts link) (counts after)
 
@@ -159,12 +164,12 @@ pub record OnRun : Type 1 where
   pub refused : KeepLoad → Type 0
   -- all its turns were made, by these deeds
   pub did : List Deed → Type 0
-  -- it ended so behind these deeds, with this under way
+  -- it ended so after these deeds, with this under way
   pub stopped : TurnEnd → List Deed → Under → Type 0
   -- its link could not wait where it listens
   pub deaf : Type 0
 
-abbrev pub at_run : {D L : Type 0} → (D → DiskView) → (L → Option (List Call)) → (L → Counts) → Settings → Task → Disks D → Disks D → L → L → OnRun
+abbrev pub at_run : {D L : Type 0} → (D → DiskView) → (L → Option (List Call)) → (L → LinkCounts) → Settings → Task → Disks D → Disks D → L → L → OnRun
 at_run view story counts c task old new link after = record {
   refused = λ error. RefusesNode view (length c.addresses) old new error × LoadsSafely view (header_of_settings c) task.me old new × (after ≡ link);
   did = λ deeds. DidOn view story counts c task deeds old new link after;

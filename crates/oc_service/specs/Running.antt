@@ -1,17 +1,17 @@
 -- A loaded node that listens, takes what was measured, and turns.
 use Rattle.std.specs.Prelude.{◌≡◌, ◌⊎◌, ℕ, ◌+◌, ◌-◌, ◌<◌, Option, List, [], ◌++◌, length, slice_get, unwrap_or}
-use Rattle.oc_events.specs.Counts.{CountsFailure}
-use Rattle.oc_events.specs.Told.{Adds}
-use Rattle.oc_events.specs.declared.call.Call.{Call}
-use Rattle.oc_events.specs.declared.call.Call.TheVariants as acts
-use Rattle.oc_events.specs.declared.counts.Counts.{Counts}
+use Rattle.oc_link.specs.Counts.{CountsFailure}
+use Rattle.oc_link.specs.Told.{Adds}
+use Rattle.oc_link.specs.declared.call.Call.{Call}
+use Rattle.oc_link.specs.declared.call.Call.TheVariants as acts
+use Rattle.oc_link.specs.declared.counts.LinkCounts.{LinkCounts}
 use Rattle.oc_io.specs.DiskView.{DiskView}
 use Rattle.oc_keep.specs.KeptView.{IsHonest}
 use Rattle.oc_server.specs.Deeds.{Deed}
 use Rattle.oc_server.specs.Parts.{Cuts}
 use Rattle.oc_server.specs.Runs.{reads_by}
 use Rattle.oc_server.specs.Scenes.{BreaksBehind, Did, Under, running, setting}
-use Rattle.oc_server.specs.Turns.{Told}
+use Rattle.oc_server.specs.Turns.{Observation}
 use Rattle.oc_server.specs.declared.ends.TurnEnd.{TurnEnd}
 use Rattle.oc_server.specs.declared.ends.TurnEnd.TheVariants as ends
 use Rattle.oc_server.specs.declared.server.Server.{Server}
@@ -29,23 +29,23 @@ abbrev pub listens_at : List (List ℕ) → ℕ → List ℕ
 listens_at listens me = unwrap_or (slice_get listens (me - 1)) []
 
 -- its link waits there, and nothing else changed
-pub record Listens {D L K : Type 0} (story : L → Option (List Call)) (counts : L → Counts) (old new : Server D L K) : Type 0 where
+pub record Listens {D L K : Type 0} (story : L → Option (List Call)) (counts : L → LinkCounts) (old new : Server D L K) : Type 0 where
   pub rest : new ≡ record old { link = new.link }
   pub calls : Adds (acts.Listen (listens_at old.config.listens old.kept.node.control.me)) (story old.link) (story new.link)
   pub counted : counts new.link ≡ counts old.link
 
 -- it could not, and nothing changed
-pub record IsDeaf {D L K : Type 0} (story : L → Option (List Call)) (counts : L → Counts) (end : TurnEnd) (old new : Server D L K) : Type 0 where
+pub record IsDeaf {D L K : Type 0} (story : L → Option (List Call)) (counts : L → LinkCounts) (end : TurnEnd) (old new : Server D L K) : Type 0 where
   pub link : end ≡ ends.Link
   pub rest : new ≡ record old { link = new.link }
   pub calls : story new.link ≡ story old.link
   pub counted : CountsFailure (counts old.link) (counts new.link)
 
 -- It listened and did these deeds: what was measured, and then this many turns.
-pub record Runs {D L K : Type 0} (view : D → DiskView) (takes : K → List ℕ → K → Type 0) (faults : K → ℕ) (story : L → Option (List Call)) (counts : L → Counts) (most : ℕ) (old new : Turns D L K) : Type 0 where
+pub record Runs {D L K : Type 0} (view : D → DiskView) (takes : K → List ℕ → K → Type 0) (faults : K → ℕ) (story : L → Option (List Call)) (counts : L → LinkCounts) (most : ℕ) (old new : Turns D L K) : Type 0 where
   pub listening : Server D L K
   pub listens : Listens story counts old.server listening
-  pub told : List Told
+  pub told : List Observation
   pub many : length told ≡ most
   pub deeds : List Deed
   pub did : Did view takes faults story counts deeds listening new.server
@@ -54,13 +54,13 @@ pub record Runs {D L K : Type 0} (view : D → DiskView) (takes : K → List ℕ
       → AreHeard (setting old.server) (reads_by old.server) (until (story listening.link) (story new.server.link)) told (begun (setting old.server) old.server.config.measures (machine old))
   pub serves : IsHonest view old.server.kept → old.server.works ≡ [] → ServesFrom (setting old.server) deeds (running old.server) (story listening.link) (story new.server.link)
 
--- It listened, and ended so behind these deeds: behind whole turns, in the midst of one, or before the first. What came was read, where
+-- It listened, and ended so after these deeds: after whole turns, in the midst of one, or before the first. What came was read, where
 -- more was done in that one than to ask for it.
-pub record Halts {D L K : Type 0} (view : D → DiskView) (takes fails : K → List ℕ → K → Type 0) (faults : K → ℕ) (story : L → Option (List Call)) (counts : L → Counts) (most : ℕ) (end : TurnEnd) (old new : Turns D L K) : Type 0 where
+pub record Halts {D L K : Type 0} (view : D → DiskView) (takes fails : K → List ℕ → K → Type 0) (faults : K → ℕ) (story : L → Option (List Call)) (counts : L → LinkCounts) (most : ℕ) (end : TurnEnd) (old new : Turns D L K) : Type 0 where
   pub listening : Server D L K
   pub listens : Listens story counts old.server listening
-  pub told : List Told
-  pub last : Told
+  pub told : List Observation
+  pub last : Observation
   pub few : length told < most + 1
   pub deeds : List Deed
   pub under : Under
@@ -77,7 +77,7 @@ pub record Halts {D L K : Type 0} (view : D → DiskView) (takes fails : K → L
   pub serves : IsHonest view old.server.kept → old.server.works ≡ [] → ServesFrom (setting old.server) deeds (running old.server) (story listening.link) (story new.server.link)
 
 -- how a loaded node ran
-abbrev pub RunEnds : {D L K : Type 0} → (D → DiskView) → (K → List ℕ → K → Type 0) → (K → List ℕ → K → Type 0) → (K → ℕ) → (L → Option (List Call)) → (L → Counts) → ℕ → TurnEnd → Turns D L K → Turns D L K → Type 0
+abbrev pub RunEnds : {D L K : Type 0} → (D → DiskView) → (K → List ℕ → K → Type 0) → (K → List ℕ → K → Type 0) → (K → ℕ) → (L → Option (List Call)) → (L → LinkCounts) → ℕ → TurnEnd → Turns D L K → Turns D L K → Type 0
 RunEnds view takes fails faults story counts most ends.Served old new = Runs view takes faults story counts most old new
 RunEnds view takes fails faults story counts most ends.Quiet old new = ⊥
 RunEnds view takes fails faults story counts most ends.Link old new = IsDeaf story counts ends.Link old.server new.server ⊎ Halts view takes fails faults story counts most ends.Link old new

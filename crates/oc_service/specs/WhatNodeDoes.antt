@@ -9,7 +9,7 @@ use Rattle.oc_server.specs.Brief.{told_first}
 use Rattle.oc_server.specs.Choices.{due_place}
 use Rattle.oc_server.specs.Deeds.{Deed, Running, Says, Setting, Takes, after_all}
 use Rattle.oc_server.specs.Pace.{first_pace}
-use Rattle.oc_server.specs.Turns.{Told, pace_behind, probing_behind, turn}
+use Rattle.oc_server.specs.Turns.{Observation, pace_behind, probing_behind, turn}
 use Rattle.oc_server.specs.declared.pace.Pace.{Pace}
 use Rattle.oc_updown.specs.declared.measure_lines.Measure.{Measure}
 
@@ -38,14 +38,14 @@ begins s ms n = Says (told_first s.log n.control) ∷ own_measures s.me ms
 abbrev pub begun : Setting → List Measure → Machine → Machine
 begun s ms m = record m { running = after_all (begins s ms m.running.node) m.running }
 
--- the deeds of a turn by what it is told, and the node behind it
-abbrev pub turn_deeds : Setting → Told → Machine → List Deed
+-- the deeds of a turn by what it is told, and the node after it
+abbrev pub turn_deeds : Setting → Observation → Machine → List Deed
 turn_deeds s t m = turn m.pace m.probing t s m.running
 
-abbrev pub due_at : Told → Machine → Option ℕ
+abbrev pub due_at : Observation → Machine → Option ℕ
 due_at t m = due_place m.running.works (shelf m.running.node.groups) t.before
 
-abbrev pub behind_turn : Setting → Told → Machine → Machine
+abbrev pub behind_turn : Setting → Observation → Machine → Machine
 behind_turn s t m = record {
   running = after_all (turn_deeds s t m) m.running;
   pace = pace_behind (due_at t m) m.pace t m.running.node;
@@ -53,17 +53,17 @@ behind_turn s t m = record {
 }
 
 -- turn after turn
-abbrev pub turns_deeds : Setting → List Told → Machine → List Deed
+abbrev pub turns_deeds : Setting → List Observation → Machine → List Deed
 turns_deeds s [] m = []
 turns_deeds s (t ∷ ts) m = turn_deeds s t m ++ turns_deeds s ts (behind_turn s t m)
 
-abbrev pub behind_turns : Setting → List Told → Machine → Machine
+abbrev pub behind_turns : Setting → List Observation → Machine → Machine
 behind_turns s [] m = m
 behind_turns s (t ∷ ts) m = behind_turns s ts (behind_turn s t m)
 
 -- All that a node does: it begins, and turns.
-abbrev pub node_deeds : Setting → List Measure → List Told → Machine → List Deed
+abbrev pub node_deeds : Setting → List Measure → List Observation → Machine → List Deed
 node_deeds s ms ts m = begins s ms m.running.node ++ turns_deeds s ts (begun s ms m)
 
-abbrev pub node_behind : Setting → List Measure → List Told → Machine → Machine
+abbrev pub node_behind : Setting → List Measure → List Observation → Machine → Machine
 node_behind s ms ts m = behind_turns s ts (begun s ms m)

@@ -1,7 +1,7 @@
 -- What a node gives its connections: the replies to their requests.
 use Rattle.std.specs.Prelude.{Option, List, []}
-use Rattle.oc_events.specs.Told.{Told}
-use Rattle.oc_events.specs.declared.call.Call.{Call}
+use Rattle.oc_link.specs.Told.{Told}
+use Rattle.oc_link.specs.declared.call.Call.{Call}
 use Rattle.oc_server.specs.Answered.{AreAnswered}
 use Rattle.oc_server.specs.Deeds.{Deed, Running, Setting}
 use Rattle.oc_server.specs.Settled.{AreServed, IsSettled}

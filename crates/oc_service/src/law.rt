@@ -1,20 +1,20 @@
 //! Laws of what a node does.
 
 ghost use Rattle.std.specs.Prelude.{◌≡◌, ◌≢◌, ℕ, Bool, List, [], ◌∷◌, ◌++◌, Option, length};
-ghost use Rattle.oc_events.specs.Traffic.{held};
-ghost use Rattle.oc_events.specs.declared.call.Call.{Call};
-ghost use Rattle.oc_events.specs.declared.call.Call.TheVariants.{Next};
-ghost use Rattle.oc_events.specs.declared.counts.Counts.{Counts};
-ghost use Rattle.oc_events.specs.declared.event.Arrival.{Arrival};
-ghost use Rattle.oc_events.specs.declared.event.Coming.{Coming};
-ghost use Rattle.oc_events.specs.declared.event.Coming.TheVariants.{Open};
-ghost use Rattle.oc_events.specs.declared.event.Event.TheVariants.{Quiet, Request};
+ghost use Rattle.oc_link.specs.Traffic.{held};
+ghost use Rattle.oc_link.specs.declared.call.Call.{Call};
+ghost use Rattle.oc_link.specs.declared.call.Call.TheVariants.{Next};
+ghost use Rattle.oc_link.specs.declared.counts.LinkCounts.{LinkCounts};
+ghost use Rattle.oc_link.specs.declared.event.Arrival.{Arrival};
+ghost use Rattle.oc_link.specs.declared.event.Coming.{Coming};
+ghost use Rattle.oc_link.specs.declared.event.Coming.TheVariants.{Open};
+ghost use Rattle.oc_link.specs.declared.event.LinkEvent.TheVariants.{Quiet, Request};
 ghost use Rattle.oc_probe.specs.declared.probing.Probing.{Probing};
-ghost use Rattle.oc_reply.specs.Verdicts.{NodeTerms, arrival};
-ghost use Rattle.oc_reply.specs.declared.verdict.Verdict.TheVariants.{Wait};
+ghost use Rattle.oc_routes.specs.Verdicts.{NodeTerms, arrival};
+ghost use Rattle.oc_routes.specs.declared.verdict.Verdict.TheVariants.{Wait};
 ghost use Rattle.oc_server.specs.Deeds.{Deed, Running, Setting};
 ghost use Rattle.oc_server.specs.Scenes.{CountsAll};
-ghost use Rattle.oc_server.specs.Turns.{Means, Told, happens, turn};
+ghost use Rattle.oc_server.specs.Turns.{Means, Observation, happens, turn};
 ghost use Rattle.oc_server.specs.declared.came.Came.{Came};
 ghost use Rattle.oc_server.specs.declared.came.Came.TheVariants as comes;
 ghost use Rattle.oc_server.specs.declared.dials.Errand.{Errand};
@@ -23,12 +23,12 @@ ghost use Rattle.oc_service.specs.Alike.{AreAlike, told_request};
 ghost use Rattle.oc_service.specs.Examples.{AreCut, AreTold};
 ghost use Rattle.oc_service.specs.Failures.{AreBorneOut, RiseForLines};
 
-use oc_reply::a_request_has_one_verdict;
+use oc_routes::a_request_has_one_verdict;
 
 /// Lines `! source` and `! write` that are borne out by what a link told are written only where its count of reads, or
 /// of writes, rose as it told what happened last.
 pub fn lines_of_failures_raise_counts()
-    ensures counts { (deeds : List Deed) (old new : Counts) → AreBorneOut Quiet deeds → CountsAll deeds old new → RiseForLines old old deeds new }
+    ensures counts { (deeds : List Deed) (old new : LinkCounts) → AreBorneOut Quiet deeds → CountsAll deeds old new → RiseForLines old old deeds new }
     ensures examples { AreTold }
 {}
 
@@ -41,12 +41,12 @@ pub fn the_same_bytes_are_answered_alike()
         ≡ held c (calls ++ (Next (Request (arrival d next permits later)) (first ++ more) ∷ [])) }
 
     // The same that is lent is answered alike.
-    ensures same { (n : NodeTerms) (pace : Pace) (probing : Option Probing) (t : Told) (s : Setting) (r : Running) (a : Arrival) (lent bytes other : List ℕ) (e f : Option Errand) (x y : Came)
+    ensures same { (n : NodeTerms) (pace : Pace) (probing : Option Probing) (t : Observation) (s : Setting) (r : Running) (a : Arrival) (lent bytes other : List ℕ) (e f : Option Errand) (x y : Came)
         → Means n lent e (Request a) x → Means n lent f (Request a) y
         → AreAlike s (turn pace probing (told_request t a bytes x) s r) (turn pace probing (told_request t a other y) s r) r }
 
     // What is answered before all has come is answered so with all.
-    ensures early { (n : NodeTerms) (pace : Pace) (probing : Option Probing) (t : Told) (s : Setting) (r : Running) (c number : ℕ) (permitted : Bool) (coming : Coming) (lent more bytes other : List ℕ) (e f : Option Errand) (x y : Came)
+    ensures early { (n : NodeTerms) (pace : Pace) (probing : Option Probing) (t : Observation) (s : Setting) (r : Running) (c number : ℕ) (permitted : Bool) (coming : Coming) (lent more bytes other : List ℕ) (e f : Option Errand) (x y : Came)
         → Means n lent e (Request (arrival c number permitted Open)) x → x ≢ comes.Request c (length lent) Wait → Means n (lent ++ more) f (Request (arrival c number permitted coming)) y
         → AreAlike s (turn pace probing (told_request t (arrival c number permitted Open) bytes x) s r) (turn pace probing (told_request t (arrival c number permitted coming) other y) s r) r }
 

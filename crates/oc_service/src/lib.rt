@@ -8,8 +8,9 @@
 //! clock tell in each. The contract of [`run_node`] is that (`NodeEnds`): the lines that were written are those of the
 //! machine's deeds, the calls on the link are theirs, and every crash leaves the node behind them. Where it ended
 //! before, a front of these deeds was done, perhaps with one more input under way. Either way each connection was given
-//! the replies to its requests (`specs/WhatNodeGives`, by the law of `oc_server`), and a line `! source` or `! write` was
-//! written only where the link told of that failure (`specs/Failures`).
+//! the replies to its requests (`specs/WhatNodeGives`, by the law of `oc_server`), a line `! source` or `! write` was
+//! written only where the link told of that failure (`specs/Failures`), and at each prefix of the deeds every crash at any
+//! moment left the node of the inputs so far, or with one more (`specs/AtAnyMoment`).
 //!
 //! [`lines_of_failures_raise_counts`] says the second by the counts of the link, and
 //! [`the_same_bytes_are_answered_alike`] that it makes no difference how a request was cut on its way.

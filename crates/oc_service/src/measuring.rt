@@ -9,8 +9,8 @@ ghost use Rattle.oc_service.specs.Measuring.{begins_with, input_of, takes_own_me
 ghost use Rattle.oc_service.specs.WhatNodeDoes.{begins, own_measure, own_measures};
 ghost use Rattle.oc_updown.specs.MeasureLines.{IsMeasure};
 
-use oc_events::Link;
 use oc_io::{Disk, Sink};
+use oc_link::Link;
 use oc_model::Input;
 use oc_server::{Server, TurnEnd};
 use oc_updown::Measure;

@@ -18,9 +18,9 @@ use crate::measuring::begin;
 use crate::site::Site;
 use oc_base::NodeId;
 use oc_config::Config;
-use oc_events::Link;
 use oc_io::{Disk, Sink};
 use oc_keep::{Files, KeepLoad};
+use oc_link::Link;
 use oc_server::{Log, Server, TurnEnd, Turns, turns_are_in_order};
 use std::alloc::Global;
 
@@ -65,7 +65,8 @@ pub fn run_node<D: Disk, L: Link, K: Sink>(
     requires me { IsNode (length config.addresses) task.me }
 
     // What it did: with all its turns made, exactly what a node does in them. Where it ended before: a front of
-    // that, and why. Where it was not loaded: which file is to blame. And what every crash leaves.
+    // that, and why. Where it was not loaded: which file is to blame. And what its connections were given, and what
+    // every crash leaves, at every moment.
     ensures ends { NodeEnds
         (at_run D.view L.story L.counts config task (disks_in site.files) (disks_in result.site.files) site.link result.site.link)
         (λ text. K.takes site.sink text result.site.sink)

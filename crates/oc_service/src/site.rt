@@ -1,6 +1,6 @@
-use oc_events::Link;
 use oc_io::{Disk, Sink};
 use oc_keep::Files;
+use oc_link::Link;
 
 /// What a node runs on: its files, its link, and the output of its lines.
 #[derive(Drop)]

@@ -9,7 +9,7 @@ pub returns-in-Ok-clause-answer : goal.returns-in-Ok-clause-answer
 returns-in-Ok-clause-answer g c = λ honest. c.answer.ensures ∙ ap (λ (o : Outcome). o.answer) (c.in-Ok.ensures.made.step_is honest)
 
 pub returns-in-Ok-clause-looks : goal.returns-in-Ok-clause-looks
-returns-in-Ok-clause-looks g c = looked g.D.Disk.view c.args.kept.now c.ready.new.self (c.in-Ok.ensures.made.still ∙ c.requires.open) c.ready.ensures.same
+returns-in-Ok-clause-looks g c = looked g.D.Disk.view c.args.kept.now c.ready.new.self c.requires.open (c.in-Ok.ensures.made.still ∙ c.requires.open) c.ready.ensures.same
 
 pub returns-in-Err-clause-stops : goal.returns-in-Err-clause-stops
 returns-in-Err-clause-stops g c =

@@ -7,7 +7,12 @@ use Rattle.oc_server.proofs.giving.read_piece.Goals as goal
 pub returns-in-Ok-clause-looks : goal.returns-in-Ok-clause-looks
 returns-in-Ok-clause-looks g c =
     let t = c.in-Ok.ensures in
-    looked g.D.Disk.view c.args.kept.now c.read.new.self (t.stays_open (λ e. absurd cc) ∙ c.requires) t.same
+    looked g.D.Disk.view c.args.kept.now c.read.new.self c.requires (t.stays_open (λ e. absurd cc) ∙ c.requires) t.same
+
+pub returns-in-Err-NoGroup-clause-looks : goal.returns-in-Err-NoGroup-clause-looks
+returns-in-Err-NoGroup-clause-looks g c =
+    let t = c.in-Err-NoGroup.ensures in
+    looked g.D.Disk.view c.args.kept.now c.read.new.self c.requires (t.stays_open (λ e. absurd cc) ∙ c.requires) t.same
 
 pub returns-in-Err-NoGroup-clause-bytes : goal.returns-in-Err-NoGroup-clause-bytes
 returns-in-Err-NoGroup-clause-bytes g c = λ honest.

@@ -1,5 +1,5 @@
 use Rattle.std.proofs.Common.{◌≡◌, ◌-◌, ◌++◌, Bool, true, false, length, take, refl, sym, ap, ◌∙◌, rules}
-use Rattle.oc_reply.specs.Contents.{ending, pieces}
+use Rattle.oc_routes.specs.Contents.{ending, pieces}
 use Rattle.oc_server.proofs.Pieces.{without_end}
 use Rattle.oc_server.proofs.giving.with_end.Goals as goal
 

@@ -8,7 +8,7 @@ returns c = record {
   front = given_front;
   whole = given_whole;
   examples = record {
-    ordered = ((refl, λ chunked. absurd (false≢true chunked)), (tt, (record { stage = refl; works = inl refl }, tt)));
+    ordered = ((refl, λ chunked. absurd (false≢true chunked)), (tt, (record { phase = refl; works = inl refl }, tt)));
     whole = refl;
     owed = refl;
     other = refl;

@@ -26,6 +26,7 @@ returns-in-Ok-clause-kept g c =
       node = t.node;
       survives = t.survives;
       generation = c.take.ensures.same.generation;
+      any_moment = c.take.ensures.any_moment c.requires.open;
     }
 
 pub returns-in-Err-clause-stops : goal.returns-in-Err-clause-stops

@@ -7,7 +7,7 @@ use Rattle.oc_service.specs.OnSite.{header_of_settings}
 use Rattle.oc_model.specs.Node.{Header}
 use Rattle.oc_service.proofs.Headers.{settings_header}
 use Rattle.oc_service.proofs.Loaded.{ready}
-use Rattle.oc_check.proofs.Safely.{safely_same}
+use Rattle.oc_keep.proofs.Safely.{safely_same}
 use Rattle.oc_service.proofs.loading.load.Goals as goal
 
 pub returns-in-Err-clause-unloaded : goal.returns-in-Err-clause-unloaded

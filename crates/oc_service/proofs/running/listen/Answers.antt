@@ -1,7 +1,7 @@
 use Rattle.std.proofs.Common.{◌≡◌, ◌∙◌, ℕ, List, Option, [], ap, refl, rules, subst}
 use Rattle.std.specs.Prelude.{unwrap_or}
-use Rattle.oc_events.specs.Told.{Adds}
-use Rattle.oc_events.specs.declared.call.Call.TheVariants as acts
+use Rattle.oc_link.specs.Told.{Adds}
+use Rattle.oc_link.specs.declared.call.Call.TheVariants as acts
 use Rattle.oc_service.specs.Running.{listens_at}
 use Rattle.oc_service.proofs.running.listen.Goals as goal
 

@@ -1,7 +1,7 @@
 use Rattle.std.proofs.Common.{ℕ, List, length}
 use Rattle.oc_io.specs.Faults.{Rose}
 use Rattle.oc_keep.specs.Files.{disks_in}
-use Rattle.oc_check.proofs.Complete.{only_memory}
+use Rattle.oc_keep.proofs.Complete.{only_memory}
 use Rattle.oc_service.proofs.OnSite.{told_of}
 use Rattle.oc_service.specs.declared.running.NodeEnd.TheVariants.{Turned}
 use Rattle.oc_service.proofs.Unfailed.{unfailed}

@@ -6,7 +6,7 @@ use Rattle.oc_server.specs.Deeds.{Gives, piece, rest, with_content}
 use Rattle.oc_server.specs.Scenes.{IsLawfulWork}
 use Rattle.oc_server.specs.Works.{without}
 use Rattle.oc_server.specs.declared.ends.TurnEnd.TheVariants.{Memory}
-use Rattle.oc_server.specs.declared.work.Place.{Place}
+use Rattle.oc_server.specs.declared.work.Transfer.{Transfer}
 use Rattle.oc_server.specs.declared.work.Work.{Work}
 use Rattle.oc_server.proofs.Lawful.{works_with_content, works_without}
 use Rattle.oc_server.proofs.Looking.{memory_looks, stops_behind}
@@ -27,7 +27,7 @@ returns-clause-did g c =
     refl refl c.in_ok-piece.ensures.looks (c.finish.ensures.counts ∙ c.give.ensures.counts)
     (λ all. subst (λ (ws : List Work). AllByRecursion (IsLawfulWork nodes me) ws) (sym is) (works_with_content nodes me left others (works_without nodes me p.connection s.works all)))
     refl
-    (λ honest. is ∙ ap (λ (x : Option Place). with_content x others) (c.in_ok-piece.ensures.rest honest))
+    (λ honest. is ∙ ap (λ (x : Option Transfer). with_content x others) (c.in_ok-piece.ensures.rest honest))
     (λ honest. gave p.connection c.deref.result.now (piece p groups) p.keeps p.told left (rest p c.args.now groups) (g.L.Link.story s.link) (g.L.Link.story c.give.new.self) (g.L.Link.story c.finish.new.link)
     (c.deref.ensures.value ∙ c.in_ok-piece.ensures.text honest) (c.in_ok-piece.ensures.rest honest) c.give.ensures.story c.finish.ensures.calls)
 

@@ -2,7 +2,7 @@ use Rattle.std.proofs.Common.{Option, List, sym, ap, ◌∙◌}
 use Rattle.oc_server.specs.Rooms.{content_in, goes_on, room, room_for}
 use Rattle.oc_server.specs.Scenes.{running, setting}
 use Rattle.oc_server.specs.Works.{work_on}
-use Rattle.oc_server.specs.declared.work.Place.{Place}
+use Rattle.oc_server.specs.declared.work.Transfer.{Transfer}
 use Rattle.oc_server.specs.declared.work.Work.{Work}
 use Rattle.oc_server.proofs.Parts.{does_as, does_nothing, stops_as}
 use Rattle.oc_server.proofs.Results.{done_then, err_then}
@@ -14,7 +14,7 @@ returns-in-Some-clause-did g c =
     let now = c.args.now in
     let s = c.args.self.now in
     done_then c.goes_on.result (λ does. does_as g.D.Disk.view g.K.Sink.takes g.K.Sink.fails g.K.Sink.faults g.L.Link.story g.L.Link.counts (goes_on c.in-Some.place now) (room x now) s c.goes_on.new.self
-    (λ honest. ap (λ (o : Option Place). room_for o now (setting s) (running s)) (ap (λ (ws : List Work). content_in (work_on x ws)) (sym c.list.ensures) ∙ sym c.content_on.ensures ∙ c.in-Some.is)) does) c.goes_on.ensures.did
+    (λ honest. ap (λ (o : Option Transfer). room_for o now (setting s) (running s)) (ap (λ (ws : List Work). content_in (work_on x ws)) (sym c.list.ensures) ∙ sym c.content_on.ensures ∙ c.in-Some.is)) does) c.goes_on.ensures.did
 
 pub returns-in-Some-clause-breaks : goal.returns-in-Some-clause-breaks
 returns-in-Some-clause-breaks g c =
@@ -22,7 +22,7 @@ returns-in-Some-clause-breaks g c =
     let now = c.args.now in
     let s = c.args.self.now in
     err_then c.goes_on.result (λ end stops. stops_as g.D.Disk.view g.K.Sink.takes g.K.Sink.fails g.K.Sink.faults g.L.Link.story g.L.Link.counts end (goes_on c.in-Some.place now) (room x now) s c.goes_on.new.self
-    (λ honest. ap (λ (o : Option Place). room_for o now (setting s) (running s)) (ap (λ (ws : List Work). content_in (work_on x ws)) (sym c.list.ensures) ∙ sym c.content_on.ensures ∙ c.in-Some.is)) stops) c.goes_on.ensures.breaks
+    (λ honest. ap (λ (o : Option Transfer). room_for o now (setting s) (running s)) (ap (λ (ws : List Work). content_in (work_on x ws)) (sym c.list.ensures) ∙ sym c.content_on.ensures ∙ c.in-Some.is)) stops) c.goes_on.ensures.breaks
 
 pub returns-in-None-clause-did : goal.returns-in-None-clause-did
 returns-in-None-clause-did g c =
@@ -30,4 +30,4 @@ returns-in-None-clause-did g c =
     let now = c.args.now in
     let s = c.args.self.now in
     does_nothing g.D.Disk.view g.K.Sink.takes g.K.Sink.fails g.K.Sink.faults g.L.Link.story g.L.Link.counts g.met.K.Sink.takes_nothing (room x now) s c.requires.is_open
-    (λ honest. ap (λ (o : Option Place). room_for o now (setting s) (running s)) (ap (λ (ws : List Work). content_in (work_on x ws)) (sym c.list.ensures) ∙ sym c.content_on.ensures ∙ c.in-None.is))
+    (λ honest. ap (λ (o : Option Transfer). room_for o now (setting s) (running s)) (ap (λ (ws : List Work). content_in (work_on x ws)) (sym c.list.ensures) ∙ sym c.content_on.ensures ∙ c.in-None.is))

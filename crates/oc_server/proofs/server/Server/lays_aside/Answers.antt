@@ -1,7 +1,7 @@
 use Rattle.std.proofs.Common.{◌≡◌, ◌∷◌, ◌++◌, [], List, refl, ap, subst, sym, ◌∙◌}
 use Rattle.std.proofs.lemmas.Result.{err_from_is_err_and}
 use Rattle.std.specs.List.{AllByRecursion}
-use Rattle.oc_events.proofs.Stories.{adds-none}
+use Rattle.oc_link.proofs.Stories.{adds-none}
 use Rattle.oc_keep.specs.KeptView.{node_of}
 use Rattle.oc_server.specs.Deeds.{LaysAside}
 use Rattle.oc_server.specs.Scenes.{IsLawfulWork}

@@ -1,7 +1,8 @@
 use Rattle.std.proofs.Common.{◌&&◌, Bool, List, [], ◌∷◌, sym, ap, ◌∙◌, codes}
+use Rattle.oc_link.specs.Failures.{is_failure}
 use Rattle.oc_server.specs.Deeds.{Drops, note_line}
 use Rattle.oc_server.specs.Parts.{under_of}
-use Rattle.oc_server.specs.Rooms.{gone, has_failed, is_told}
+use Rattle.oc_server.specs.Rooms.{gone, is_told}
 use Rattle.oc_server.specs.Works.{work_on}
 use Rattle.oc_server.specs.declared.work.Work.{Work}
 use Rattle.oc_server.proofs.Parts.{does_one}
@@ -16,7 +17,7 @@ returns-clause-did g c =
     let s = c.args.self.now in
     let told = c.tells.result in
     done_then c.drops.result (λ did. does_one g.D.Disk.view g.K.Sink.takes g.K.Sink.fails g.K.Sink.faults g.L.Link.story g.L.Link.counts (Drops x told) (gone x loss) s c.drops.new.self
-    (λ honest. ap (λ (b : Bool). Drops x b ∷ []) (sym (c.tells.ensures ∙ ap (λ (b : Bool). has_failed loss && b) (c.is_told-was_told.ensures ∙ ap (λ (ws : List Work). is_told (work_on x ws)) c.list.ensures)))) did) c.drops.ensures.did
+    (λ honest. ap (λ (b : Bool). Drops x b ∷ []) (sym (c.tells.ensures ∙ ap (λ (b : Bool). is_failure loss && b) (c.is_told-was_told.ensures ∙ ap (λ (ws : List Work). is_told (work_on x ws)) c.list.ensures)))) did) c.drops.ensures.did
 
 pub returns-clause-breaks : goal.returns-clause-breaks
 returns-clause-breaks g c =
@@ -25,4 +26,4 @@ returns-clause-breaks g c =
     let s = c.args.self.now in
     let told = c.tells.result in
     err_then c.drops.result (λ end breaks. note_stops g.D.Disk.view g.K.Sink.takes g.K.Sink.fails g.K.Sink.faults g.L.Link.story g.L.Link.counts g.met.K.Sink.takes_nothing end (note_line (codes "write")) (Drops x told) (gone x loss) s c.drops.new.self c.requires.is_open
-    (λ honest. ap (λ (b : Bool). Drops x b ∷ []) (sym (c.tells.ensures ∙ ap (λ (b : Bool). has_failed loss && b) (c.is_told-was_told.ensures ∙ ap (λ (ws : List Work). is_told (work_on x ws)) c.list.ensures)))) (ap (λ (b : Bool). under_of (Drops x b)) (sym breaks.0)) breaks.1) c.drops.ensures.breaks
+    (λ honest. ap (λ (b : Bool). Drops x b ∷ []) (sym (c.tells.ensures ∙ ap (λ (b : Bool). is_failure loss && b) (c.is_told-was_told.ensures ∙ ap (λ (ws : List Work). is_told (work_on x ws)) c.list.ensures)))) (ap (λ (b : Bool). under_of (Drops x b)) (sym breaks.0)) breaks.1) c.drops.ensures.breaks

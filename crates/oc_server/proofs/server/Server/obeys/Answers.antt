@@ -1,7 +1,7 @@
 use Rattle.std.proofs.Common.{refl, sym, ap, ◌∙◌}
 use Rattle.std.proofs.lemmas.Result.{err_from_is_err_and}
 use Rattle.oc_keep.specs.KeptView.{node_of}
-use Rattle.oc_reply.specs.declared.verdict.Verdict.{Verdict}
+use Rattle.oc_routes.specs.declared.verdict.Verdict.{Verdict}
 use Rattle.oc_routes.specs.Refusals.{why_text}
 use Rattle.oc_server.specs.Asks.{obeys, takes_on}
 use Rattle.oc_server.specs.Deeds.{BreaksOff, Permits, Refuses, note_line}

@@ -1,14 +1,14 @@
 use Rattle.std.proofs.Common.{◌≡◌, ◌++◌, ◌∷◌, List, ℕ, Option, refl, ap, subst, sym, ◌∙◌, rules}
 use Rattle.std.proofs.lemmas.Result.{err_from_is_err_and}
 use Rattle.std.specs.List.{AllByRecursion}
-use Rattle.oc_events.specs.declared.call.Call.TheVariants as acts
-use Rattle.oc_events.proofs.Stories.{adds-then}
+use Rattle.oc_link.specs.declared.call.Call.TheVariants as acts
+use Rattle.oc_link.proofs.Stories.{adds-then}
 use Rattle.oc_keep.specs.KeptView.{IsHonest, node_of}
 use Rattle.oc_server.specs.Deeds.{Replies, finish, first_piece, first_rest, keeps, place_of, takes_request, with_content}
 use Rattle.oc_server.specs.Scenes.{IsLawfulWork}
 use Rattle.oc_server.specs.Works.{without}
 use Rattle.oc_server.specs.declared.ends.TurnEnd.TheVariants.{Memory}
-use Rattle.oc_server.specs.declared.work.Place.{Place}
+use Rattle.oc_server.specs.declared.work.Transfer.{Transfer}
 use Rattle.oc_server.specs.declared.work.Work.{Work}
 use Rattle.oc_server.proofs.Lawful.{works_with_content, works_without}
 use Rattle.oc_server.proofs.Looking.{memory_looks, stops_behind}
@@ -28,13 +28,13 @@ returns-clause-did g c =
     let left = c.in_ok-piece.piece.rest in
     let place = c.place_of-place.ensures in
     let is : c.begin_rest.new.works ≡ with_content left others = c.in_ok-begin_rest.ensures.begun ∙ ap (with_content left) c.take-waited.ensures.rest in
-    let rest_is : IsHonest g.D.Disk.view s.kept → left ≡ first_rest (place_of r response now) now groups = λ honest. c.in_ok-piece.ensures.rest honest ∙ ap (λ (p : Option Place). first_rest p now groups) place in
-    let text_is : IsHonest g.D.Disk.view s.kept → response.text ++ c.in_ok-piece.piece.text.items ≡ response.text ++ first_piece (place_of r response now) groups = λ honest. ap (λ (t : List ℕ). response.text ++ t) (c.in_ok-piece.ensures.text honest ∙ ap (λ (p : Option Place). first_piece p groups) place) in
+    let rest_is : IsHonest g.D.Disk.view s.kept → left ≡ first_rest (place_of r response now) now groups = λ honest. c.in_ok-piece.ensures.rest honest ∙ ap (λ (p : Option Transfer). first_rest p now groups) place in
+    let text_is : IsHonest g.D.Disk.view s.kept → response.text ++ c.in_ok-piece.piece.text.items ≡ response.text ++ first_piece (place_of r response now) groups = λ honest. ap (λ (t : List ℕ). response.text ++ t) (c.in_ok-piece.ensures.text honest ∙ ap (λ (p : Option Transfer). first_piece p groups) place) in
     did_given g.D.Disk.view g.K.Sink.takes g.K.Sink.fails g.K.Sink.faults g.L.Link.story g.L.Link.counts g.met.K.Sink.takes_nothing (Replies r response now) s c.first_piece.new.kept c.begin_rest.new.works (with_content (first_rest (place_of r response now) now groups) others) c.finish.new.link
     refl refl c.in_ok-piece.ensures.looks (c.finish.ensures.counts ∙ c.give.ensures.counts ∙ c.take_request.ensures.counts)
     (λ all. subst (λ (ws : List Work). AllByRecursion (IsLawfulWork nodes me) ws) (sym is) (works_with_content nodes me left others (works_without nodes me r.connection s.works all)))
     refl
-    (λ honest. is ∙ ap (λ (x : Option Place). with_content x others) (rest_is honest))
+    (λ honest. is ∙ ap (λ (x : Option Transfer). with_content x others) (rest_is honest))
     (λ honest. adds-then (takes_request r) (acts.Give r.connection (response.text ++ first_piece (place_of r response now) groups) ∷ finish r.connection (keeps response.connection) r.told (first_rest (place_of r response now) now groups))
     (g.L.Link.story s.link) (g.L.Link.story c.take_request.new.link) (g.L.Link.story c.finish.new.link) c.take_request.ensures.calls
     (gave r.connection _ (response.text ++ first_piece (place_of r response now) groups) (keeps response.connection) r.told left (first_rest (place_of r response now) now groups) (g.L.Link.story c.take_request.new.link) (g.L.Link.story c.give.new.self) (g.L.Link.story c.finish.new.link)

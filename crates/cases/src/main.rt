@@ -6,7 +6,7 @@
 //! A table is a file in `data`, whose first lines say how its rows are written.
 #![tactic(auto)]
 
-use oc_start::{given_words, run_words};
+use oc_program::{given_words, run_words};
 use std::io;
 use std::process::ExitCode;
 

@@ -8,24 +8,24 @@ use Rattle.httparse.specs.Grammar.{Field, LineEnd}
 use Rattle.oc_base.specs.declared.limits.TheConstants.{MAX_FIELDS}
 use Rattle.oc_chunked.specs.declared.fault.ChunkFault.TheVariants.{Bad, Long}
 use Rattle.oc_chunked.specs.declared.limits.TheConstants.{MAX_CHUNK_SIZE, MAX_TRAILER_BYTES}
-use Rattle.oc_chunked.specs.Stages.{Stage, in_chunk, in_trailer, ended, refused, is_final}
+use Rattle.oc_chunked.specs.Stages.{DecoderState, in_chunk, in_trailer, ended, refused, is_final}
 use Rattle.oc_chunked.specs.Unfinished.{ReadsFields}
 use Rattle.oc_chunked.proofs.Forms.{fields_form}
 use Rattle.oc_chunked.proofs.Fronts.{same_front}
 use Rattle.oc_chunked.proofs.Collected.{Outcome, unended, hopeless, too_long, whole, Collects, IsLast, collects_once}
 
 -- the same stage and the same content, and no bytes between
-pub record Agrees (x : List ℕ) (s t : Stage) (c d : List ℕ) : Type 0 where
+pub record Agrees (x : List ℕ) (s t : DecoderState) (c d : List ℕ) : Type 0 where
   pub none : x ≡ []
   pub stage : s ≡ t
   pub content : c ≡ d
 
 -- no bytes lie between, or the first stage takes none
-abbrev pub IsComparable : List ℕ → Stage → Type 0
+abbrev pub IsComparable : List ℕ → DecoderState → Type 0
 IsComparable x s = (x ≡ []) ⊎ (is_final s ≡ true)
 
 -- a part of a chunk of this size
-pub record IsPart (size : ℕ) (v c : List ℕ) (s : Stage) : Type 0 where
+pub record IsPart (size : ℕ) (v c : List ℕ) (s : DecoderState) : Type 0 where
   pub left : ℕ
   pub left_is : length v + left ≡ size + 2
   pub more : 0 < left
@@ -34,7 +34,7 @@ pub record IsPart (size : ℕ) (v c : List ℕ) (s : Stage) : Type 0 where
   pub stage : s ≡ in_chunk left
 
 -- a chunk with a byte that is not that of CR LF
-pub record IsBroken (size : ℕ) (v c : List ℕ) (s : Stage) : Type 0 where
+pub record IsBroken (size : ℕ) (v c : List ℕ) (s : DecoderState) : Type 0 where
   pub before : List ℕ
   pub byte : ℕ
   pub left : ℕ
@@ -47,7 +47,7 @@ pub record IsBroken (size : ℕ) (v c : List ℕ) (s : Stage) : Type 0 where
   pub other : byte ≢ slice_index crlf_bytes (2 - left)
   pub stage : s ≡ refused Bad
 
-abbrev pub IsChunkBody : ℕ → List ℕ → List ℕ → Stage → Type 0
+abbrev pub IsChunkBody : ℕ → List ℕ → List ℕ → DecoderState → Type 0
 IsChunkBody size v c s = IsPart size v c s ⊎ IsBroken size v c s
 
 -- the byte after a chunk's bytes is a carriage return where a part of its end is there
@@ -63,7 +63,7 @@ one_behind size v long end =
     end ∙ ap (λ (n : ℕ). take n crlf_bytes) one
 
 -- a broken end is no part of an end
-broken_not_part : (size : ℕ) (v c d : List ℕ) (s t : Stage) → IsBroken size v c s → IsPart size v d t → ⊥
+broken_not_part : (size : ℕ) (v c d : List ℕ) (s t : DecoderState) → IsBroken size v c s → IsPart size v d t → ⊥
 broken_not_part size v c d s t broken part =
     let counts : length v ≡ length broken.before + 1 = ap length broken.bytes ∙ length-append broken.before (broken.byte ∷ []) in
     let two : broken.left ≡ 2 = omega (arith, counts, part.left_is, part.more, broken.left_is, broken.near) in
@@ -77,7 +77,7 @@ nothing [] none = refl
 nothing (b ∷ x) none = absurd (omega (arith, none))
 
 -- where a chunk is broken no bytes follow
-broken_once : (size : ℕ) (v x c d : List ℕ) (s t : Stage) → IsBroken size v c s → IsBroken size (v ++ x) d t → Agrees x s t c d
+broken_once : (size : ℕ) (v x c d : List ℕ) (s t : DecoderState) → IsBroken size v c s → IsBroken size (v ++ x) d t → Agrees x s t c d
 broken_once size v x c d s t first second =
     let counts : length v ≡ length first.before + 1 = ap length first.bytes ∙ length-append first.before (first.byte ∷ []) in
     let more : length v + length x ≡ length second.before + 1 = sym (length-append v x) ∙ ap length second.bytes ∙ length-append second.before (second.byte ∷ []) in
@@ -105,7 +105,7 @@ broken_once size v x c d s t first second =
     ]
 
 -- of a part of a chunk the bytes tell how many are left
-part_once : (size : ℕ) (v x c d : List ℕ) (s t : Stage) → x ≡ [] → IsPart size v c s → IsPart size (v ++ x) d t → Agrees x s t c d
+part_once : (size : ℕ) (v x c d : List ℕ) (s t : DecoderState) → x ≡ [] → IsPart size v c s → IsPart size (v ++ x) d t → Agrees x s t c d
 part_once size v x c d s t none first second =
     let same : v ++ x ≡ v = ap (λ (z : List ℕ). v ++ z) none ∙ append-nil v in
     let left : first.left ≡ second.left = omega (arith, first.left_is, second.left_is, ap length same) in
@@ -116,12 +116,12 @@ part_once size v x c d s t none first second =
     }
 
 -- a part takes bytes
-part_not_final : (size : ℕ) (v c : List ℕ) (s : Stage) → IsPart size v c s → is_final s ≡ true → ⊥
+part_not_final : (size : ℕ) (v c : List ℕ) (s : DecoderState) → IsPart size v c s → is_final s ≡ true → ⊥
 part_not_final size v c s part final =
     let h : false ≡ true = ap is_final (sym part.stage) ∙ final in
     false≢true h
 
-pub chunk_once : (size : ℕ) (v x c d : List ℕ) (s t : Stage) → IsChunkBody size v c s → IsChunkBody size (v ++ x) d t → IsComparable x s → Agrees x s t c d
+pub chunk_once : (size : ℕ) (v x c d : List ℕ) (s t : DecoderState) → IsChunkBody size v c s → IsChunkBody size (v ++ x) d t → IsComparable x s → Agrees x s t c d
 chunk_once size v x c d s t (inl first) (inl second) (inl none) = part_once size v x c d s t none first second
 chunk_once size v x c d s t (inl first) (inr second) (inl none) =
     let same : v ++ x ≡ v = ap (λ (z : List ℕ). v ++ z) none ∙ append-nil v in
@@ -129,7 +129,7 @@ chunk_once size v x c d s t (inl first) (inr second) (inl none) =
 chunk_once size v x c d s t (inl first) second (inr final) = absurd (part_not_final size v c s first final)
 chunk_once size v x c d s t (inr first) (inl second) comparable = absurd (broken_before size v x c d s t first second)
   where
-    broken_before : (size : ℕ) (v x c d : List ℕ) (s t : Stage) → IsBroken size v c s → IsPart size (v ++ x) d t → ⊥
+    broken_before : (size : ℕ) (v x c d : List ℕ) (s t : DecoderState) → IsBroken size v c s → IsPart size (v ++ x) d t → ⊥
     broken_before size v x c d s t first second =
         let counts : length v ≡ length first.before + 1 = ap length first.bytes ∙ length-append first.before (first.byte ∷ []) in
         let none = nothing x (omega (arith, counts, length-append v x, first.left_is, first.near, second.left_is, second.more)) in
@@ -138,7 +138,7 @@ chunk_once size v x c d s t (inr first) (inl second) comparable = absurd (broken
 chunk_once size v x c d s t (inr first) (inr second) comparable = broken_once size v x c d s t first second
 
 -- a whole chunk is more than a part of one, and is not broken
-pub whole_not_body : (size : ℕ) (bytes rest v x c : List ℕ) (s : Stage) → length bytes ≡ size → v ++ x ≡ bytes ++ (crlf_bytes ++ rest) → IsChunkBody size v c s → IsComparable x s → ⊥
+pub whole_not_body : (size : ℕ) (bytes rest v x c : List ℕ) (s : DecoderState) → length bytes ≡ size → v ++ x ≡ bytes ++ (crlf_bytes ++ rest) → IsChunkBody size v c s → IsComparable x s → ⊥
 whole_not_body size bytes rest v x c s long e (inl part) (inl none) =
     omega (arith, part.left_is, part.more, long, ap length e, length-append v x, ap length none, length-append bytes (13 ∷ 10 ∷ rest))
 whole_not_body size bytes rest v x c s long e (inl part) (inr final) = part_not_final size v c s part final
@@ -159,13 +159,13 @@ whole_not_body size bytes rest v x c s long e (inr broken) comparable =
     ]
 
 -- the stage after trailer fields that were collected so far
-abbrev pub stage_behind : List ℕ → Outcome (List Field × LineEnd) → Stage
+abbrev pub stage_behind : List ℕ → Outcome (List Field × LineEnd) → DecoderState
 stage_behind v unended = in_trailer v
 stage_behind v hopeless = refused Bad
 stage_behind v too_long = refused Long
 stage_behind v (whole fields) = if nat_le (length fields.0) MAX_FIELDS then ended else refused Bad
 
-pub record IsTrailerBody (v c : List ℕ) (s : Stage) : Type 0 where
+pub record IsTrailerBody (v c : List ℕ) (s : DecoderState) : Type 0 where
   pub outcome : Outcome (List Field × LineEnd)
   pub collects : Collects ReadsFields MAX_TRAILER_BYTES v outcome
   pub content : c ≡ []
@@ -178,11 +178,11 @@ last_of_final v hopeless h = tt
 last_of_final v too_long h = tt
 last_of_final v (whole fields) h = tt
 
-comparable_outcome : (v x : List ℕ) (s : Stage) (o : Outcome (List Field × LineEnd)) → s ≡ stage_behind v o → IsComparable x s → (x ≡ []) ⊎ IsLast o
+comparable_outcome : (v x : List ℕ) (s : DecoderState) (o : Outcome (List Field × LineEnd)) → s ≡ stage_behind v o → IsComparable x s → (x ≡ []) ⊎ IsLast o
 comparable_outcome v x s o is (inl none) = inl none
 comparable_outcome v x s o is (inr final) = inr (last_of_final v o (ap is_final (sym is) ∙ final))
 
-pub trailer_once : (v x c d : List ℕ) (s t : Stage) → IsTrailerBody v c s → IsTrailerBody (v ++ x) d t → IsComparable x s → Agrees x s t c d
+pub trailer_once : (v x c d : List ℕ) (s t : DecoderState) → IsTrailerBody v c s → IsTrailerBody (v ++ x) d t → IsComparable x s → Agrees x s t c d
 trailer_once v x c d s t first second comparable =
     let one = collects_once fields_form MAX_TRAILER_BYTES v x first.outcome second.outcome first.collects second.collects (comparable_outcome v x s first.outcome first.stage comparable) in
     let same : v ≡ v ++ x = sym (append-nil v) ∙ ap (λ (z : List ℕ). v ++ z) (sym one.none) in
@@ -193,25 +193,25 @@ trailer_once v x c d s t first second comparable =
     }
 
 -- a size that is too great
-pub record IsGreatBody (v c : List ℕ) (s : Stage) : Type 0 where
+pub record IsGreatBody (v c : List ℕ) (s : DecoderState) : Type 0 where
   pub none : v ≡ []
   pub content : c ≡ []
   pub stage : s ≡ refused Bad
 
 -- what follows a size line that says this size
-pub data IsBody (size : ℕ) (v c : List ℕ) (s : Stage) : Type 0 where
+pub data IsBody (size : ℕ) (v c : List ℕ) (s : DecoderState) : Type 0 where
   trailer : size ≡ 0 → IsTrailerBody v c s → IsBody size v c s
   chunk : 0 < size → size ≤ MAX_CHUNK_SIZE → IsChunkBody size v c s → IsBody size v c s
   great : MAX_CHUNK_SIZE < size → IsGreatBody v c s → IsBody size v c s
 
-great_once : (v x c d : List ℕ) (s t : Stage) → IsGreatBody v c s → IsGreatBody (v ++ x) d t → Agrees x s t c d
+great_once : (v x c d : List ℕ) (s t : DecoderState) → IsGreatBody v c s → IsGreatBody (v ++ x) d t → Agrees x s t c d
 great_once v x c d s t first second = record {
   none = ap (λ (z : List ℕ). z ++ x) (sym first.none) ∙ second.none;
   stage = first.stage ∙ sym second.stage;
   content = first.content ∙ sym second.content;
 }
 
-pub body_once : (size : ℕ) (v x c d : List ℕ) (s t : Stage) → IsBody size v c s → IsBody size (v ++ x) d t → IsComparable x s → Agrees x s t c d
+pub body_once : (size : ℕ) (v x c d : List ℕ) (s t : DecoderState) → IsBody size v c s → IsBody size (v ++ x) d t → IsComparable x s → Agrees x s t c d
 body_once size v x c d s t (trailer n a) (trailer m b) comparable = trailer_once v x c d s t a b comparable
 body_once size v x c d s t (trailer n a) (chunk m l b) comparable = absurd (omega (arith, n, m))
 body_once size v x c d s t (trailer n a) (great m b) comparable = absurd (omega (arith, n, m))

@@ -6,7 +6,7 @@ use Rattle.httparse.specs.Ascii.{crlf_bytes}
 use Rattle.httparse.specs.Grammar.{print_chunk_line, chunk_size}
 use Rattle.oc_chunked.specs.Chunked.{Chunk, print_chunk, print_chunks, content_of}
 use Rattle.oc_chunked.specs.declared.fault.ChunkFault.TheVariants.{Bad}
-use Rattle.oc_chunked.specs.Stages.{Stage, in_size, in_chunk, refused}
+use Rattle.oc_chunked.specs.Stages.{DecoderState, in_size, in_chunk, refused}
 use Rattle.oc_chunked.specs.Taken.{Takes, IsPartOfChunk, IsShortChunk}
 use Rattle.oc_chunked.proofs.Forms.{size_form, IsUnfinished-none}
 use Rattle.oc_chunked.proofs.Steps.{Takes-behind}
@@ -126,5 +126,5 @@ chunk_feed = record {
 }
 
 -- no chunk has nothing left
-pub chunk_none : (b : ℕ) (s : Stage) → Takes (in_chunk 0) (b ∷ []) [] s
+pub chunk_none : (b : ℕ) (s : DecoderState) → Takes (in_chunk 0) (b ∷ []) [] s
 chunk_none b s = record { on = λ before given taken. absurd (omega (arith, taken.leads.more)) }

@@ -9,7 +9,7 @@ use Rattle.httparse.proofs.ChunkLemmas.{chunk_line_unique}
 use Rattle.oc_chunked.specs.declared.fault.ChunkFault.TheVariants.{Bad, Long, Memory}
 use Rattle.oc_chunked.specs.declared.limits.TheConstants.{MAX_SIZE_LINE_BYTES, MAX_TRAILER_BYTES}
 use Rattle.oc_chunked.specs.Chunked.{Chunk, IsChunk, print_chunk, print_chunks, content_of}
-use Rattle.oc_chunked.specs.Stages.{Stage, in_size, in_chunk, in_trailer, ended, refused, is_final}
+use Rattle.oc_chunked.specs.Stages.{DecoderState, in_size, in_chunk, in_trailer, ended, refused, is_final}
 use Rattle.oc_chunked.specs.Taken.{IsSizeLine, IsShortChunk, IsClosedBy, LeadsOn, IsTaken}
 use Rattle.oc_chunked.specs.Unfinished.{IsUnfinished, ReadsFields}
 use Rattle.oc_chunked.proofs.Forms.{size_form}
@@ -23,14 +23,14 @@ IsNoLine (whole l) = ⊥
 IsNoLine o = Unit {0}
 
 -- the stage of a size line that is not whole
-abbrev pub stage_in : List ℕ → Outcome ChunkLine → Stage
+abbrev pub stage_in : List ℕ → Outcome ChunkLine → DecoderState
 stage_in u unended = in_size u
 stage_in u hopeless = refused Bad
 stage_in u too_long = refused Long
 stage_in u (whole l) = refused Memory
 
 -- no size line is whole yet
-pub record IsNoSize (u c : List ℕ) (s : Stage) : Type 0 where
+pub record IsNoSize (u c : List ℕ) (s : DecoderState) : Type 0 where
   pub outcome : Outcome ChunkLine
   pub none : IsNoLine outcome
   pub collects : Collects ReadsChunkLine MAX_SIZE_LINE_BYTES u outcome
@@ -38,7 +38,7 @@ pub record IsNoSize (u c : List ℕ) (s : Stage) : Type 0 where
   pub stage : s ≡ stage_in u outcome
 
 -- a size line, and what follows it
-pub record IsSized (u c : List ℕ) (s : Stage) : Type 0 where
+pub record IsSized (u c : List ℕ) (s : DecoderState) : Type 0 where
   pub line : ChunkLine
   pub behind : List ℕ
   pub size : IsSizeLine line
@@ -46,7 +46,7 @@ pub record IsSized (u c : List ℕ) (s : Stage) : Type 0 where
   pub body : IsBody (chunk_size line) behind c s
 
 -- a trailer line and what follows it
-sized_trailer : (front u c : List ℕ) (s : Stage) (o : Outcome (List Field × LineEnd)) → IsClosedBy front u c → Collects ReadsFields MAX_TRAILER_BYTES front o → s ≡ stage_behind front o → IsSized u c s
+sized_trailer : (front u c : List ℕ) (s : DecoderState) (o : Outcome (List Field × LineEnd)) → IsClosedBy front u c → Collects ReadsFields MAX_TRAILER_BYTES front o → s ≡ stage_behind front o → IsSized u c s
 sized_trailer front u c s o closed collects stage = record {
   line = closed.line;
   behind = front;
@@ -55,11 +55,11 @@ sized_trailer front u c s o closed collects stage = record {
   body = trailer closed.none (record { outcome = o; collects = collects; content = closed.content_is; stage = stage });
 }
 
-abbrev pub IsBehind : List ℕ → List ℕ → Stage → Type 0
+abbrev pub IsBehind : List ℕ → List ℕ → DecoderState → Type 0
 IsBehind u c s = IsNoSize u c s ⊎ IsSized u c s
 
 -- what leads to a stage, as a size line and what follows it
-pub behind : (s : Stage) (u c : List ℕ) → LeadsOn s u c → IsBehind u c s
+pub behind : (s : DecoderState) (u c : List ℕ) → LeadsOn s u c → IsBehind u c s
 behind (in_size line) u c part = inl (record {
   outcome = unended;
   none = tt;
@@ -122,7 +122,7 @@ last_of_stage u hopeless h = tt
 last_of_stage u too_long h = tt
 last_of_stage u (whole l) h = tt
 
-comparable_line : (u x : List ℕ) (s : Stage) (o : Outcome ChunkLine) → s ≡ stage_in u o → IsComparable x s → (x ≡ []) ⊎ IsLast o
+comparable_line : (u x : List ℕ) (s : DecoderState) (o : Outcome ChunkLine) → s ≡ stage_in u o → IsComparable x s → (x ≡ []) ⊎ IsLast o
 comparable_line u x s o is (inl none) = inl none
 comparable_line u x s o is (inr final) = inr (last_of_stage u o (ap is_final (sym is) ∙ final))
 
@@ -131,7 +131,7 @@ not_whole : (l : ChunkLine) (o : Outcome ChunkLine) → IsNoLine o → whole l �
 not_whole l o none e = subst IsNoLine (sym e) none
 
 -- where no size line is whole, none is at the front of those bytes with others
-pub no_size_no_line : (u x v c : List ℕ) (s : Stage) (l : ChunkLine) → IsNoSize u c s → IsSizeLine l → u ++ x ≡ print_chunk_line l ++ v → IsComparable x s → ⊥
+pub no_size_no_line : (u x v c : List ℕ) (s : DecoderState) (l : ChunkLine) → IsNoSize u c s → IsSizeLine l → u ++ x ≡ print_chunk_line l ++ v → IsComparable x s → ⊥
 no_size_no_line u x v c s l first size e comparable =
     let line = print_chunk_line l in
     elim (cases_lt (length u) (length line)) [
@@ -151,14 +151,14 @@ no_size_no_line u x v c s l first size e comparable =
 pub same_line : (l k : ChunkLine) (v w : List ℕ) → IsChunkLine l → IsChunkLine k → print_chunk_line l ++ v ≡ print_chunk_line k ++ w → (l ≡ k) × (v ≡ w)
 same_line l k v w is_l is_k e = chunk_line_unique (print_chunk_line l ++ v) l k v w (is_l, refl) (is_k, e)
 
-sized_once : (u x c d : List ℕ) (s t : Stage) → IsSized u c s → IsSized (u ++ x) d t → IsComparable x s → Agrees x s t c d
+sized_once : (u x c d : List ℕ) (s t : DecoderState) → IsSized u c s → IsSized (u ++ x) d t → IsComparable x s → Agrees x s t c d
 sized_once u x c d s t first second comparable =
     let text : print_chunk_line first.line ++ (first.behind ++ x) ≡ print_chunk_line second.line ++ second.behind = sym (append_assoc (print_chunk_line first.line) first.behind x) ∙ ap (λ (z : List ℕ). z ++ x) (sym first.bytes) ∙ second.bytes in
     let same = same_line first.line second.line (first.behind ++ x) second.behind first.size.is_line second.size.is_line text in
     let body = subst (λ (z : List ℕ). IsBody (chunk_size first.line) z d t) (sym same.1) (subst (λ (n : ℕ). IsBody n second.behind d t) (sym (ap chunk_size same.0)) second.body) in
     body_once (chunk_size first.line) first.behind x c d s t first.body body comparable
 
-no_size_once : (u x c d : List ℕ) (s t : Stage) → IsNoSize u c s → IsNoSize (u ++ x) d t → IsComparable x s → Agrees x s t c d
+no_size_once : (u x c d : List ℕ) (s t : DecoderState) → IsNoSize u c s → IsNoSize (u ++ x) d t → IsComparable x s → Agrees x s t c d
 no_size_once u x c d s t first second comparable =
     let one = collects_once size_form MAX_SIZE_LINE_BYTES u x first.outcome second.outcome first.collects second.collects (comparable_line u x s first.outcome first.stage comparable) in
     let same : u ≡ u ++ x = sym (append-nil u) ∙ ap (λ (z : List ℕ). u ++ z) (sym one.none) in
@@ -168,7 +168,7 @@ no_size_once u x c d s t first second comparable =
       content = first.content ∙ sym second.content;
     }
 
-behind_once : (u x c d : List ℕ) (s t : Stage) → IsBehind u c s → IsBehind (u ++ x) d t → IsComparable x s → Agrees x s t c d
+behind_once : (u x c d : List ℕ) (s t : DecoderState) → IsBehind u c s → IsBehind (u ++ x) d t → IsComparable x s → Agrees x s t c d
 behind_once u x c d s t (inl first) (inl second) comparable = no_size_once u x c d s t first second comparable
 behind_once u x c d s t (inl first) (inr second) comparable = absurd (no_size_no_line u x second.behind c s second.line first second.size second.bytes comparable)
 behind_once u x c d s t (inr first) (inl second) comparable =
@@ -177,7 +177,7 @@ behind_once u x c d s t (inr first) (inl second) comparable =
 behind_once u x c d s t (inr first) (inr second) comparable = sized_once u x c d s t first second comparable
 
 -- after the size line of a chunk that is not taken whole there is no whole chunk
-pub chunk_not_sized : (u x rest c : List ℕ) (s : Stage) (k : Chunk) → IsChunk k → u ++ x ≡ print_chunk k ++ rest → IsSized u c s → IsComparable x s → ⊥
+pub chunk_not_sized : (u x rest c : List ℕ) (s : DecoderState) (k : Chunk) → IsChunk k → u ++ x ≡ print_chunk k ++ rest → IsSized u c s → IsComparable x s → ⊥
 chunk_not_sized u x rest c s k is e first comparable =
     let text : print_chunk_line first.line ++ (first.behind ++ x) ≡ print_chunk_line k.line ++ ((k.bytes ++ crlf_bytes) ++ rest) =
     sym (append_assoc (print_chunk_line first.line) first.behind x) ∙ ap (λ (z : List ℕ). z ++ x) (sym first.bytes) ∙ e ∙ append_assoc (print_chunk_line k.line) (k.bytes ++ crlf_bytes) rest in
@@ -191,7 +191,7 @@ chunk_not_sized u x rest c s k is e first comparable =
     ]
 
 -- after whole chunks there is no whole chunk
-no_more_chunk : (u x rest c : List ℕ) (s : Stage) (k : Chunk) → IsShortChunk k → u ++ x ≡ print_chunk k ++ rest → IsBehind u c s → IsComparable x s → ⊥
+no_more_chunk : (u x rest c : List ℕ) (s : DecoderState) (k : Chunk) → IsShortChunk k → u ++ x ≡ print_chunk k ++ rest → IsBehind u c s → IsComparable x s → ⊥
 no_more_chunk u x rest c s k short e (inl first) comparable =
     no_size_no_line u x ((k.bytes ++ crlf_bytes) ++ rest) c s k.line first (record { is_line = short.chunk.line; short = short.short }) (e ∙ append_assoc (print_chunk_line k.line) (k.bytes ++ crlf_bytes) rest) comparable
 no_more_chunk u x rest c s k short e (inr first) comparable = chunk_not_sized u x rest c s k short.chunk e first comparable
@@ -212,7 +212,7 @@ same_chunk k m v w is_k is_m e =
     record { bytes = fronts.0; rest = (same_front crlf_bytes crlf_bytes v w fronts.1 refl).1 }
 
 -- chunk for chunk
-walk : (ks ms : List Chunk) (u w x c d : List ℕ) (s t : Stage) → AllByRecursion IsShortChunk ks → AllByRecursion IsShortChunk ms → IsBehind u c s → IsBehind w d t → (print_chunks ks ++ u) ++ x ≡ print_chunks ms ++ w → IsComparable x s → Agrees x s t (content_of ks ++ c) (content_of ms ++ d)
+walk : (ks ms : List Chunk) (u w x c d : List ℕ) (s t : DecoderState) → AllByRecursion IsShortChunk ks → AllByRecursion IsShortChunk ms → IsBehind u c s → IsBehind w d t → (print_chunks ks ++ u) ++ x ≡ print_chunks ms ++ w → IsComparable x s → Agrees x s t (content_of ks ++ c) (content_of ms ++ d)
 walk [] [] u w x c d s t all every first second e comparable =
     behind_once u x c d s t first (subst (λ (z : List ℕ). IsBehind z d t) (sym e) second) comparable
 walk [] (m ∷ ms) u w x c d s t all every first second e comparable =
@@ -231,7 +231,7 @@ walk (k ∷ ks) (m ∷ ms) u w x c d s t all every first second e comparable =
     }
 
 -- the same bytes lead to one stage, with one content; after a stage that takes none no bytes follow
-pub taken_once : (bytes x c d : List ℕ) (s t : Stage) → IsTaken bytes c s → IsTaken (bytes ++ x) d t → IsComparable x s → Agrees x s t c d
+pub taken_once : (bytes x c d : List ℕ) (s t : DecoderState) → IsTaken bytes c s → IsTaken (bytes ++ x) d t → IsComparable x s → Agrees x s t c d
 taken_once bytes x c d s t first second comparable =
     let one = walk first.chunks second.chunks first.behind second.behind x first.more second.more s t first.all second.all (behind s first.behind first.more first.leads) (behind t second.behind second.more second.leads)
     (ap (λ (z : List ℕ). z ++ x) (sym first.bytes_are) ∙ second.bytes_are) comparable in

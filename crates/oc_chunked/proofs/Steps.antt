@@ -2,13 +2,13 @@
 use Rattle.std.proofs.Common.{◌≡◌, ℕ, List, [], ◌++◌, take, drop, Some, refl, sym, ap, ◌∙◌, subst, arith}
 use Rattle.std.proofs.lemmas.List.{append_assoc, append-nil, take-append-drop}
 use Rattle.oc_chunked.specs.Chunked.{print_chunks, content_of}
-use Rattle.oc_chunked.specs.Stages.{Stage, in_size, in_chunk, in_trailer, ended, refused, fault_in}
+use Rattle.oc_chunked.specs.Stages.{DecoderState, in_size, in_chunk, in_trailer, ended, refused, fault_in}
 use Rattle.oc_chunked.specs.declared.fault.ChunkFault.{ChunkFault}
 use Rattle.oc_chunked.specs.Taken.{IsTaken, Takes, LeadsOn, RefusesPiece}
 use Rattle.oc_chunked.proofs.Forms.{size_form, IsUnfinished-none}
 
 -- no bytes lead nowhere else
-pub Takes-none : (s : Stage) → Takes s [] [] s
+pub Takes-none : (s : DecoderState) → Takes s [] [] s
 Takes-none s = record {
   on = λ before given taken. record {
     chunks = taken.chunks;
@@ -22,7 +22,7 @@ Takes-none s = record {
 }
 
 -- one step after another
-pub Takes-then : (a b c : Stage) (x y p q : List ℕ) → Takes a x p b → Takes b y q c → Takes a (x ++ y) (p ++ q) c
+pub Takes-then : (a b c : DecoderState) (x y p q : List ℕ) → Takes a x p b → Takes b y q c → Takes a (x ++ y) (p ++ q) c
 Takes-then a b c x y p q first second = record {
   on = λ before given taken.
       let done = second.on (before ++ x) (given ++ p) (first.on before given taken) in record {
@@ -37,7 +37,7 @@ Takes-then a b c x y p q first second = record {
 }
 
 -- a step after whole chunks is a step
-pub Takes-behind : (s t : Stage) (x c : List ℕ) → ((behind more : List ℕ) → LeadsOn s behind more → LeadsOn t (behind ++ x) (more ++ c)) → Takes s x c t
+pub Takes-behind : (s t : DecoderState) (x c : List ℕ) → ((behind more : List ℕ) → LeadsOn s behind more → LeadsOn t (behind ++ x) (more ++ c)) → Takes s x c t
 Takes-behind s t x c step = record {
   on = λ before given taken. record {
     chunks = taken.chunks;
@@ -63,7 +63,7 @@ nothing_taken = record {
 }
 
 -- where there is a fault the stage is that of refused bytes
-pub refused_in : (s : Stage) (fault : ChunkFault) → fault_in s ≡ Some fault → s ≡ refused fault
+pub refused_in : (s : DecoderState) (fault : ChunkFault) → fault_in s ≡ Some fault → s ≡ refused fault
 refused_in (in_size line) fault is = cc
 refused_in (in_chunk left) fault is = cc
 refused_in (in_trailer front) fault is = cc
@@ -71,11 +71,11 @@ refused_in ended fault is = cc
 refused_in (refused other) fault is = cc
 
 -- the prefix of a piece that leads to a refusal
-pub refused_piece : (old new : Stage) (piece content : List ℕ) (count : ℕ) (fault : ChunkFault) → new ≡ refused fault → Takes old (take count piece) content new → RefusesPiece old piece fault
+pub refused_piece : (old new : DecoderState) (piece content : List ℕ) (count : ℕ) (fault : ChunkFault) → new ≡ refused fault → Takes old (take count piece) content new → RefusesPiece old piece fault
 refused_piece old new piece content count fault is takes = record {
   front = take count piece;
   rest = drop count piece;
   content = content;
   piece_is = sym (take-append-drop count piece);
-  takes = subst (λ (s : Stage). Takes old (take count piece) content s) is takes;
+  takes = subst (λ (s : DecoderState). Takes old (take count piece) content s) is takes;
 }

@@ -4,7 +4,7 @@ use Rattle.std.proofs.lemmas.Bool.{cases_lt}
 use Rattle.std.proofs.lemmas.List.{append_assoc, append-nil, take_all, drop_all}
 use Rattle.httparse.specs.Ascii.{crlf_bytes}
 use Rattle.httparse.specs.Grammar.{print_chunk_line, chunk_size}
-use Rattle.oc_chunked.specs.Stages.{Stage, in_size, in_chunk, in_trailer, ended, refused, wanted_at}
+use Rattle.oc_chunked.specs.Stages.{DecoderState, in_size, in_chunk, in_trailer, ended, refused, wanted_at}
 use Rattle.oc_chunked.specs.Taken.{IsTaken, Takes}
 use Rattle.oc_chunked.proofs.OneWay.{taken_once}
 use Rattle.oc_chunked.proofs.Steps.{Takes-behind}
@@ -38,12 +38,12 @@ chunk_goes left bytes few = Takes-behind (in_chunk left) (in_chunk (left - lengt
     })
 
 -- before the end something is missing
-some_missing : (s : Stage) (bytes given more content : List ℕ) → s ≢ ended → IsTaken bytes given s → IsTaken (bytes ++ more) content ended → 0 < length more
+some_missing : (s : DecoderState) (bytes given more content : List ℕ) → s ≢ ended → IsTaken bytes given s → IsTaken (bytes ++ more) content ended → 0 < length more
 some_missing s bytes given [] content other first last = absurd (other (taken_once bytes [] given content s ended first last (inl refl)).stage)
 some_missing s bytes given (b ∷ more) content other first last = omega arith
 
 -- bytes that lead on to the end are at least as many as are wanted
-pub wanted_missing : (s : Stage) (bytes given more content : List ℕ) → IsTaken bytes given s → IsTaken (bytes ++ more) content ended → wanted_at s ≤ length more
+pub wanted_missing : (s : DecoderState) (bytes given more content : List ℕ) → IsTaken bytes given s → IsTaken (bytes ++ more) content ended → wanted_at s ≤ length more
 wanted_missing (in_size line) bytes given more content first last = some_missing (in_size line) bytes given more content (λ e. cc e) first last
 wanted_missing (in_chunk left) bytes given more content first last = elim (cases_lt (length more + 2) left) [
   | inl less ↦

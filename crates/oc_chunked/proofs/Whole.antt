@@ -9,7 +9,7 @@ use Rattle.httparse.specs.Grammar.{ChunkLine, IsChunkLine, print_chunk_line, chu
 use Rattle.oc_base.specs.declared.limits.TheConstants.{MAX_FIELDS}
 use Rattle.oc_chunked.specs.declared.limits.TheConstants.{MAX_SIZE_LINE_BYTES, MAX_TRAILER_BYTES}
 use Rattle.oc_chunked.specs.Chunked.{Chunk, IsChunk, print_chunk, print_chunks, content_of, Trailer, IsTrailer, print_trailer, IsChunked}
-use Rattle.oc_chunked.specs.Stages.{Stage, in_size, in_chunk, in_trailer, ended, refused, is_ended}
+use Rattle.oc_chunked.specs.Stages.{DecoderState, in_size, in_chunk, in_trailer, ended, refused, is_ended}
 use Rattle.oc_chunked.specs.Taken.{IsShortChunk, IsTaken}
 use Rattle.oc_chunked.specs.Unfinished.{ReadsFields}
 use Rattle.oc_chunked.proofs.Forms.{fields_form}
@@ -44,7 +44,7 @@ collects_short Reads most bytes too_long c = omega (arith, c.1)
 collects_short Reads most bytes (whole t) c = c.1
 
 -- bytes that begin with a size line are taken as one
-sized : (u v c : List ℕ) (s : Stage) (l : ChunkLine) → IsBehind u c s → IsChunkLine l → u ≡ print_chunk_line l ++ v → IsSized u c s
+sized : (u v c : List ℕ) (s : DecoderState) (l : ChunkLine) → IsBehind u c s → IsChunkLine l → u ≡ print_chunk_line l ++ v → IsSized u c s
 sized u v c s l (inl first) is e =
     let few = collects_short ReadsChunkLine MAX_SIZE_LINE_BYTES u first.outcome first.collects in
     let short : length (print_chunk_line l) ≤ MAX_SIZE_LINE_BYTES = omega (arith, few, ap length e, length-append (print_chunk_line l) v) in
@@ -52,7 +52,7 @@ sized u v c s l (inl first) is e =
 sized u v c s l (inr first) is e = first
 
 -- the trailer fields end the text
-fields_end : (v c : List ℕ) (s : Stage) (fields : List Field) (last : LineEnd) → ReadsFields v (fields, last) [] → length fields ≤ MAX_FIELDS → IsTrailerBody v c s → Agrees [] s ended c []
+fields_end : (v c : List ℕ) (s : DecoderState) (fields : List Field) (last : LineEnd) → ReadsFields v (fields, last) [] → length fields ≤ MAX_FIELDS → IsTrailerBody v c s → Agrees [] s ended c []
 fields_end v c s fields last reads few body =
     let all : List Field × LineEnd = (fields, last) in
     let short = collects_short ReadsFields MAX_TRAILER_BYTES v body.outcome body.collects in
@@ -64,7 +64,7 @@ fields_end v c s fields last reads few body =
       content = body.content;
     }
 
-trailer_end : (u c : List ℕ) (s : Stage) (e : Trailer) → IsTrailer e → u ≡ print_trailer e → IsBehind u c s → Agrees [] s ended c []
+trailer_end : (u c : List ℕ) (s : DecoderState) (e : Trailer) → IsTrailer e → u ≡ print_trailer e → IsBehind u c s → Agrees [] s ended c []
 trailer_end u c s e is text first =
     let section = print_section e.fields e.last in
     let there = sized u section c s e.line first is.line text in
@@ -78,7 +78,7 @@ trailer_end u c s e is text first =
     ]
 
 -- chunk for chunk
-walk_whole : (ks ms : List Chunk) (e : Trailer) (u c : List ℕ) (s : Stage) → AllByRecursion IsChunk ks → AllByRecursion IsShortChunk ms → IsTrailer e → IsBehind u c s → print_chunks ks ++ print_trailer e ≡ print_chunks ms ++ u → Agrees [] s ended (content_of ms ++ c) (content_of ks)
+walk_whole : (ks ms : List Chunk) (e : Trailer) (u c : List ℕ) (s : DecoderState) → AllByRecursion IsChunk ks → AllByRecursion IsShortChunk ms → IsTrailer e → IsBehind u c s → print_chunks ks ++ print_trailer e ≡ print_chunks ms ++ u → Agrees [] s ended (content_of ms ++ c) (content_of ks)
 walk_whole [] [] e u c s all every closes first text = trailer_end u c s e closes (sym text) first
 walk_whole [] (m ∷ ms) e u c s all every closes first text =
     let chunk = (every.0).chunk in
@@ -103,13 +103,13 @@ walk_whole (k ∷ ks) (m ∷ ms) e u c s all every closes first text =
     }
 
 -- a chunked text leads to the end, with its content
-pub chunked_whole : (bytes content given : List ℕ) (s : Stage) → IsChunked bytes content → IsTaken bytes given s → (s ≡ ended) × (given ≡ content)
+pub chunked_whole : (bytes content given : List ℕ) (s : DecoderState) → IsChunked bytes content → IsTaken bytes given s → (s ≡ ended) × (given ≡ content)
 chunked_whole bytes content given s text taken =
     let one = walk_whole text.chunks taken.chunks text.trailer taken.behind taken.more s text.all taken.all text.closes (behind s taken.behind taken.more taken.leads) (sym text.text_is ∙ taken.bytes_are) in
     (one.stage, taken.content_is ∙ one.content ∙ sym text.content_is)
 
 -- whether the text is whole tells whether the bytes are chunked
-pub ended_tells : (s : Stage) (bytes content : List ℕ) → IsTaken bytes content s → MatchBool (is_ended s) (IsChunked bytes content) ((other : List ℕ) → ¬ (IsChunked bytes other))
+pub ended_tells : (s : DecoderState) (bytes content : List ℕ) → IsTaken bytes content s → MatchBool (is_ended s) (IsChunked bytes content) ((other : List ℕ) → ¬ (IsChunked bytes other))
 ended_tells ended bytes content taken = whole_chunked bytes content taken
 ended_tells (in_size line) bytes content taken = λ other text. let e = (chunked_whole bytes other content (in_size line) text taken).0 in cc e
 ended_tells (in_chunk left) bytes content taken = λ other text. let e = (chunked_whole bytes other content (in_chunk left) text taken).0 in cc e

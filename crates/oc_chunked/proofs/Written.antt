@@ -12,7 +12,7 @@ use Rattle.std.specs.List.{AllByRecursion}
 use Rattle.httparse.specs.Ascii.{crlf_bytes}
 use Rattle.httparse.specs.Grammar.{ChunkLine, IsChunkLine, print_chunk_line, chunk_size, print_section, crlf, IsField, is_ows}
 use Rattle.oc_chunked.specs.Chunked.{Chunk, print_chunk, print_chunks, content_of, IsChunked}
-use Rattle.oc_chunked.specs.Stages.{Stage, ended, refused, fault_in}
+use Rattle.oc_chunked.specs.Stages.{DecoderState, ended, refused, fault_in}
 use Rattle.oc_chunked.specs.declared.fault.ChunkFault.{ChunkFault}
 use Rattle.oc_chunked.specs.Taken.{IsShortChunk, IsTaken}
 use Rattle.oc_chunked.specs.Texts.{chunk_written, end_written, chunks_written, chunked_text}
@@ -228,6 +228,6 @@ refused_is_end bytes front rest content fault text taken =
     let e = agrees.stage in cc e
 
 -- no prefix of it is refused
-pub written_fine : (bytes front rest content : List ℕ) (s : Stage) → chunked_text bytes ≡ front ++ rest → IsTaken front content s → fault_in s ≡ None
+pub written_fine : (bytes front rest content : List ℕ) (s : DecoderState) → chunked_text bytes ≡ front ++ rest → IsTaken front content s → fault_in s ≡ None
 written_fine bytes front rest content (refused fault) text taken = absurd (refused_is_end bytes front rest content fault text taken)
 written_fine bytes front rest content s text taken = refl

@@ -7,43 +7,43 @@ use Rattle.oc_chunked.specs.declared.state.State.TheVariants as states
 use Rattle.oc_chunked.specs.declared.state.BadText.{BadText}
 use Rattle.oc_chunked.specs.declared.state.BadText.TheVariants as refusals
 
-pub data Stage : Type 0 where
+pub data DecoderState : Type 0 where
   -- in a size line, of which these bytes came
-  in_size : List ℕ → Stage
+  in_size : List ℕ → DecoderState
   -- in a chunk, of which this many bytes are left, its CR LF among them
-  in_chunk : ℕ → Stage
+  in_chunk : ℕ → DecoderState
   -- in the trailer fields, of which these bytes came
-  in_trailer : List ℕ → Stage
+  in_trailer : List ℕ → DecoderState
   -- after a whole text
-  ended : Stage
+  ended : DecoderState
   -- after bytes that are refused
-  refused : ChunkFault → Stage
+  refused : ChunkFault → DecoderState
 
 -- whether the text is whole
-abbrev pub is_ended : Stage → Bool
+abbrev pub is_ended : DecoderState → Bool
 is_ended ended = true
 is_ended stage = false
 
 -- why the bytes are refused, if they are
-abbrev pub fault_in : Stage → Option ChunkFault
+abbrev pub fault_in : DecoderState → Option ChunkFault
 fault_in (refused fault) = Some fault
 fault_in stage = None
 
 -- whether no byte can be taken any more
-abbrev pub is_final : Stage → Bool
+abbrev pub is_final : DecoderState → Bool
 is_final ended = true
 is_final (refused fault) = true
 is_final stage = false
 
 -- how many further bytes surely belong to the text: in a chunk those of its content that are still to come, else one, and none at
 -- the end
-abbrev pub wanted_at : Stage → ℕ
+abbrev pub wanted_at : DecoderState → ℕ
 wanted_at (in_chunk left) = max (left - 2) 1
 wanted_at ended = 0
 wanted_at stage = 1
 
 -- `count` bytes led from stage to stage: what was wanted at the old one came, or is wanted at the new one too, which is no refusal
-abbrev pub StillWants : Stage → ℕ → Stage → Type 0
+abbrev pub StillWants : DecoderState → ℕ → DecoderState → Type 0
 StillWants old count new = fault_in new ≡ None → wanted_at old ≤ count + wanted_at new
 
 abbrev pub fault_of : BadText → ChunkFault
@@ -51,7 +51,7 @@ fault_of refusals.Bad = faults.Bad
 fault_of refusals.Long = faults.Long
 
 -- the stage at a state, with these bytes of a line
-abbrev pub stage_at : State → List ℕ → Stage
+abbrev pub stage_at : State → List ℕ → DecoderState
 stage_at states.Size line = in_size line
 stage_at (states.Chunk left) line = in_chunk left
 stage_at states.Trailer line = in_trailer line

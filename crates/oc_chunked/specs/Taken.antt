@@ -8,7 +8,7 @@ use Rattle.oc_chunked.specs.declared.fault.ChunkFault.{ChunkFault}
 use Rattle.oc_chunked.specs.declared.fault.ChunkFault.TheVariants.{Bad, Long, Memory}
 use Rattle.oc_chunked.specs.declared.limits.TheConstants.{MAX_CHUNK_SIZE, MAX_SIZE_LINE_BYTES, MAX_TRAILER_BYTES}
 use Rattle.oc_chunked.specs.Chunked.{Chunk, IsChunk, print_chunks, content_of}
-use Rattle.oc_chunked.specs.Stages.{Stage, in_size, in_chunk, in_trailer, ended, refused}
+use Rattle.oc_chunked.specs.Stages.{DecoderState, in_size, in_chunk, in_trailer, ended, refused}
 use Rattle.oc_chunked.specs.Unfinished.{IsUnfinished, IsHopeless, ReadsFields}
 
 -- a size line that is not too long
@@ -112,7 +112,7 @@ pub record HasLongTrailer (bytes content : List ℕ) : Type 0 where
   pub long : length front ≡ MAX_TRAILER_BYTES
 
 -- after whole chunks these bytes lead to this stage, with this content
-abbrev pub LeadsOn : Stage → List ℕ → List ℕ → Type 0
+abbrev pub LeadsOn : DecoderState → List ℕ → List ℕ → Type 0
 LeadsOn (in_size line) bytes content = IsPartOfSize line bytes content
 LeadsOn (in_chunk left) bytes content = IsPartOfChunk left bytes content
 LeadsOn (in_trailer front) bytes content = IsPartOfTrailer front bytes content
@@ -122,7 +122,7 @@ LeadsOn (refused Long) bytes content = HasLongSize bytes content ⊎ HasLongTrai
 LeadsOn (refused Memory) bytes content = ⊥
 
 -- these bytes lead to this stage, with this content
-pub record IsTaken (bytes content : List ℕ) (stage : Stage) : Type 0 where
+pub record IsTaken (bytes content : List ℕ) (stage : DecoderState) : Type 0 where
   pub chunks : List Chunk
   pub behind : List ℕ
   pub more : List ℕ
@@ -132,11 +132,11 @@ pub record IsTaken (bytes content : List ℕ) (stage : Stage) : Type 0 where
   pub content_is : content ≡ content_of chunks ++ more
 
 -- from the old stage these bytes lead to the new one, and this is their content
-pub record Takes (old : Stage) (bytes content : List ℕ) (new : Stage) : Type 0 where
+pub record Takes (old : DecoderState) (bytes content : List ℕ) (new : DecoderState) : Type 0 where
   pub on : (before given : List ℕ) → IsTaken before given old → IsTaken (before ++ bytes) (given ++ content) new
 
 -- from the old stage a prefix of the piece leads to the refusal
-pub record RefusesPiece (old : Stage) (piece : List ℕ) (fault : ChunkFault) : Type 0 where
+pub record RefusesPiece (old : DecoderState) (piece : List ℕ) (fault : ChunkFault) : Type 0 where
   pub front : List ℕ
   pub rest : List ℕ
   pub content : List ℕ

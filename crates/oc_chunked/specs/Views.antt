@@ -5,22 +5,22 @@ use Rattle.oc_chunked.specs.declared.limits.TheConstants.{MAX_CHUNK_SIZE, MAX_TR
 use Rattle.oc_chunked.specs.declared.state.State.{State}
 use Rattle.oc_chunked.specs.declared.state.State.TheVariants.{Size, Chunk, Trailer, End, Refused}
 use Rattle.oc_chunked.specs.declared.state.BadText.TheVariants.{Bad, Long}
-use Rattle.oc_chunked.specs.declared.progress.Progress.{Progress}
-use Rattle.oc_chunked.specs.Stages.{Stage, stage_at}
+use Rattle.oc_chunked.specs.declared.decoder.Decoder.{Decoder}
+use Rattle.oc_chunked.specs.Stages.{DecoderState, stage_at}
 use Rattle.oc_chunked.specs.Taken.{Takes}
 
 -- the stage that it is in
-abbrev pub stage_of : Progress → Stage
+abbrev pub stage_of : Decoder → DecoderState
 stage_of p = stage_at p.state p.line.items
 
 -- with these bytes it went on to the new stage, and their content was put after what was given
-pub record Advances (old new : Progress) (bytes before after : List ℕ) : Type 0 where
+pub record Advances (old new : Decoder) (bytes before after : List ℕ) : Type 0 where
   pub content : List ℕ
   pub given : after ≡ before ++ content
   pub takes : Takes (stage_of old) bytes content (stage_of new)
 
 -- one byte led from the stage to a state, or on within the line
-abbrev pub GoesOn : (List ℕ → Stage) → List ℕ → ℕ → Option State → Type 0
+abbrev pub GoesOn : (List ℕ → DecoderState) → List ℕ → ℕ → Option State → Type 0
 GoesOn at line byte None = Takes (at line) (byte ∷ []) [] (at (line ++ byte ∷ [])) × (length line + 1 < MAX_TRAILER_BYTES)
 GoesOn at line byte (Some state) = Takes (at line) (byte ∷ []) [] (stage_at state [])
 

@@ -1,6 +1,6 @@
 ghost use Rattle.std.specs.Prelude.{◌≡◌, ℕ, List, [], ◌++◌, true, None};
 ghost use Rattle.oc_chunked.specs.Chunked.{IsChunked};
-ghost use Rattle.oc_chunked.specs.Stages.{Stage, ended, is_final, fault_in};
+ghost use Rattle.oc_chunked.specs.Stages.{DecoderState, ended, is_final, fault_in};
 ghost use Rattle.oc_chunked.specs.Taken.{IsTaken};
 ghost use Rattle.oc_chunked.specs.Texts.{chunked_text};
 
@@ -8,15 +8,15 @@ ghost use Rattle.oc_chunked.specs.Texts.{chunked_text};
 /// bytes that are refused, and after a whole text, no byte is taken. So feeding in pieces gives what
 /// feeding whole gives, a refusal too.
 pub fn a_text_is_read_in_one_way()
-    ensures one { (bytes content other : List ℕ) (s t : Stage) → IsTaken bytes content s → IsTaken bytes other t
+    ensures one { (bytes content other : List ℕ) (s t : DecoderState) → IsTaken bytes content s → IsTaken bytes other t
         → (s ≡ t) × (content ≡ other) }
-    ensures last { (bytes more content other : List ℕ) (s t : Stage) → IsTaken bytes content s → is_final s ≡ true
+    ensures last { (bytes more content other : List ℕ) (s t : DecoderState) → IsTaken bytes content s → is_final s ≡ true
         → IsTaken (bytes ++ more) other t → more ≡ [] }
 {}
 
 /// A chunked text whose bytes were all taken is at its end, and what was given is its content.
 pub fn a_chunked_text_ends()
-    ensures { (bytes content given : List ℕ) (s : Stage) → IsChunked bytes content → IsTaken bytes given s
+    ensures { (bytes content given : List ℕ) (s : DecoderState) → IsChunked bytes content → IsTaken bytes given s
         → (s ≡ ended) × (given ≡ content) }
 {}
 
@@ -24,6 +24,6 @@ pub fn a_chunked_text_ends()
 /// it leads to the end, with the content.
 pub fn a_written_text_is_read()
     ensures whole { (bytes : List ℕ) → IsTaken (chunked_text bytes) bytes ended }
-    ensures fine { (bytes front rest content : List ℕ) (s : Stage) → chunked_text bytes ≡ front ++ rest → IsTaken front content s
+    ensures fine { (bytes front rest content : List ℕ) (s : DecoderState) → chunked_text bytes ≡ front ++ rest → IsTaken front content s
         → fault_in s ≡ None }
 {}

@@ -12,11 +12,11 @@
 //! [`a_written_text_is_read`] that what is written is read.
 #![tactic(auto)]
 
+mod decoder;
 mod fault;
 mod law;
 mod limits;
 mod lines;
-mod progress;
 mod reserved;
 mod state;
 mod unchunker;

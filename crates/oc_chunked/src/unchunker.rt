@@ -1,5 +1,5 @@
+use crate::decoder::Decoder;
 use crate::fault::ChunkFault;
-use crate::progress::Progress;
 use oc_base::Memory;
 use std::alloc::Global;
 use std::marker::Model;
@@ -11,14 +11,14 @@ use std::marker::Model;
 /// with which content.
 #[derive(Drop)]
 pub struct Unchunker {
-    progress: Progress,
+    progress: Decoder,
 }
 
 impl Model for Unchunker {
-    ghost use Rattle.oc_chunked.specs.Stages.{Stage};
+    ghost use Rattle.oc_chunked.specs.Stages.{DecoderState};
     ghost use Rattle.oc_chunked.specs.Views.{stage_of};
 
-    ghost Value = { Stage };
+    ghost Value = { DecoderState };
 
     ghost view = { λ u. stage_of u.progress };
 }
@@ -35,7 +35,7 @@ impl Unchunker {
         ensures { IfOk result (λ u. IsTaken [] [] u) }
     {
         Ok(Unchunker {
-            progress: Progress::new(alloc)?,
+            progress: Decoder::new(alloc)?,
         })
     }
 

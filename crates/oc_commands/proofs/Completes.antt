@@ -1,6 +1,6 @@
 -- What had happened leaves no other end to a command that has what it needs.
 use Rattle.std.proofs.Common.{◌≡◌, ℕ, Bool, inl, inr, refl, subst, ap, List, Option, Some, None}
-use Rattle.oc_check.proofs.Complete.{only_memory}
+use Rattle.oc_keep.proofs.Complete.{only_memory}
 use Rattle.oc_fetch.specs.Completeness.{Completes, IsUnrefused}
 use Rattle.oc_fetch.specs.declared.end.GetEnd.{GetEnd}
 use Rattle.oc_fetch.specs.declared.end.GetEnd.TheVariants as gets
@@ -12,10 +12,10 @@ use Rattle.oc_link.specs.Calls.{Told}
 use Rattle.oc_link.specs.Story.{Story}
 use Rattle.oc_words.specs.declared.request.Download.{Download}
 use Rattle.oc_words.specs.declared.request.Member.{Member}
-use Rattle.oc_words.specs.declared.request.Request.{Request}
-use Rattle.oc_words.specs.declared.request.Request.TheVariants.{Check, Get}
+use Rattle.oc_words.specs.declared.request.Invocation.{Invocation}
+use Rattle.oc_words.specs.declared.request.Invocation.TheVariants.{Check, Get}
 use Rattle.oc_commands.specs.AtGet.{Downloaded}
-use Rattle.oc_check.specs.declared.network.Network.{Network}
+use Rattle.oc_commands.specs.declared.network.Network.{Network}
 use Rattle.oc_commands.specs.AtCheck.{HappenedAtCheck, network_of}
 use Rattle.oc_commands.specs.Complete.{IsDoneOrMemory, IsServed, once, plainly}
 use Rattle.oc_commands.specs.Ends.{status_of, status_of_check, status_of_get, status_of_load}
@@ -33,10 +33,10 @@ abbrev pub IsSound : Output → Type 0
 IsSound output = (text : List ℕ) → output.cut_off text → ⊥
 
 -- a request for one node or for one download is for no other
-same_member : (asked : Option Request) (m n : Member) (f g : Option (List ℕ)) → asked ≡ Some (Check m f) → asked ≡ Some (Check n g) → n ≡ m
+same_member : (asked : Option Invocation) (m n : Member) (f g : Option (List ℕ)) → asked ≡ Some (Check m f) → asked ≡ Some (Check n g) → n ≡ m
 same_member asked m n f g is also = cc
 
-same_download : (asked : Option Request) (d e : Download) → asked ≡ Some (Get d) → asked ≡ Some (Get e) → e ≡ d
+same_download : (asked : Option Invocation) (d e : Download) → asked ≡ Some (Get d) → asked ≡ Some (Get e) → e ≡ d
 same_download asked d e is also = cc
 
 module _ {D : Type 0} (view : D → DiskView) (old new : Disks D) (output : Output) (sound : IsSound output) (honest : AreHonest view old) (unfailed : OneRose view old new → ⊥) where
@@ -46,7 +46,7 @@ module _ {D : Type 0} (view : D → DiskView) (old new : Disks D) (output : Outp
   check_done n id (checks.Load error) files h =
       inr (ap (λ e. number_of (status_of_load e)) (only_memory view n.nodes old new honest files unfailed error h.0.0))
 
-  pub checked : (input : Input) (error : OnError) (stage : OnStage) (link : OnLink) (token : Input) (node : OnNode) (asked : Option Request) (m : Member) (f : Option (List ℕ)) (end : End) → asked ≡ Some (Check m f) → HoldFiles view m.nodes old
+  pub checked : (input : Input) (error : OnError) (stage : OnStage) (link : OnLink) (token : Input) (node : OnNode) (asked : Option Invocation) (m : Member) (f : Option (List ℕ)) (end : End) → asked ≡ Some (Check m f) → HoldFiles view m.nodes old
       → Happened (record { asked = asked; input = input; output = output; error = error; stage = stage; files = at_files view old new; link = link; token = token; node = node }) end
       → IsDoneOrMemory (number_of (status_of end))
   checked input error stage link token node asked m f Helped is files h = let also = h.0 in cc
@@ -83,7 +83,7 @@ module _ {L : Type 0} (story : L → Option Story) (faults : L → ℕ) (old new
   get_done address start progress gets.Sink u h = absurd (sound _ h.wrote)
   get_done address start progress gets.Memory u h = inr refl
 
-  pub fetched : (input : Input) (error : OnError) (stage : OnStage) (files : OnFiles) (token : Input) (node : OnNode) (asked : Option Request) (address : List ℕ) (start : Option ℕ) (progress : Bool) (end : End) → asked ≡ Some (Get (once address start progress)) → IsServed address start (story old) (story new)
+  pub fetched : (input : Input) (error : OnError) (stage : OnStage) (files : OnFiles) (token : Input) (node : OnNode) (asked : Option Invocation) (address : List ℕ) (start : Option ℕ) (progress : Bool) (end : End) → asked ≡ Some (Get (once address start progress)) → IsServed address start (story old) (story new)
       → Happened (record { asked = asked; input = input; output = output; error = error; stage = stage; files = files; link = at_link story faults old new; token = token; node = node }) end
       → IsDoneOrMemory (number_of (status_of end))
   fetched input error stage files token node asked address start progress Helped is s h = let also = h.0 in cc

@@ -1,7 +1,7 @@
 -- What had happened leaves `check` of a node of a configuration the status of that, where nothing fails.
 use Rattle.std.proofs.Common.{◌≡◌, ℕ, ◌⊎◌, inl, inr, refl, sym, subst, List, length, Option, Some, Err, Ok, Result}
 use Rattle.oc_base.specs.Lawful.{IsNode}
-use Rattle.oc_check.proofs.Complete.{only_memory}
+use Rattle.oc_keep.proofs.Complete.{only_memory}
 use Rattle.oc_config.specs.Reading.{settings_of}
 use Rattle.oc_config.specs.Settings.{Settings}
 use Rattle.oc_config.specs.declared.fault.ConfigFault.{ConfigFault}
@@ -11,8 +11,8 @@ use Rattle.oc_io.specs.Faults.{Rose}
 use Rattle.oc_keep.specs.Files.{Disks, AreHonest, OneRose}
 use Rattle.oc_keep.specs.declared.errors.KeepLoad.TheVariants as loads
 use Rattle.oc_words.specs.declared.request.Paths.{Paths}
-use Rattle.oc_words.specs.declared.request.Request.{Request}
-use Rattle.oc_words.specs.declared.request.Request.TheVariants.{CheckConfigured as CheckRequest}
+use Rattle.oc_words.specs.declared.request.Invocation.{Invocation}
+use Rattle.oc_words.specs.declared.request.Invocation.TheVariants.{CheckConfigured as CheckRequest}
 use Rattle.oc_commands.specs.AtCheck.{HappenedAtCheck, network_in}
 use Rattle.oc_commands.specs.AtConfigured.{HappenedAtConfigured, HasShownStatus, IsShownOf, IsShownOver}
 use Rattle.oc_commands.specs.Ends.{status_of, status_of_check, status_of_configured}
@@ -31,7 +31,7 @@ use Rattle.oc_commands.proofs.Completes.{IsSound}
 use Rattle.oc_commands.proofs.Tokens.{untokened}
 
 -- a request for one node is for no other
-same_id : (asked : Option Request) (m n : ℕ) (p q : Paths) → asked ≡ Some (CheckRequest m p) → asked ≡ Some (CheckRequest n q) → n ≡ m
+same_id : (asked : Option Invocation) (m n : ℕ) (p q : Paths) → asked ≡ Some (CheckRequest m p) → asked ≡ Some (CheckRequest n q) → n ≡ m
 same_id asked m n p q is also = cc
 
 module _ {S D : Type 0} (gives fails : S → List ℕ → S → Type 0) (ended : S → Type 0) (faulty : S → ℕ) (old new : S) (view : D → DiskView) (d e : Disks D) (output : Output)
@@ -72,7 +72,7 @@ module _ {S D : Type 0} (gives fails : S → List ℕ → S → Type 0) (ended :
       let (bytes, whole, is) = read in
       told id (Ok s) (number_of (status_of_check end)) bytes whole.0 whole.1 is.line is.gives (check_has s id end rest.0 rest.1)
 
-  pub shown : (error : OnError) (stage : OnStage) (link : OnLink) (token : Input) (node : OnNode) (asked : Option Request) (id : ℕ) (p : Paths) (end : End) → asked ≡ Some (CheckRequest id p)
+  pub shown : (error : OnError) (stage : OnStage) (link : OnLink) (token : Input) (node : OnNode) (asked : Option Invocation) (id : ℕ) (p : Paths) (end : End) → asked ≡ Some (CheckRequest id p)
       → Happened (record { asked = asked; input = at_source gives fails ended faulty old new; output = output; error = error; stage = stage; files = at_files view d e; link = link; token = token; node = node }) end
       → HasShownStatus gives ended view d id old new (number_of (status_of end)) ⊎ (number_of (status_of end) ≡ 4)
   shown error stage link token node asked id p Helped is h = let also = h.0 in cc

@@ -3,7 +3,7 @@ use Rattle.std.proofs.Common.{◌≡◌, ℕ, Bool, true, false, Option, Some, N
 use Rattle.oc_fetch.specs.Addresses.{IsAddressOf, IsBadAddress}
 use Rattle.oc_fetch.specs.Downloads.{Downloads, IsUnasked, content_of, news_of}
 use Rattle.oc_fetch.specs.Lines.{Tells}
-use Rattle.oc_fetch.specs.Manners.{Manner}
+use Rattle.oc_fetch.specs.FetchOptions.{FetchOptions}
 use Rattle.oc_fetch.specs.Metered.{Goes}
 use Rattle.oc_fetch.specs.Passing.{IsTalked, Sent}
 use Rattle.oc_fetch.specs.declared.end.GetEnd.{GetEnd}
@@ -45,7 +45,7 @@ blames_of link gets.Sink cause = tt
 blames_of link gets.Memory cause = tt
 
 module _ {K L : Type 0} (takes fails : K → List ℕ → K → Type 0) (count : K → ℕ) (story : L → Option Story) (faults : L → ℕ) (old new : L) (before after : K)
-    (d : Download) (token : Option (List ℕ)) (address : List ℕ) (address_is : address ≡ d.address) (manner : Manner) (manner_is : manner ≡ manner_of d token) (end : GetEnd)
+    (d : Download) (token : Option (List ℕ)) (address : List ℕ) (address_is : address ≡ d.address) (manner : FetchOptions) (manner_is : manner ≡ manner_of d token) (end : GetEnd)
     (sink_cause : end ≡ gets.Sink → Rose (count before) (count after)) (link_cause : end ≡ gets.Link → Rose (faults old) (faults new))
     (bad : IsBadAddress address → IsUnasked address end) where
   abbrev link : OnLink

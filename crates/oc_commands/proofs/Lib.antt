@@ -12,3 +12,5 @@ pub mod Tokens
 mod AnyLine
 pub mod Works
 pub mod Serves
+mod Headers
+mod Shown

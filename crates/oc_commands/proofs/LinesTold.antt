@@ -1,4 +1,4 @@
--- What lines tell of a client, one behind the other.
+-- What lines tell of a client, one after the other.
 use Rattle.std.proofs.Common.{◌≡◌, ◌∙◌, ℕ, Bool, true, false, List, ◌++◌, length, take, sym, ap, subst, inl, inr, arith}
 use Rattle.std.proofs.lemmas.List.{append_assoc, take-append-le, take_all}
 use Rattle.oc_fetch.specs.Lines.{Tells, lines_between}

@@ -9,7 +9,7 @@ use Rattle.oc_link.specs.Story.{Story}
 use Rattle.oc_put.specs.Publishing.{Came as CameOf, IsPublished, IsUnasked}
 use Rattle.oc_put.specs.declared.end.PutEnd.{PutEnd}
 use Rattle.oc_put.specs.declared.end.PutEnd.TheVariants as puts
-use Rattle.oc_put.specs.declared.plan.Plan.{Plan}
+use Rattle.oc_put.specs.declared.publication.Publication.{Publication}
 use Rattle.oc_words.specs.declared.request.Upload.{Upload}
 use Rattle.oc_commands.specs.AtPut.{Blames, Came, CameSo, HappenedAtPut, Published, is_done, plan_of}
 use Rattle.oc_commands.specs.AtPut as posted_at
@@ -53,7 +53,7 @@ module _ {S : Type 0} (gives fails : S → List ℕ → S → Type 0) (ended : S
     abbrev link : OnLink
     link = at_link story faults before after
 
-    published_of : (plan : Plan) (address : List ℕ) (shown : Option (List ℕ)) → IsPublished gives fails ended plan address shown (story before) (story after) old new end
+    published_of : (plan : Publication) (address : List ℕ) (shown : Option (List ℕ)) → IsPublished gives fails ended plan address shown (story before) (story after) old new end
         → (end ≡ puts.Input → Rose (count old) (count new)) → Published link input plan address shown end
     published_of plan address shown (inl (none, silent, unread)) cause = inl (none, silent, unread)
     published_of plan address shown (inr (url, is, at)) cause = inr (
@@ -69,7 +69,7 @@ module _ {S : Type 0} (gives fails : S → List ℕ → S → Type 0) (ended : S
       },
     )
 
-    pub posted : (address : List ℕ) (shown : Option (List ℕ)) (plan : Plan) → address ≡ u.address → shown ≡ token → plan ≡ plan_of u
+    pub posted : (address : List ℕ) (shown : Option (List ℕ)) (plan : Publication) → address ≡ u.address → shown ≡ token → plan ≡ plan_of u
         → IsPublished gives fails ended plan address shown (story before) (story after) old new end → (IsBadAddress address → IsUnasked address end)
         → (end ≡ puts.Input → Rose (count old) (count new)) → (end ≡ puts.Link → Rose (faults before) (faults after))
         → (error : OnError) → posted_at.Tells error input u.progress end → HappenedAtPut link input error u token end

@@ -1,12 +1,12 @@
 -- What had happened leaves `node` the status of its configuration, where nothing fails.
 use Rattle.std.proofs.Common.{◌≡◌, ℕ, ◌⊎◌, inl, inr, refl, sym, subst, List, length, Option, Some, Err, Ok, Result}
-use Rattle.oc_check.proofs.Complete.{only_memory}
+use Rattle.oc_keep.proofs.Complete.{only_memory}
 use Rattle.oc_config.specs.Reading.{settings_of}
 use Rattle.oc_config.specs.Settings.{Settings}
 use Rattle.oc_config.specs.declared.fault.ConfigFault.{ConfigFault}
 use Rattle.oc_config.specs.declared.fault.ConfigFault.TheVariants as faults
-use Rattle.oc_events.specs.declared.call.Call.{Call}
-use Rattle.oc_events.specs.declared.counts.Counts.{Counts}
+use Rattle.oc_link.specs.declared.call.Call.{Call}
+use Rattle.oc_link.specs.declared.counts.LinkCounts.{LinkCounts}
 use Rattle.oc_io.specs.DiskView.{DiskView}
 use Rattle.oc_io.specs.Faults.{Rose}
 use Rattle.oc_keep.specs.Files.{Disks, AreHonest, OneRose}
@@ -16,8 +16,8 @@ use Rattle.oc_service.specs.declared.running.NodeEnd.{NodeEnd}
 use Rattle.oc_service.specs.declared.running.NodeEnd.TheVariants as nodes
 use Rattle.oc_server.specs.declared.ends.TurnEnd.TheVariants as turns
 use Rattle.oc_words.specs.declared.request.Paths.{Paths}
-use Rattle.oc_words.specs.declared.request.Request.{Request}
-use Rattle.oc_words.specs.declared.request.Request.TheVariants.{Node}
+use Rattle.oc_words.specs.declared.request.Invocation.{Invocation}
+use Rattle.oc_words.specs.declared.request.Invocation.TheVariants.{Node}
 use Rattle.oc_words.specs.declared.request.Service.{Service}
 use Rattle.oc_commands.specs.AtNode.{HappenedAtNode, HasNode, HasServiceStatus, IsStatusOf, IsStatusOver, task_of}
 use Rattle.oc_commands.specs.Ends.{status_of, status_of_run, status_of_service}
@@ -34,10 +34,10 @@ use Rattle.oc_commands.proofs.Completes.{IsSound}
 use Rattle.oc_commands.proofs.Tokens.{untokened}
 
 -- a request for one node is for no other
-same_service : (asked : Option Request) (v w : Service) (p q : Paths) → asked ≡ Some (Node v p) → asked ≡ Some (Node w q) → w ≡ v
+same_service : (asked : Option Invocation) (v w : Service) (p q : Paths) → asked ≡ Some (Node v p) → asked ≡ Some (Node w q) → w ≡ v
 same_service asked v w p q is also = cc
 
-module _ {S D N : Type 0} (gives fails : S → List ℕ → S → Type 0) (ended : S → Type 0) (faulty : S → ℕ) (old new : S) (view : D → DiskView) (d e : Disks D) (story : N → Option (List Call)) (counts : N → Counts) (link after : N) (output : Output)
+module _ {S D N : Type 0} (gives fails : S → List ℕ → S → Type 0) (ended : S → Type 0) (faulty : S → ℕ) (old new : S) (view : D → DiskView) (d e : Disks D) (story : N → Option (List Call)) (counts : N → LinkCounts) (link after : N) (output : Output)
     (honest : AreHonest view d) (unfailed : OneRose view d e → ⊥) (waiting : Rose (counts link).listening (counts after).listening → ⊥) (sourced : Rose (faulty old) (faulty new) → ⊥) (sound : IsSound output) where
   -- a status, or that of want of memory
   abbrev OrMemory : (ℕ → Type 0) → ℕ → Type 0
@@ -85,7 +85,7 @@ module _ {S D N : Type 0} (gives fails : S → List ℕ → S → Type 0) (ended
       let (bytes, whole, is) = read in
       told v (Ok s) (number_of (status_of_run end)) bytes whole.0 whole.1 is.line is.gives (run_has s v end rest.0 rest.1)
 
-  pub served : (error : OnError) (stage : OnStage) (dialler : OnLink) (token : Input) (asked : Option Request) (v : Service) (p : Paths) (end : End) → asked ≡ Some (Node v p)
+  pub served : (error : OnError) (stage : OnStage) (dialler : OnLink) (token : Input) (asked : Option Invocation) (v : Service) (p : Paths) (end : End) → asked ≡ Some (Node v p)
       → Happened (record { asked = asked; input = at_source gives fails ended faulty old new; output = output; error = error; stage = stage; files = at_files view d e; link = dialler; token = token; node = at_node view story counts d e link after }) end
       → HasServiceStatus gives ended view d v old new (number_of (status_of end)) ⊎ (number_of (status_of end) ≡ 4)
   served error stage dialler token asked v p Helped is h = let also = h.0 in cc

@@ -6,9 +6,10 @@ use Rattle.std.specs.List.{list_all}
 use Rattle.std.proofs.lemmas.Bool.{and_parts}
 use Rattle.std.proofs.lemmas.Bool.Decides.{nat_tests}
 use Rattle.std.proofs.lemmas.Str.{IsUtf8-from_ascii}
+use Rattle.oc_policy.specs.Tokens.{is_token_byte}
 use Rattle.oc_words.specs.Paths.{token_file_asked, token_file_of}
-use Rattle.oc_words.specs.declared.request.Request.{Request}
-use Rattle.oc_commands.specs.AtToken.{TakesToken, first_of, is_token, is_token_byte}
+use Rattle.oc_words.specs.declared.request.Invocation.{Invocation}
+use Rattle.oc_commands.specs.AtToken.{TakesToken, first_of, is_token}
 use Rattle.oc_commands.specs.Outside.{Input}
 use Rattle.oc_commands.specs.declared.token.TheConstants.{MAX_TOKEN_BYTES}
 
@@ -33,7 +34,7 @@ first_cut None line lines others last more = sym (ap first_of last)
 first_cut (Some r) line lines others last more = sym (ap first_of more)
 
 -- a request that names no file of a token is none of those that name one
-pub untokened : (asked : Option Request) (r : Request) (file : List ℕ) → asked ≡ Some r → token_file_of r ≡ None → token_file_asked asked ≡ Some file → ⊥
+pub untokened : (asked : Option Invocation) (r : Invocation) (file : List ℕ) → asked ≡ Some r → token_file_of r ≡ None → token_file_asked asked ≡ Some file → ⊥
 untokened asked r file is none named =
     let same : None ≡ Some file = sym none ∙ (sym (ap token_file_asked is) ∙ named) in
     cc

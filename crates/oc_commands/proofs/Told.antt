@@ -6,15 +6,15 @@ use Rattle.oc_fetch.specs.declared.end.GetEnd.{GetEnd}
 use Rattle.oc_fetch.specs.declared.end.GetEnd.TheVariants as gets
 use Rattle.oc_put.specs.declared.end.PutEnd.{PutEnd}
 use Rattle.oc_put.specs.declared.end.PutEnd.TheVariants as puts
-use Rattle.oc_put.specs.declared.plan.Plan.{Plan}
+use Rattle.oc_put.specs.declared.publication.Publication.{Publication}
 use Rattle.oc_replay.specs.declared.end.ReplayEnd.{ReplayEnd}
 use Rattle.oc_replay.specs.declared.end.ReplayEnd.TheVariants as replays
 use Rattle.oc_schedule.specs.Script.{Script}
 use Rattle.oc_schedule.specs.declared.fault.ScheduleFault.{ScheduleFault}
 use Rattle.oc_schedule.specs.declared.fault.What.{What}
 use Rattle.oc_words.specs.declared.request.Download.{Download}
-use Rattle.oc_check.specs.declared.network.Network.{Network}
-use Rattle.oc_words.specs.declared.request.Request.{Request}
+use Rattle.oc_commands.specs.declared.network.Network.{Network}
+use Rattle.oc_words.specs.declared.request.Invocation.{Invocation}
 use Rattle.oc_words.specs.declared.request.Sample.{Sample}
 use Rattle.oc_words.specs.declared.request.Service.{Service}
 use Rattle.oc_words.specs.declared.request.Upload.{Upload}
@@ -175,7 +175,7 @@ module _ (i j : Input) (o p : Output) (d e : OnError) (stage : OnStage) (input :
   came_told bytes over puts.Link h = came_so bytes over h
   came_told bytes over puts.Memory h = came_so bytes over h
 
-  published_told : (link : OnLink) (plan : Plan) (address : List ℕ) (token : Option (List ℕ)) (end : PutEnd) → Posted link i plan address token end → Posted link j plan address token end
+  published_told : (link : OnLink) (plan : Publication) (address : List ℕ) (token : Option (List ℕ)) (end : PutEnd) → Posted link i plan address token end → Posted link j plan address token end
   published_told link plan address token end (inl (none, silent, unread)) = inl (none, silent, input.unread unread)
   published_told link plan address token end (inr (url, is, at)) = inr (
     url,
@@ -228,7 +228,7 @@ module _ (i j : Input) (o p : Output) (d e : OnError) (stage : OnStage) (input :
   node_told node v services.Stranger h = let (settings, read, rest) = h in (settings, config_told (Ok settings) read, (rest.0, output.written _ rest.1))
   node_told node v (services.Ran end) h = let (settings, read, rest) = h in (settings, config_told (Ok settings) read, (rest.0, run_told (node.run settings (task_of v)) (setting_of settings (task_of v)) end rest.1))
 
-  module _ (asked : Option Request) (files : OnFiles) (link : OnLink) (node : OnNode) (t u : Input) (token : TellsInput t u) where
+  module _ (asked : Option Invocation) (files : OnFiles) (link : OnLink) (node : OnNode) (t u : Input) (token : TellsInput t u) where
     abbrev before : Outside
     before = record { asked = asked; input = i; output = o; error = d; stage = stage; files = files; link = link; token = t; node = node }
 

@@ -11,8 +11,8 @@ use Rattle.oc_replay.specs.declared.end.ReplayEnd.TheVariants as replays
 use Rattle.oc_schedule.specs.Schedule.{read_lines, schedule_of}
 use Rattle.oc_schedule.specs.declared.fault.ScheduleFault.TheVariants as faults
 use Rattle.oc_schedule.specs.declared.fault.What.TheVariants as limits
-use Rattle.oc_words.specs.declared.request.Request.{Request}
-use Rattle.oc_words.specs.declared.request.Request.TheVariants.{Help, Version, Gen, Replay, Rules}
+use Rattle.oc_words.specs.declared.request.Invocation.{Invocation}
+use Rattle.oc_words.specs.declared.request.Invocation.TheVariants.{Help, Version, Gen, Replay, Rules}
 use Rattle.oc_words.specs.declared.request.Sample.{Sample}
 use Rattle.oc_commands.specs.AtGen.{HappenedAtGen}
 use Rattle.oc_commands.specs.AtReplay.{HappenedAtReplay, HasStatus, status_for}
@@ -130,7 +130,7 @@ module _ {S : Type 0} (gives fails : S → List ℕ → S → Type 0) (ended : S
   rules_have (lists.Config (configs.Fault (config_faults.Measure number why))) h = let (bytes, whole, is) = h.0 in inl (record { bytes = bytes; came = whole.0; status_is = inl (whole.1, sym (status_read is.line bytes _ is.gives)) })
   rules_have (lists.Config (configs.Fault (config_faults.Unknown place key))) h = let (bytes, whole, is) = h.0 in inl (record { bytes = bytes; came = whole.0; status_is = inl (whole.1, sym (status_read is.line bytes _ is.gives)) })
 
-  module _ (asked : Option Request) (error : OnError) (files : OnFiles) (link : OnLink) (token : Input) (node : OnNode) where
+  module _ (asked : Option Invocation) (error : OnError) (files : OnFiles) (link : OnLink) (token : Input) (node : OnNode) where
     abbrev outside : Outside
     outside = record { asked = asked; input = at_source gives fails ended faulty old new; output = output; error = error; stage = stage; files = files; link = link; token = token; node = node }
 

@@ -1,8 +1,8 @@
 -- What had happened at each end of `check`.
 use Rattle.std.specs.Prelude.{ℕ, List, [], length}
 use Rattle.oc_base.specs.declared.limits.TheConstants.{USUAL_CHUNK_BYTES}
-use Rattle.oc_check.specs.Checks.{header_without_areas}
-use Rattle.oc_check.specs.declared.network.Network.{Network}
+use Rattle.oc_commands.specs.Checks.{header_without_areas}
+use Rattle.oc_commands.specs.declared.network.Network.{Network}
 use Rattle.oc_config.specs.Settings.{Settings}
 use Rattle.oc_replay.specs.Pieces.{SomeFront}
 use Rattle.oc_words.specs.declared.request.Member.{Member}

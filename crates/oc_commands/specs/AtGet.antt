@@ -2,7 +2,7 @@
 use Rattle.std.specs.Prelude.{ℕ, Bool, true, false, Option, Some, None, List, length, ⊤}
 use Rattle.oc_fetch.specs.Addresses.{IsAddressOf, IsBadAddress}
 use Rattle.oc_fetch.specs.Downloads.{Downloads, IsUnasked, content_of, news_of}
-use Rattle.oc_fetch.specs.Manners.{Manner}
+use Rattle.oc_fetch.specs.FetchOptions.{FetchOptions}
 use Rattle.oc_fetch.specs.Turns.{Turn}
 use Rattle.oc_fetch.specs.Wishes.{Wish}
 use Rattle.oc_fetch.specs.declared.end.GetEnd.{GetEnd}
@@ -12,11 +12,11 @@ use Rattle.oc_commands.specs.Outside.{OnError, OnLink, Output}
 use Rattle.url.specs.Parts.{Parts}
 
 -- how the client asks: from this byte, with this token
-abbrev pub manner_of : Download → Option (List ℕ) → Manner
+abbrev pub manner_of : Download → Option (List ℕ) → FetchOptions
 manner_of d token = record { from = d.start; token = token }
 
 -- what the client wishes for: the content of the URL, or what is new
-abbrev pub wish_for : Option ℕ → Manner → Parts → Wish
+abbrev pub wish_for : Option ℕ → FetchOptions → Parts → Wish
 wish_for None = content_of
 wish_for (Some times) = news_of
 
@@ -36,7 +36,7 @@ Blames link ends.Link = link.has_failed
 Blames link end = ⊤
 
 -- where the URL is asked for once, replies that lead to its whole content are not refused
-abbrev pub CompletesOnce : OnLink → Option ℕ → Manner → List ℕ → GetEnd → Type 0
+abbrev pub CompletesOnce : OnLink → Option ℕ → FetchOptions → List ℕ → GetEnd → Type 0
 CompletesOnce link None manner address end = (url : Parts) → IsAddressOf address url → link.completes manner url end
 CompletesOnce link (Some times) manner address end = ⊤
 
@@ -44,7 +44,7 @@ abbrev pub is_done : GetEnd → Bool
 is_done ends.Done = true
 is_done end = false
 
--- where that is wanted, lines told of so many bytes, and at the end of all where all is done
+-- where that is wanted, lines told of this many bytes, and at the end of all where all is done
 abbrev pub Tells : OnError → Bool → GetEnd → ℕ → Type 0
 Tells error false end count = error.silent
 Tells error true end count = error.told (is_done end) count

@@ -6,9 +6,9 @@ use Rattle.oc_put.specs.Requests.{Goal}
 use Rattle.oc_put.specs.Turns.{Turn}
 use Rattle.oc_put.specs.declared.end.PutEnd.{PutEnd}
 use Rattle.oc_put.specs.declared.end.PutEnd.TheVariants as ends
-use Rattle.oc_put.specs.declared.plan.Place.{Place}
-use Rattle.oc_put.specs.declared.plan.Place.TheVariants as places
-use Rattle.oc_put.specs.declared.plan.Plan.{Plan}
+use Rattle.oc_put.specs.declared.publication.WriteMode.{WriteMode}
+use Rattle.oc_put.specs.declared.publication.WriteMode.TheVariants as places
+use Rattle.oc_put.specs.declared.publication.Publication.{Publication}
 use Rattle.oc_words.specs.declared.request.Onto.{Onto}
 use Rattle.oc_words.specs.declared.request.Onto.TheVariants.{New, Append, Resume}
 use Rattle.oc_words.specs.declared.request.Upload.{Upload}
@@ -16,13 +16,13 @@ use Rattle.oc_commands.specs.Outside.{Input, OnError, OnLink}
 use Rattle.url.specs.Parts.{Parts}
 
 -- where the input goes
-abbrev pub place_of : Onto → Place
+abbrev pub place_of : Onto → WriteMode
 place_of New = places.New
 place_of Append = places.Append
 place_of Resume = places.Resume
 
 -- how it is published
-abbrev pub plan_of : Upload → Plan
+abbrev pub plan_of : Upload → Publication
 plan_of u = record { place = place_of u.onto; seal = u.seals }
 
 -- these bytes came of the input, and it ended where `over` says so; where it is to blame a call on it then failed
@@ -40,7 +40,7 @@ Blames link ends.Link = link.has_failed
 Blames link end = ⊤
 
 -- the turns with the source there, and what was read of the input
-pub record PublishedAt (link : OnLink) (input : Input) (plan : Plan) (goal : Goal) (end : PutEnd) : Type 0 where
+pub record PublishedAt (link : OnLink) (input : Input) (plan : Publication) (goal : Goal) (end : PutEnd) : Type 0 where
   pub turns : List Turn
   pub bytes : List ℕ
   pub over : Bool
@@ -49,7 +49,7 @@ pub record PublishedAt (link : OnLink) (input : Input) (plan : Plan) (goal : Goa
   pub came : Came input bytes over end
 
 -- nothing was asked, or the input was published at the URL of the address, with this token
-abbrev pub Published : OnLink → Input → Plan → List ℕ → Option (List ℕ) → PutEnd → Type 0
+abbrev pub Published : OnLink → Input → Publication → List ℕ → Option (List ℕ) → PutEnd → Type 0
 Published link input plan address token end =
     (IsUnasked address end × link.silent × input.unread)
     ⊎ ((url : Parts) × IsAddressOf address url × PublishedAt link input plan (record { url = url; token = token }) end)
@@ -58,7 +58,7 @@ abbrev pub is_done : PutEnd → Bool
 is_done ends.Done = true
 is_done end = false
 
--- where that is wanted, lines told of so many bytes; where all is done these are all bytes of the input
+-- where that is wanted, lines told of this many bytes; where all is done these are all bytes of the input
 abbrev pub Tells : OnError → Input → Bool → PutEnd → Type 0
 Tells error input false end = error.silent
 Tells error input true end = (count : ℕ) × error.told (is_done end) count × (end ≡ ends.Done → (bytes : List ℕ) × input.gave bytes × (count ≡ length bytes))

@@ -1,6 +1,7 @@
 -- The result of reading a file for the token in its first line.
 use Rattle.std.specs.Prelude.{◌≡◌, ◌==◌, ◌&&◌, ℕ, Bool, true, false, not, nat_le, Option, Some, None, Result, Ok, Err, List, [], ◌∷◌, length}
 use Rattle.std.specs.List.{list_all, slice_split}
+use Rattle.oc_policy.specs.Tokens.{is_token_byte}
 use Rattle.oc_commands.specs.Outside.{Input}
 use Rattle.oc_commands.specs.declared.token.TheConstants.{MAX_TOKEN_BYTES}
 use Rattle.oc_commands.specs.declared.token.TokenEnd.{TokenEnd}
@@ -14,11 +15,7 @@ first_of (line ∷ lines) = line
 abbrev pub first_line : List ℕ → List ℕ
 first_line bytes = first_of (slice_split (λ b. b == 10) bytes)
 
--- a printed byte of ASCII, and no space
-abbrev pub is_token_byte : ℕ → Bool
-is_token_byte b = nat_le 33 b && nat_le b 126
-
--- some such bytes
+-- printed bytes of ASCII, and no space
 abbrev pub is_token : List ℕ → Bool
 is_token line = not (length line == 0) && nat_le (length line) MAX_TOKEN_BYTES && list_all is_token_byte line
 

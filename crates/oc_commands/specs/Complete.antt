@@ -3,7 +3,7 @@ use Rattle.std.specs.Prelude.{◌≡◌, ◌⊎◌, ℕ, Bool, Option, Some, Non
 use Rattle.oc_fetch.specs.Addresses.{IsAddressOf}
 use Rattle.oc_fetch.specs.Completeness.{LeadToContent, text_of}
 use Rattle.oc_fetch.specs.Downloads.{first_state}
-use Rattle.oc_fetch.specs.Manners.{Manner}
+use Rattle.oc_fetch.specs.FetchOptions.{FetchOptions}
 use Rattle.oc_link.specs.Story.{Dial, Story, dials}
 use Rattle.url.specs.Parts.{Parts}
 use Rattle.oc_words.specs.declared.request.Download.{Download}
@@ -17,7 +17,7 @@ abbrev pub once : List ℕ → Option ℕ → Bool → Download
 once address start progress = record { address = address; times = None; start = start; token_file = None; progress = progress }
 
 -- how a client asks that has no token
-abbrev pub plainly : Option ℕ → Manner
+abbrev pub plainly : Option ℕ → FetchOptions
 plainly start = record { from = start; token = None }
 
 -- the address is a URL, and the dials that were made gave replies each of which led on to the next, up to a 200 with a whole content

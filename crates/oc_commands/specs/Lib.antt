@@ -18,3 +18,4 @@ pub mod Run
 pub mod Telling
 pub mod TellingExamples
 pub mod Counting
+pub mod Checks

@@ -3,9 +3,9 @@ use Rattle.std.specs.Prelude.{ℕ, Bool, true, false, Option, Some, None, Result
 use Rattle.std.specs.Result.{result_ok}
 use Rattle.oc_base.specs.Why.{why_text}
 use Rattle.oc_config.specs.Keys.{key_text}
-use Rattle.oc_config.specs.declared.key.Key.TheVariants.{Id}
-use Rattle.oc_config.specs.declared.place.Place.{Place}
-use Rattle.oc_config.specs.declared.place.Place.TheVariants as places
+use Rattle.oc_config.specs.declared.config_key.ConfigKey.TheVariants.{Id}
+use Rattle.oc_config.specs.declared.section_name.SectionName.{SectionName}
+use Rattle.oc_config.specs.declared.section_name.SectionName.TheVariants as places
 use Rattle.oc_config.specs.declared.fault.ConfigFault.{ConfigFault}
 use Rattle.oc_config.specs.declared.fault.ConfigFault.TheVariants as faults
 use Rattle.oc_fetch.specs.declared.end.GetEnd.{GetEnd}
@@ -45,7 +45,7 @@ use Rattle.oc_commands.specs.declared.token.TokenEnd.{TokenEnd}
 use Rattle.oc_commands.specs.declared.token.TokenEnd.TheVariants as tokens
 use Rattle.oc_commands.specs.Ends.{lacks_token}
 use Rattle.oc_words.specs.Paths.{file_asked, token_file_asked}
-use Rattle.oc_words.specs.declared.request.Request.{Request}
+use Rattle.oc_words.specs.declared.request.Invocation.{Invocation}
 use Rattle.oc_words.specs.declared.words.WordsFault.{WordsFault}
 
 -- the answer to `--version`
@@ -102,7 +102,7 @@ line_of_gen gens.Sink = output_failed
 line_of_gen gens.Memory = out_of_memory
 
 -- a fault of a table, and of what; a table of an array is named
-abbrev pub line_in : Place → List ℕ → List ℕ → List ℕ
+abbrev pub line_in : SectionName → List ℕ → List ℕ → List ℕ
 line_in places.Top fault text = line (codes "overcast: config: ") fault text []
 line_in (places.Node number) fault text = long_line (codes "overcast: config: node ") (decimal number) (codes ": ") fault text
 line_in (places.Rule number) fault text = long_line (codes "overcast: config: rule ") (decimal number) (codes ": ") fault text
@@ -202,22 +202,22 @@ line_of_service file services.Stranger = stranger_line
 line_of_service file (services.Ran end) = line_of_run end
 
 -- the file that an end is about, of those that the words name: that of the token, or that which takes the place of the input
-abbrev pub file_by : Bool → Option Request → Option (List ℕ)
+abbrev pub file_by : Bool → Option Invocation → Option (List ℕ)
 file_by true asked = token_file_asked asked
 file_by false asked = file_asked asked
 
-abbrev pub file_told : Option Request → End → Option (List ℕ)
+abbrev pub file_told : Option Invocation → End → Option (List ℕ)
 file_told asked end = file_by (lacks_token end) asked
 
 -- of those that a request names
-abbrev pub file_at : Request → End → Option (List ℕ)
+abbrev pub file_at : Invocation → End → Option (List ℕ)
 file_at request end = file_by (lacks_token end) (Some request)
 
 -- and of those in words that were read
-abbrev pub file_in : Bool → Result Request WordsFault → Option (List ℕ)
+abbrev pub file_in : Bool → Result Invocation WordsFault → Option (List ℕ)
 file_in lacks given = file_by lacks (result_ok given)
 
-abbrev pub file_known : Result Request WordsFault → End → Option (List ℕ)
+abbrev pub file_known : Result Invocation WordsFault → End → Option (List ℕ)
 file_known given end = file_in (lacks_token end) given
 
 -- the line of each end, which is about this file; that of bad words is followed by a text on usage

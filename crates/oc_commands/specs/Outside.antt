@@ -2,18 +2,18 @@
 -- error output, of the stage, of the files, of the link of a client and the file of its token, and of a node with its own link.
 --
 -- The input is one object, whatever the words name: the file that they name, else the standard input. Who calls `run` hands in that
--- object, which he finds by `Request::file`; and the three files are those of the folder that `Request::folder` gives. So nothing that is
+-- object, which he finds by `Invocation::file`; and the three files are those of the folder that `Invocation::folder` gives. So nothing that is
 -- said here depends on whether a file was named, but the line on the error output where the input failed (`Lines`), which names it. A
 -- file is opened at the first call on its object, as a node's files are: an opening that is refused is a call that failed, no more. The
 -- file of a token is an object of its own.
 use Rattle.std.specs.Prelude.{◌≡◌, ℕ, ◌<◌, Bool, Option, Result, List, length}
 use Rattle.oc_base.specs.declared.limits.TheConstants.{MAX_SCHEDULE_BYTES}
-use Rattle.oc_check.specs.Checks.{Shows}
+use Rattle.oc_commands.specs.Checks.{Shows}
 use Rattle.oc_config.specs.Settings.{Settings}
-use Rattle.oc_events.specs.declared.call.Call.{Call}
-use Rattle.oc_events.specs.declared.counts.Counts.{Counts}
+use Rattle.oc_link.specs.declared.call.Call.{Call}
+use Rattle.oc_link.specs.declared.counts.LinkCounts.{LinkCounts}
 use Rattle.oc_fetch.specs.Completeness.{Completes}
-use Rattle.oc_fetch.specs.Manners.{Manner}
+use Rattle.oc_fetch.specs.FetchOptions.{FetchOptions}
 use Rattle.oc_fetch.specs.Turns.{Makes, Turn}
 use Rattle.oc_fetch.specs.declared.end.GetEnd.{GetEnd}
 use Rattle.oc_keep.specs.Files.{Disks}
@@ -34,7 +34,7 @@ use Rattle.oc_schedule.specs.declared.fault.ScheduleFault.{ScheduleFault}
 use Rattle.oc_schedule.specs.declared.fault.What.{What}
 use Rattle.oc_service.specs.OnSite.{OnRun, at_run}
 use Rattle.oc_service.specs.declared.running.Task.{Task}
-use Rattle.oc_words.specs.declared.request.Request.{Request}
+use Rattle.oc_words.specs.declared.request.Invocation.{Invocation}
 use Rattle.url.specs.Parts.{Parts}
 
 -- of the input
@@ -67,7 +67,7 @@ pub record Output : Type 1 where
 
 -- of the error output, before the line that says how the run ended
 pub record OnError : Type 1 where
-  -- lines told of so many bytes, as they became more, and with `true` one of all at the end; as far as the error output took them
+  -- lines told of this many bytes, as they became more, and with `true` one of all at the end; as far as the error output took them
   pub told : Bool → ℕ → Type 0
   -- nothing was written
   pub silent : Type 0
@@ -97,7 +97,7 @@ pub record OnLink : Type 1 where
   -- a call of a dial failed
   pub has_failed : Type 0
   -- if the replies of the dials, from a URL on, led to a whole content, a download with this end was not refused
-  pub completes : Manner → Parts → GetEnd → Type 0
+  pub completes : FetchOptions → Parts → GetEnd → Type 0
   -- a client that publishes there made these turns on it, and nothing else was done
   pub publishes : Goal → List Sent → Type 0
   -- nothing was done on it
@@ -114,7 +114,7 @@ pub record OnNode : Type 1 where
 
 pub record Outside : Type 1 where
   -- what the words ask for, if anything
-  pub asked : Option Request
+  pub asked : Option Invocation
   pub input : Input
   pub output : Output
   pub error : OnError
@@ -175,7 +175,7 @@ module _ {L : Type 0} (story : L → Option Story) (faults : L → ℕ) where
     untouched = new ≡ old;
   }
 
-module _ {D N : Type 0} (view : D → DiskView) (story : N → Option (List Call)) (counts : N → Counts) where
+module _ {D N : Type 0} (view : D → DiskView) (story : N → Option (List Call)) (counts : N → LinkCounts) where
   abbrev pub at_node : Disks D → Disks D → N → N → OnNode
   at_node old new link after = record {
     run = λ s task. at_run view story counts s task old new link after;

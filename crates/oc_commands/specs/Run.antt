@@ -5,8 +5,8 @@ use Rattle.oc_replay.specs.Pieces.{SomeFront}
 use Rattle.oc_words.specs.declared.request.Download.{Download}
 use Rattle.oc_words.specs.declared.request.Member.{Member}
 use Rattle.oc_words.specs.declared.request.Paths.{Paths}
-use Rattle.oc_words.specs.declared.request.Request.{Request}
-use Rattle.oc_words.specs.declared.request.Request.TheVariants.{Help, Version, Replay, Gen, Check, CheckConfigured, Get, Put, Node, Rules}
+use Rattle.oc_words.specs.declared.request.Invocation.{Invocation}
+use Rattle.oc_words.specs.declared.request.Invocation.TheVariants.{Help, Version, Replay, Gen, Check, CheckConfigured, Get, Put, Node, Rules}
 use Rattle.oc_words.specs.declared.request.Sample.{Sample}
 use Rattle.oc_words.specs.declared.request.Service.{Service}
 use Rattle.oc_words.specs.declared.request.Upload.{Upload}
@@ -30,7 +30,7 @@ abbrev pub IsWrittenOrCut : {E : Type 0} → (E → List ℕ → E → Type 0) �
 IsWrittenOrCut takes fails count old new text = takes old text new ⊎ (SomeFront text (λ front. fails old front new) × Rose (count old) (count new))
 
 -- the words ask for no node
-abbrev pub IsNoNode : Option Request → Type 0
+abbrev pub IsNoNode : Option Invocation → Type 0
 IsNoNode (Some (Node service paths)) = ⊥
 IsNoNode asked = ⊤
 

@@ -1,7 +1,7 @@
 //! The command `check`, which shows what the files of a node recover.
 ghost use Rattle.std.specs.Prelude.{◌≡◌, length};
 ghost use Rattle.oc_base.specs.Lawful.{IsNode};
-ghost use Rattle.oc_check.specs.Checks.{IsNetwork};
+ghost use Rattle.oc_commands.specs.Checks.{IsNetwork};
 ghost use Rattle.oc_config.specs.Reading.{IsConfig};
 ghost use Rattle.oc_keep.specs.Files.{disks_in};
 ghost use Rattle.oc_io.specs.Faults.{NoFall};
@@ -12,8 +12,8 @@ ghost use Rattle.oc_words.specs.Requests.{IsMember};
 
 use crate::configuring::{ConfigEnd, read_config};
 use crate::serving::member_of;
+use crate::{Network, Recovered, recovered_text};
 use oc_base::{NodeId, USUAL_CHUNK_BYTES};
-use oc_check::{Network, Recovered, recovered_text};
 use oc_config::Config;
 use oc_io::{Disk, Sink, Source, write_all};
 use oc_keep::{Files, KeepLoad};

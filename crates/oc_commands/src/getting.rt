@@ -1,15 +1,15 @@
 //! The command `get`, which downloads.
-ghost use Rattle.std.specs.Prelude.{◌≡◌, option_map};
+ghost use Rattle.std.specs.Prelude.{◌≡◌};
 ghost use Rattle.oc_io.specs.Faults.{NoFall};
 ghost use Rattle.oc_commands.specs.AtGet.{Downloaded, HappenedAtGet, is_done};
 ghost use Rattle.oc_commands.specs.Outside.{at_link, at_sink};
 ghost use Rattle.oc_commands.specs.Telling.{at_error};
 
 use crate::progress::{Counting, finish};
-use oc_fetch::{GetEnd, Manner, Metered, follow, get};
+use oc_fetch::{FetchOptions, GetEnd, Metered, follow, get};
 use oc_io::Sink;
 use oc_link::Dialler;
-use oc_words::{Download, Name};
+use oc_words::{Download, Name, text_of};
 use std::alloc::Global;
 
 /// Writes the content of a URL, or what is new of a group, again and again, with a token or without. Where lines are
@@ -54,22 +54,12 @@ fn pass_on<K: Sink, L: Dialler>(
     ensures count { NoFall (K.faults out.old) (K.faults out.new) }
 {
     let address = wanted.address.as_str();
-    let manner = Manner {
+    let manner = FetchOptions {
         from: wanted.start,
         token: text_of(token),
     };
     match wanted.times {
         None => get(alloc, address, &manner, link, out),
         Some(times) => follow(alloc, address, times, &manner, link, out),
-    }
-}
-
-/// The text of a token, where there is one.
-pub(crate) fn text_of(token: &Option<Name>) -> Option<&str>
-    ensures { option_map (λ text. text.now) result ≡ token.now }
-{
-    match token {
-        Some(token) => Some(token.as_str()),
-        None => None,
     }
 }

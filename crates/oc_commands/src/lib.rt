@@ -9,6 +9,10 @@
 //! Where a replay is done, [`headline_holds`] is part of that: what holds of every world of the schedule,
 //! also inside settle and heal, and what settle and heal leave and report. [`limits_are_as_published`] says which numbers the
 //! limits are that all these contracts cite.
+//!
+//! `check` shows what the three files of a node recover, by [`recovered_text`]: the block of `show` and the block of `held`
+//! of that node (`Shows`), or why they recover none. A load writes the header of a file that is new and nothing else, so at
+//! every moment a crash leaves what a crash at the start would have left.
 #![tactic(auto)]
 
 mod checking;
@@ -23,10 +27,13 @@ mod helping;
 mod limits;
 mod lines;
 mod listing;
+mod loading;
+mod network;
 mod progress;
 mod putting;
 mod replaying;
 mod serving;
+mod showing;
 mod telling;
 mod texts;
 mod token;
@@ -40,6 +47,8 @@ pub use headline::headline_holds;
 pub use helping::{write_help, write_version};
 pub use limits::limits_are_as_published;
 pub use listing::{RulesEnd, list_rules};
+pub use loading::{Recovered, recovered_text};
+pub use network::Network;
 pub use oc_words::Status;
 pub use progress::{Counting, error_of, progress_computes, progress_on};
 pub use putting::publish;

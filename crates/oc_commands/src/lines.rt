@@ -14,7 +14,7 @@ use crate::listing::RulesEnd;
 use crate::serving::ServiceEnd;
 use itoa::Buffer;
 use oc_base::Why;
-use oc_config::{ConfigFault, Key, Place};
+use oc_config::{ConfigFault, ConfigKey, SectionName};
 use oc_keep::{KeepLoad, Which};
 use oc_replay::ReplayEnd;
 use oc_schedule::What;
@@ -180,7 +180,7 @@ fn line_of_fault<'a>(fault: &'a ConfigFault, digits: &'a mut Digits) -> ErrorLin
 
 /// The line of a fault of a table, and of what.
 fn line_in<'a>(
-    place: Place,
+    place: SectionName,
     fault: &'a str,
     text: &'a [u8],
     digits: &'a mut Buffer,
@@ -188,7 +188,7 @@ fn line_in<'a>(
     ensures { text_of result ≡ line_in place fault.entry.now text.entry.now }
 {
     match place {
-        Place::Top => ErrorLine {
+        SectionName::Top => ErrorLine {
             first: "overcast: config: ",
             second: fault,
             third: "",
@@ -196,7 +196,7 @@ fn line_in<'a>(
             fifth: text,
             end: "\n",
         },
-        Place::Node(number) => ErrorLine {
+        SectionName::Node(number) => ErrorLine {
             first: "overcast: config: node ",
             second: digits.format(number),
             third: ": ",
@@ -204,7 +204,7 @@ fn line_in<'a>(
             fifth: text,
             end: "\n",
         },
-        Place::Rule(number) => ErrorLine {
+        SectionName::Rule(number) => ErrorLine {
             first: "overcast: config: rule ",
             second: digits.format(number),
             third: ": ",
@@ -216,11 +216,16 @@ fn line_in<'a>(
 }
 
 /// The line of a fault of a key.
-fn key_line<'a>(place: Place, fault: &'a str, key: Key, digits: &'a mut Buffer) -> ErrorLine<'a>
+fn key_line<'a>(
+    place: SectionName,
+    fault: &'a str,
+    key: ConfigKey,
+    digits: &'a mut Buffer,
+) -> ErrorLine<'a>
     ensures { text_of result ≡ line_in place fault.entry.now (key_text key) }
 {
     match place {
-        Place::Top => ErrorLine {
+        SectionName::Top => ErrorLine {
             first: "overcast: config: ",
             second: fault,
             third: "",
@@ -228,7 +233,7 @@ fn key_line<'a>(place: Place, fault: &'a str, key: Key, digits: &'a mut Buffer) 
             fifth: &[],
             end: "\n",
         },
-        Place::Node(number) => ErrorLine {
+        SectionName::Node(number) => ErrorLine {
             first: "overcast: config: node ",
             second: digits.format(number),
             third: ": ",
@@ -236,7 +241,7 @@ fn key_line<'a>(place: Place, fault: &'a str, key: Key, digits: &'a mut Buffer) 
             fifth: key.word().as_bytes(),
             end: "\n",
         },
-        Place::Rule(number) => ErrorLine {
+        SectionName::Rule(number) => ErrorLine {
             first: "overcast: config: rule ",
             second: digits.format(number),
             third: ": ",
@@ -314,7 +319,7 @@ fn stranger_line<'a>() -> ErrorLine<'a>
 {
     ErrorLine {
         first: "overcast: config: value ",
-        second: Key::Id.word(),
+        second: ConfigKey::Id.word(),
         third: "",
         fourth: "",
         fifth: &[],

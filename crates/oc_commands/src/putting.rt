@@ -5,15 +5,14 @@ ghost use Rattle.oc_commands.specs.AtPut.{HappenedAtPut, is_done, place_of};
 ghost use Rattle.oc_commands.specs.Outside.{at_link, at_source};
 ghost use Rattle.oc_commands.specs.Telling.{at_error};
 
-use crate::getting::text_of;
 use crate::progress::{Counting, finish};
 use oc_io::{Sink, Source};
 use oc_link::Dialler;
-use oc_put::{Aside, Destination, Pause, Place, Plan, PutEnd, put};
-use oc_words::{Name, Onto, Upload};
+use oc_put::{Aside, Destination, Pause, Publication, PutEnd, WriteMode, put};
+use oc_words::{Name, Onto, Upload, text_of};
 use std::alloc::Global;
 
-/// Publishes the input into a group, with a token or without. It pauses behind each failure but the last. Where lines are
+/// Publishes the input into a group, with a token or without. It pauses after each failure but the last. Where lines are
 /// wanted, they tell how much of the input is in the group.
 pub fn publish<S: Source, L: Dialler, P: Pause, E: Sink>(
     alloc: Global,
@@ -35,7 +34,7 @@ pub fn publish<S: Source, L: Dialler, P: Pause, E: Sink>(
         address: wanted.address.as_str(),
         token: text_of(token),
     };
-    let plan = Plan {
+    let plan = Publication {
         place: place_of(wanted.onto),
         seal: wanted.seals,
     };
@@ -52,12 +51,12 @@ fn is_done(end: PutEnd) -> bool
 }
 
 /// Where the input goes.
-fn place_of(onto: Onto) -> Place
+fn place_of(onto: Onto) -> WriteMode
     ensures { result ≡ place_of onto }
 {
     match onto {
-        Onto::New => Place::New,
-        Onto::Append => Place::Append,
-        Onto::Resume => Place::Resume,
+        Onto::New => WriteMode::New,
+        Onto::Append => WriteMode::Append,
+        Onto::Resume => WriteMode::Resume,
     }
 }

@@ -3,7 +3,8 @@
 ghost use Rattle.std.specs.List.{list_all};
 ghost use Rattle.std.specs.Prelude.{◌≡◌, true, IfErr, IfOk};
 ghost use Rattle.oc_io.specs.Faults.{NoFall};
-ghost use Rattle.oc_commands.specs.AtToken.{GivesToken, LacksToken, ReadsToken, TakesToken, first_line, is_token, is_token_byte};
+ghost use Rattle.oc_policy.specs.Tokens.{is_token_byte};
+ghost use Rattle.oc_commands.specs.AtToken.{GivesToken, LacksToken, ReadsToken, TakesToken, first_line, is_token};
 ghost use Rattle.oc_commands.specs.Outside.{at_source};
 
 use oc_base::{MAX_SCHEDULE_BYTES, cut};

@@ -12,7 +12,7 @@ use Rattle.oc_config.specs.Settings.{NodeSettings}
 use Rattle.oc_config.specs.Values.{Section, value_in, required, read_as, read_if, whole_in}
 use Rattle.oc_config.specs.declared.fault.ConfigFault.{ConfigFault}
 use Rattle.oc_config.specs.declared.fault.ConfigFault.TheVariants.{Value}
-use Rattle.oc_config.specs.declared.key.Key.TheVariants.{Id, Address, Listen}
+use Rattle.oc_config.specs.declared.config_key.ConfigKey.TheVariants.{Id, Address, Listen}
 use Rattle.oc_config.proofs.Results.{steps, there}
 use Rattle.oc_config.proofs.Lists.{none_or_some, filter_map_put}
 use Rattle.oc_config.proofs.Tables.{within_range}

@@ -8,7 +8,7 @@ use Rattle.toml.specs.Data.{Items, no_items, item, Members, as_table}
 use Rattle.toml.specs.View.{view, items_view, table_view}
 use Rattle.toml.specs.declared.value.Value.{Value}
 use Rattle.oc_config.specs.Values.{Section, section_in, section_of, sections_of, within, count_items, table_before, all_tables, tables_of}
-use Rattle.oc_config.specs.declared.place.Kind.{Kind}
+use Rattle.oc_config.specs.declared.section_name.Kind.{Kind}
 use Rattle.oc_config.specs.declared.section.Section.{Section as CodeSection}
 
 -- a number that is read is from the least to the most

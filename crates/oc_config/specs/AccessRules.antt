@@ -12,8 +12,8 @@ use Rattle.oc_policy.specs.declared.rule.Action.TheVariants.{Get, Post}
 use Rattle.oc_policy.specs.declared.rule.Rule.{Rule}
 use Rattle.oc_config.specs.Values.{Section, value_in, required, read_as, read_if, area_in, tables_in}
 use Rattle.oc_config.specs.declared.fault.ConfigFault.{ConfigFault}
-use Rattle.oc_config.specs.declared.key.Key.TheVariants.{Rule as RuleKey, Allow, Prefix, Method, Token}
-use Rattle.oc_config.specs.declared.place.Kind.TheVariants as kinds
+use Rattle.oc_config.specs.declared.config_key.ConfigKey.TheVariants.{Rule as RuleKey, Allow, Prefix, Method, Token}
+use Rattle.oc_config.specs.declared.section_name.Kind.TheVariants as kinds
 
 abbrev pub allow_in : Section → Result Bool ConfigFault
 allow_in s = do

@@ -2,16 +2,16 @@
 use Rattle.std.specs.Prelude.{ℕ, Bool, not, ◌&&◌, ◌||◌, ◌==◌, nat_le, if◌then◌else◌, List, [], ◌∷◌, length, codes}
 use Rattle.std.specs.List.{list_all, list_any}
 use Rattle.std.specs.Str.{byte, bytes_eq}
-use Rattle.oc_config.specs.declared.key.Key.{Key}
-use Rattle.oc_config.specs.declared.key.Key.TheVariants.{Chain, Chunk, NodeKey, Node, Id, Address, Listen, Area, Measures, Rule, Allow, Prefix, Method, Token}
+use Rattle.oc_config.specs.declared.config_key.ConfigKey.{ConfigKey}
+use Rattle.oc_config.specs.declared.config_key.ConfigKey.TheVariants.{Chain, Chunk, NodeKey, Node, Id, Address, Listen, Area, Measures, Rule, Allow, Prefix, Method, Token}
 use Rattle.oc_config.specs.declared.key_name.TheConstants.{MAX_KEY_BYTES}
-use Rattle.oc_config.specs.declared.place.Kind.{Kind}
-use Rattle.oc_config.specs.declared.place.Kind.TheVariants as kinds
-use Rattle.oc_config.specs.declared.place.Place.{Place}
-use Rattle.oc_config.specs.declared.place.Place.TheVariants as places
+use Rattle.oc_config.specs.declared.section_name.Kind.{Kind}
+use Rattle.oc_config.specs.declared.section_name.Kind.TheVariants as kinds
+use Rattle.oc_config.specs.declared.section_name.SectionName.{SectionName}
+use Rattle.oc_config.specs.declared.section_name.SectionName.TheVariants as places
 
 -- a key as it appears in the text
-abbrev pub key_text : Key → List ℕ
+abbrev pub key_text : ConfigKey → List ℕ
 key_text Chain = codes "chain"
 key_text Chunk = codes "chunk"
 key_text NodeKey = codes "key"
@@ -28,17 +28,17 @@ key_text Method = codes "method"
 key_text Token = codes "token"
 
 -- the table of this number among those of a kind, counted from 1 in the order of the text
-abbrev pub place_in : Kind → ℕ → Place
+abbrev pub place_in : Kind → ℕ → SectionName
 place_in kinds.Node number = places.Node number
 place_in kinds.Rule number = places.Rule number
 
 -- the keys that a table can have
-abbrev pub keys_at : Place → List Key
+abbrev pub keys_at : SectionName → List ConfigKey
 keys_at places.Top = Chain ∷ Chunk ∷ NodeKey ∷ Node ∷ Measures ∷ Rule ∷ []
 keys_at (places.Node number) = Id ∷ Address ∷ Listen ∷ Area ∷ []
 keys_at (places.Rule number) = Allow ∷ Prefix ∷ Method ∷ Area ∷ Token ∷ []
 
-abbrev pub is_known : Place → List ℕ → Bool
+abbrev pub is_known : SectionName → List ℕ → Bool
 is_known place text = list_any (λ key. bytes_eq text (key_text key)) (keys_at place)
 
 -- a letter, a digit, `-` or `_`

@@ -6,7 +6,7 @@ use Rattle.oc_config.specs.Keys.{is_known, shown_key}
 use Rattle.oc_config.specs.Values.{Section}
 use Rattle.oc_config.specs.declared.fault.ConfigFault.{ConfigFault}
 use Rattle.oc_config.specs.declared.fault.ConfigFault.TheVariants.{Unknown}
-use Rattle.oc_config.specs.declared.place.Place.{Place}
+use Rattle.oc_config.specs.declared.section_name.SectionName.{SectionName}
 
 -- the keys of a table, in their order, which is that of their bytes
 abbrev pub keys_of : Members → List (List ℕ)
@@ -14,12 +14,12 @@ keys_of no_members = []
 keys_of (member key d rest) = key ∷ keys_of rest
 
 -- the first of these keys that the table at this place cannot have
-abbrev pub unknown_key : Place → List (List ℕ) → Option (List ℕ)
+abbrev pub unknown_key : SectionName → List (List ℕ) → Option (List ℕ)
 unknown_key place [] = None
 unknown_key place (key ∷ rest) = if is_known place key then unknown_key place rest else Some key
 
 -- no such key, or the fault of the first
-abbrev pub no_unknown : Place → Option (List ℕ) → Result (Unit {0}) ConfigFault
+abbrev pub no_unknown : SectionName → Option (List ℕ) → Result (Unit {0}) ConfigFault
 no_unknown place None = Ok tt
 no_unknown place (Some key) = Err (Unknown place (shown_key key))
 

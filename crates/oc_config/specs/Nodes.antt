@@ -10,7 +10,7 @@ use Rattle.oc_config.specs.Settings.{NodeSettings}
 use Rattle.oc_config.specs.Values.{Section, value_in, required, read_as, read_if, whole_in, area_in}
 use Rattle.oc_config.specs.declared.fault.ConfigFault.{ConfigFault}
 use Rattle.oc_config.specs.declared.fault.ConfigFault.TheVariants.{Value, Repeat, Memory}
-use Rattle.oc_config.specs.declared.key.Key.TheVariants.{Id, Address, Listen}
+use Rattle.oc_config.specs.declared.config_key.ConfigKey.TheVariants.{Id, Address, Listen}
 
 -- the id that a table says, of this many nodes
 abbrev pub id_in : ℕ → Section → Result ℕ ConfigFault

@@ -24,8 +24,8 @@ use Rattle.oc_config.specs.Values.{Section, top, value_in, required, read_as, re
 use Rattle.oc_config.specs.declared.config.TheConstants.{MAX_CHUNK, FIRST_CHUNK}
 use Rattle.oc_config.specs.declared.fault.ConfigFault.{ConfigFault}
 use Rattle.oc_config.specs.declared.fault.ConfigFault.TheVariants.{Toml, Value}
-use Rattle.oc_config.specs.declared.key.Key.TheVariants.{Chain, Chunk, NodeKey, Node, Measures}
-use Rattle.oc_config.specs.declared.place.Kind.TheVariants as kinds
+use Rattle.oc_config.specs.declared.config_key.ConfigKey.TheVariants.{Chain, Chunk, NodeKey, Node, Measures}
+use Rattle.oc_config.specs.declared.section_name.Kind.TheVariants as kinds
 use Rattle.oc_config.specs.declared.reading.Common.{Common}
 
 -- the number of chain members

@@ -9,17 +9,17 @@ use Rattle.oc_updown.specs.declared.measure_fault.MeasureFault.{MeasureFault}
 use Rattle.oc_updown.specs.declared.measure_fault.MeasureFault.TheVariants as measures
 use Rattle.oc_config.specs.declared.fault.ConfigFault.{ConfigFault}
 use Rattle.oc_config.specs.declared.fault.ConfigFault.TheVariants.{Missing, Value, Measure, Memory}
-use Rattle.oc_config.specs.declared.key.Key.{Key}
-use Rattle.oc_config.specs.declared.key.Key.TheVariants.{Area}
-use Rattle.oc_config.specs.declared.place.Kind.{Kind}
-use Rattle.oc_config.specs.declared.place.Place.{Place}
-use Rattle.oc_config.specs.declared.place.Place.TheVariants as places
+use Rattle.oc_config.specs.declared.config_key.ConfigKey.{ConfigKey}
+use Rattle.oc_config.specs.declared.config_key.ConfigKey.TheVariants.{Area}
+use Rattle.oc_config.specs.declared.section_name.Kind.{Kind}
+use Rattle.oc_config.specs.declared.section_name.SectionName.{SectionName}
+use Rattle.oc_config.specs.declared.section_name.SectionName.TheVariants as places
 use Rattle.oc_config.specs.declared.section.Section.{Section as CodeSection}
 use Rattle.oc_config.specs.Keys.{key_text, place_in}
 
 -- a table of the text, and which one it is
 pub record Section : Type 0 where
-  pub place : Place
+  pub place : SectionName
   pub members : Members
 
 -- the whole text
@@ -31,19 +31,19 @@ abbrev pub section_in : Kind → ℕ → Members → Section
 section_in kind number members = record { place = place_in kind number; members = members }
 
 -- the value of a key
-abbrev pub value_in : Key → Section → Option Data
+abbrev pub value_in : ConfigKey → Section → Option Data
 value_in key s = get_member (key_text key) s.members
 
 -- the value of a key that has to be there
-abbrev pub required : Key → Section → Result Data ConfigFault
+abbrev pub required : ConfigKey → Section → Result Data ConfigFault
 required key s = ok_or (value_in key s) (Missing s.place key)
 
 -- what a value is read as, where it is read
-abbrev pub read_as : {A : Type 0} → Key → Section → Option A → Result A ConfigFault
+abbrev pub read_as : {A : Type 0} → ConfigKey → Section → Option A → Result A ConfigFault
 read_as key s o = ok_or o (Value s.place key)
 
 -- what the value of a key is read as, if the key is there
-abbrev pub read_if : {A : Type 0} → Key → Section → (Data → Option A) → Option Data → Result (Option A) ConfigFault
+abbrev pub read_if : {A : Type 0} → ConfigKey → Section → (Data → Option A) → Option Data → Result (Option A) ConfigFault
 read_if key s read None = Ok None
 read_if key s read (Some d) = do
   x ← read_as key s (read d)

@@ -1,8 +1,9 @@
-ghost use Rattle.std.specs.Prelude.{◌≡◌, ◌==◌, is_some, position};
+ghost use Rattle.std.specs.Prelude.{◌≡◌, ◌==◌, is_some};
 ghost use Rattle.std.specs.List.{list_all, before_first, after_first};
 ghost use Rattle.std.specs.Net.Reader.{read_ipv6, whole_value};
 ghost use Rattle.oc_config.specs.Addresses.{is_address, is_behind_host, is_bracketed, is_closed, is_everywhere, is_host, is_host_byte, is_ipv6, is_ipv6_byte, is_named, is_port, is_reachable};
 
+use oc_base::place_of;
 use oc_base::words::number;
 use std::net::Ipv6Addr;
 
@@ -101,12 +102,6 @@ fn cut_at_first(bytes: &[u8], byte: u8) -> (&[u8], &[u8])
         Some(at) => (&bytes[..at], &bytes[at + 1..]),
         None => (bytes, &[]),
     }
-}
-
-fn place_of(bytes: &[u8], byte: u8) -> Option<usize>
-    ensures { result ≡ position (λ b. b == byte) bytes.now }
-{
-    bytes.iter().position(|b| *b == byte)
 }
 
 fn is_host(host: &[u8]) -> bool

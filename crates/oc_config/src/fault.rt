@@ -1,9 +1,9 @@
 ghost use Rattle.std.specs.Prelude.{◌≡◌};
 ghost use Rattle.oc_config.specs.Values.{fault_of};
 
-use crate::key::Key;
+use crate::config_key::ConfigKey;
 use crate::key_name::KeyName;
-use crate::place::Place;
+use crate::section_name::SectionName;
 use oc_base::{Memory, Why};
 use oc_updown::MeasureFault;
 use std::alloc::{AllocError, AllocFailed};
@@ -16,15 +16,15 @@ pub enum ConfigFault {
     /// It is no TOML; what is wrong begins in this line, counted from 1.
     Toml(u64),
     /// A table lacks this key.
-    Missing(Place, Key),
+    Missing(SectionName, ConfigKey),
     /// This key of a table has a value that it may not have.
-    Value(Place, Key),
+    Value(SectionName, ConfigKey),
     /// This id, which a table has, is that of a table before it.
-    Repeat(Place, u32),
+    Repeat(SectionName, u32),
     /// This line of the measures, counted from 1, is refused for this cause.
     Measure { line: u32, why: Why },
     /// A table has a key that it cannot have.
-    Unknown(Place, KeyName),
+    Unknown(SectionName, KeyName),
     /// Memory ran out.
     Memory,
 }

@@ -7,11 +7,11 @@ ghost use Rattle.oc_config.specs.Keys.{is_known, key_text, shown_key};
 ghost use Rattle.oc_config.specs.Known.{all_known, keys_of, known_in, unknown_key};
 ghost use Rattle.oc_config.specs.Values.{section_of, sections_of};
 
+use crate::config_key::ConfigKey;
 use crate::fault::ConfigFault;
-use crate::key::Key;
 use crate::key_name::KeyName;
-use crate::place::Place;
 use crate::section::Section;
+use crate::section_name::SectionName;
 
 /// Refuses the first of these tables that has a key which it cannot have.
 pub(crate) fn check_all(sections: &[Section<'_>]) -> Result<(), ConfigFault>
@@ -46,20 +46,20 @@ fn unknown_key(section: &Section<'_>) -> Option<KeyName>
 }
 
 /// Whether the table at this place can have this key.
-fn is_known(place: Place, text: &[u8]) -> bool
+fn is_known(place: SectionName, text: &[u8]) -> bool
     ensures { result ≡ is_known place text.now }
 {
     is_one_of(place.keys(), text)
 }
 
 /// Whether a text is one of these keys.
-fn is_one_of(keys: &[Key], text: &[u8]) -> bool
+fn is_one_of(keys: &[ConfigKey], text: &[u8]) -> bool
     ensures { result ≡ list_any (λ key. bytes_eq text.now (key_text key)) keys.now }
 {
     keys.iter().any(|key| is_key(*key, text))
 }
 
-fn is_key(key: Key, text: &[u8]) -> bool
+fn is_key(key: ConfigKey, text: &[u8]) -> bool
     ensures { result ≡ bytes_eq text.now (key_text key) }
 {
     text == key.word().as_bytes()

@@ -12,27 +12,27 @@
 
 mod address;
 mod config;
+mod config_key;
 mod entry;
 mod fault;
-mod key;
 mod key_name;
 mod known;
 mod law;
 mod nodes;
-mod place;
 mod reading;
 mod rules;
 mod section;
+mod section_name;
 mod values;
 
 pub use config::{Config, FIRST_CHUNK, MAX_CHUNK};
+pub use config_key::ConfigKey;
 pub use fault::ConfigFault;
-pub use key::Key;
 pub use key_name::KeyName;
 pub use law::{addresses_are_short, each_node_has_its_table};
 pub use oc_base::Why;
 pub use oc_mac::Key as NodeKey;
 pub use oc_policy::{Action, Demand, Prefix, Rule, Token};
 pub use oc_updown::Measure;
-pub use place::Place;
 pub use reading::read;
+pub use section_name::SectionName;

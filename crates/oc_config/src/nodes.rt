@@ -9,9 +9,9 @@ ghost use Rattle.oc_config.specs.Settings.{NodeSettings};
 ghost use Rattle.toml.specs.View.{view};
 
 use crate::address::{is_address, is_reachable};
+use crate::config_key::ConfigKey;
 use crate::entry::Entry;
 use crate::fault::ConfigFault;
-use crate::key::Key;
 use crate::section::Section;
 use crate::values::whole;
 use oc_base::{MAX_NODES, Memory};
@@ -69,8 +69,8 @@ fn id(table: &Section<'_>, nodes: usize) -> Result<u32, ConfigFault>
     ensures said { result ≡ id_in nodes (section_of table.now) }
     ensures range { IfOk result (λ id. (1 ≤ id) × (id ≤ nodes)) }
 {
-    let value = table.required(Key::Id)?;
-    whole(value, 1, nodes as u32).ok_or(table.refuses(Key::Id))
+    let value = table.required(ConfigKey::Id)?;
+    whole(value, 1, nodes as u32).ok_or(table.refuses(ConfigKey::Id))
 }
 
 /// What a table says of a node, apart from its id, where no node before has its address.
@@ -95,7 +95,7 @@ fn check_new(
     ensures { GivesBy (λ done. address.now) result (new_address places.now (section_of table.now) address.now) }
 {
     if is_taken(places, address) {
-        return Err(table.refuses(Key::Address));
+        return Err(table.refuses(ConfigKey::Address));
     }
     Ok(())
 }
@@ -133,9 +133,9 @@ fn entry(alloc: Global, table: &Section<'_>, address: &str) -> Result<Entry, Con
 fn address<'a>(table: &Section<'a>) -> Result<&'a str, ConfigFault>
     ensures { GivesBy (λ s. s.now) result (address_in (section_of table.now)) }
 {
-    match table.required(Key::Address)?.as_str() {
+    match table.required(ConfigKey::Address)?.as_str() {
         Some(text) if is_reachable(text.as_bytes()) => Ok(text),
-        _ => Err(table.refuses(Key::Address)),
+        _ => Err(table.refuses(ConfigKey::Address)),
     }
 }
 
@@ -143,11 +143,11 @@ fn address<'a>(table: &Section<'a>) -> Result<&'a str, ConfigFault>
 fn listen<'a>(table: &Section<'a>, address: &'a str) -> Result<&'a str, ConfigFault>
     ensures { GivesBy (λ s. s.now) result (listen_in (section_of table.now) address.now) }
 {
-    match table.value_at(Key::Listen) {
+    match table.value_at(ConfigKey::Listen) {
         None => Ok(address),
         Some(value) => match listen_of(value) {
             Some(text) => Ok(text),
-            None => Err(table.refuses(Key::Listen)),
+            None => Err(table.refuses(ConfigKey::Listen)),
         },
     }
 }

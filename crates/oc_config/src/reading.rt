@@ -6,13 +6,13 @@ ghost use Rattle.oc_config.specs.Reading.{IsConfig, Reads, ReadsTable, settings_
 ghost use Rattle.oc_config.specs.Reading.{chain_within, keys_known, line_at, measures_in, node_key_in, node_key_of, node_tables_in};
 
 use crate::config::{Config, FIRST_CHUNK, MAX_CHUNK};
+use crate::config_key::ConfigKey;
 use crate::fault::ConfigFault;
-use crate::key::Key;
 use crate::known::{check, check_all};
 use crate::nodes::{Split, nodes};
-use crate::place::Kind;
 use crate::rules::{rule_tables, rules};
 use crate::section::Section;
+use crate::section_name::Kind;
 use crate::values::{tables, whole};
 use oc_base::{MAX_CHAIN, MAX_NODES};
 use oc_mac::Key as NodeKey;
@@ -130,8 +130,8 @@ fn chain(top: &Section<'_>) -> Result<u32, ConfigFault>
     ensures said { result ≡ chain_in (section_of top.now) }
     ensures range { IfOk result (λ chain. (1 ≤ chain) × (chain ≤ MAX_CHAIN)) }
 {
-    let value = top.required(Key::Chain)?;
-    whole(value, 1, MAX_CHAIN).ok_or(top.refuses(Key::Chain))
+    let value = top.required(ConfigKey::Chain)?;
+    whole(value, 1, MAX_CHAIN).ok_or(top.refuses(ConfigKey::Chain))
 }
 
 /// The greatest number of bytes of a chunk.
@@ -139,9 +139,9 @@ fn chunk(top: &Section<'_>) -> Result<u32, ConfigFault>
     ensures said { result ≡ chunk_in (section_of top.now) }
     ensures range { IfOk result (λ chunk. (1 ≤ chunk) × (chunk ≤ MAX_CHUNK)) }
 {
-    match top.value_at(Key::Chunk) {
+    match top.value_at(ConfigKey::Chunk) {
         None => Ok(FIRST_CHUNK),
-        Some(value) => whole(value, 1, MAX_CHUNK).ok_or(top.refuses(Key::Chunk)),
+        Some(value) => whole(value, 1, MAX_CHUNK).ok_or(top.refuses(ConfigKey::Chunk)),
     }
 }
 
@@ -149,11 +149,11 @@ fn chunk(top: &Section<'_>) -> Result<u32, ConfigFault>
 fn node_key(top: &Section<'_>) -> Result<Option<NodeKey>, ConfigFault>
     ensures { result ≡ node_key_in (section_of top.now) }
 {
-    match top.value_at(Key::NodeKey) {
+    match top.value_at(ConfigKey::NodeKey) {
         None => Ok(None),
         Some(value) => match spelled_key(value) {
             Some(key) => Ok(Some(key)),
-            None => Err(top.refuses(Key::NodeKey)),
+            None => Err(top.refuses(ConfigKey::NodeKey)),
         },
     }
 }
@@ -170,8 +170,8 @@ fn node_tables<'a>(alloc: Global, top: &Section<'a>) -> Result<Vec<Section<'a>>,
     ensures said { GivesBy (λ v. sections_of v.items) result (node_tables_in (section_of top.now)) }
     ensures count { IfOk result (λ v. (1 ≤ vec_len v) × (vec_len v ≤ MAX_NODES)) }
 {
-    let value = top.required(Key::Node)?;
-    let fault = top.refuses(Key::Node);
+    let value = top.required(ConfigKey::Node)?;
+    let fault = top.refuses(ConfigKey::Node);
     tables(alloc, value, Kind::Node, 1, MAX_NODES, fault)
 }
 
@@ -181,7 +181,7 @@ fn check_chain(top: &Section<'_>, chain: u32, nodes: u32) -> Result<(), ConfigFa
     ensures within { OnOk result (chain ≤ nodes) }
 {
     if chain > nodes {
-        return Err(top.refuses(Key::Chain));
+        return Err(top.refuses(ConfigKey::Chain));
     }
     Ok(())
 }
@@ -204,11 +204,11 @@ fn measures(alloc: Global, top: &Section<'_>, nodes: u32) -> Result<Vec<Measure>
     ensures said { GivesBy (λ v. v.items) result (measures_in nodes (section_of top.now)) }
     ensures lawful { IfOk result (λ v. All (IsMeasure nodes) v.items) }
 {
-    match top.value_at(Key::Measures) {
+    match top.value_at(ConfigKey::Measures) {
         None => Ok(Vec::new(alloc)),
         Some(value) => match value.as_str() {
             Some(text) => Ok(read_lines(alloc, text.as_bytes(), nodes)?),
-            None => Err(top.refuses(Key::Measures)),
+            None => Err(top.refuses(ConfigKey::Measures)),
         },
     }
 }

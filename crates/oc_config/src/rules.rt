@@ -5,10 +5,10 @@ ghost use Rattle.toml.specs.View.{view};
 ghost use Rattle.oc_config.specs.Values.{GivesBy, section_of, sections_of};
 ghost use Rattle.oc_config.specs.AccessRules.{rule_tables_in, rules_from, rule_in, allow_in, prefix_in, method_in, method_of, token_in, token_of};
 
+use crate::config_key::ConfigKey;
 use crate::fault::ConfigFault;
-use crate::key::Key;
-use crate::place::Kind;
 use crate::section::Section;
+use crate::section_name::Kind;
 use crate::values::tables;
 use oc_policy::{Action, Demand, MAX_RULES, Prefix, Rule, Token};
 use std::alloc::Global;
@@ -22,7 +22,7 @@ pub(crate) fn rule_tables<'a>(
     ensures said { GivesBy (λ v. sections_of v.items) result (rule_tables_in (section_of top.now)) }
     ensures count { IfOk result (λ v. vec_len v ≤ MAX_RULES) }
 {
-    match top.value_at(Key::Rule) {
+    match top.value_at(ConfigKey::Rule) {
         None => Ok(Vec::new(alloc)),
         Some(value) => tables(
             alloc,
@@ -30,7 +30,7 @@ pub(crate) fn rule_tables<'a>(
             Kind::Rule,
             0,
             MAX_RULES as u32,
-            top.refuses(Key::Rule),
+            top.refuses(ConfigKey::Rule),
         ),
     }
 }
@@ -63,15 +63,15 @@ fn rule(table: &Section<'_>) -> Result<Rule, ConfigFault>
 fn allow(table: &Section<'_>) -> Result<bool, ConfigFault>
     ensures { result ≡ allow_in (section_of table.now) }
 {
-    let value = table.required(Key::Allow)?;
-    value.as_bool().ok_or(table.refuses(Key::Allow))
+    let value = table.required(ConfigKey::Allow)?;
+    value.as_bool().ok_or(table.refuses(ConfigKey::Allow))
 }
 
 fn prefix(table: &Section<'_>) -> Result<Prefix, ConfigFault>
     ensures { result ≡ prefix_in (section_of table.now) }
 {
-    let fault = table.refuses(Key::Prefix);
-    match table.required(Key::Prefix)?.as_str() {
+    let fault = table.refuses(ConfigKey::Prefix);
+    match table.required(ConfigKey::Prefix)?.as_str() {
         Some(text) => Prefix::parse(text.as_bytes()).map_err(|_| fault),
         None => Err(fault),
     }
@@ -80,11 +80,11 @@ fn prefix(table: &Section<'_>) -> Result<Prefix, ConfigFault>
 fn method(table: &Section<'_>) -> Result<Option<Action>, ConfigFault>
     ensures { result ≡ method_in (section_of table.now) }
 {
-    match table.value_at(Key::Method) {
+    match table.value_at(ConfigKey::Method) {
         None => Ok(None),
         Some(value) => match action(value) {
             Some(action) => Ok(Some(action)),
-            None => Err(table.refuses(Key::Method)),
+            None => Err(table.refuses(ConfigKey::Method)),
         },
     }
 }
@@ -92,11 +92,11 @@ fn method(table: &Section<'_>) -> Result<Option<Action>, ConfigFault>
 fn token(table: &Section<'_>) -> Result<Option<Token>, ConfigFault>
     ensures { result ≡ token_in (section_of table.now) }
 {
-    match table.value_at(Key::Token) {
+    match table.value_at(ConfigKey::Token) {
         None => Ok(None),
         Some(value) => match token_of(value) {
             Some(token) => Ok(Some(token)),
-            None => Err(table.refuses(Key::Token)),
+            None => Err(table.refuses(ConfigKey::Token)),
         },
     }
 }

@@ -6,8 +6,8 @@ ghost use Rattle.oc_base.specs.declared.limits.TheConstants.{MAX_NODES};
 ghost use Rattle.oc_config.specs.Values.{whole_in, GivesTables, tables_in, tables_of, all_tables};
 
 use crate::fault::ConfigFault;
-use crate::place::Kind;
 use crate::section::Section;
+use crate::section_name::Kind;
 use std::alloc::Global;
 use toml::Value;
 

@@ -6,7 +6,7 @@ use Rattle.oc_fetch.specs.Conversations.{Replied, Redirects, Serves, EndsWith, E
 use Rattle.oc_fetch.specs.Redirecting.{IsLost, sent_to}
 use Rattle.oc_fetch.specs.Replies.{IsBodiless, extent_of}
 use Rattle.oc_fetch.specs.Turns.{Turn}
-use Rattle.oc_fetch.specs.Manners.{Manner}
+use Rattle.oc_fetch.specs.FetchOptions.{FetchOptions}
 use Rattle.oc_fetch.specs.Wishes.{Wish, whole}
 use Rattle.oc_fetch.specs.declared.end.GetEnd.{GetEnd}
 use Rattle.oc_fetch.specs.declared.end.GetEnd.TheVariants as ends
@@ -36,7 +36,7 @@ pub one_url : (asked : Parts) (a b : List ℕ) (u v : Parts) → a ≡ b → Lea
 one_url asked a b u v e p q = let parsed = sym p.joined ∙ ap (λ (x : List ℕ). parse_url (Some asked) x) e ∙ q.joined in cc
 
 -- a head of a whole 200 is a 200
-abbrev IsContent : Manner → ReplyHead → List ℕ → Type 0
+abbrev IsContent : FetchOptions → ReplyHead → List ℕ → Type 0
 IsContent manner head behind = Serves (whole manner) head × HoldsWhole (extent_of head) behind
 
 not_both : (n : ℕ) → n ≡ 200 → n ≡ 302 → ⊥
@@ -82,7 +82,7 @@ not_cut Chunked behind left over end holds none = absurd holds
 not_cut ToTheEnd behind left over end holds none = absurd (omega (arith, length-append behind left, holds, none))
 
 -- a 200 with a whole content
-content_unrefused : OneAnswer → (manner : Manner) (state : ClientState) (turn : Turn) (text : List ℕ) (written : List ℕ) (end : GetEnd) → IsFrontOf turn text → Replied text (IsContent manner) → EndsWith (whole manner) state turn.reply turn.over written end → IsUnrefused end
+content_unrefused : OneAnswer → (manner : FetchOptions) (state : ClientState) (turn : Turn) (text : List ℕ) (written : List ℕ) (end : GetEnd) → IsFrontOf turn text → Replied text (IsContent manner) → EndsWith (whole manner) state turn.reply turn.over written end → IsUnrefused end
 content_unrefused one manner state turn text written ends.Link front said ends = tt
 content_unrefused one manner state turn text written ends.Sink front said ends = tt
 content_unrefused one manner state turn text written ends.Memory front said ends = tt
@@ -110,7 +110,7 @@ content_unrefused one manner state turn text written ends.Reply front said (inr 
     ])
 
 -- a redirection that leads on
-redirection_unrefused : OneAnswer → (manner : Manner) (state next : ClientState) (turn : Turn) (text : List ℕ) (written : List ℕ) (end : GetEnd) → IsFrontOf turn text → Replied text (λ head behind. Redirects state head next) → EndsWith (whole manner) state turn.reply turn.over written end → IsUnrefused end
+redirection_unrefused : OneAnswer → (manner : FetchOptions) (state next : ClientState) (turn : Turn) (text : List ℕ) (written : List ℕ) (end : GetEnd) → IsFrontOf turn text → Replied text (λ head behind. Redirects state head next) → EndsWith (whole manner) state turn.reply turn.over written end → IsUnrefused end
 redirection_unrefused one manner state next turn text written ends.Link front said ends = tt
 redirection_unrefused one manner state next turn text written ends.Sink front said ends = tt
 redirection_unrefused one manner state next turn text written ends.Memory front said ends = tt
@@ -136,13 +136,13 @@ redirection_unrefused one manner state next turn text written ends.Reply front s
     ])
 
 -- a last turn
-last_unrefused : OneAnswer → (manner : Manner) (state : ClientState) (turn : Turn) (text : List ℕ) (texts : List (List ℕ)) (written : List ℕ) (end : GetEnd) → IsFrontOf turn text → LeadToContent manner state (text ∷ texts) → EndsIn (whole manner) state turn written end → IsUnrefused end
+last_unrefused : OneAnswer → (manner : FetchOptions) (state : ClientState) (turn : Turn) (text : List ℕ) (texts : List (List ℕ)) (written : List ℕ) (end : GetEnd) → IsFrontOf turn text → LeadToContent manner state (text ∷ texts) → EndsIn (whole manner) state turn written end → IsUnrefused end
 last_unrefused one manner state turn text texts written end front leads (inr cut) = subst IsUnrefused (sym cut.2) tt
 last_unrefused one manner state turn text texts written end front (inl content) (inl asked) = content_unrefused one manner state turn text written end front content asked.1
 last_unrefused one manner state turn text texts written end front (inr (next, said, more)) (inl asked) = redirection_unrefused one manner state next turn text written end front said asked.1
 
 -- at a state
-at_unrefused : OneAnswer → (manner : Manner) (state : ClientState) (last : Option Turn) (texts : List (List ℕ)) (written : List ℕ) (end : GetEnd) → AreFronts (option_to_list last) texts → LeadToContent manner state texts → EndsAt (whole manner) state last written end → IsUnrefused end
+at_unrefused : OneAnswer → (manner : FetchOptions) (state : ClientState) (last : Option Turn) (texts : List (List ℕ)) (written : List ℕ) (end : GetEnd) → AreFronts (option_to_list last) texts → LeadToContent manner state texts → EndsAt (whole manner) state last written end → IsUnrefused end
 at_unrefused one manner state None texts written ends.Done fronts leads ends = tt
 at_unrefused one manner state None texts written ends.Memory fronts leads ends = tt
 at_unrefused one manner state None texts written ends.Link fronts leads ends = tt
@@ -156,7 +156,7 @@ at_unrefused one manner state (Some turn) (text ∷ texts) written end fronts le
 
 -- The whole
 
-pub unrefused : OneAnswer → (manner : Manner) (state : ClientState) (through : List Turn) (content : List ℕ) (reached : ClientState) (last : Option Turn) (texts : List (List ℕ)) (rest : List ℕ) (end : GetEnd) → state.replies ≡ 1 → Leads (whole manner) state through content reached → EndsAt (whole manner) reached last rest end → AreFronts (through ++ option_to_list last) texts → LeadToContent manner state texts → IsUnrefused end
+pub unrefused : OneAnswer → (manner : FetchOptions) (state : ClientState) (through : List Turn) (content : List ℕ) (reached : ClientState) (last : Option Turn) (texts : List (List ℕ)) (rest : List ℕ) (end : GetEnd) → state.replies ≡ 1 → Leads (whole manner) state through content reached → EndsAt (whole manner) reached last rest end → AreFronts (through ++ option_to_list last) texts → LeadToContent manner state texts → IsUnrefused end
 unrefused one manner state [] content reached last texts rest end wanted leads ends fronts lead =
     at_unrefused one manner state last texts rest end fronts lead (subst (λ (p : ClientState). EndsAt (whole manner) p last rest end) leads.1 ends)
 unrefused one manner state (turn ∷ through) content reached last [] rest end wanted leads ends fronts lead = absurd fronts

@@ -5,7 +5,7 @@ use Rattle.std.proofs.Math.Bool.{and-false}
 use Rattle.oc_fetch.specs.Completeness.{text_of}
 use Rattle.oc_fetch.specs.Conversations.{GoesOn, Leads, EndsAt}
 use Rattle.oc_fetch.specs.Turns.{Turn, Talk, Talks, begun, ended_by, last_by, behind_turn, behind_turns, no_talks, all_of, talks_of, IsTold, AreTold, IsCutAddress}
-use Rattle.oc_fetch.specs.Manners.{Manner}
+use Rattle.oc_fetch.specs.FetchOptions.{FetchOptions}
 use Rattle.oc_fetch.specs.Wishes.{whole, dialled_at}
 use Rattle.oc_fetch.specs.declared.end.GetEnd.{GetEnd}
 use Rattle.oc_fetch.specs.declared.client_state.ClientState.{ClientState}
@@ -13,13 +13,13 @@ use Rattle.oc_fetch.proofs.Completing.{AreFronts}
 use Rattle.oc_link.specs.Story.{Dial}
 
 -- the turn made a connection
-pub record Dials (turn : Turn) : Type 0 where
+pub record MakesConnection (turn : Turn) : Type 0 where
   pub address : List ℕ
   pub dialled : turn.dialled ≡ Some address
 
 abbrev pub AllDial : List Turn → Type 0
 AllDial [] = Unit {0}
-AllDial (turn ∷ turns) = Dials turn × AllDial turns
+AllDial (turn ∷ turns) = MakesConnection turn × AllDial turns
 
 -- at a state that keeps no connection a turn dials
 asked_dials : (kept : Bool) (state : ClientState) (at : Option (List ℕ)) → kept ≡ false → at ≡ dialled_at kept state → (address : List ℕ) × (at ≡ Some address)
@@ -32,13 +32,13 @@ cut_dials false state None e f = absurd f
 cut_dials false state (Some address) e f = (address, refl)
 
 -- after a turn for a whole content no connection is kept
-still_new : (manner : Manner) (state : ClientState) (turn : Turn) (content : List ℕ) (next : ClientState) → GoesOn (whole manner) state turn content next → next.kept ≡ false
+still_new : (manner : FetchOptions) (state : ClientState) (turn : Turn) (content : List ℕ) (next : ClientState) → GoesOn (whole manner) state turn content next → next.kept ≡ false
 still_new manner state turn content next goes = elim goes.leads.so [
   | inl redirects ↦ ap (λ (p : ClientState). p.kept) redirects.0.follows.next_is
   | inr brings ↦ ap (λ (p : ClientState). p.kept) brings.next_is ∙ ap (λ b. not goes.leads.head.closes && b) brings.serves.taken ∙ and-false (not goes.leads.head.closes)
 ]
 
-pub all_dial : (manner : Manner) (state : ClientState) (through : List Turn) (content : List ℕ) (reached : ClientState) (last : Option Turn) (rest : List ℕ) (end : GetEnd) → state.kept ≡ false → Leads (whole manner) state through content reached → EndsAt (whole manner) reached last rest end → AllDial (through ++ option_to_list last)
+pub all_dial : (manner : FetchOptions) (state : ClientState) (through : List Turn) (content : List ℕ) (reached : ClientState) (last : Option Turn) (rest : List ℕ) (end : GetEnd) → state.kept ≡ false → Leads (whole manner) state through content reached → EndsAt (whole manner) reached last rest end → AllDial (through ++ option_to_list last)
 all_dial manner state [] content reached None rest end new leads ends = tt
 all_dial manner state [] content reached (Some turn) rest end new leads ends =
     let fresh : reached.kept ≡ false = ap (λ (p : ClientState). p.kept) leads.1 ∙ new in

@@ -5,7 +5,7 @@ use Rattle.oc_fetch.specs.Addresses.{IsAddressOf, IsBadAddress}
 use Rattle.oc_fetch.specs.Completeness.{text_of, LeadToContent, IsUnrefused, Completes}
 use Rattle.oc_fetch.specs.Conversations.{Converses}
 use Rattle.oc_fetch.specs.Downloads.{first_state, IsUnasked, Downloads, content_of}
-use Rattle.oc_fetch.specs.Manners.{Manner}
+use Rattle.oc_fetch.specs.FetchOptions.{FetchOptions}
 use Rattle.oc_fetch.specs.Ends.{end_of_url}
 use Rattle.oc_fetch.specs.Passing.{Sent, IsTalked}
 use Rattle.oc_fetch.specs.Turns.{Turn, Makes}
@@ -90,7 +90,7 @@ unasked_unrefused address url ends.Redirects good why = absurd why
 unasked_unrefused address url ends.Reply good why = absurd why
 
 -- a download whose replies lead to a content
-completes : OneAnswer → (manner : Manner) (address : List ℕ) (url : Parts) (turns : List Turn) (written : List ℕ) (end : GetEnd) → IsAddressOf address url → Downloads (content_of manner) manner.from address 1 turns written end → (old new : Story) → Makes turns old new → Completes manner url end old new
+completes : OneAnswer → (manner : FetchOptions) (address : List ℕ) (url : Parts) (turns : List Turn) (written : List ℕ) (end : GetEnd) → IsAddressOf address url → Downloads (content_of manner) manner.from address 1 turns written end → (old new : Story) → Makes turns old new → Completes manner url end old new
 completes one manner address url turns written end good (inl unasked) old new makes = λ made e lead. unasked_unrefused address url end good unasked.0
 completes one manner address url turns written end good (inr (other, is, talk)) old new makes = λ made e lead.
     let same : made ≡ makes.made = append_cancel_left (dials old) made makes.made (sym e ∙ makes.dials_are) in
@@ -102,6 +102,6 @@ completes one manner address url turns written end good (inr (other, is, talk)) 
     (rw (← talk.turns_are, same) fronts)
     (subst (λ (u : Parts). LeadToContent manner (first_state manner.from u 1) (map text_of made)) url_is lead)
 
-pub told_completes : {K : Type 0} (takes breaks : K → List ℕ → K → Type 0) → OneAnswer → (manner : Manner) (address : List ℕ) (url : Parts) (end : GetEnd) (a b : Option Story) (p q : K) → IsAddressOf address url → IsTalked takes breaks (Downloads (content_of manner) manner.from address 1) a b p q end → Told (Completes manner url end) a b
+pub told_completes : {K : Type 0} (takes breaks : K → List ℕ → K → Type 0) → OneAnswer → (manner : FetchOptions) (address : List ℕ) (url : Parts) (end : GetEnd) (a b : Option Story) (p q : K) → IsAddressOf address url → IsTalked takes breaks (Downloads (content_of manner) manner.from address 1) a b p q end → Told (Completes manner url end) a b
 told_completes takes breaks one manner address url end a b p q good talked =
     told_so (Makes talked.turns) (Completes manner url end) (λ old new makes. completes one manner address url talked.turns talked.written end good talked.so old new makes) a b talked.makes

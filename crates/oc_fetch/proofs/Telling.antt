@@ -1,4 +1,4 @@
--- Lines that are written, one behind another.
+-- Lines that are written, one after another.
 use Rattle.std.proofs.Common.{◌≡◌, ℕ, ◌+◌, ◌*◌, ◌-◌, ◌≤◌, List, [], ◌++◌, take, drop, sym, ap, ◌∙◌, arith, append_assoc, append-nil}
 use Rattle.std.proofs.lemmas.List.{take-append-drop}
 use Rattle.oc_fetch.specs.Lines.{WritesFront, progress_line, lines_behind}

@@ -3,18 +3,18 @@ use Rattle.std.specs.Prelude.{◌≡◌, ◌≢◌, ◌⊎◌, ℕ, Bool, true, 
 use Rattle.oc_fetch.specs.Passing.{Came}
 use Rattle.oc_fetch.specs.declared.end.GetEnd.{GetEnd}
 use Rattle.oc_fetch.specs.declared.end.GetEnd.TheVariants.{Reply, Link, Sink, Memory}
-use Rattle.oc_chunked.specs.Stages.{Stage, refused}
+use Rattle.oc_chunked.specs.Stages.{DecoderState, refused}
 use Rattle.oc_chunked.specs.Taken.{Takes}
 use Rattle.oc_chunked.specs.declared.fault.ChunkFault.{ChunkFault}
 
 -- a piece came, and led from stage to stage with this content
-pub record TakesPiece {S : Type 0} (gives : S → List ℕ → S → Type 0) (old new : S) (before after : Stage) (content : List ℕ) : Type 0 where
+pub record TakesPiece {S : Type 0} (gives : S → List ℕ → S → Type 0) (old new : S) (before after : DecoderState) (content : List ℕ) : Type 0 where
   pub bytes : List ℕ
   pub came : gives old bytes new
   pub takes : Takes before bytes content after
 
 -- why no piece was taken: the text ended early, or the piece was refused
-abbrev pub StopsAt : Stage → List ℕ → List ℕ → Bool → GetEnd → Type 0
+abbrev pub StopsAt : DecoderState → List ℕ → List ℕ → Bool → GetEnd → Type 0
 StopsAt stage front rest over Reply =
     ((front ++ rest ≡ []) × (over ≡ true))
     ⊎ ((fault : ChunkFault) × (content : List ℕ) × Takes stage front content (refused fault))
@@ -36,7 +36,7 @@ EndsWritten takes breaks old new content end ended =
     ⊎ ((ended ≡ Sink) × (end ≢ Link) × ((n : ℕ) × breaks old (take n content) new))
 
 -- a piece that was not taken came
-pub record StopsPiece {S : Type 0} (gives fails : S → List ℕ → S → Type 0) (ended : S → Type 0) (old new : S) (stage : Stage) (end : GetEnd) : Type 0 where
+pub record StopsPiece {S : Type 0} (gives fails : S → List ℕ → S → Type 0) (ended : S → Type 0) (old new : S) (stage : DecoderState) (end : GetEnd) : Type 0 where
   pub front : List ℕ
   pub rest : List ℕ
   pub over : Bool

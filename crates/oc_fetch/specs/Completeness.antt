@@ -3,7 +3,7 @@ use Rattle.std.specs.Prelude.{◌≡◌, ◌⊎◌, ℕ, ◌≤◌, List, [], �
 use Rattle.oc_fetch.specs.Conversations.{Replied, Serves, Redirects}
 use Rattle.oc_fetch.specs.Downloads.{first_state}
 use Rattle.oc_fetch.specs.Replies.{extent_of}
-use Rattle.oc_fetch.specs.Manners.{Manner}
+use Rattle.oc_fetch.specs.FetchOptions.{FetchOptions}
 use Rattle.oc_fetch.specs.Wishes.{whole}
 use Rattle.oc_fetch.specs.declared.end.GetEnd.{GetEnd}
 use Rattle.oc_fetch.specs.declared.end.GetEnd.TheVariants.{Done, Link, Sink, Memory}
@@ -25,7 +25,7 @@ HoldsWhole Chunked behind = ⊥
 HoldsWhole ToTheEnd behind = length behind ≤ MAX_OPEN_BYTES
 
 -- replies each of which leads on to the next, up to a 200 with a whole content
-abbrev pub LeadToContent : Manner → ClientState → List (List ℕ) → Type 0
+abbrev pub LeadToContent : FetchOptions → ClientState → List (List ℕ) → Type 0
 LeadToContent manner state [] = ⊤
 LeadToContent manner state (text ∷ texts) =
     Replied text (λ head behind. Serves (whole manner) head × HoldsWhole (extent_of head) behind)
@@ -40,6 +40,6 @@ IsUnrefused Memory = ⊤
 IsUnrefused end = ⊥
 
 -- where the dials that were made gave such replies, nothing was refused
-abbrev pub Completes : Manner → Parts → GetEnd → Story → Story → Type 0
+abbrev pub Completes : FetchOptions → Parts → GetEnd → Story → Story → Type 0
 Completes manner url end old new =
     (made : List Dial) → dials new ≡ dials old ++ made → LeadToContent manner (first_state manner.from url 1) (map text_of made) → IsUnrefused end

@@ -4,7 +4,7 @@ use Rattle.oc_fetch.specs.Addresses.{IsAddressOf, IsBadAddress}
 use Rattle.oc_fetch.specs.Conversations.{Converses}
 use Rattle.oc_fetch.specs.Queries.{start_of, area_of}
 use Rattle.oc_fetch.specs.Turns.{Turn}
-use Rattle.oc_fetch.specs.Manners.{Manner}
+use Rattle.oc_fetch.specs.FetchOptions.{FetchOptions}
 use Rattle.oc_fetch.specs.Wishes.{Wish, whole, news}
 use Rattle.oc_fetch.specs.declared.end.GetEnd.{GetEnd}
 use Rattle.oc_fetch.specs.declared.end.GetEnd.TheVariants.{BadUrl, Memory}
@@ -35,9 +35,9 @@ Downloads wish_for said address times turns written end =
     ⊎ ((url : Parts) × IsAddressOf address url × Converses (wish_for url) (first_state said url times) turns written end)
 
 -- the content of a URL
-abbrev pub content_of : Manner → Parts → Wish
+abbrev pub content_of : FetchOptions → Parts → Wish
 content_of manner url = whole manner
 
 -- what is new of a group, for the area that the URL says
-abbrev pub news_of : Manner → Parts → Wish
+abbrev pub news_of : FetchOptions → Parts → Wish
 news_of manner url = news manner (area_of url.query)

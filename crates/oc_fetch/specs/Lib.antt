@@ -5,7 +5,7 @@ pub mod Conversations
 pub mod Downloads
 pub mod Ends
 pub mod Lines
-pub mod Manners
+pub mod FetchOptions
 pub mod Metered
 pub mod Passing
 pub mod ProgressLines

@@ -7,7 +7,7 @@ use Rattle.oc_http.specs.Taking.{SaysReplyHead, RefusesReplyHead}
 use Rattle.oc_http.specs.declared.fault.HttpFault.{HttpFault}
 use Rattle.oc_http.specs.declared.fault.HttpFault.TheVariants.{Source, Memory}
 use Rattle.oc_http.specs.declared.reply.ReplyHead.{ReplyHead}
-use Rattle.oc_chunked.specs.Stages.{Stage, ended, refused, is_final}
+use Rattle.oc_chunked.specs.Stages.{DecoderState, ended, refused, is_final}
 use Rattle.oc_chunked.specs.Taken.{IsTaken}
 use Rattle.oc_chunked.specs.declared.fault.ChunkFault.{ChunkFault}
 
@@ -49,11 +49,11 @@ IsWhole ToTheEnd body content over = (body ≡ content) × (length content ≤ M
 abbrev pub Begins : Extent → List ℕ → List ℕ → Type 0
 Begins (Counted count) body content = (body ≡ content) × (length content ≤ count)
 Begins Chunked body content =
-    (content ≡ []) ⊎ ((front : List ℕ) × (rest : List ℕ) × (stage : Stage) × (body ≡ front ++ rest) × IsTaken front content stage)
+    (content ≡ []) ⊎ ((front : List ℕ) × (rest : List ℕ) × (stage : DecoderState) × (body ≡ front ++ rest) × IsTaken front content stage)
 Begins ToTheEnd body content = body ≡ content
 
 -- a chunked text breaks off at this stage, with this content: it ends early, or is refused, or has too much content
-abbrev pub BreaksOff : Stage → List ℕ → List ℕ → Bool → Type 0
+abbrev pub BreaksOff : DecoderState → List ℕ → List ℕ → Bool → Type 0
 BreaksOff stage content rest over =
     ((rest ≡ []) × (is_final stage ≡ false) × (over ≡ true))
     ⊎ ((fault : ChunkFault) × (stage ≡ refused fault))
@@ -63,5 +63,5 @@ BreaksOff stage content rest over =
 abbrev pub IsBodiless : Extent → List ℕ → Bool → Type 0
 IsBodiless (Counted count) body over = (length body < count) × (over ≡ true)
 IsBodiless Chunked body over =
-    (front : List ℕ) × (rest : List ℕ) × (content : List ℕ) × (stage : Stage) × (body ≡ front ++ rest) × IsTaken front content stage × BreaksOff stage content rest over
+    (front : List ℕ) × (rest : List ℕ) × (content : List ℕ) × (stage : DecoderState) × (body ≡ front ++ rest) × IsTaken front content stage × BreaksOff stage content rest over
 IsBodiless ToTheEnd body over = MAX_OPEN_BYTES < length body

@@ -1,7 +1,7 @@
 -- What a client asks servers for, and with which requests.
 use Rattle.std.specs.Prelude.{◌≡◌, ℕ, Bool, true, false, not, ◌&&◌, Option, Some, None, option_map, string_bytes, List}
 use Rattle.oc_fetch.specs.Addresses.{host_of, dial_address}
-use Rattle.oc_fetch.specs.Manners.{Manner}
+use Rattle.oc_fetch.specs.FetchOptions.{FetchOptions}
 use Rattle.oc_fetch.specs.Requests.{get_lines, close_lines, keep_lines, query_from, news_query, from_at, knowledge_at}
 use Rattle.oc_fetch.specs.Turns.{Turn}
 use Rattle.oc_fetch.specs.declared.client_state.ClientState.{ClientState}
@@ -11,9 +11,9 @@ use Rattle.oc_http.specs.declared.reply.ReplyHead.{ReplyHead}
 
 pub data Wish : Type 0 where
   -- the content of a URL, once
-  whole : Manner → Wish
+  whole : FetchOptions → Wish
   -- what is new of a group, for the area that the URL says
-  news : Manner → Option (List ℕ) → Wish
+  news : FetchOptions → Option (List ℕ) → Wish
 
 -- what a value of the code wishes
 abbrev pub wish_of : asked.Wish → Wish
@@ -26,12 +26,12 @@ from_of (whole manner) = manner.from
 from_of (news manner area) = manner.from
 
 -- the request for the content of a URL
-abbrev pub whole_request : Manner → ClientState → List ℕ
+abbrev pub whole_request : FetchOptions → ClientState → List ℕ
 whole_request manner state =
     get_lines state.target.path (query_from (from_at state.led manner.from) state.target.query) (host_of state.target) manner.token close_lines
 
 -- the request for what is new of a group
-abbrev pub news_request : Manner → Option (List ℕ) → ClientState → List ℕ
+abbrev pub news_request : FetchOptions → Option (List ℕ) → ClientState → List ℕ
 news_request manner area state =
     get_lines state.target.path (news_query state.start area (knowledge_at state.led state.target.query)) (host_of state.target) manner.token keep_lines
 

@@ -17,7 +17,7 @@ use crate::address::{UrlFault, read_address};
 use crate::client_state::ClientState;
 use crate::conversation::converse;
 use crate::end::GetEnd;
-use crate::manner::Manner;
+use crate::fetch_options::FetchOptions;
 use crate::query;
 use crate::target::Target;
 use crate::wish::Wish;
@@ -39,7 +39,7 @@ pub const MAX_REDIRECTIONS: u8 = 2;
 pub fn get<L: Dialler, K: Sink>(
     alloc: Global,
     address: &str,
-    manner: &Manner<'_>,
+    manner: &FetchOptions<'_>,
     link: &mut L,
     sink: &mut K,
 ) -> GetEnd
@@ -76,7 +76,7 @@ pub fn follow<L: Dialler, K: Sink>(
     alloc: Global,
     address: &str,
     times: u64,
-    manner: &Manner<'_>,
+    manner: &FetchOptions<'_>,
     link: &mut L,
     sink: &mut K,
 ) -> GetEnd
@@ -114,7 +114,7 @@ fn unasked(fault: UrlFault) -> GetEnd
 }
 
 /// What a client that follows the group of a URL wishes for.
-fn news<'a>(alloc: Global, manner: &'a Manner<'a>, url: &Url) -> Result<Wish<'a>, Memory>
+fn news<'a>(alloc: Global, manner: &'a FetchOptions<'a>, url: &Url) -> Result<Wish<'a>, Memory>
     ensures { IfOk result (λ wish. wish_of wish ≡ news_of manner.now url.now) }
 {
     match query::area(url.query()) {

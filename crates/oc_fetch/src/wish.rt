@@ -5,7 +5,7 @@ ghost use Rattle.oc_fetch.specs.Requests.{from_at, knowledge_at};
 ghost use Rattle.oc_fetch.specs.Wishes.{wish_of, from_of, request_of, whole_request, news_request};
 
 use crate::client_state::ClientState;
-use crate::manner::Manner;
+use crate::fetch_options::FetchOptions;
 use crate::query::knowledge;
 use crate::requests::{authorization_line, news_query, query_from};
 use oc_base::Memory;
@@ -15,9 +15,9 @@ use std::alloc::Global;
 #[derive(Drop)]
 pub(crate) enum Wish<'a> {
     /// The content of a URL, once.
-    Whole(&'a Manner<'a>),
+    Whole(&'a FetchOptions<'a>),
     /// What is new of a group, for the area that the URL says.
-    News(&'a Manner<'a>, Option<String>),
+    News(&'a FetchOptions<'a>, Option<String>),
 }
 
 impl<'a> Wish<'a> {
@@ -49,7 +49,11 @@ pub(crate) fn write_request(
 }
 
 /// The request for the content of a URL. The first one may say from which byte on; a Location says it itself.
-fn write_whole(alloc: Global, manner: &Manner<'_>, state: &ClientState) -> Result<Vec<u8>, Memory>
+fn write_whole(
+    alloc: Global,
+    manner: &FetchOptions<'_>,
+    state: &ClientState,
+) -> Result<Vec<u8>, Memory>
     ensures { IfOk result (λ text. text.items ≡ whole_request manner.now state.now) }
 {
     let url = state.target.url();
@@ -66,7 +70,7 @@ fn write_whole(alloc: Global, manner: &Manner<'_>, state: &ClientState) -> Resul
 /// The request for what is new of a group, with what a Location says to be known of it.
 fn write_news(
     alloc: Global,
-    manner: &Manner<'_>,
+    manner: &FetchOptions<'_>,
     area: Option<&str>,
     state: &ClientState,
 ) -> Result<Vec<u8>, Memory>

@@ -15,3 +15,5 @@ pub mod Ends
 pub mod Taking
 pub mod Settled
 pub mod Tidied
+pub mod Complete
+pub mod Safely

@@ -7,10 +7,10 @@ use Rattle.std.specs.Option.{option_map, option_to_list, IsSome}
 use Rattle.oc_link.specs.ByteStrings.{grown}
 use Rattle.oc_link.specs.Connection.{Connection, unused, wrote}
 use Rattle.oc_link.specs.ConnectionsView.{ConnectionsView, connection_of, connections_of, count_of, at, current_of, ended, begun, further}
-use Rattle.oc_link.specs.declared.connections.Progress.{Progress}
+use Rattle.oc_link.specs.declared.connections.ConnectionProgress.{ConnectionProgress}
 
 -- the view, by its parts
-abbrev pub view : List (List ℕ) → List Progress → Option Progress → List (List ℕ) → ℕ → ConnectionsView
+abbrev pub view : List (List ℕ) → List ConnectionProgress → Option ConnectionProgress → List (List ℕ) → ℕ → ConnectionsView
 view given past current strings room = record {
   waiting = drop (length past + count_of current) given;
   past = connections_of past given strings;
@@ -19,7 +19,7 @@ view given past current strings room = record {
 }
 
 -- one connection more at the end
-connections_of-push : (past : List Progress) (given strings : List (List ℕ)) (progress : Progress) → length past < length given → length past < length strings → connections_of (past ++ progress ∷ []) given strings ≡ connections_of past given strings ++ connection_of (at given (length past)) progress (at strings (length past)) ∷ []
+connections_of-push : (past : List ConnectionProgress) (given strings : List (List ℕ)) (progress : ConnectionProgress) → length past < length given → length past < length strings → connections_of (past ++ progress ∷ []) given strings ≡ connections_of past given strings ++ connection_of (at given (length past)) progress (at strings (length past)) ∷ []
 connections_of-push [] [] strings progress some_given some_rows = absurd (omega (arith, some_given))
 connections_of-push [] (b ∷ given) [] progress some_given some_rows = absurd (omega (arith, some_rows))
 connections_of-push [] (b ∷ given) (w ∷ strings) progress some_given some_rows = refl
@@ -29,7 +29,7 @@ connections_of-push (t ∷ past) (b ∷ given) (w ∷ strings) progress some_giv
     ap (λ (cs : List Connection). connection_of b t w ∷ cs) (connections_of-push past given strings progress (omega (arith, some_given)) (omega (arith, some_rows)))
 
 -- later strings do not matter
-connections_of-more : (past : List Progress) (given strings more : List (List ℕ)) → length past ≤ length strings → connections_of past given (strings ++ more) ≡ connections_of past given strings
+connections_of-more : (past : List ConnectionProgress) (given strings more : List (List ℕ)) → length past ≤ length strings → connections_of past given (strings ++ more) ≡ connections_of past given strings
 connections_of-more [] given strings more some = refl
 connections_of-more (t ∷ past) [] [] more some = absurd (omega (arith, some))
 connections_of-more (t ∷ past) [] (w ∷ strings) more some = refl
@@ -38,7 +38,7 @@ connections_of-more (t ∷ past) (b ∷ given) (w ∷ strings) more some =
     ap (λ (cs : List Connection). connection_of b t w ∷ cs) (connections_of-more past given strings more (omega (arith, some)))
 
 -- nor does the last string, if it comes later
-connections_of-grown : (past : List Progress) (given strings : List (List ℕ)) (more : List ℕ) → length past < length strings → connections_of past given (grown strings more) ≡ connections_of past given strings
+connections_of-grown : (past : List ConnectionProgress) (given strings : List (List ℕ)) (more : List ℕ) → length past < length strings → connections_of past given (grown strings more) ≡ connections_of past given strings
 connections_of-grown [] given strings more some = refl
 connections_of-grown (t ∷ past) given [] more some = absurd (omega (arith, some))
 connections_of-grown (t ∷ past) given (w ∷ []) more some = absurd (omega (arith, some))
@@ -64,19 +64,19 @@ at-push (w ∷ strings) (suc k) last = at-push strings k (omega (arith, last))
 -- The view after each call
 
 -- the current connection ended
-pub ended_view : (given : List (List ℕ)) (past next : List Progress) (current : Option Progress) (strings : List (List ℕ)) (progress : Progress) (room : ℕ) (old : ConnectionsView) → length past < length given → length past < length strings → next ≡ past ++ progress ∷ [] → current ≡ Some progress → view given past current strings room ≡ old → view given next None strings room ≡ ended old
+pub ended_view : (given : List (List ℕ)) (past next : List ConnectionProgress) (current : Option ConnectionProgress) (strings : List (List ℕ)) (progress : ConnectionProgress) (room : ℕ) (old : ConnectionsView) → length past < length given → length past < length strings → next ≡ past ++ progress ∷ [] → current ≡ Some progress → view given past current strings room ≡ old → view given next None strings room ≡ ended old
 ended_view given past next current strings progress room old some_given some_rows is there same =
     let one : length (past ++ progress ∷ []) + 0 ≡ length past + 1 = omega (arith, length-append past (progress ∷ [])) in
     let now : view given (past ++ progress ∷ []) None strings room ≡ ended (view given past (Some progress) strings room) =
     rw (one, connections_of-push past given strings progress some_given some_rows) refl in
-    ap (λ (xs : List Progress). view given xs None strings room) is ∙ now ∙ ap (λ (o : Option Progress). ended (view given past o strings room)) (sym there) ∙ ap ended same
+    ap (λ (xs : List ConnectionProgress). view given xs None strings room) is ∙ now ∙ ap (λ (o : Option ConnectionProgress). ended (view given past o strings room)) (sym there) ∙ ap ended same
 
 -- a connection on which nothing happened
 fresh_connection : (bytes string : List ℕ) → string ≡ [] → connection_of bytes (record { read = 0; failed = false }) string ≡ unused bytes
 fresh_connection bytes string none = ap (λ (r : List ℕ). connection_of bytes (record { read = 0; failed = false }) r) none
 
 -- a new connection is current
-pub begun_view : (given : List (List ℕ)) (past : List Progress) (current : Option Progress) (strings next : List (List ℕ)) (room : ℕ) (mid old : ConnectionsView) → mid ≡ ended old → length strings ≡ length past + count_of current → view given past current strings room ≡ mid → next ≡ strings ++ [] ∷ [] → view given past (Some (record { read = 0; failed = false })) next room ≡ begun old
+pub begun_view : (given : List (List ℕ)) (past : List ConnectionProgress) (current : Option ConnectionProgress) (strings next : List (List ℕ)) (room : ℕ) (mid old : ConnectionsView) → mid ≡ ended old → length strings ≡ length past + count_of current → view given past current strings room ≡ mid → next ≡ strings ++ [] ∷ [] → view given past (Some (record { read = 0; failed = false })) next room ≡ begun old
 begun_view given past (Some progress) strings next room mid old is full same grows = let clash : Some (connection_of (at given (length past)) progress (at strings (length past))) ≡ None = ap (λ (v : ConnectionsView). v.current) (same ∙ is) in absurd (cc clash)
 begun_view given past None strings next room mid old is full same grows =
     let before = same ∙ is in
@@ -90,11 +90,11 @@ begun_view given past None strings next room mid old is full same grows =
     ∙ now ∙ ap (λ (v : ConnectionsView). record v { waiting = drop 1 v.waiting; current = Some (unused (at v.waiting 0)) }) before
 
 -- more of the current connection was read
-pub further-read : (bytes string : List ℕ) (progress : Progress) (n : ℕ) → connection_of bytes (record { read = progress.read + n; failed = progress.failed }) string ≡ further n (connection_of bytes progress string)
+pub further-read : (bytes string : List ℕ) (progress : ConnectionProgress) (n : ℕ) → connection_of bytes (record { read = progress.read + n; failed = progress.failed }) string ≡ further n (connection_of bytes progress string)
 further-read bytes string progress n = rw (take-add progress.read n bytes, sym (drop-drop n progress.read bytes)) refl
 
 -- the current connection was written on
-pub written_view : (given : List (List ℕ)) (past : List Progress) (current : Option Progress) (strings : List (List ℕ)) (room : ℕ) (more : List ℕ) (old : ConnectionsView) → length strings ≡ length past + count_of current → IsSome old.current → view given past current strings room ≡ old → view given past current (grown strings more) (room - length more) ≡ record old { current = option_map (wrote more) old.current; room = old.room - length more }
+pub written_view : (given : List (List ℕ)) (past : List ConnectionProgress) (current : Option ConnectionProgress) (strings : List (List ℕ)) (room : ℕ) (more : List ℕ) (old : ConnectionsView) → length strings ≡ length past + count_of current → IsSome old.current → view given past current strings room ≡ old → view given past current (grown strings more) (room - length more) ≡ record old { current = option_map (wrote more) old.current; room = old.room - length more }
 written_view given past None strings room more old full there same = let none = subst (λ (v : ConnectionsView). IsSome v.current) (sym same) there in absurd (cc none)
 written_view given past (Some progress) strings room more old full there same =
     let now : view given past (Some progress) (grown strings more) (room - length more) ≡ record (view given past (Some progress) strings room) { current = Some (wrote more (connection_of (at given (length past)) progress (at strings (length past)))); room = room - length more } =
@@ -108,7 +108,7 @@ length-grown (w ∷ []) more = refl
 length-grown (w ∷ next ∷ strings) more = ap (λ (n : ℕ). suc n) (length-grown (next ∷ strings) more)
 
 -- what was written on each
-pub written_at : (past : List Progress) (given strings : List (List ℕ)) (current : Option Progress) (k : ℕ) → length strings ≡ length past + count_of current → length strings ≤ length given → slice_get strings k ≡ option_map (λ (c : Connection). c.written) (slice_get (connections_of past given strings ++ option_to_list (current_of given (length past) current strings)) k)
+pub written_at : (past : List ConnectionProgress) (given strings : List (List ℕ)) (current : Option ConnectionProgress) (k : ℕ) → length strings ≡ length past + count_of current → length strings ≤ length given → slice_get strings k ≡ option_map (λ (c : Connection). c.written) (slice_get (connections_of past given strings ++ option_to_list (current_of given (length past) current strings)) k)
 written_at [] given [] None k full some = refl
 written_at [] given (w ∷ strings) None k full some = absurd (omega (arith, full))
 written_at [] given [] (Some progress) k full some = absurd (omega (arith, full))
@@ -123,14 +123,14 @@ written_at (t ∷ past) (b ∷ given) (w ∷ strings) None (suc k) full some = w
 written_at (t ∷ past) (b ∷ given) (w ∷ strings) (Some progress) (suc k) full some = written_at past given strings (Some progress) k (omega (arith, full)) (omega (arith, some))
 
 -- what is left of the current connection was read
-pub record Reads (given : List (List ℕ)) (past : List Progress) (progress : Progress) (strings : List (List ℕ)) (room : ℕ) (old : ConnectionsView) (n : ℕ) : Type 0 where
+pub record Reads (given : List (List ℕ)) (past : List ConnectionProgress) (progress : ConnectionProgress) (strings : List (List ℕ)) (room : ℕ) (old : ConnectionsView) (n : ℕ) : Type 0 where
   pub current : old.current ≡ Some (connection_of (at given (length past)) progress (at strings (length past)))
   pub after : view given past (Some (record { read = progress.read + n; failed = progress.failed })) strings room ≡ record old { current = Some (further n (connection_of (at given (length past)) progress (at strings (length past)))) }
 
 -- and its view
-pub read_view : (given : List (List ℕ)) (past : List Progress) (current : Option Progress) (progress : Progress) (strings : List (List ℕ)) (room : ℕ) (old : ConnectionsView) (n : ℕ) → current ≡ Some progress → view given past current strings room ≡ old → Reads given past progress strings room old n
+pub read_view : (given : List (List ℕ)) (past : List ConnectionProgress) (current : Option ConnectionProgress) (progress : ConnectionProgress) (strings : List (List ℕ)) (room : ℕ) (old : ConnectionsView) (n : ℕ) → current ≡ Some progress → view given past current strings room ≡ old → Reads given past progress strings room old n
 read_view given past current progress strings room old n is same =
-    let now : view given past (Some progress) strings room ≡ old = ap (λ (o : Option Progress). view given past o strings room) (sym is) ∙ same in
+    let now : view given past (Some progress) strings room ≡ old = ap (λ (o : Option ConnectionProgress). view given past o strings room) (sym is) ∙ same in
     record {
       current = sym (ap (λ (v : ConnectionsView). v.current) now);
       after = rw (further-read (at given (length past)) (at strings (length past)) progress n) (ap (λ (v : ConnectionsView). record v { current = Some (further n (connection_of (at given (length past)) progress (at strings (length past)))) }) now);

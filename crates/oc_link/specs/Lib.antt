@@ -7,3 +7,13 @@ pub mod MemDiallerView
 pub mod Connection
 pub mod ByteStrings
 pub mod ConnectionsView
+pub mod Stands
+pub mod Traffic
+pub mod Dials
+pub mod Told
+pub mod Failures
+pub mod Counts
+pub mod ArrivedView
+pub mod Examples
+pub mod Plays
+pub mod MemLinkView

@@ -9,7 +9,7 @@ use std::marker::Model;
 
 /// How far a connection has come: the bytes of it that were read, and whether a call on it failed.
 #[derive(Clone, Copy, Debug)]
-pub(crate) struct Progress {
+pub(crate) struct ConnectionProgress {
     pub(crate) read: usize,
     pub(crate) failed: bool,
 }
@@ -21,9 +21,9 @@ pub(crate) struct Connections {
     /// The bytes that each connection gives, oldest first.
     given: Vec<Vec<u8>>,
     /// Those that ended.
-    past: Vec<Progress>,
+    past: Vec<ConnectionProgress>,
     /// The current one, which comes after them.
-    current: Option<Progress>,
+    current: Option<ConnectionProgress>,
     /// What was written on each of those that ended and on the current one.
     written: ByteStrings,
 }
@@ -104,7 +104,7 @@ impl Connections {
     {
         self.close();
         self.written.begin();
-        self.current = Some(Progress {
+        self.current = Some(ConnectionProgress {
             read: 0,
             failed: false,
         });
@@ -122,7 +122,7 @@ impl Connections {
         };
         let bytes = self.given[self.past.len()].as_slice();
         let count = fill(buf, unread(bytes, progress), most);
-        self.current = Some(Progress {
+        self.current = Some(ConnectionProgress {
             read: progress.read + count,
             failed: progress.failed,
         });
@@ -146,7 +146,7 @@ impl Connections {
         ensures { self.new ≡ record self.old { current = option_map broken self.old.current } }
     {
         if let Some(progress) = self.current {
-            self.current = Some(Progress {
+            self.current = Some(ConnectionProgress {
                 read: progress.read,
                 failed: true,
             });
@@ -163,7 +163,7 @@ impl Connections {
 }
 
 /// What is left of a connection's bytes.
-fn unread(bytes: &[u8], progress: Progress) -> &[u8]
+fn unread(bytes: &[u8], progress: ConnectionProgress) -> &[u8]
     requires { progress.read ≤ length bytes.now }
     ensures { result.now ≡ drop progress.read bytes.now }
 {

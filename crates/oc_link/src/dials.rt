@@ -14,7 +14,7 @@ use std::marker::Model;
 /// Dials in memory, one after another, of which one may be outgoing. Each takes the next of the
 /// replies.
 #[derive(Debug, Drop)]
-pub(crate) struct Dials {
+pub(crate) struct MemDials {
     connections: Connections,
     /// The address of each dial that took a reply.
     addresses: ByteStrings,
@@ -24,7 +24,7 @@ pub(crate) struct Dials {
     room: usize,
 }
 
-impl Model for Dials {
+impl Model for MemDials {
     ghost use Rattle.std.specs.Prelude.{◌≡◌, ◌+◌, ◌<◌, ◌≤◌, [], None, ◌++◌, length, replicate, option_to_list};
     ghost use Rattle.oc_link.specs.DialsView.{DialsView, dials_of, outgoing_of, nowhere};
 
@@ -44,13 +44,13 @@ impl Model for Dials {
         × (0 < d.refused → length d.connections.waiting + length (option_to_list d.connections.current) ≡ 0) };
 }
 
-impl Dials {
+impl MemDials {
     /// No dial yet, these replies, and room for this many bytes.
     pub(crate) fn new(
         alloc: Global,
         replies: Vec<Vec<u8>>,
         room: usize,
-    ) -> Result<Dials, AllocError>
+    ) -> Result<MemDials, AllocError>
         ensures { IfOk result (λ d. d ≡ record {
           replies = map (λ v. v.items) replies.items;
           past = [];
@@ -61,7 +61,7 @@ impl Dials {
     {
         let addresses = ByteStrings::new(alloc, room, replies.len())?;
         let connections = Connections::new(alloc, replies, room)?;
-        Ok(Dials {
+        Ok(MemDials {
             connections,
             addresses,
             refused: 0,

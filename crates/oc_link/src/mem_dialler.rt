@@ -9,7 +9,7 @@ ghost use Rattle.oc_link.specs.MemDiallerView.{CountsFaults, after_dial, after_d
 ghost use Rattle.oc_link.specs.Story.{dials, hung_up, IsHeardOut};
 
 use crate::dialler::Dialler;
-use crate::dials::Dials;
+use crate::dials::MemDials;
 use oc_io::{CallTally, Failed};
 use std::alloc::{AllocError, Global};
 use std::marker::Model;
@@ -18,7 +18,7 @@ use std::marker::Model;
 /// goes. It keeps neither address nor bytes of a dial that fails.
 #[derive(Debug, Drop)]
 pub struct MemDialler {
-    dials: Dials,
+    dials: MemDials,
     /// The most bytes that one read gives.
     cut: usize,
     calls: CallTally,
@@ -57,7 +57,7 @@ impl MemDialler {
         ensures { IfOk result (λ link. link ≡ dialler_of (map (λ v. v.items) replies.items) room cut fails.items) }
     {
         Ok(MemDialler {
-            dials: Dials::new(alloc, replies, room)?,
+            dials: MemDials::new(alloc, replies, room)?,
             cut,
             calls: CallTally::new(fails),
         })

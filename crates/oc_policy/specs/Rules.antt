@@ -7,8 +7,8 @@ use Rattle.oc_policy.specs.Tokens.{is_shown}
 use Rattle.oc_policy.specs.declared.rule.Action.{Action}
 use Rattle.oc_policy.specs.declared.rule.Action.TheVariants.{Get, Post}
 use Rattle.oc_policy.specs.declared.rule.Rule.{Rule}
-use Rattle.oc_policy.specs.declared.deciding.Verdict.{Verdict}
-use Rattle.oc_policy.specs.declared.deciding.Verdict.TheVariants.{Allowed, Denied}
+use Rattle.oc_policy.specs.declared.deciding.Decision.{Decision}
+use Rattle.oc_policy.specs.declared.deciding.Decision.TheVariants.{Allowed, Denied}
 
 -- whether two actions are the same
 abbrev pub same_action : Action → Action → Bool
@@ -41,15 +41,15 @@ abbrev pub first_match : List Rule → Action → Option (List ℕ) → ℕ → 
 first_match rules action group area shown = position (λ rule. rule_matches rule action group area shown) rules
 
 -- a rule that matches first allows, or denies by its number
-abbrev pub verdict_of : Option Rule → ℕ → Verdict
+abbrev pub verdict_of : Option Rule → ℕ → Decision
 verdict_of None number = Allowed
 verdict_of (Some rule) number = if rule.allow then Allowed else Denied number
 
 -- the rule at this place decides; where none matches the request is allowed
-abbrev pub verdict_at : List Rule → Option ℕ → Verdict
+abbrev pub verdict_at : List Rule → Option ℕ → Decision
 verdict_at rules None = Allowed
 verdict_at rules (Some place) = verdict_of (slice_get rules place) (place + 1)
 
 -- what the rules say of a request: the first that matches decides
-abbrev pub verdict : List Rule → Action → Option (List ℕ) → ℕ → Option (List ℕ) → Verdict
+abbrev pub verdict : List Rule → Action → Option (List ℕ) → ℕ → Option (List ℕ) → Decision
 verdict rules action group area shown = verdict_at rules (first_match rules action group area shown)

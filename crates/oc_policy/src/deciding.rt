@@ -6,7 +6,7 @@ use oc_base::GroupName;
 
 /// What the access rules say of a request.
 #[derive(Clone, Copy, Debug, PartialEq, Eq)]
-pub enum Verdict {
+pub enum Decision {
     Allowed,
     /// The rule with this number, counted from 1, denies it.
     Denied(u32),
@@ -24,13 +24,13 @@ pub fn decide<'a>(
     group: Option<&'a GroupName>,
     area: u8,
     shown: Option<&'a [u8]>,
-) -> Verdict
+) -> Decision
     requires { length rules.now ≤ MAX_RULES }
     ensures { result ≡ verdict rules.now action (option_map (λ g. g.now) group.entry) area (option_map (λ s. s.now) shown.entry) }
 {
     match first_match(rules, action, group, area, shown) {
         Some(place) => rules[place].says(place as u32 + 1),
-        None => Verdict::Allowed,
+        None => Decision::Allowed,
     }
 }
 
@@ -51,13 +51,13 @@ fn first_match<'a>(
 
 impl Rule {
     /// What the rule says of a request that it matches, where it has this number.
-    fn says(&self, number: u32) -> Verdict
+    fn says(&self, number: u32) -> Decision
         ensures { result ≡ verdict_of (Some self.now) number }
     {
         if self.allow {
-            Verdict::Allowed
+            Decision::Allowed
         } else {
-            Verdict::Denied(number)
+            Decision::Denied(number)
         }
     }
 }

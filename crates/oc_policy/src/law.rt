@@ -5,7 +5,7 @@ ghost use Rattle.oc_policy.specs.declared.rule.Rule.{Rule};
 ghost use Rattle.oc_policy.specs.Rules.{first_match};
 ghost use Rattle.oc_policy.specs.Covering.{Shadows};
 ghost use Rattle.oc_policy.specs.Listing.{rule_line};
-ghost use Rattle.oc_policy.specs.declared.deciding.Verdict.TheVariants.{Denied};
+ghost use Rattle.oc_policy.specs.declared.deciding.Decision.TheVariants.{Denied};
 
 /// A rule that an earlier one covers is never the first that matches, so it denies nothing and lets
 /// nothing pass.

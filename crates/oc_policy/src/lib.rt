@@ -18,7 +18,7 @@ mod rule;
 mod shadowing;
 mod token;
 
-pub use deciding::{MAX_RULES, Verdict, decide};
+pub use deciding::{Decision, MAX_RULES, decide};
 pub use demand::Demand;
 pub use law::{a_shadowed_rule_decides_nothing, no_line_tells_a_token};
 pub use listing::rules_text;

@@ -3,8 +3,8 @@ use Rattle.std.proofs.Common.{◌≡◌, ℕ, Bool, ◌⊎◌, List, Option, Som
 use Rattle.oc_replay.specs.declared.end.ReplayEnd.{ReplayEnd}
 use Rattle.oc_replay.specs.declared.end.ReplayEnd.TheVariants as replays
 use Rattle.oc_schedule.specs.Schedule.{schedule_of}
-use Rattle.oc_words.specs.declared.request.Request.{Request}
-use Rattle.oc_words.specs.declared.request.Request.TheVariants.{Replay}
+use Rattle.oc_words.specs.declared.request.Invocation.{Invocation}
+use Rattle.oc_words.specs.declared.request.Invocation.TheVariants.{Replay}
 use Rattle.oc_commands.specs.AtReplay.{HappenedAtReplay, status_for}
 use Rattle.oc_commands.specs.Ends.{status_of, status_of_replay}
 use Rattle.oc_commands.proofs.Tokens.{untokened}
@@ -28,7 +28,7 @@ module _ (bytes : List ℕ) (read : ℕ) (output : Output) (error : OnError) (st
   replay_is_right_of summary replays.Sink h = inr (inl refl)
   replay_is_right_of summary replays.Memory h = inr (inr refl)
 
-  pub replayed_of : (files : OnFiles) (link : OnLink) (token : Input) (node : OnNode) (summary : Bool) (file : Option (List ℕ)) (asked : Option Request) (end : End) → asked ≡ Some (Replay summary file)
+  pub replayed_of : (files : OnFiles) (link : OnLink) (token : Input) (node : OnNode) (summary : Bool) (file : Option (List ℕ)) (asked : Option Invocation) (end : End) → asked ≡ Some (Replay summary file)
       → Happened (record { asked = asked; input = at_bytes bytes read; output = output; error = error; stage = stage; files = files; link = link; token = token; node = node }) end
       → IsRightOf (number_of (status_of end))
   replayed_of files link token node summary file asked Helped is h = let asks = h.0 in cc

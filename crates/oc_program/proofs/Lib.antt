@@ -2,3 +2,4 @@ mod Passed
 mod InMemory
 mod Named
 mod Statuses
+mod Read

@@ -6,19 +6,19 @@ use Rattle.oc_commands.specs.Lines.{file_by, file_in, file_known, file_told, lin
 use Rattle.oc_commands.specs.declared.ending.End.{End}
 use Rattle.oc_commands.specs.declared.ending.End.TheVariants.{NoMemory}
 use Rattle.oc_words.specs.Words.{Answers}
-use Rattle.oc_words.specs.declared.request.Request.{Request}
+use Rattle.oc_words.specs.declared.request.Invocation.{Invocation}
 use Rattle.oc_words.specs.declared.words.WordsFault.{WordsFault}
 use Rattle.oc_words.specs.declared.words.WordsFault.TheVariants.{Usage, Memory}
 
 -- what was read names the files that the words name
-read_asked : (untokened : Bool) (asked : Option Request) → file_in untokened (ok_or asked Usage) ≡ file_by untokened asked
+read_asked : (untokened : Bool) (asked : Option Invocation) → file_in untokened (ok_or asked Usage) ≡ file_by untokened asked
 read_asked true None = refl
 read_asked true (Some request) = refl
 read_asked false None = refl
 read_asked false (Some request) = refl
 
 -- or memory ran out, and the line of that names none
-pub line_named : (given : Result Request WordsFault) (asked : Option Request) (end : End) (usage : List ℕ) → Answers asked given → (given ≡ Err Memory → end ≡ NoMemory)
+pub line_named : (given : Result Invocation WordsFault) (asked : Option Invocation) (end : End) (usage : List ℕ) → Answers asked given → (given ≡ Err Memory → end ≡ NoMemory)
     → line_of end (file_known given end) usage ≡ line_of end (file_told asked end) usage
 line_named given asked end usage (inl is) none = ap (λ file. line_of end file usage) (ap (file_in (lacks_token end)) is ∙ read_asked (lacks_token end) asked)
 line_named given asked end usage (inr memory) none = ap (λ e. line_of e (file_known given end) usage) (none memory) ∙ sym (ap (λ e. line_of e (file_told asked end) usage) (none memory))

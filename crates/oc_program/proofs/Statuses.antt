@@ -11,16 +11,16 @@ use Rattle.oc_commands.proofs.Completes.{IsSound, checked, fetched}
 use Rattle.oc_commands.proofs.Configured.{shown}
 use Rattle.oc_commands.proofs.Serves.{served}
 use Rattle.oc_commands.proofs.Works.{generated, helped, listed, replayed, versioned}
-use Rattle.oc_events.specs.declared.call.Call.{Call}
-use Rattle.oc_events.specs.declared.counts.Counts.{Counts}
+use Rattle.oc_link.specs.declared.call.Call.{Call}
+use Rattle.oc_link.specs.declared.counts.LinkCounts.{LinkCounts}
 use Rattle.oc_io.specs.DiskView.{DiskView}
 use Rattle.oc_keep.specs.Files.{Disks, disks_in}
 use Rattle.oc_link.specs.Story.{Story}
 use Rattle.oc_model.specs.World.{World}
 use Rattle.oc_words.specs.Status.{number_of}
 use Rattle.oc_words.specs.declared.request.Download.{Download}
-use Rattle.oc_words.specs.declared.request.Request.{Request}
-use Rattle.oc_words.specs.declared.request.Request.TheVariants.{Check, CheckConfigured, Gen, Get, Help, Node, Put, Replay, Rules, Version}
+use Rattle.oc_words.specs.declared.request.Invocation.{Invocation}
+use Rattle.oc_words.specs.declared.request.Invocation.TheVariants.{Check, CheckConfigured, Gen, Get, Help, Node, Put, Replay, Rules, Version}
 use Rattle.oc_program.specs.Seen.{seen}
 use Rattle.oc_program.specs.StatusFor.{OutputHeld, StatusFor, StatusForGet}
 use Rattle.oc_program.specs.declared.outside.Outside.{Outside}
@@ -32,11 +32,11 @@ misused_number end (inr is) = inr (ap (λ e. number_of (status_of e)) is)
 
 module _ {S K E T D L N P : Type 0} (gives gives_less : S → List ℕ → S → Type 0) (ended : S → Type 0) (input_faults : S → ℕ)
     (takes takes_less : K → List ℕ → K → Type 0) (output_faults : K → ℕ) (writes writes_less : E → List ℕ → E → Type 0) (error_faults : E → ℕ) (world : T → World) (view : D → DiskView)
-    (dials : L → Option Story) (dial_faults : L → ℕ) (calls : N → Option (List Call)) (counts : N → Counts) (old : Outside S K E T D L N P) (told : E) (new : Outside S K E T D L N P) where
-  abbrev o : Option Request → sayings.Outside
+    (dials : L → Option Story) (dial_faults : L → ℕ) (calls : N → Option (List Call)) (counts : N → LinkCounts) (old : Outside S K E T D L N P) (told : E) (new : Outside S K E T D L N P) where
+  abbrev o : Option Invocation → sayings.Outside
   o asked = seen gives gives_less ended input_faults takes takes_less output_faults writes writes_less error_faults world view dials dial_faults calls counts asked old told new
 
-  abbrev For : Option Request → ℕ → Type 0
+  abbrev For : Option Invocation → ℕ → Type 0
   For asked status = StatusFor gives ended input_faults output_faults view dials dial_faults counts old new asked status
 
   abbrev output : Output
@@ -79,7 +79,7 @@ module _ {S K E T D L N P : Type 0} (gives gives_less : S → List ℕ → S →
   get_for d None (Some file) end is_once is_plain h = tt
   get_for d (Some times) file end is_once is_plain h = tt
 
-  pub status_for : (asked : Option Request) (end : End) → Happened (o asked) end → (asked ≡ None → (end ≡ Misused) ⊎ (end ≡ NoMemory)) → For asked (number_of (status_of end))
+  pub status_for : (asked : Option Invocation) (end : End) → Happened (o asked) end → (asked ≡ None → (end ≡ Misused) ⊎ (end ≡ NoMemory)) → For asked (number_of (status_of end))
   status_for None end h misused = misused_number end (misused refl)
   status_for (Some Help) end h misused = λ held. helped (o (Some Help)) (sound_of held) end refl h
   status_for (Some Version) end h misused = λ held. versioned (o (Some Version)) (sound_of held) end refl h

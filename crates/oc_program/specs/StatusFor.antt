@@ -5,18 +5,18 @@ use Rattle.oc_commands.specs.AtNode.{HasServiceStatus}
 use Rattle.oc_commands.specs.AtReplay.{HasStatus}
 use Rattle.oc_commands.specs.AtRules.{HasConfigStatus}
 use Rattle.oc_commands.specs.Complete.{IsDoneOrMemory, IsServed}
-use Rattle.oc_events.specs.declared.counts.Counts.{Counts}
+use Rattle.oc_link.specs.declared.counts.LinkCounts.{LinkCounts}
 use Rattle.oc_io.specs.DiskView.{DiskView}
 use Rattle.oc_io.specs.Faults.{Rose}
 use Rattle.oc_keep.specs.Files.{AreHonest, OneRose, disks_in}
 use Rattle.oc_keep.specs.Promises.{HoldFiles}
 use Rattle.oc_link.specs.Story.{Story}
-use Rattle.oc_words.specs.declared.request.Request.{Request}
-use Rattle.oc_words.specs.declared.request.Request.TheVariants.{Check, CheckConfigured, Gen, Get, Help, Node, Put, Replay, Rules, Version}
+use Rattle.oc_words.specs.declared.request.Invocation.{Invocation}
+use Rattle.oc_words.specs.declared.request.Invocation.TheVariants.{Check, CheckConfigured, Gen, Get, Help, Node, Put, Replay, Rules, Version}
 use Rattle.oc_program.specs.declared.outside.Outside.{Outside}
 
 module _ {S K E T D L N P : Type 0} (gives : S → List ℕ → S → Type 0) (ended : S → Type 0) (input_faults : S → ℕ) (output_faults : K → ℕ)
-    (view : D → DiskView) (dials : L → Option Story) (dial_faults : L → ℕ) (counts : N → Counts) (old new : Outside S K E T D L N P) where
+    (view : D → DiskView) (dials : L → Option Story) (dial_faults : L → ℕ) (counts : N → LinkCounts) (old new : Outside S K E T D L N P) where
   -- What did not fail: the input, the output, a disk of those that are honest, a dial, and the link of a node in being asked
 
   abbrev pub InputHeld : Type 0
@@ -42,7 +42,7 @@ module _ {S K E T D L N P : Type 0} (gives : S → List ℕ → S → Type 0) (e
   -- Words that ask for nothing have status 2. Help, `--version` and `gen` are done; a replay has the status of what its input says, and so
   -- has `rules`. The files of a node are shown by `check`, of a configuration where that has the node. A `node` has the status of what
   -- its configuration says, and over the files of a node it is done, or a file is full. Or memory ran out.
-  abbrev pub StatusFor : Option Request → ℕ → Type 0
+  abbrev pub StatusFor : Option Invocation → ℕ → Type 0
   StatusFor None status = (status ≡ 2) ⊎ (status ≡ 4)
   StatusFor (Some Help) status = OutputHeld → IsDoneOrMemory status
   StatusFor (Some Version) status = OutputHeld → IsDoneOrMemory status

@@ -4,26 +4,39 @@
 //! line, and what had then happened outside. `Outside` in the `specs/` of `oc_commands` is all that it speaks
 //! of, and `Happened` says for each end what then holds. `StatusFor` says which status comes for which request where
 //! nothing fails. [`run_in_memory`] and [`run_on_streams`] are `run` at readers and writers, where the same clause is
-//! about bytes and about counts of bytes; `main` calls the second.
+//! about bytes and about counts of bytes.
 //!
 //! Where a replay ends with status 0, [`headline_holds`] is part of that clause: what holds of every world
 //! of the schedule, also inside settle and heal, and what settle and heal leave and report.
 //!
 //! What the words ask for is read by `oc_words`, and done by `oc_commands`.
+//!
+//! [`start`] makes the real things, which are the standard streams, or a file in the place of the input, three files of a
+//! folder, sockets, and a world in memory for a replay, and calls [`run_on_streams`]. [`Places::of`] finds which files
+//! they are, and [`given_words`] reads the words that the process was given.
 #![tactic(auto)]
 
+mod disks;
 mod outside;
+mod places;
 mod running;
+mod second;
+mod starting;
 mod streams;
+mod words;
 
+pub use disks::{Left, run_to_disks};
 pub use oc_commands::{
     CheckEnd, ConfigEnd, ConfiguredEnd, End, GenEnd, RulesEnd, ServiceEnd, Status, headline_holds,
     help, tell, usage,
 };
 pub use oc_io::{ReaderSource, Traffic, WriterSink};
 pub use oc_words::{
-    Name, Paths, Request, Sample, VERSION, WordsFault, places_ask, read_words, rows_ask,
+    Invocation, Name, Paths, Sample, VERSION, WordsFault, places_ask, read_words, rows_ask,
 };
 pub use outside::{Ended, Outside};
+pub use places::Places;
 pub use running::run;
+pub use starting::{Started, end_early, run_words, start};
 pub use streams::{MemoryRun, Streams, StreamsRun, Things, run_in_memory, run_on_streams};
+pub use words::given_words;

@@ -1,9 +1,8 @@
 //! All that a run reaches.
 
-use oc_events::Link;
 use oc_io::{Disk, Sink, Source};
 use oc_keep::Files;
-use oc_link::Dialler;
+use oc_link::{Dialler, Link};
 use oc_put::Pause;
 use oc_replay::Stage;
 

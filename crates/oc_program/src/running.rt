@@ -25,14 +25,13 @@ use oc_commands::{
     error_of, list_rules, progress_on, publish, replay_input, run_service, take_token, tell,
     write_help, write_sample, write_version,
 };
-use oc_events::Link;
 use oc_fetch::{GetEnd, Metered};
 use oc_io::{Disk, Sink, Source};
-use oc_link::Dialler;
+use oc_link::{Dialler, Link};
 use oc_put::{Aside, Pause, PutEnd};
 use oc_replay::Stage;
 use oc_service::Site;
-use oc_words::{Download, Member, Name, Request, Service, Upload, WordsFault, read_words};
+use oc_words::{Download, Invocation, Member, Name, Service, Upload, WordsFault, read_words};
 use std::alloc::Global;
 
 /// Runs the program: what the words ask for, from the input to the output, over the stage, the three files
@@ -80,7 +79,7 @@ pub fn run<S: Source, K: Sink, E: Sink, T: Stage, D: Disk, L: Dialler, N: Link, 
 }
 
 /// Writes the line of an end on the error output, for what was read from the words.
-fn tell_of<E: Sink>(err: &mut E, end: &End, given: Result<Request, WordsFault>)
+fn tell_of<E: Sink>(err: &mut E, end: &End, given: Result<Invocation, WordsFault>)
     ensures told { (usage : List ℕ) × IsWrittenOrCut E.takes E.fails E.faults err.old err.new (line_of end.now (file_known given end.now) usage) }
     ensures count { NoFall (E.faults err.old) (E.faults err.new) }
 {
@@ -91,7 +90,7 @@ fn tell_of<E: Sink>(err: &mut E, end: &End, given: Result<Request, WordsFault>)
 }
 
 /// The file that an end is about, of those that a request names.
-fn file_of<'a>(request: &'a Request, end: &End) -> Option<&'a str>
+fn file_of<'a>(request: &'a Invocation, end: &End) -> Option<&'a str>
     ensures { option_map (λ name. name.now) result ≡ file_at request.now end.now }
 {
     if end.lacks_token() {
@@ -105,7 +104,7 @@ fn file_of<'a>(request: &'a Request, end: &End) -> Option<&'a str>
 fn perform<S: Source, K: Sink, E: Sink, T: Stage, D: Disk, L: Dialler, N: Link, P: Pause>(
     alloc: Global,
     words: &[String],
-    given: &Result<Request, WordsFault>,
+    given: &Result<Invocation, WordsFault>,
     outside: Outside<S, K, E, T, D, L, N, P>,
 ) -> (End, Outside<S, K, E, T, D, L, N, P>)
     requires answers { Answers (asked (texts_of words.now)) given.now }
@@ -121,19 +120,19 @@ fn perform<S: Source, K: Sink, E: Sink, T: Stage, D: Disk, L: Dialler, N: Link, 
 {
     let mut outside = outside;
     match given {
-        Ok(Request::Node(service, _)) => {
+        Ok(Invocation::Node(service, _)) => {
             let (end, outside) = serve(alloc, *service, outside);
             (End::Served(end), outside)
         }
-        Ok(Request::Check(member, _)) => {
+        Ok(Invocation::Check(member, _)) => {
             let (end, outside) = check(alloc, *member, outside);
             (End::Checked(end), outside)
         }
-        Ok(Request::CheckConfigured(id, _)) => {
+        Ok(Invocation::CheckConfigured(id, _)) => {
             let (end, outside) = check_one_of(alloc, *id, outside);
             (End::CheckedConfigured(end), outside)
         }
-        Ok(Request::Replay { summary, .. }) => {
+        Ok(Invocation::Replay { summary, .. }) => {
             let end = replay_input(
                 alloc,
                 &mut outside.input,
@@ -143,15 +142,15 @@ fn perform<S: Source, K: Sink, E: Sink, T: Stage, D: Disk, L: Dialler, N: Link, 
             );
             (End::Replayed(end), outside)
         }
-        Ok(Request::Gen(sample)) => {
+        Ok(Invocation::Gen(sample)) => {
             let end = write_sample(alloc, *sample, &mut outside.output);
             (End::Generated(end), outside)
         }
-        Ok(Request::Rules(_)) => {
+        Ok(Invocation::Rules(_)) => {
             let end = list_rules(alloc, &mut outside.input, &mut outside.output);
             (End::Listed(end), outside)
         }
-        Ok(Request::Get(wanted)) => {
+        Ok(Invocation::Get(wanted)) => {
             match take_token(alloc, &wanted.token_file, &mut outside.token) {
                 Ok(token) => {
                     let (end, outside) = fetch(alloc, wanted, &token, outside);
@@ -160,7 +159,7 @@ fn perform<S: Source, K: Sink, E: Sink, T: Stage, D: Disk, L: Dialler, N: Link, 
                 Err(end) => (End::NoToken(end), outside),
             }
         }
-        Ok(Request::Put(wanted)) => {
+        Ok(Invocation::Put(wanted)) => {
             match take_token(alloc, &wanted.token_file, &mut outside.token) {
                 Ok(token) => {
                     let (end, outside) = post(alloc, wanted, &token, outside);
@@ -169,11 +168,11 @@ fn perform<S: Source, K: Sink, E: Sink, T: Stage, D: Disk, L: Dialler, N: Link, 
                 Err(end) => (End::NoToken(end), outside),
             }
         }
-        Ok(Request::Help) => {
+        Ok(Invocation::Help) => {
             let end = write_help(words, &mut outside.output);
             (end, outside)
         }
-        Ok(Request::Version) => {
+        Ok(Invocation::Version) => {
             let end = write_version(&mut outside.output);
             (end, outside)
         }

@@ -16,13 +16,12 @@ ghost use Rattle.oc_schedule.specs.Schedule.{schedule_of};
 
 use crate::outside::{Ended, Outside};
 use crate::running::run;
-use oc_events::Link;
 use oc_io::{Disk, ReaderSource, Traffic, WriterSink};
 use oc_keep::Files;
-use oc_link::Dialler;
+use oc_link::{Dialler, Link};
 use oc_put::Pause;
 use oc_replay::Stage;
-use oc_words::Request;
+use oc_words::Invocation;
 use std::alloc::Global;
 use std::io::{Read, Stderr, Stdout};
 
@@ -87,7 +86,7 @@ pub fn run_in_memory<T: Stage, D: Disk, L: Dialler, N: Link, P: Pause>(
         }) end }
 
     // The status of a replay is that of what these bytes say, or the output failed, or memory runs out.
-    ensures replayed { (summary : Bool) (file : Option (List ℕ)) → asked (texts_of words.now) ≡ Some (Request.Replay summary file)
+    ensures replayed { (summary : Bool) (file : Option (List ℕ)) → asked (texts_of words.now) ≡ Some (Invocation.Replay summary file)
         → (result.status ≡ status_for (schedule_of input.now)) ⊎ (result.status ≡ 1) ⊎ (result.status ≡ 4) }
 {
     let source = ReaderSource::new(input);

@@ -5,7 +5,7 @@ use Rattle.std.proofs.lemmas.Bool.{eqb-true, eq-eqb, and_parts}
 use Rattle.std.proofs.lemmas.List.{drop_at}
 use Rattle.oc_put.specs.Efforts.{may_try, LeadsTo, Onward, next_of, tried_again, behind_failure, end_of_failure, done, begun}
 use Rattle.oc_put.specs.Publishing.{Sends, IsDone, Seals, Begins, joined}
-use Rattle.oc_put.specs.Requests.{Request, bytes, nothing, seal}
+use Rattle.oc_put.specs.Requests.{PutRequest, bytes, nothing, seal}
 use Rattle.oc_put.specs.Sources.{Group, Post, Source, may_take, taken, arrived, all_arrived, IsAmong, Arrive, Tells, Takes, Reacts, Serves, fresh, IsAdded, Adds}
 use Rattle.oc_put.specs.Turns.{Turn}
 use Rattle.oc_put.specs.declared.answer.Answer.{Answer}
@@ -19,9 +19,9 @@ use Rattle.oc_put.specs.declared.effort.Next.TheVariants.{Again, Settled, Ended}
 use Rattle.oc_put.specs.declared.end.PutEnd.{PutEnd}
 use Rattle.oc_put.specs.declared.end.PutEnd.TheVariants as ends
 use Rattle.oc_put.specs.declared.load.Load.{Load}
-use Rattle.oc_put.specs.declared.plan.Place.{Place}
-use Rattle.oc_put.specs.declared.plan.Place.TheVariants.{New, Append, Resume}
-use Rattle.oc_put.specs.declared.plan.Plan.{Plan}
+use Rattle.oc_put.specs.declared.publication.WriteMode.{WriteMode}
+use Rattle.oc_put.specs.declared.publication.WriteMode.TheVariants.{New, Append, Resume}
+use Rattle.oc_put.specs.declared.publication.Publication.{Publication}
 
 -- What was lost
 
@@ -141,7 +141,7 @@ Through old [] new = new ≡ old
 Through old (turn ∷ turns) new =
     (met : Source) × (next : Source) × Arrive old met × Reacts met turn.request turn.answer next × Through next turns new
 
--- what arrives behind all turns comes last
+-- what arrives after all turns comes last
 serves_through : (turns : List Turn) (old new : Source) → Serves old turns new → (last : Source) × Through old turns last × Arrive last new
 serves_through [] old new serves = (old, refl, serves)
 serves_through (turn ∷ turns) old new (met, next, arrive, reacts, serves) =
@@ -178,7 +178,7 @@ record Finds (group : Group) (new : Source) (progress : Progress) : Type 0 where
   same : new ≡ fresh group
   length_is : progress.length ≡ length group.content
 
--- behind a failure that is not the last
+-- after a failure that is not the last
 after_by : (b : Bool) (On : Effort → Type 0) (further : Effort) (end : PutEnd) (turns : List Turn) (progress : Progress) → Onward On (if b then Again further else Ended end) turns (Settled progress) → On further
 after_by true On further end turns progress h = h
 after_by false On further end turns progress h = absurd (let e : Settled progress ≡ Ended end = h.1 in cc)
@@ -206,7 +206,7 @@ found_by : (turns : List Turn) (failures : ℕ) (group : Group) (new : Source) (
 found_by [] failures group new progress leads through = absurd (let e : Settled progress ≡ Again (record { doing = Finding; failures = failures }) = leads in cc)
 found_by (turn ∷ turns) failures group new progress leads (met, next, arrive, reacts, through) =
     let is_met = arrive_fresh group met arrive in
-    let tells : Tells met turn.answer next = subst (λ (r : Request). Reacts met r turn.answer next) leads.0.request reacts in
+    let tells : Tells met turn.answer next = subst (λ (r : PutRequest). Reacts met r turn.answer next) leads.0.request reacts in
     let rest : Through (fresh group) turns new = subst (λ (s : Source). Through s turns new) (tells_same met next turn.answer tells ∙ is_met) through in
     found_on turns failures group new next progress turn.answer (λ more on. found_by turns more group new progress on rest) leads.1 rest (subst (λ (s : Source). Tells s turn.answer next) is_met tells)
 
@@ -283,7 +283,7 @@ posted base load sealed turns at behind tried failures met next new progress (Er
     } in
     later (Checking at behind) (failures + 1) next for (subst (Holds base load sealed) (sym takes) lost) (after_failure (λ further. LeadsTo load further turns (Settled progress)) (record { doing = Posting at behind tried; failures = failures }) failure turns progress onward) through
 
--- the length, told to a question behind a failure
+-- the length, told to a question after a failure
 told_by : (base : List ℕ) (load : Load) (sealed : Bool) (turns : List Turn) (at behind failures told : ℕ) (met new : Source) (progress : Progress) → Later base load sealed turns new progress → (b : Bool) → (told == at) ≡ b → (c : Bool) → (told == behind) ≡ c → IsSound load → (at ≡ length base) × (behind ≡ length base + length load.piece) → Holds base load sealed met → Onward (λ further. LeadsTo load further turns (Settled progress)) (if b then Again (record { doing = Posting at behind true; failures = failures }) else if c then done told else Ended (ends.Length told)) turns (Settled progress) → told ≡ length met.group.content → Through met turns new → IsTaken base load sealed new progress
 told_by base load sealed turns at behind failures told met new progress later true e c f sound for holds onward truth through =
     later (Posting at behind true) failures met for holds onward through
@@ -293,7 +293,7 @@ told_by base load sealed turns at behind failures told met new progress later fa
     subst (λ (s : Source). IsTaken base load sealed s progress) (sym same) (told_there base load sealed met told at behind progress sound holds for.0 for.1 truth (differ_by told at e) (eqb-true told behind f) is_told)
 told_by base load sealed turns at behind failures told met new progress later false e false f sound for holds onward truth through = absurd (let x : Settled progress ≡ Ended (ends.Length told) = onward.1 in cc)
 
--- an answer to a question behind a failure
+-- an answer to a question after a failure
 checked : (base : List ℕ) (load : Load) (sealed : Bool) (turns : List Turn) (at behind failures : ℕ) (met next new : Source) (progress : Progress) (answer : Result Answer Failure) → Later base load sealed turns new progress → IsSound load → (at ≡ length base) × (behind ≡ length base + length load.piece) → Holds base load sealed met → Onward (λ further. LeadsTo load further turns (Settled progress)) (next_of (record { doing = Checking at behind; failures = failures }) answer) turns (Settled progress) → Tells met answer next → Through met turns new → IsTaken base load sealed new progress
 checked base load sealed turns at behind failures met next new progress (Ok Taken) later sound for holds onward tells through = absurd tells
 checked base load sealed turns at behind failures met next new progress (Ok (Length told)) later sound for holds onward tells through =
@@ -306,14 +306,14 @@ taken_by : (base : List ℕ) (load : Load) (sealed : Bool) (turns : List Turn) (
 taken_by base load sealed [] doing failures old new progress sound for holds leads through = absurd (let e : Settled progress ≡ Again (record { doing = doing; failures = failures }) = leads in cc)
 taken_by base load sealed (turn ∷ turns) Finding failures old new progress sound for holds leads through = absurd for
 taken_by base load sealed (turn ∷ turns) (Posting at behind tried) failures old new progress sound for holds leads (met, next, arrive, reacts, through) =
-    let takes : Takes met (post_at at load) turn.answer next = subst (λ (r : Request). Reacts met r turn.answer next) leads.0.request reacts in
+    let takes : Takes met (post_at at load) turn.answer next = subst (λ (r : PutRequest). Reacts met r turn.answer next) leads.0.request reacts in
     posted base load sealed turns at behind tried failures met next new progress turn.answer (λ d f o for2 h2 l2 t2. taken_by base load sealed turns d f o new progress sound for2 h2 l2 t2) sound for (arrive_holds base load sealed old met holds arrive) leads.1 takes through
 taken_by base load sealed (turn ∷ turns) (Checking at behind) failures old new progress sound for holds leads (met, next, arrive, reacts, through) =
-    let tells : Tells met turn.answer next = subst (λ (r : Request). Reacts met r turn.answer next) leads.0.request reacts in
+    let tells : Tells met turn.answer next = subst (λ (r : PutRequest). Reacts met r turn.answer next) leads.0.request reacts in
     let rest : Through met turns new = subst (λ (s : Source). Through s turns new) (tells_same met next turn.answer tells) through in
     checked base load sealed turns at behind failures met next new progress turn.answer (λ d f o for2 h2 l2 t2. taken_by base load sealed turns d f o new progress sound for2 h2 l2 t2) sound for (arrive_holds base load sealed old met holds arrive) leads.1 tells rest
 
--- Pieces one behind another
+-- Pieces one after another
 
 -- the source between two loads
 record Stands (base : List ℕ) (sealed : Bool) (source : Source) : Type 0 where
@@ -411,14 +411,14 @@ stands_fresh : (group : Group) → Stands group.content group.sealed (fresh grou
 stands_fresh group = record { content = refl; lost = tt; sealed_is = refl }
 
 -- what was passed over was there
-added_at : (place : Place) (found : ℕ) (before rest input content : List ℕ) → Begins place found before → found ≡ length content → input ≡ before ++ rest → IsAdded place input content (content ++ rest)
+added_at : (place : WriteMode) (found : ℕ) (before rest input content : List ℕ) → Begins place found before → found ≡ length content → input ≡ before ++ rest → IsAdded place input content (content ++ rest)
 added_at New found before rest input [] begins long is = (refl, sym (is ∙ ap (λ (b : List ℕ). b ++ rest) begins.1))
 added_at New found before rest input (b ∷ content) begins long is = absurd (omega (arith, begins.0, long))
 added_at Append found before rest input content begins long is = ap (λ (r : List ℕ). content ++ r) (sym (is ∙ ap (λ (b : List ℕ). b ++ rest) begins))
 added_at Resume found before rest input content begins long is =
     ap (λ (r : List ℕ). content ++ r) (sym (ap (λ (x : List ℕ). drop (length content) x) is ∙ drop_at before rest (length content) (begins ∙ long)))
 
-pub added : (plan : Plan) (turns : List Turn) (input : List ℕ) (group : Group) (after : Source) → IsDone plan turns input → Serves (fresh group) turns after → Adds plan input group after.group
+pub added : (plan : Publication) (turns : List Turn) (input : List ℕ) (group : Group) (after : Source) → IsDone plan turns input → Serves (fresh group) turns after → Adds plan input group after.group
 added plan turns input group after is serves =
     let s = is.sent in
     let whole = serves_through turns (fresh group) after serves in

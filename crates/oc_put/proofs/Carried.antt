@@ -20,9 +20,9 @@ use Rattle.oc_put.specs.declared.effort.Progress.{Progress}
 use Rattle.oc_put.specs.declared.end.PutEnd.{PutEnd}
 use Rattle.oc_put.specs.declared.end.PutEnd.TheVariants as ends
 use Rattle.oc_put.specs.declared.load.Load.{Load}
-use Rattle.oc_put.specs.declared.plan.Place.{Place}
-use Rattle.oc_put.specs.declared.plan.Place.TheVariants.{New, Append, Resume}
-use Rattle.oc_put.specs.declared.plan.Plan.{Plan}
+use Rattle.oc_put.specs.declared.publication.WriteMode.{WriteMode}
+use Rattle.oc_put.specs.declared.publication.WriteMode.TheVariants.{New, Append, Resume}
+use Rattle.oc_put.specs.declared.publication.Publication.{Publication}
 use Rattle.oc_put.specs.declared.input.TheConstants.{PIECE_BYTES}
 
 -- Pieces behind pieces
@@ -64,14 +64,14 @@ pub not_nil : (pieces : List (List ℕ)) (piece : List ℕ) → pieces ++ piece 
 not_nil [] piece e = cc
 not_nil (first ∷ pieces) piece e = cc
 
-pub cut_more : (place : Place) (pieces : List (List ℕ)) (piece : List ℕ) → AllByRecursion IsFull pieces → length piece ≤ PIECE_BYTES → (length piece ≡ 0 → (sends_empty place ≡ true) × (pieces ≡ [])) → AreCut place (pieces ++ piece ∷ [])
+pub cut_more : (place : WriteMode) (pieces : List (List ℕ)) (piece : List ℕ) → AllByRecursion IsFull pieces → length piece ≤ PIECE_BYTES → (length piece ≡ 0 → (sends_empty place ≡ true) × (pieces ≡ [])) → AreCut place (pieces ++ piece ∷ [])
 cut_more place pieces [] all most first =
     let h = first refl in
     inr (ap (λ (ps : List (List ℕ)). ps ++ [] ∷ []) h.1, h.0)
 cut_more place pieces (b ∷ piece) all most first =
     inl (some_more pieces (b ∷ piece) all (omega arith) most, inr (not_nil pieces (b ∷ piece)))
 
-pub cut_end : (place : Place) (pieces : List (List ℕ)) → AllByRecursion IsFull pieces → (sends_empty place ≡ false) ⊎ (pieces ≢ []) → AreCut place pieces
+pub cut_end : (place : WriteMode) (pieces : List (List ℕ)) → AllByRecursion IsFull pieces → (sends_empty place ≡ false) ⊎ (pieces ≢ []) → AreCut place pieces
 cut_end place pieces all why = inl (all_some pieces all, why)
 
 -- Which ends turns have
@@ -157,18 +157,18 @@ came_behind gives fails both last a b c x y ends.Memory p q = both a b c x y p q
 
 -- An end that is not the good one
 
-not_done_before : (place : Place) (found : ℕ) (input : List ℕ) (over : Bool) → DoesNotBegin place found input over ends.Done → ⊥
+not_done_before : (place : WriteMode) (found : ℕ) (input : List ℕ) (over : Bool) → DoesNotBegin place found input over ends.Done → ⊥
 not_done_before New found input over h = h
 not_done_before Append found input over h = h
 not_done_before Resume found input over h = h
 
-not_done : (plan : Plan) (turns : List Turn) (input : List ℕ) (over : Bool) → Stops plan turns input over ends.Done → ⊥
+not_done : (plan : Publication) (turns : List Turn) (input : List ℕ) (over : Bool) → Stops plan turns input over ends.Done → ⊥
 not_done plan turns input over (inl h) = ends_of_turns nothing finding turns ends.Done h.0
 not_done plan turns input over (inr (inl h)) = not_done_before plan.place h.found.length input over h.why
 not_done plan turns input over (inr (inr (inl h))) = h.missing
 not_done plan turns input over (inr (inr (inr h))) = refuses_of_turns h.load h.reached h.last ends.Done h.refuses
 
-pub stops_publishing : (plan : Plan) (turns : List Turn) (input : List ℕ) (over : Bool) (end : PutEnd) → Stops plan turns input over end → Publishes plan turns input over end
+pub stops_publishing : (plan : Publication) (turns : List Turn) (input : List ℕ) (over : Bool) (end : PutEnd) → Stops plan turns input over end → Publishes plan turns input over end
 stops_publishing plan turns input over ends.Done stops = absurd (not_done plan turns input over stops)
 stops_publishing plan turns input over ends.BadUrl stops = stops
 stops_publishing plan turns input over (ends.Refused status) stops = stops

@@ -7,7 +7,7 @@ use Rattle.oc_link.specs.Calls.{Told, IfTold, OnOutgoing, DialsTo, DialFails, Is
 use Rattle.oc_link.specs.Story.{Connection, Dial, Story, dials, unused, wrote, broken, hung_up, IsHeardOut}
 use Rattle.oc_put.specs.Hearing.{Came, Hears as HearsReply}
 use Rattle.oc_put.specs.Replies.{Answers}
-use Rattle.oc_put.specs.Turns.{IsWhole, IsCut, Dials, IsDialled}
+use Rattle.oc_put.specs.Turns.{IsWhole, IsCut, DialsOnce, IsDialled}
 use Rattle.oc_put.specs.declared.answer.Answer.{Answer}
 use Rattle.oc_put.specs.declared.answer.Failure.{Failure}
 use Rattle.oc_put.specs.declared.answer.Failure.TheVariants.{Link, Reply, Memory}
@@ -82,7 +82,7 @@ broken_dial address text reply a b c (Some last) is (given, dialled) heard =
 
 -- Over links that may not tell their story
 
-told_dials : (address text reply : List ℕ) (over : Bool) (answer : Result Answer Failure) (a b c : Option Story) → Told (DialsTo address text) a b → Came (λ o bytes n. Told (OnOutgoing (Hears bytes)) o n) (λ o bytes n. Told (OnOutgoing (HearsThenBreaks bytes)) o n) b reply c answer → (over ≡ true → IfTold c IsHeardOut) → Told (Dials address text reply over answer) a (option_map hung_up c)
+told_dials : (address text reply : List ℕ) (over : Bool) (answer : Result Answer Failure) (a b c : Option Story) → Told (DialsTo address text) a b → Came (λ o bytes n. Told (OnOutgoing (Hears bytes)) o n) (λ o bytes n. Told (OnOutgoing (HearsThenBreaks bytes)) o n) b reply c answer → (over ≡ true → IfTold c IsHeardOut) → Told (DialsOnce address text reply over answer) a (option_map hung_up c)
 told_dials address text reply over answer a b None dialled came end = tt
 told_dials address text reply over (Ok value) a None (Some c) dialled came end = absurd came
 told_dials address text reply over (Err Reply) a None (Some c) dialled came end = absurd came
@@ -102,7 +102,7 @@ told_dials address text reply over (Err Link) (Some a) (Some b) (Some c) dialled
     let p = broken_dial address text reply a b c c.outgoing refl dialled came in
     record { dial = p.0; tells = p.1; new_is = p.2 }
 
-told_fails : (address text : List ℕ) (a b : Option Story) → Told (DialFails address text) a b → Told (Dials address text [] false (Err Link)) a (option_map hung_up b)
+told_fails : (address text : List ℕ) (a b : Option Story) → Told (DialFails address text) a b → Told (DialsOnce address text [] false (Err Link)) a (option_map hung_up b)
 told_fails address text a None fails = tt
 told_fails address text None (Some b) fails = absurd fails
 told_fails address text (Some a) (Some b) (dial, cut, e) = record {
@@ -124,7 +124,7 @@ exchanged story address text asks answer a b c d dialled heard is = record {
   reply = heard.reply;
   over = heard.over;
   answers = heard.so;
-  told = subst (Told (Dials address text heard.reply heard.over answer) a) (sym is) (told_dials address text heard.reply heard.over answer a (story b) (story c) dialled (came_story story b c heard.reply answer heard.came) heard.is_over);
+  told = subst (Told (DialsOnce address text heard.reply heard.over answer) a) (sym is) (told_dials address text heard.reply heard.over answer a (story b) (story c) dialled (came_story story b c heard.reply answer heard.came) heard.is_over);
 }
 
 -- a dial that fails
@@ -133,7 +133,7 @@ unexchanged address text asks a b d fails is = record {
   reply = [];
   over = false;
   answers = tt;
-  told = subst (Told (Dials address text [] false (Err Link)) a) (sym is) (told_fails address text a b fails);
+  told = subst (Told (DialsOnce address text [] false (Err Link)) a) (sym is) (told_fails address text a b fails);
 }
 
 -- What a loan of the outgoing connection says of the link

@@ -5,9 +5,9 @@ use Rattle.std.specs.Prelude.{⊤}
 use Rattle.oc_fetch.specs.Addresses.{dial_address}
 use Rattle.oc_link.specs.Calls.{Told}
 use Rattle.oc_link.specs.Story.{Story}
-use Rattle.oc_put.specs.Efforts.{may_try, asks, behind_of, request_of, behind_failure, end_of_failure, done, next_of, weighed_doing, Asks, Onward, LeadsTo, IsLed}
+use Rattle.oc_put.specs.Efforts.{may_try, asks, behind_of, request_of, behind_failure, end_of_failure, done, next_of, weighed_doing, IsTurnOf, Onward, LeadsTo, IsLed}
 use Rattle.oc_put.specs.Requests.{Goal, request_text}
-use Rattle.oc_put.specs.Turns.{Turn, Dials, IsDialled}
+use Rattle.oc_put.specs.Turns.{Turn, DialsOnce, IsDialled}
 use Rattle.oc_put.specs.declared.answer.Answer.{Answer}
 use Rattle.oc_put.specs.declared.answer.Answer.TheVariants.{Taken, Length, Refused}
 use Rattle.oc_put.specs.declared.answer.Failure.{Failure}
@@ -34,13 +34,13 @@ onward_last load (Ended end) = (refl, refl)
 again_is : (a b : Effort) → Again a ≡ Again b → a ≡ b
 again_is a b e = cc
 
--- a turn behind turns that lead to another effort
+-- a turn after turns that lead to another effort
 onward_more : (load : Load) (turns : List Turn) (next : Next) (further : Effort) (turn : Turn) → ((e : Effort) → LeadsTo load e turns (Again further) → LeadsTo load e (turns ++ turn ∷ []) (next_of further turn.answer)) → Onward (λ e. LeadsTo load e turns (Again further)) next turns (Again further) → Onward (λ e. LeadsTo load e (turns ++ turn ∷ []) (next_of further turn.answer)) next (turns ++ turn ∷ []) (next_of further turn.answer)
 onward_more load turns (Again e) further turn later onward = later e onward
 onward_more load turns (Settled progress) further turn later onward = absurd (let e : Again further ≡ Settled progress = onward.1 in cc)
 onward_more load turns (Ended end) further turn later onward = absurd (let e : Again further ≡ Ended end = onward.1 in cc)
 
-leads_more : (load : Load) (turns : List Turn) (effort further : Effort) (turn : Turn) → Asks load further turn → LeadsTo load effort turns (Again further) → LeadsTo load effort (turns ++ turn ∷ []) (next_of further turn.answer)
+leads_more : (load : Load) (turns : List Turn) (effort further : Effort) (turn : Turn) → IsTurnOf load further turn → LeadsTo load effort turns (Again further) → LeadsTo load effort (turns ++ turn ∷ []) (next_of further turn.answer)
 leads_more load [] effort further turn asks_so leads =
     subst (λ (e : Effort). LeadsTo load e (turn ∷ []) (next_of further turn.answer)) (again_is further effort leads) (asks_so, onward_last load (next_of further turn.answer))
 leads_more load (first ∷ turns) effort further turn asks_so leads =
@@ -56,8 +56,8 @@ led_none goal load effort o = record { turns = []; leads = refl; made = made_non
 pub led_more : (goal : Goal) (load : Load) (effort further : Effort) (a b c : Option Story) (address text : List ℕ) (answer : Result Answer Failure) → IsLed goal load effort a b (Again further) → IsDialled address text (asks further.doing) b c answer → address ≡ dial_address goal.url → text ≡ request_text goal (request_of load further.doing) → IsLed goal load effort a c (next_of further answer)
 led_more goal load effort further a b c address text answer led one is_address is_text =
     let turn : Turn = record { request = request_of load further.doing; reply = one.reply; over = one.over; answer = answer } in
-    let told : Told (Dials (dial_address goal.url) (request_text goal turn.request) turn.reply turn.over turn.answer) b c =
-    subst (λ (x : List ℕ). Told (Dials (dial_address goal.url) x one.reply one.over answer) b c) is_text (subst (λ (x : List ℕ). Told (Dials x text one.reply one.over answer) b c) is_address one.told) in
+    let told : Told (DialsOnce (dial_address goal.url) (request_text goal turn.request) turn.reply turn.over turn.answer) b c =
+    subst (λ (x : List ℕ). Told (DialsOnce (dial_address goal.url) x one.reply one.over answer) b c) is_text (subst (λ (x : List ℕ). Told (DialsOnce x text one.reply one.over answer) b c) is_address one.told) in
     record {
       turns = led.turns ++ turn ∷ [];
       leads = leads_more load led.turns effort further turn (record { request = refl; answers = one.answers }) led.leads;

@@ -5,8 +5,8 @@ use Rattle.oc_fetch.specs.ProgressLines.{Grows}
 use Rattle.oc_fetch.specs.declared.progress_lines.ProgressLines.{ProgressLines}
 use Rattle.oc_put.specs.Places.{passed_over}
 use Rattle.oc_put.specs.Publishing.{joined, Begins}
-use Rattle.oc_put.specs.declared.plan.Place.{Place}
-use Rattle.oc_put.specs.declared.plan.Place.TheVariants.{New, Append, Resume}
+use Rattle.oc_put.specs.declared.publication.WriteMode.{WriteMode}
+use Rattle.oc_put.specs.declared.publication.WriteMode.TheVariants.{New, Append, Resume}
 use Rattle.oc_put.proofs.Carried.{joined_more}
 
 -- the laws of a sink
@@ -32,7 +32,7 @@ grew_piece takes fails laws a b c pieces piece count is f s =
     subst (λ (x : List ℕ). Grows takes fails a (length x) c) (sym (joined_more pieces piece)) (grew_then takes fails laws a b c (joined pieces) piece (length (joined pieces)) count refl is f s)
 
 -- what was passed over
-pub passed_length : (place : Place) (found : ℕ) (before : List ℕ) → Begins place found before → passed_over place found ≡ length before
+pub passed_length : (place : WriteMode) (found : ℕ) (before : List ℕ) → Begins place found before → passed_over place found ≡ length before
 passed_length New found before begins = sym (ap length begins.1)
 passed_length Append found before begins = sym (ap length begins)
 passed_length Resume found before begins = sym begins

@@ -6,14 +6,14 @@ use Rattle.oc_link.specs.Calls.{Told}
 use Rattle.oc_link.specs.Story.{Dial, Story, dials}
 use Rattle.oc_fetch.specs.Addresses.{dial_address}
 use Rattle.oc_put.specs.Requests.{Goal, request_text}
-use Rattle.oc_put.specs.Turns.{Turn, Dials, AreTold, Makes}
+use Rattle.oc_put.specs.Turns.{Turn, DialsOnce, AreTold, Makes}
 
 -- no turn
 makes_none : (goal : Goal) (s : Story) → Makes goal [] s s
 makes_none goal s = record { made = []; told = tt; dials_are = sym (append-nil (dials s)) }
 
 -- one turn
-makes_one : (goal : Goal) (turn : Turn) (a b : Story) → Dials (dial_address goal.url) (request_text goal turn.request) turn.reply turn.over turn.answer a b → Makes goal (turn ∷ []) a b
+makes_one : (goal : Goal) (turn : Turn) (a b : Story) → DialsOnce (dial_address goal.url) (request_text goal turn.request) turn.reply turn.over turn.answer a b → Makes goal (turn ∷ []) a b
 makes_one goal turn a b one = record {
   made = one.dial ∷ [];
   told = (one.tells, tt);
@@ -42,7 +42,7 @@ made_none goal o = Told-same (Makes goal []) (makes_none goal) o
 pub made_then : (goal : Goal) (first rest : List Turn) (a b c : Option Story) → Told (Makes goal first) a b → Told (Makes goal rest) b c → Told (Makes goal (first ++ rest)) a c
 made_then goal first rest a b c p q = Told-then (Makes goal first) (Makes goal rest) (Makes goal (first ++ rest)) (makes_then goal first rest) a b c p q
 
-pub made_one : (goal : Goal) (turn : Turn) (a b : Option Story) → Told (Dials (dial_address goal.url) (request_text goal turn.request) turn.reply turn.over turn.answer) a b → Told (Makes goal (turn ∷ [])) a b
+pub made_one : (goal : Goal) (turn : Turn) (a b : Option Story) → Told (DialsOnce (dial_address goal.url) (request_text goal turn.request) turn.reply turn.over turn.answer) a b → Told (Makes goal (turn ∷ [])) a b
 made_one goal turn a None one = tt
 made_one goal turn None (Some b) one = absurd one
 made_one goal turn (Some a) (Some b) one = makes_one goal turn a b one

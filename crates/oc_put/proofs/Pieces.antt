@@ -11,7 +11,7 @@ use Rattle.oc_put.specs.declared.effort.Progress.{Progress}
 use Rattle.oc_put.specs.declared.end.PutEnd.{PutEnd}
 use Rattle.oc_put.specs.declared.end.PutEnd.TheVariants as ends
 use Rattle.oc_put.specs.declared.load.Load.{Load}
-use Rattle.oc_put.specs.declared.plan.Place.{Place}
+use Rattle.oc_put.specs.declared.publication.WriteMode.{WriteMode}
 use Rattle.oc_put.specs.declared.input.TheConstants.{PIECE_BYTES}
 use Rattle.oc_put.proofs.Carried.{sends_then, bytes_more, joined_more, full_more, cut_more, cut_end}
 use Rattle.oc_put.proofs.Making.{made_none, made_then}
@@ -38,7 +38,7 @@ carried_more gives both goal found reached next a b c s t u pieces piece has cam
 }
 
 -- the input ended behind full pieces
-pub carried_all : {S : Type 0} (gives : S → List ℕ → S → Type 0) (ended : S → Type 0) → ((a b c : S) (x y : List ℕ) → gives a x b → gives b y c → gives a (x ++ y) c) → (place : Place) (goal : Goal) (found reached : Progress) (a b : Option Story) (s t u : S) (pieces : List (List ℕ)) (piece : List ℕ) → HasCarried gives goal found a b s t reached pieces → gives t piece u → piece ≡ [] → ended u → (sends_empty place ≡ false) ⊎ (pieces ≢ []) → IsCarried gives ended place goal found a b s u reached
+pub carried_all : {S : Type 0} (gives : S → List ℕ → S → Type 0) (ended : S → Type 0) → ((a b c : S) (x y : List ℕ) → gives a x b → gives b y c → gives a (x ++ y) c) → (place : WriteMode) (goal : Goal) (found reached : Progress) (a b : Option Story) (s t u : S) (pieces : List (List ℕ)) (piece : List ℕ) → HasCarried gives goal found a b s t reached pieces → gives t piece u → piece ≡ [] → ended u → (sends_empty place ≡ false) ⊎ (pieces ≢ []) → IsCarried gives ended place goal found a b s u reached
 carried_all gives ended both place goal found reached a b s t u pieces piece has came none end later = record {
   pieces = pieces;
   turns = has.turns;
@@ -50,7 +50,7 @@ carried_all gives ended both place goal found reached a b s t u pieces piece has
 }
 
 -- with a last piece
-pub carried_last : {S : Type 0} (gives : S → List ℕ → S → Type 0) (ended : S → Type 0) → ((a b c : S) (x y : List ℕ) → gives a x b → gives b y c → gives a (x ++ y) c) → (place : Place) (goal : Goal) (found reached next : Progress) (a b c : Option Story) (s t u : S) (pieces : List (List ℕ)) (piece : List ℕ) → HasCarried gives goal found a b s t reached pieces → gives t piece u → length piece ≤ PIECE_BYTES → (length piece ≡ 0 → (sends_empty place ≡ true) × (pieces ≡ [])) → ended u → IsSent goal (bytes piece) reached b c next → IsCarried gives ended place goal found a c s u next
+pub carried_last : {S : Type 0} (gives : S → List ℕ → S → Type 0) (ended : S → Type 0) → ((a b c : S) (x y : List ℕ) → gives a x b → gives b y c → gives a (x ++ y) c) → (place : WriteMode) (goal : Goal) (found reached next : Progress) (a b c : Option Story) (s t u : S) (pieces : List (List ℕ)) (piece : List ℕ) → HasCarried gives goal found a b s t reached pieces → gives t piece u → length piece ≤ PIECE_BYTES → (length piece ≡ 0 → (sends_empty place ≡ true) × (pieces ≡ [])) → ended u → IsSent goal (bytes piece) reached b c next → IsCarried gives ended place goal found a c s u next
 carried_last gives ended both place goal found reached next a b c s t u pieces piece has came most first end sent = record {
   pieces = pieces ++ piece ∷ [];
   turns = has.turns ++ sent.turns;
@@ -94,7 +94,7 @@ cut_between gives fails both last goal found reached a b s t u pieces ends.Reply
 cut_between gives fails both last goal found reached a b s t u pieces ends.Link has cut = absurd cut
 
 -- the next piece is not taken
-pub refused_at : {S : Type 0} (gives : S → List ℕ → S → Type 0) → ((a b c : S) (x y : List ℕ) → gives a x b → gives b y c → gives a (x ++ y) c) → (place : Place) (goal : Goal) (found reached : Progress) (a b c : Option Story) (s t u : S) (pieces : List (List ℕ)) (piece : List ℕ) (end : PutEnd) → HasCarried gives goal found a b s t reached pieces → gives t piece u → length piece ≤ PIECE_BYTES → (length piece ≡ 0 → (sends_empty place ≡ true) × (pieces ≡ [])) → IsRefused goal (bytes piece) reached b c end → IsRefusedAt gives place goal found a c s u end
+pub refused_at : {S : Type 0} (gives : S → List ℕ → S → Type 0) → ((a b c : S) (x y : List ℕ) → gives a x b → gives b y c → gives a (x ++ y) c) → (place : WriteMode) (goal : Goal) (found reached : Progress) (a b c : Option Story) (s t u : S) (pieces : List (List ℕ)) (piece : List ℕ) (end : PutEnd) → HasCarried gives goal found a b s t reached pieces → gives t piece u → length piece ≤ PIECE_BYTES → (length piece ≡ 0 → (sends_empty place ≡ true) × (pieces ≡ [])) → IsRefused goal (bytes piece) reached b c end → IsRefusedAt gives place goal found a c s u end
 refused_at gives both place goal found reached a b c s t u pieces piece end has came most first refused = record {
   pieces = pieces;
   reached = reached;

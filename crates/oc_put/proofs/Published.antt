@@ -13,9 +13,9 @@ use Rattle.oc_put.specs.declared.effort.Progress.{Progress}
 use Rattle.oc_put.specs.declared.end.PutEnd.{PutEnd}
 use Rattle.oc_put.specs.declared.end.PutEnd.TheVariants as ends
 use Rattle.oc_put.specs.declared.load.Load.{Load}
-use Rattle.oc_put.specs.declared.plan.Place.{Place}
-use Rattle.oc_put.specs.declared.plan.Place.TheVariants.{New, Append, Resume}
-use Rattle.oc_put.specs.declared.plan.Plan.{Plan}
+use Rattle.oc_put.specs.declared.publication.WriteMode.{WriteMode}
+use Rattle.oc_put.specs.declared.publication.WriteMode.TheVariants.{New, Append, Resume}
+use Rattle.oc_put.specs.declared.publication.Publication.{Publication}
 use Rattle.oc_put.proofs.Carried.{IsOfTurns, ends_of_turns, refuses_of_turns, came_of_turns, came_behind, stops_publishing}
 use Rattle.oc_put.proofs.Making.{made_none, made_then}
 
@@ -26,7 +26,7 @@ pub record Joins {S : Type 0} (gives fails : S → List ℕ → S → Type 0) : 
   pub last : (a b c : S) (x y : List ℕ) → gives a x b → fails b y c → fails a (x ++ y) c
 
 -- before the first request memory runs out
-pub no_memory : {S : Type 0} (gives fails : S → List ℕ → S → Type 0) (ended : S → Type 0) (plan : Plan) (goal : Goal) (o : Option Story) (s : S) → gives s [] s → IsPublishedAt gives fails ended plan goal o o s s ends.Memory
+pub no_memory : {S : Type 0} (gives fails : S → List ℕ → S → Type 0) (ended : S → Type 0) (plan : Publication) (goal : Goal) (o : Option Story) (s : S) → gives s [] s → IsPublishedAt gives fails ended plan goal o o s s ends.Memory
 no_memory gives fails ended plan goal o s none = record {
   turns = [];
   input = [];
@@ -60,21 +60,21 @@ stopped_not_done goal load effort a b end stopped same =
 pub refused_not_done : (goal : Goal) (load : Load) (progress : Progress) (a b : Option Story) (end : PutEnd) → IsRefused goal load progress a b end → end ≡ ends.Done → ⊥
 refused_not_done goal load progress a b end refused same = subst IsOfTurns same (refuses_of_turns load progress refused.turns end refused.refuses)
 
-not_begun_not_done : (place : Place) (found : ℕ) (input : List ℕ) (over : Bool) → DoesNotBegin place found input over ends.Done → ⊥
+not_begun_not_done : (place : WriteMode) (found : ℕ) (input : List ℕ) (over : Bool) → DoesNotBegin place found input over ends.Done → ⊥
 not_begun_not_done New found input over why = why
 not_begun_not_done Append found input over why = why
 not_begun_not_done Resume found input over why = why
 
-pub unplaced_not_done : {S : Type 0} (gives fails : S → List ℕ → S → Type 0) (ended : S → Type 0) (place : Place) (found : ℕ) (s t : S) (end : PutEnd) → IsOffPlace gives fails ended place found s t end → end ≡ ends.Done → ⊥
+pub unplaced_not_done : {S : Type 0} (gives fails : S → List ℕ → S → Type 0) (ended : S → Type 0) (place : WriteMode) (found : ℕ) (s t : S) (end : PutEnd) → IsOffPlace gives fails ended place found s t end → end ≡ ends.Done → ⊥
 unplaced_not_done gives fails ended place found s t end off same =
     not_begun_not_done place found off.input off.over (subst (λ (x : PutEnd). DoesNotBegin place found off.input off.over x) same off.why)
 
-pub uncarried_not_done : {S : Type 0} (gives fails : S → List ℕ → S → Type 0) (place : Place) (goal : Goal) (found : Progress) (a b : Option Story) (s t : S) (end : PutEnd) → IsCarryStopped gives fails place goal found a b s t end → end ≡ ends.Done → ⊥
+pub uncarried_not_done : {S : Type 0} (gives fails : S → List ℕ → S → Type 0) (place : WriteMode) (goal : Goal) (found : Progress) (a b : Option Story) (s t : S) (end : PutEnd) → IsCarryStopped gives fails place goal found a b s t end → end ≡ ends.Done → ⊥
 uncarried_not_done gives fails place goal found a b s t end (inl cut) same = subst (λ (x : PutEnd). IsMissing cut.part x) same cut.missing
 uncarried_not_done gives fails place goal found a b s t end (inr refused) same = subst IsOfTurns same (refuses_of_turns (bytes refused.piece) refused.reached refused.last end refused.refuses)
 
 -- the length is not found
-pub not_found : {S : Type 0} (gives fails : S → List ℕ → S → Type 0) (ended : S → Type 0) (plan : Plan) (goal : Goal) (a b : Option Story) (s : S) (end : PutEnd) → gives s [] s → IsStopped goal nothing finding a b end → IsPublishedAt gives fails ended plan goal a b s s end
+pub not_found : {S : Type 0} (gives fails : S → List ℕ → S → Type 0) (ended : S → Type 0) (plan : Publication) (goal : Goal) (a b : Option Story) (s : S) (end : PutEnd) → gives s [] s → IsStopped goal nothing finding a b end → IsPublishedAt gives fails ended plan goal a b s s end
 not_found gives fails ended plan goal a b s end none stopped =
     let t = stopped_turns goal nothing finding a b end stopped in
     record {
@@ -88,7 +88,7 @@ not_found gives fails ended plan goal a b s end none stopped =
     }
 
 -- the place is not reached
-pub not_placed : {S : Type 0} (gives fails : S → List ℕ → S → Type 0) (ended : S → Type 0) (plan : Plan) (goal : Goal) (a b : Option Story) (s t : S) (found : Progress) (end : PutEnd) → IsLed goal nothing finding a b (Settled found) → IsOffPlace gives fails ended plan.place found.length s t end → IsPublishedAt gives fails ended plan goal a b s t end
+pub not_placed : {S : Type 0} (gives fails : S → List ℕ → S → Type 0) (ended : S → Type 0) (plan : Publication) (goal : Goal) (a b : Option Story) (s t : S) (found : Progress) (end : PutEnd) → IsLed goal nothing finding a b (Settled found) → IsOffPlace gives fails ended plan.place found.length s t end → IsPublishedAt gives fails ended plan goal a b s t end
 not_placed gives fails ended plan goal a b s t found end led off = record {
   turns = led.turns;
   input = off.input;
@@ -100,7 +100,7 @@ not_placed gives fails ended plan goal a b s t found end led off = record {
 }
 
 -- what was sent so far
-has_sent : (place : Place) (goal : Goal) (a b : Option Story) (found reached : Progress) (before : List ℕ) (pieces : List (List ℕ)) (turns : List Turn) → (led : IsLed goal nothing finding a b (Settled found)) → Begins place found.length before → Sends found (map bytes pieces) turns reached → HasSent place pieces (led.turns ++ turns) (before ++ joined pieces) reached
+has_sent : (place : WriteMode) (goal : Goal) (a b : Option Story) (found reached : Progress) (before : List ℕ) (pieces : List (List ℕ)) (turns : List Turn) → (led : IsLed goal nothing finding a b (Settled found)) → Begins place found.length before → Sends found (map bytes pieces) turns reached → HasSent place pieces (led.turns ++ turns) (before ++ joined pieces) reached
 has_sent place goal a b found reached before pieces turns led begins sends = record {
   found = found;
   before = before;
@@ -114,7 +114,7 @@ has_sent place goal a b found reached before pieces turns led begins sends = rec
 }
 
 -- no next piece comes
-pub not_between : {S : Type 0} (gives fails : S → List ℕ → S → Type 0) (ended : S → Type 0) (joins : Joins gives fails) (plan : Plan) (goal : Goal) (a b c : Option Story) (s t u : S) (found : Progress) (end : PutEnd) → IsLed goal nothing finding a b (Settled found) → IsAtPlace gives plan.place found.length s t → IsCutBetween gives fails goal found b c t u end → IsPublishedAt gives fails ended plan goal a c s u end
+pub not_between : {S : Type 0} (gives fails : S → List ℕ → S → Type 0) (ended : S → Type 0) (joins : Joins gives fails) (plan : Publication) (goal : Goal) (a b c : Option Story) (s t u : S) (found : Progress) (end : PutEnd) → IsLed goal nothing finding a b (Settled found) → IsAtPlace gives plan.place found.length s t → IsCutBetween gives fails goal found b c t u end → IsPublishedAt gives fails ended plan goal a c s u end
 not_between gives fails ended joins plan goal a b c s t u found end led placed cut = record {
   turns = led.turns ++ cut.turns;
   input = placed.before ++ (joined cut.pieces ++ cut.part);
@@ -135,7 +135,7 @@ not_between gives fails ended joins plan goal a b c s t u found end led placed c
 }
 
 -- a piece is not taken
-pub not_sent : {S : Type 0} (gives fails : S → List ℕ → S → Type 0) (ended : S → Type 0) (joins : Joins gives fails) (plan : Plan) (goal : Goal) (a b c : Option Story) (s t u : S) (found : Progress) (end : PutEnd) → IsLed goal nothing finding a b (Settled found) → IsAtPlace gives plan.place found.length s t → IsRefusedAt gives plan.place goal found b c t u end → IsPublishedAt gives fails ended plan goal a c s u end
+pub not_sent : {S : Type 0} (gives fails : S → List ℕ → S → Type 0) (ended : S → Type 0) (joins : Joins gives fails) (plan : Publication) (goal : Goal) (a b c : Option Story) (s t u : S) (found : Progress) (end : PutEnd) → IsLed goal nothing finding a b (Settled found) → IsAtPlace gives plan.place found.length s t → IsRefusedAt gives plan.place goal found b c t u end → IsPublishedAt gives fails ended plan goal a c s u end
 not_sent gives fails ended joins plan goal a b c s t u found end led placed at = record {
   turns = led.turns ++ (at.turns ++ at.last);
   input = placed.before ++ (joined at.pieces ++ at.piece);
@@ -159,12 +159,12 @@ not_sent gives fails ended joins plan goal a b c s t u found end led placed at =
 }
 
 -- the rest of the input is not carried
-pub not_carried : {S : Type 0} (gives fails : S → List ℕ → S → Type 0) (ended : S → Type 0) (joins : Joins gives fails) (plan : Plan) (goal : Goal) (a b c : Option Story) (s t u : S) (found : Progress) (end : PutEnd) → IsLed goal nothing finding a b (Settled found) → IsAtPlace gives plan.place found.length s t → IsCarryStopped gives fails plan.place goal found b c t u end → IsPublishedAt gives fails ended plan goal a c s u end
+pub not_carried : {S : Type 0} (gives fails : S → List ℕ → S → Type 0) (ended : S → Type 0) (joins : Joins gives fails) (plan : Publication) (goal : Goal) (a b c : Option Story) (s t u : S) (found : Progress) (end : PutEnd) → IsLed goal nothing finding a b (Settled found) → IsAtPlace gives plan.place found.length s t → IsCarryStopped gives fails plan.place goal found b c t u end → IsPublishedAt gives fails ended plan goal a c s u end
 not_carried gives fails ended joins plan goal a b c s t u found end led placed (inl cut) = not_between gives fails ended joins plan goal a b c s t u found end led placed cut
 not_carried gives fails ended joins plan goal a b c s t u found end led placed (inr at) = not_sent gives fails ended joins plan goal a b c s t u found end led placed at
 
 -- the group is not closed
-pub not_sealed : {S : Type 0} (gives fails : S → List ℕ → S → Type 0) (ended : S → Type 0) (joins : Joins gives fails) (plan : Plan) (goal : Goal) (a b c d : Option Story) (s t u : S) (found reached : Progress) (end : PutEnd) → IsLed goal nothing finding a b (Settled found) → IsAtPlace gives plan.place found.length s t → IsCarried gives ended plan.place goal found b c t u reached → IsSealStopped goal plan.seal reached c d end → IsPublishedAt gives fails ended plan goal a d s u end
+pub not_sealed : {S : Type 0} (gives fails : S → List ℕ → S → Type 0) (ended : S → Type 0) (joins : Joins gives fails) (plan : Publication) (goal : Goal) (a b c d : Option Story) (s t u : S) (found reached : Progress) (end : PutEnd) → IsLed goal nothing finding a b (Settled found) → IsAtPlace gives plan.place found.length s t → IsCarried gives ended plan.place goal found b c t u reached → IsSealStopped goal plan.seal reached c d end → IsPublishedAt gives fails ended plan goal a d s u end
 not_sealed gives fails ended joins plan goal a b c d s t u found reached end led placed carried stopped =
     let last = stopped.refused in
     let input = placed.before ++ joined carried.pieces in
@@ -191,7 +191,7 @@ not_sealed gives fails ended joins plan goal a b c d s t u found reached end led
     }
 
 -- all is done
-pub all_done : {S : Type 0} (gives fails : S → List ℕ → S → Type 0) (ended : S → Type 0) (joins : Joins gives fails) (plan : Plan) (goal : Goal) (a b c d : Option Story) (s t u : S) (found reached : Progress) → IsLed goal nothing finding a b (Settled found) → IsAtPlace gives plan.place found.length s t → IsCarried gives ended plan.place goal found b c t u reached → IsSealed goal plan.seal reached c d → IsPublishedAt gives fails ended plan goal a d s u ends.Done
+pub all_done : {S : Type 0} (gives fails : S → List ℕ → S → Type 0) (ended : S → Type 0) (joins : Joins gives fails) (plan : Publication) (goal : Goal) (a b c d : Option Story) (s t u : S) (found reached : Progress) → IsLed goal nothing finding a b (Settled found) → IsAtPlace gives plan.place found.length s t → IsCarried gives ended plan.place goal found b c t u reached → IsSealed goal plan.seal reached c d → IsPublishedAt gives fails ended plan goal a d s u ends.Done
 all_done gives fails ended joins plan goal a b c d s t u found reached led placed carried sealed =
     let input = placed.before ++ joined carried.pieces in
     record {

@@ -9,7 +9,7 @@ use Rattle.oc_put.specs.Turns.{Turn, Makes}
 use Rattle.oc_put.specs.declared.effort.Progress.{Progress}
 use Rattle.oc_put.specs.declared.end.PutEnd.{PutEnd}
 use Rattle.oc_put.specs.declared.load.Load.{Load}
-use Rattle.oc_put.specs.declared.plan.Place.{Place}
+use Rattle.oc_put.specs.declared.publication.WriteMode.{WriteMode}
 
 -- this was sent, and is taken
 pub record IsSent (goal : Goal) (load : Load) (progress : Progress) (old new : Option Story) (reached : Progress) : Type 0 where
@@ -24,20 +24,20 @@ pub record IsRefused (goal : Goal) (load : Load) (progress : Progress) (old new 
   pub made : Told (Makes goal turns) old new
 
 -- the place is reached
-pub record IsAtPlace {S : Type 0} (gives : S → List ℕ → S → Type 0) (place : Place) (length : ℕ) (old new : S) : Type 0 where
+pub record IsAtPlace {S : Type 0} (gives : S → List ℕ → S → Type 0) (place : WriteMode) (length : ℕ) (old new : S) : Type 0 where
   pub before : List ℕ
   pub came : gives old before new
   pub begins : Begins place length before
 
 -- it is not
-pub record IsOffPlace {S : Type 0} (gives fails : S → List ℕ → S → Type 0) (ended : S → Type 0) (place : Place) (length : ℕ) (old new : S) (end : PutEnd) : Type 0 where
+pub record IsOffPlace {S : Type 0} (gives fails : S → List ℕ → S → Type 0) (ended : S → Type 0) (place : WriteMode) (length : ℕ) (old new : S) (end : PutEnd) : Type 0 where
   pub input : List ℕ
   pub over : Bool
   pub came : Came gives fails old input new end
   pub is_over : over ≡ true → ended new
   pub why : DoesNotBegin place length input over end
 
-abbrev pub IsPlaced : {S : Type 0} → (S → List ℕ → S → Type 0) → (S → List ℕ → S → Type 0) → (S → Type 0) → Place → ℕ → S → S → Result (Unit {0}) PutEnd → Type 0
+abbrev pub IsPlaced : {S : Type 0} → (S → List ℕ → S → Type 0) → (S → List ℕ → S → Type 0) → (S → Type 0) → WriteMode → ℕ → S → S → Result (Unit {0}) PutEnd → Type 0
 IsPlaced gives fails ended place length old new (Ok done) = IsAtPlace gives place length old new
 IsPlaced gives fails ended place length old new (Err end) = IsOffPlace gives fails ended place length old new end
 
@@ -50,7 +50,7 @@ pub record HasCarried {S : Type 0} (gives : S → List ℕ → S → Type 0) (go
   pub came : gives before (joined pieces) after
 
 -- the input came to its end, and all of it is taken
-pub record IsCarried {S : Type 0} (gives : S → List ℕ → S → Type 0) (ended : S → Type 0) (place : Place) (goal : Goal) (found : Progress) (old new : Option Story) (before after : S) (reached : Progress) : Type 0 where
+pub record IsCarried {S : Type 0} (gives : S → List ℕ → S → Type 0) (ended : S → Type 0) (place : WriteMode) (goal : Goal) (found : Progress) (old new : Option Story) (before after : S) (reached : Progress) : Type 0 where
   pub pieces : List (List ℕ)
   pub turns : List Turn
   pub sends : Sends found (map bytes pieces) turns reached
@@ -72,7 +72,7 @@ pub record IsCutBetween {S : Type 0} (gives fails : S → List ℕ → S → Typ
   pub missing : IsMissing part end
 
 -- behind full pieces the next one came, and is not taken
-pub record IsRefusedAt {S : Type 0} (gives : S → List ℕ → S → Type 0) (place : Place) (goal : Goal) (found : Progress) (old new : Option Story) (before after : S) (end : PutEnd) : Type 0 where
+pub record IsRefusedAt {S : Type 0} (gives : S → List ℕ → S → Type 0) (place : WriteMode) (goal : Goal) (found : Progress) (old new : Option Story) (before after : S) (end : PutEnd) : Type 0 where
   pub pieces : List (List ℕ)
   pub reached : Progress
   pub piece : List ℕ
@@ -84,7 +84,7 @@ pub record IsRefusedAt {S : Type 0} (gives : S → List ℕ → S → Type 0) (p
   pub made : Told (Makes goal (turns ++ last)) old new
   pub came : gives before (joined pieces ++ piece) after
 
-abbrev pub IsCarryStopped : {S : Type 0} → (S → List ℕ → S → Type 0) → (S → List ℕ → S → Type 0) → Place → Goal → Progress → Option Story → Option Story → S → S → PutEnd → Type 0
+abbrev pub IsCarryStopped : {S : Type 0} → (S → List ℕ → S → Type 0) → (S → List ℕ → S → Type 0) → WriteMode → Goal → Progress → Option Story → Option Story → S → S → PutEnd → Type 0
 IsCarryStopped gives fails place goal found old new before after end =
     IsCutBetween gives fails goal found old new before after end
     ⊎ IsRefusedAt gives place goal found old new before after end

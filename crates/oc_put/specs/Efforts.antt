@@ -3,7 +3,7 @@ use Rattle.std.specs.Prelude.{◌≡◌, ◌⊎◌, ℕ, ◌+◌, ◌-◌, ◌&&
 use Rattle.oc_link.specs.Calls.{Told}
 use Rattle.oc_link.specs.Story.{Story}
 use Rattle.oc_put.specs.Replies.{Answers}
-use Rattle.oc_put.specs.Requests.{Goal, Request, ask, publish}
+use Rattle.oc_put.specs.Requests.{Goal, PutRequest, ask, publish}
 use Rattle.oc_put.specs.Turns.{Turn, Makes}
 use Rattle.oc_put.specs.declared.answer.Answer.{Answer}
 use Rattle.oc_put.specs.declared.answer.Answer.TheVariants.{Taken, Length, Refused}
@@ -33,12 +33,12 @@ behind_of (Posting at behind tried) = behind
 behind_of (Checking at behind) = behind
 
 -- the next request, of a client that sends this
-abbrev pub request_of : Load → Doing → Request
+abbrev pub request_of : Load → Doing → PutRequest
 request_of load Finding = ask
 request_of load (Posting at behind tried) = publish at load
 request_of load (Checking at behind) = ask
 
--- behind a failure what was sent is asked for, and a question is asked again
+-- after a failure what was sent is asked for, and a question is asked again
 abbrev pub behind_failure : Doing → Doing
 behind_failure Finding = Finding
 behind_failure (Posting at behind tried) = Checking at behind
@@ -86,7 +86,7 @@ next_of effort (Ok (Length length)) = weighed effort length
 next_of effort (Ok (Refused status)) = Ended (ends.Refused status)
 
 -- the next request of a client with this effort, and an answer that was made of what came
-pub record Asks (load : Load) (effort : Effort) (turn : Turn) : Type 0 where
+pub record IsTurnOf (load : Load) (effort : Effort) (turn : Turn) : Type 0 where
   pub request : turn.request ≡ request_of load effort.doing
   pub answers : Answers (asks effort.doing) turn.reply turn.over turn.answer
 
@@ -100,7 +100,7 @@ Onward On (Ended end) turns next = (turns ≡ []) × (next ≡ Ended end)
 abbrev pub LeadsTo : Load → Effort → List Turn → Next → Type 0
 LeadsTo load effort [] next = next ≡ Again effort
 LeadsTo load effort (turn ∷ turns) next =
-    Asks load effort turn × Onward (λ further. LeadsTo load further turns next) (next_of effort turn.answer) turns next
+    IsTurnOf load effort turn × Onward (λ further. LeadsTo load further turns next) (next_of effort turn.answer) turns next
 
 -- these turns went by, which led here
 pub record IsLed (goal : Goal) (load : Load) (effort : Effort) (old new : Option Story) (next : Next) : Type 0 where

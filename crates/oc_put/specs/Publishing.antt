@@ -15,15 +15,15 @@ use Rattle.oc_put.specs.declared.effort.Next.TheVariants.{Again, Settled, Ended}
 use Rattle.oc_put.specs.declared.end.PutEnd.{PutEnd}
 use Rattle.oc_put.specs.declared.end.PutEnd.TheVariants as ends
 use Rattle.oc_put.specs.declared.load.Load.{Load}
-use Rattle.oc_put.specs.declared.plan.Place.{Place}
-use Rattle.oc_put.specs.declared.plan.Place.TheVariants.{New, Append, Resume}
-use Rattle.oc_put.specs.declared.plan.Plan.{Plan}
+use Rattle.oc_put.specs.declared.publication.WriteMode.{WriteMode}
+use Rattle.oc_put.specs.declared.publication.WriteMode.TheVariants.{New, Append, Resume}
+use Rattle.oc_put.specs.declared.publication.Publication.{Publication}
 use Rattle.url.specs.Parts.{Parts}
 use Rattle.oc_put.specs.declared.input.TheConstants.{PIECE_BYTES}
 
 -- Pieces
 
--- pieces, one behind the other
+-- pieces, one after the other
 abbrev pub joined : List (List ℕ) → List ℕ
 joined [] = []
 joined (piece ∷ pieces) = piece ++ joined pieces
@@ -39,7 +39,7 @@ AreSome (piece ∷ []) = (0 < length piece) × (length piece ≤ PIECE_BYTES)
 AreSome (piece ∷ next ∷ pieces) = IsFull piece × AreSome (next ∷ pieces)
 
 -- the pieces in which bytes are sent: for no bytes one that is empty, where such an input is sent, and else none
-abbrev pub AreCut : Place → List (List ℕ) → Type 0
+abbrev pub AreCut : WriteMode → List (List ℕ) → Type 0
 AreCut place pieces = (AreSome pieces × ((sends_empty place ≡ false) ⊎ (pieces ≢ []))) ⊎ ((pieces ≡ [] ∷ []) × (sends_empty place ≡ true))
 
 -- One behind another
@@ -53,13 +53,13 @@ Sends progress (load ∷ loads) turns reached =
     × LeadsTo load (begun progress load) first (Settled next) × Sends next loads rest reached)
 
 -- the length that was found, and what of the input is passed over
-abbrev pub Begins : Place → ℕ → List ℕ → Type 0
+abbrev pub Begins : WriteMode → ℕ → List ℕ → Type 0
 Begins New length_found before = (length_found ≡ 0) × (before ≡ [])
 Begins Append length_found before = before ≡ []
 Begins Resume length_found before = length before ≡ length_found
 
 -- the length was found, and these pieces were sent and taken
-pub record HasSent (place : Place) (pieces : List (List ℕ)) (turns : List Turn) (input : List ℕ) (reached : Progress) : Type 0 where
+pub record HasSent (place : WriteMode) (pieces : List (List ℕ)) (turns : List Turn) (input : List ℕ) (reached : Progress) : Type 0 where
   pub found : Progress
   pub before : List ℕ
   pub asked : List Turn
@@ -76,7 +76,7 @@ Seals false progress turns = turns ≡ []
 Seals true progress turns = (reached : Progress) × Sends progress (seal ∷ []) turns reached
 
 -- the whole input was sent and taken, each piece once
-pub record IsDone (plan : Plan) (turns : List Turn) (input : List ℕ) : Type 0 where
+pub record IsDone (plan : Publication) (turns : List Turn) (input : List ℕ) : Type 0 where
   pub pieces : List (List ℕ)
   pub reached : Progress
   pub through : List Turn
@@ -95,14 +95,14 @@ Ends load effort turns end =
     ⊎ ((end ≡ ends.Memory) × ((further : Effort) × LeadsTo load effort turns (Again further)))
 
 -- with a group of this length nothing is sent
-abbrev pub DoesNotBegin : Place → ℕ → List ℕ → Bool → PutEnd → Type 0
+abbrev pub DoesNotBegin : WriteMode → ℕ → List ℕ → Bool → PutEnd → Type 0
 DoesNotBegin New length_found input over (ends.Length told) = (input ≡ []) × (0 < length_found) × (told ≡ length_found)
 DoesNotBegin Resume length_found input over ends.Short = (length input < length_found) × (over ≡ true)
 DoesNotBegin Resume length_found input over ends.Input = length input < length_found
 DoesNotBegin place length_found input over end = ⊥
 
 -- the length was found, and nothing is sent
-pub record StopsBefore (place : Place) (turns : List Turn) (input : List ℕ) (over : Bool) (end : PutEnd) : Type 0 where
+pub record StopsBefore (place : WriteMode) (turns : List Turn) (input : List ℕ) (over : Bool) (end : PutEnd) : Type 0 where
   pub found : Progress
   pub finds : LeadsTo nothing finding turns (Settled found)
   pub why : DoesNotBegin place found.length input over end
@@ -114,7 +114,7 @@ IsMissing part ends.Memory = part ≡ []
 IsMissing part end = ⊥
 
 -- full pieces were sent, and the next one does not come
-pub record StopsBetween (place : Place) (turns : List Turn) (input : List ℕ) (end : PutEnd) : Type 0 where
+pub record StopsBetween (place : WriteMode) (turns : List Turn) (input : List ℕ) (end : PutEnd) : Type 0 where
   pub pieces : List (List ℕ)
   pub reached : Progress
   pub came : List ℕ
@@ -125,7 +125,7 @@ pub record StopsBetween (place : Place) (turns : List Turn) (input : List ℕ) (
   pub missing : IsMissing part end
 
 -- what is sent next behind these pieces
-abbrev pub IsNext : Plan → List (List ℕ) → Load → Type 0
+abbrev pub IsNext : Publication → List (List ℕ) → Load → Type 0
 IsNext plan pieces load =
     ((piece : List ℕ) × (load ≡ bytes piece) × AreCut plan.place (pieces ++ piece ∷ []))
     ⊎ ((load ≡ seal) × (plan.seal ≡ true) × AreCut plan.place pieces)
@@ -137,7 +137,7 @@ Refuses load progress turns end =
     ⊎ ((progress.length ≤ MAX_GROUP_BYTES) × Ends load (begun progress load) turns end)
 
 -- pieces were sent, and the next one, or the seal, is not taken
-pub record StopsAt (plan : Plan) (turns : List Turn) (input : List ℕ) (end : PutEnd) : Type 0 where
+pub record StopsAt (plan : Publication) (turns : List Turn) (input : List ℕ) (end : PutEnd) : Type 0 where
   pub pieces : List (List ℕ)
   pub reached : Progress
   pub came : List ℕ
@@ -151,7 +151,7 @@ pub record StopsAt (plan : Plan) (turns : List Turn) (input : List ℕ) (end : P
   pub input_is : input ≡ came ++ load.piece
 
 -- a publishing that is not done
-abbrev pub Stops : Plan → List Turn → List ℕ → Bool → PutEnd → Type 0
+abbrev pub Stops : Publication → List Turn → List ℕ → Bool → PutEnd → Type 0
 Stops plan turns input over end =
     (Ends nothing finding turns end × (input ≡ []))
     ⊎ StopsBefore plan.place turns input over end
@@ -159,7 +159,7 @@ Stops plan turns input over end =
     ⊎ StopsAt plan turns input end
 
 -- a publishing: its turns, what was read of the input, whether that ended, and the end
-abbrev pub Publishes : Plan → List Turn → List ℕ → Bool → PutEnd → Type 0
+abbrev pub Publishes : Publication → List Turn → List ℕ → Bool → PutEnd → Type 0
 Publishes plan turns input over ends.Done = IsDone plan turns input × (over ≡ true)
 Publishes plan turns input over end = Stops plan turns input over end
 
@@ -171,7 +171,7 @@ Came gives fails old bytes_came new ends.Input = fails old bytes_came new
 Came gives fails old bytes_came new end = gives old bytes_came new
 
 -- a publishing at a URL
-pub record IsPublishedAt {S : Type 0} (gives fails : S → List ℕ → S → Type 0) (ended : S → Type 0) (plan : Plan) (goal : Goal) (old new : Option Story) (before after : S) (end : PutEnd) : Type 0 where
+pub record IsPublishedAt {S : Type 0} (gives fails : S → List ℕ → S → Type 0) (ended : S → Type 0) (plan : Publication) (goal : Goal) (old new : Option Story) (before after : S) (end : PutEnd) : Type 0 where
   pub turns : List Turn
   pub input : List ℕ
   pub over : Bool
@@ -187,7 +187,7 @@ IsUnasked address ends.Memory = ⊤
 IsUnasked address end = ⊥
 
 -- a publishing at an address, with this token, or nothing
-abbrev pub IsPublished : {S : Type 0} → (S → List ℕ → S → Type 0) → (S → List ℕ → S → Type 0) → (S → Type 0) → Plan → List ℕ → Option (List ℕ) → Option Story → Option Story → S → S → PutEnd → Type 0
+abbrev pub IsPublished : {S : Type 0} → (S → List ℕ → S → Type 0) → (S → List ℕ → S → Type 0) → (S → Type 0) → Publication → List ℕ → Option (List ℕ) → Option Story → Option Story → S → S → PutEnd → Type 0
 IsPublished gives fails ended plan address token old new before after end =
     (IsUnasked address end × (new ≡ old) × (after ≡ before))
     ⊎ ((url : Parts) × IsAddressOf address url × IsPublishedAt gives fails ended plan (record { url = url; token = token }) old new before after end)

@@ -19,15 +19,11 @@ nothing = bytes []
 abbrev pub seal : Load
 seal = record { piece = []; seals = true }
 
-pub data Request : Type 0 where
+pub data PutRequest : Type 0 where
   -- how long is the group?
-  ask : Request
+  ask : PutRequest
   -- take this, if the group has this length
-  publish : ℕ → Load → Request
-
-abbrev pub is_ask : Request → Bool
-is_ask ask = true
-is_ask (publish at load) = false
+  publish : ℕ → Load → PutRequest
 
 abbrev pub seal_part : Bool → List ℕ
 seal_part true = codes "seal&"
@@ -64,6 +60,6 @@ ask_text goal = ask_lines goal.url.path (area_of goal.url.query) (host_of goal.u
 abbrev pub publish_text : Goal → ℕ → Load → List ℕ
 publish_text goal at load = publish_lines goal.url.path (area_of goal.url.query) (host_of goal.url) goal.token at load
 
-abbrev pub request_text : Goal → Request → List ℕ
+abbrev pub request_text : Goal → PutRequest → List ℕ
 request_text goal ask = ask_text goal
 request_text goal (publish at load) = publish_text goal at load

@@ -1,15 +1,15 @@
 -- A source that answers by the rules, and what becomes of a group there.
 use Rattle.std.specs.Prelude.{◌≡◌, ◌≢◌, ◌⊎◌, ℕ, Bool, true, not, ◌&&◌, ◌||◌, ◌==◌, if◌then◌else◌, Result, Ok, Err, List, [], ◌∷◌, ◌++◌, length, drop}
 use Rattle.std.specs.List.{AllByRecursion}
-use Rattle.oc_put.specs.Requests.{Request, ask, publish}
+use Rattle.oc_put.specs.Requests.{PutRequest, ask, publish}
 use Rattle.oc_put.specs.Turns.{Turn}
 use Rattle.oc_put.specs.declared.answer.Answer.{Answer}
 use Rattle.oc_put.specs.declared.answer.Answer.TheVariants.{Taken, Length, Refused}
 use Rattle.oc_put.specs.declared.answer.Failure.{Failure}
 use Rattle.oc_put.specs.declared.load.Load.{Load}
-use Rattle.oc_put.specs.declared.plan.Place.{Place}
-use Rattle.oc_put.specs.declared.plan.Place.TheVariants.{New, Append, Resume}
-use Rattle.oc_put.specs.declared.plan.Plan.{Plan}
+use Rattle.oc_put.specs.declared.publication.WriteMode.{WriteMode}
+use Rattle.oc_put.specs.declared.publication.WriteMode.TheVariants.{New, Append, Resume}
+use Rattle.oc_put.specs.declared.publication.Publication.{Publication}
 
 -- a group of a source; one that is not held has no bytes
 pub record Group : Type 0 where
@@ -72,7 +72,7 @@ Takes old post (Ok (Length told)) new = (told ≡ length old.group.content) × (
 Takes old post (Ok (Refused status)) new = new ≡ old
 Takes old post (Err failure) new = new ≡ record old { lost = post ∷ old.lost }
 
-abbrev pub Reacts : Source → Request → Result Answer Failure → Source → Type 0
+abbrev pub Reacts : Source → PutRequest → Result Answer Failure → Source → Type 0
 Reacts old ask answer new = Tells old answer new
 Reacts old (publish at load) answer new = Takes old (record { at = at; load = load }) answer new
 
@@ -87,12 +87,12 @@ abbrev pub fresh : Group → Source
 fresh group = record { group = group; lost = [] }
 
 -- what is in a group behind an input, and what was before
-abbrev pub IsAdded : Place → List ℕ → List ℕ → List ℕ → Type 0
+abbrev pub IsAdded : WriteMode → List ℕ → List ℕ → List ℕ → Type 0
 IsAdded New input before after = (before ≡ []) × (after ≡ input)
 IsAdded Append input before after = after ≡ before ++ input
 IsAdded Resume input before after = after ≡ before ++ drop (length before) input
 
 -- the input was added, once, and the group is closed where that was wanted
-pub record Adds (plan : Plan) (input : List ℕ) (old new : Group) : Type 0 where
+pub record Adds (plan : Publication) (input : List ℕ) (old new : Group) : Type 0 where
   pub content : IsAdded plan.place input old.content new.content
   pub sealed : new.sealed ≡ (old.sealed || plan.seal)

@@ -4,13 +4,13 @@ use Rattle.oc_fetch.specs.Addresses.{dial_address}
 use Rattle.oc_link.specs.Calls.{IsFront, Told}
 use Rattle.oc_link.specs.Story.{Dial, Story, dials, hung_up}
 use Rattle.oc_put.specs.Replies.{Answers}
-use Rattle.oc_put.specs.Requests.{Goal, Request, request_text}
+use Rattle.oc_put.specs.Requests.{Goal, PutRequest, request_text}
 use Rattle.oc_put.specs.declared.answer.Answer.{Answer}
 use Rattle.oc_put.specs.declared.answer.Failure.{Failure}
 use Rattle.oc_put.specs.declared.answer.Failure.TheVariants.{Link}
 
 pub record Turn : Type 0 where
-  pub request : Request
+  pub request : PutRequest
   -- what was read
   pub reply : List ℕ
   -- whether the connection was seen to end after it
@@ -35,7 +35,7 @@ Tells address text reply over (Err Link) dial = IsCut address text dial
 Tells address text reply over answer dial = IsWhole address text reply over dial
 
 -- one dial was made and ended, and nothing else happened
-pub record Dials (address text reply : List ℕ) (over : Bool) (answer : Result Answer Failure) (old new : Story) : Type 0 where
+pub record DialsOnce (address text reply : List ℕ) (over : Bool) (answer : Result Answer Failure) (old new : Story) : Type 0 where
   pub dial : Dial
   pub tells : Tells address text reply over answer dial
   pub new_is : new ≡ record (hung_up old) { ended = dials old ++ dial ∷ [] }
@@ -45,7 +45,7 @@ pub record IsDialled (address text : List ℕ) (asks : Bool) (old new : Option S
   pub reply : List ℕ
   pub over : Bool
   pub answers : Answers asks reply over answer
-  pub told : Told (Dials address text reply over answer) old new
+  pub told : Told (DialsOnce address text reply over answer) old new
 
 -- dials tell of turns, one by one
 abbrev pub AreTold : Goal → List Turn → List Dial → Type 0

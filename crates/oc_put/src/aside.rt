@@ -1,6 +1,6 @@
 use oc_fetch::ProgressLines;
 
-/// What a client does besides publishing: behind a failure it pauses, and it tells how many bytes of the input are in the
+/// What a client does besides publishing: after a failure it pauses, and it tells how many bytes of the input are in the
 /// group.
 #[derive(Drop)]
 pub struct Aside<P, E> {

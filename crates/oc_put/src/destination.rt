@@ -3,6 +3,6 @@
 pub struct Destination<'a> {
     /// The URL of the group.
     pub address: &'a str,
-    /// What each request shows to be let in, as that of [`Manner`](oc_fetch::Manner).
+    /// What each request shows to be let in, as that of [`FetchOptions`](oc_fetch::FetchOptions).
     pub token: Option<&'a str>,
 }

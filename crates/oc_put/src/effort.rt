@@ -6,7 +6,7 @@ ghost use Rattle.oc_put.specs.Efforts.{asks, behind_of, next_of, tried_again, ma
 use crate::answer::{Answer, Failure};
 use crate::end::PutEnd;
 
-/// How many failures one behind another end a publishing.
+/// How many failures one after another end a publishing.
 pub(crate) const MAX_FAILURES: u8 = 5;
 
 /// What the next request is for.

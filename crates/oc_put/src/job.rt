@@ -8,7 +8,7 @@ ghost use Rattle.oc_put.specs.Requests.{seal_part, from_lines, place_query};
 
 use crate::effort::Doing;
 use crate::load::Load;
-use crate::plan::Plan;
+use crate::publication::Publication;
 use oc_base::Memory;
 use oc_fetch::{Target, area, area_text, authorization_line};
 use std::alloc::Global;
@@ -18,7 +18,7 @@ use url::Url;
 #[derive(Drop)]
 pub(crate) struct Job<'a> {
     pub(crate) alloc: Global,
-    pub(crate) plan: Plan,
+    pub(crate) plan: Publication,
     pub(crate) target: Target,
     /// What each request shows, where that is wanted.
     pub(crate) token: Option<&'a str>,
@@ -37,7 +37,7 @@ impl<'a> Job<'a> {
 
     pub(crate) fn new(
         alloc: Global,
-        plan: Plan,
+        plan: Publication,
         url: Url,
         token: Option<&'a str>,
     ) -> Result<Job<'a>, Memory>

@@ -5,12 +5,12 @@ ghost use Rattle.oc_put.specs.Publishing.{IsDone};
 ghost use Rattle.oc_put.specs.Sources.{Group, Source, Serves, fresh, Adds};
 ghost use Rattle.oc_put.specs.Turns.{Turn};
 ghost use Rattle.oc_put.specs.Examples.{AreTexts, AreAnswers, AreSteps, AreArrivals};
-ghost use Rattle.oc_put.specs.declared.plan.Plan.{Plan};
+ghost use Rattle.oc_put.specs.declared.publication.Publication.{Publication};
 
 /// Over a source that answers by the rules, into whose group nobody else publishes, a publishing that is done
 /// has added its input once, whichever dials failed and whenever what they sent arrived.
 pub fn the_input_is_added_once()
-    ensures { (plan : Plan) (turns : List Turn) (input : List ℕ) (group : Group) (after : Source)
+    ensures { (plan : Publication) (turns : List Turn) (input : List ℕ) (group : Group) (after : Source)
         → IsDone plan turns input → Serves (fresh group) turns after → Adds plan input group after.group }
 {}
 

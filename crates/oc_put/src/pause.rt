@@ -1,4 +1,4 @@
-/// What a client does behind a failure, before it tries again.
+/// What a client does after a failure, before it tries again.
 pub trait Pause {
     /// Waits a second.
     fn pause(&mut self);

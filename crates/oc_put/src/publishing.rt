@@ -17,7 +17,7 @@ use crate::input::{PIECE_BYTES, next_piece, pass_over};
 use crate::job::Job;
 use crate::load::Load;
 use crate::pause::Pause;
-use crate::plan::{Place, Plan};
+use crate::publication::{Publication, WriteMode};
 use crate::room::Room;
 use crate::settling::{find, send};
 use oc_base::Bytes;
@@ -34,7 +34,7 @@ use std::alloc::Global;
 pub fn put<L: Dialler, S: Source, P: Pause, E: Sink>(
     alloc: Global,
     to: &Destination<'_>,
-    plan: Plan,
+    plan: Publication,
     input: &mut S,
     link: &mut L,
     aside: &mut Aside<P, E>,
@@ -110,7 +110,7 @@ fn publish_all<L: Dialler, S: Source, P: Pause, E: Sink>(
 
 /// Passes over what of the input the group has.
 fn go_to_place<S: Source>(
-    place: Place,
+    place: WriteMode,
     found: u64,
     input: &mut S,
     buffer: &mut [u8],
@@ -121,19 +121,19 @@ fn go_to_place<S: Source>(
     ensures cause { IsErrOf result PutEnd.Input → Rose (S.faults input.old) (S.faults input.new) }
 {
     match place {
-        Place::New if found > 0 => Err(PutEnd::Length(found)),
-        Place::New | Place::Append => Ok(()),
-        Place::Resume => pass_over(found, input, buffer),
+        WriteMode::New if found > 0 => Err(PutEnd::Length(found)),
+        WriteMode::New | WriteMode::Append => Ok(()),
+        WriteMode::Resume => pass_over(found, input, buffer),
     }
 }
 
 /// How many bytes of the input the group has, before any is sent.
-fn passed_over(place: Place, found: u64) -> u64
+fn passed_over(place: WriteMode, found: u64) -> u64
     ensures { result ≡ passed_over place found }
 {
     match place {
-        Place::New | Place::Append => 0,
-        Place::Resume => found,
+        WriteMode::New | WriteMode::Append => 0,
+        WriteMode::Resume => found,
     }
 }
 

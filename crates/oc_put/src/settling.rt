@@ -103,7 +103,7 @@ fn settle<L: Dialler, P: Pause>(
     }
 }
 
-/// Pauses behind a failure.
+/// Pauses after a failure.
 fn pause_behind<P: Pause>(answer: Result<Answer, Failure>, pause: &mut P) {
     if answer.is_err() {
         pause.pause();

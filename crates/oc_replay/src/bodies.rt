@@ -104,7 +104,7 @@ fn put_ask(out: &mut Vec<u8>, seq: u64, rank: Option<Rank>) -> Result<(), Memory
 }
 
 /// Puts a rank, and `-` where there is none.
-pub(crate) fn put_rank_or_dash(out: &mut Vec<u8>, rank: Option<Rank>) -> Result<(), Memory>
+pub fn put_rank_or_dash(out: &mut Vec<u8>, rank: Option<Rank>) -> Result<(), Memory>
     ensures { OnOk result (out.new.items ≡ out.old.items ++ rank_or_dash rank) }
 {
     match rank {

@@ -31,9 +31,10 @@ mod stage;
 mod summing;
 mod texts;
 
+pub use bodies::put_rank_or_dash;
 pub use end::ReplayEnd;
 pub use law::examples_are_told;
-pub use lines::held_text;
+pub use lines::{held_text, put_answer};
 pub use replaying::replay;
-pub use show::show_text;
+pub use show::{put_mode, show_text};
 pub use stage::{Said, Stage};

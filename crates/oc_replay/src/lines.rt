@@ -37,7 +37,7 @@ fn put_word(out: &mut Vec<u8>, word: &Word) -> Result<(), Memory>
 }
 
 /// Puts the word of an answer.
-fn put_answer(out: &mut Vec<u8>, answer: Answer) -> Result<(), Memory>
+pub fn put_answer(out: &mut Vec<u8>, answer: Answer) -> Result<(), Memory>
     ensures { OnOk result (out.new.items ≡ out.old.items ++ answer_text answer) }
 {
     match answer {

@@ -65,7 +65,7 @@ fn state_word(up: bool) -> &'static str
 }
 
 /// Puts a node's position in the tree.
-fn put_mode(out: &mut Vec<u8>, mode: Mode) -> Result<(), Memory>
+pub fn put_mode(out: &mut Vec<u8>, mode: Mode) -> Result<(), Memory>
     ensures { OnOk result (out.new.items ≡ out.old.items ++ mode_text mode) }
 {
     match mode {

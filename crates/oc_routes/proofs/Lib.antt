@@ -4,3 +4,14 @@ pub mod Spared
 pub mod TokenLaws
 pub mod Brought
 pub mod InputLines
+pub mod BodyFits
+pub mod ConditionLaws
+pub mod Holdings
+pub mod MacLaws
+pub mod Chunks
+pub mod Cuts
+pub mod PieceLaws
+pub mod Sent
+pub mod SparedReplies
+pub mod Unread
+pub mod WaitLaws

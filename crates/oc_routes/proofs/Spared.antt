@@ -11,8 +11,8 @@ use Rattle.oc_http.specs.declared.head.Head.{Head}
 use Rattle.oc_http.specs.declared.head.Method.{Method}
 use Rattle.oc_http.specs.declared.head.Method.TheVariants as methods
 use Rattle.oc_policy.specs.Rules.{verdict}
-use Rattle.oc_policy.specs.declared.deciding.Verdict.{Verdict}
-use Rattle.oc_policy.specs.declared.deciding.Verdict.TheVariants.{Allowed, Denied}
+use Rattle.oc_policy.specs.declared.deciding.Decision.{Decision}
+use Rattle.oc_policy.specs.declared.deciding.Decision.TheVariants.{Allowed, Denied}
 use Rattle.oc_policy.specs.declared.rule.Action.{Action}
 use Rattle.oc_policy.specs.declared.rule.Action.TheVariants.{Get, Post}
 use Rattle.oc_policy.specs.declared.rule.Rule.{Rule}
@@ -84,7 +84,7 @@ spared_resource : (action : Action) (path : List ℕ) → IsSpared (resource_in 
 spared_resource Post path = spared_if (bytes_eq path message_path) (Ok Messages) (group_in path) tt (spared_named (parsed_name path))
 spared_resource Get path = spared_if (bytes_eq path probe_path) (Ok Probe) (readable_in path) tt (spared_report (report_at path) (group_in path) (spared_named (parsed_name path)))
 
-spared_allowed : (v : Verdict) → IsSpared (permitted_by v)
+spared_allowed : (v : Decision) → IsSpared (permitted_by v)
 spared_allowed Allowed = tt
 spared_allowed (Denied rule) = tt
 

@@ -3,8 +3,8 @@ use Rattle.std.proofs.Common.{ℕ, Option, Some, None, Result, Ok, Err, List, in
 use Rattle.oc_base.specs.Steps.{◌>>=◌}
 use Rattle.oc_http.specs.declared.head.Head.{Head}
 use Rattle.oc_policy.specs.Rules.{verdict}
-use Rattle.oc_policy.specs.declared.deciding.Verdict.{Verdict}
-use Rattle.oc_policy.specs.declared.deciding.Verdict.TheVariants.{Allowed, Denied}
+use Rattle.oc_policy.specs.declared.deciding.Decision.{Decision}
+use Rattle.oc_policy.specs.declared.deciding.Decision.TheVariants.{Allowed, Denied}
 use Rattle.oc_policy.specs.declared.rule.Action.{Action}
 use Rattle.oc_policy.specs.declared.rule.Rule.{Rule}
 use Rattle.oc_routes.specs.Alike.{AreAlike}
@@ -21,7 +21,7 @@ alike_then (Ok x) f g h = h x
 alike_then (Err why) f g h = inl refl
 
 -- two verdicts let the same through, or one of them denies it
-alike_by : (v w : Verdict) (operation : Operation) → AreAlike (permitted_by v >>= (λ allowed. Ok operation)) (permitted_by w >>= (λ allowed. Ok operation))
+alike_by : (v w : Decision) (operation : Operation) → AreAlike (permitted_by v >>= (λ allowed. Ok operation)) (permitted_by w >>= (λ allowed. Ok operation))
 alike_by Allowed Allowed operation = inl refl
 alike_by Allowed (Denied rule) operation = inr (inr tt)
 alike_by (Denied rule) w operation = inr (inl tt)

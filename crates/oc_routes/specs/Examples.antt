@@ -50,7 +50,7 @@ abbrev under_rules : Method → List ℕ → List ℕ → Result Operation Refus
 under_rules method path query wanted = asked (head method path query) rules ≡ wanted
 
 -- one rule: nobody reads or posts
-abbrev closed : List Rule
+abbrev pub closed : List Rule
 closed = record { allow = false; action = None; prefix = codes "/"; area = None; token = None } ∷ []
 
 -- what is asked where all is allowed to who shows a token, and to nobody else
@@ -112,18 +112,18 @@ pub record AreRouted : Type 0 where
 abbrev rejoin : Message
 rejoin = record { from = 2; to = 1; body = bodies.Rejoin 7 }
 
-abbrev rejoin_bytes : List ℕ
+abbrev pub rejoin_bytes : List ℕ
 rejoin_bytes = 0 ∷ 0 ∷ 0 ∷ 2 ∷ 0 ∷ 0 ∷ 0 ∷ 1 ∷ 8 ∷ 0 ∷ 0 ∷ 0 ∷ 0 ∷ 0 ∷ 0 ∷ 0 ∷ 7 ∷ []
 
 abbrev look_at : ℕ → Message
 look_at peer = record { from = 1; to = peer; body = bodies.Look }
 
 -- the head of a reply with these lines
-abbrev lines : List (List ℕ) → List ℕ
+abbrev pub lines : List (List ℕ) → List ℕ
 lines [] = codes "\r\n"
 lines (line ∷ more) = line ++ codes "\r\n" ++ lines more
 
-abbrev closes : List ℕ
+abbrev pub closes : List ℕ
 closes = codes "Connection: close"
 
 abbrev octets : List ℕ

@@ -9,3 +9,14 @@ pub mod Lawful
 pub mod Queries
 pub mod Replies
 pub mod Routes
+pub mod Asks
+pub mod Contents
+pub mod ReplyExamples
+pub mod Hints
+pub mod Macs
+pub mod Reports
+pub mod Shown
+pub mod Stillness
+pub mod Verdicts
+pub mod Waits
+pub mod Conditions

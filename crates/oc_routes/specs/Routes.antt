@@ -14,8 +14,8 @@ use Rattle.oc_model.specs.declared.input.Input.{Input}
 use Rattle.oc_model.specs.declared.input.Input.TheVariants as inputs
 use Rattle.oc_model.specs.declared.message.Message.{Message}
 use Rattle.oc_policy.specs.Rules.{verdict}
-use Rattle.oc_policy.specs.declared.deciding.Verdict.{Verdict}
-use Rattle.oc_policy.specs.declared.deciding.Verdict.TheVariants.{Allowed, Denied}
+use Rattle.oc_policy.specs.declared.deciding.Decision.{Decision}
+use Rattle.oc_policy.specs.declared.deciding.Decision.TheVariants.{Allowed, Denied}
 use Rattle.oc_policy.specs.declared.rule.Action.{Action}
 use Rattle.oc_policy.specs.declared.rule.Action.TheVariants.{Get, Post}
 use Rattle.oc_policy.specs.declared.rule.Rule.{Rule}
@@ -80,7 +80,7 @@ content_type_of reports.Metrics = types.Metrics
 content_type_of reports.Page = types.Html
 
 -- what a verdict lets through
-abbrev pub permitted_by : Verdict → Result (Unit {0}) Refused
+abbrev pub permitted_by : Decision → Result (Unit {0}) Refused
 permitted_by Allowed = Ok tt
 permitted_by (Denied rule) = Err (refusals.Denied rule)
 

@@ -1,4 +1,4 @@
-//! Laws of the definitions.
+//! Laws of the routes.
 
 ghost use Rattle.std.specs.Prelude.{ℕ, List, Option};
 ghost use Rattle.oc_http.specs.declared.head.Head.{Head};

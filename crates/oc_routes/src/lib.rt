@@ -1,5 +1,5 @@
-//! What a request asks of a running node, what that gives the node, and what it is answered. No link,
-//! disk or clock is in it: functions over values.
+//! What the bytes of a connection ask of a running node, what that gives the node, and what it is answered, piece by
+//! piece. No link, disk or clock is in it: functions over values.
 //!
 //! `src/routes.rt` and `specs/Routes` are the table of routes: which operation a head asks for under the
 //! access rules (`asked`), with its faults in their order, and which input results from it and the body
@@ -12,37 +12,87 @@
 //! it. [`is_last`] and [`awaits_continue`] say what becomes of the connection of a request, and
 //! [`split_reply`] takes the reply out of the messages of a step. [`steps_answer_by_the_table`] says that
 //! a step gives the input of a request one of the answers to which the table has a reply.
+//!
+//! [`judge`] says what is to be done with a connection for the bytes of a request that came so far: to wait, to permit
+//! its body, to refuse it, or to answer what it asks. `specs/Verdicts` has the definition: what a source that gives
+//! these bytes and then ends is answered, by the definitions of `oc_http` and of the routes, where its end is what it is
+//! on the connection. [`a_request_has_one_verdict`] says that this is one, however the bytes are cut.
+//!
+//! A request that publishes or seals may say which length its group has to have; [`unmet`] says whether the source refuses
+//! it for that.
+//!
+//! A content under way ([`UnderWay`]) is a place in a group; the layer above reads its next piece from
+//! the content file. [`pieces_are_the_content`]: piece by piece they are the text of the whole content, whatever came
+//! between. [`is_to_wait`], [`Follower::is_due`] and [`UnderWay::prospect`] say who waits, and until when.
+//!
+//! What a query tells besides start and area (`of=`, `known`, `here`) is a [`Hint`]. [`respond_to`] says what any
+//! request is answered for the answer of its step: a message by the one that goes back, a client by what it tells, one who
+//! asks what the node tells of itself by that ([`report_of`]).
+//!
+//! In a network with a key a message is read only from a body whose MAC came with it ([`a_message_has_its_mac`]).
 #![tactic(auto)]
 
 mod addresses;
+mod condition;
 mod connections;
+mod content;
+mod directory;
 mod fault;
+mod hint;
+mod holding;
+mod judging;
 mod law;
 mod lines;
+mod macs;
 mod manner;
-mod network;
 mod query;
 mod refusals;
 mod refused;
 mod replies;
+mod reply_law;
 mod report;
+mod reporting;
 mod response;
 mod responses;
+mod rest;
 mod routes;
+mod seen;
+mod showing;
+mod step_outcome;
+mod terms;
+mod verdict;
+mod waiting;
 
 pub use addresses::address_of;
+pub use condition::unmet;
 pub use connections::{CONTINUE, MAX_REQUESTS, awaits_continue, is_last};
+pub use content::{PIECE_BYTES, UnderWay};
+pub use directory::Directory;
 pub use fault::RouteFault;
+pub use hint::{Asked, Hint, route_with_hint};
+pub use holding::Holding;
+pub use judging::judge;
 pub use law::{a_token_tells_nothing, examples_compute, steps_answer_by_the_table};
 pub use lines::{put_input_line, put_refusal_line};
 pub use manner::Manner;
-pub use network::Network;
 pub use oc_http::Persistence;
 pub use query::{first_value, has_part, number_told};
 pub use refusals::refusal_reply;
 pub use refused::Refused;
 pub use replies::split_reply;
+pub use reply_law::{
+    a_condition_says_the_length, a_message_has_its_mac, a_request_has_one_verdict,
+    pieces_are_the_content, pieces_follow_one_another, reply_examples_compute,
+    who_waits_has_nothing_new,
+};
 pub use report::{METRICS_PATH, PAGE_PATH, Report, STATUS_PATH};
+pub use reporting::report_of;
 pub use response::{GroupRange, Response};
 pub use responses::{Answered, respond};
 pub use routes::{Operation, input_of, route};
+pub use seen::Seen;
+pub use showing::{Shown, as_shown, respond_to};
+pub use step_outcome::StepOutcome;
+pub use terms::Terms;
+pub use verdict::{Request, Verdict};
+pub use waiting::{FOLLOW_MILLIS, Follower, IDLE_MILLIS, Prospect, is_to_wait, millis_left};

@@ -9,8 +9,8 @@ ghost use Rattle.oc_routes.specs.Responses.{body_for, client_response, connectio
 ghost use Rattle.oc_wire.specs.Spelling.{HasSpelling};
 
 use crate::addresses::address_of;
+use crate::directory::Directory;
 use crate::manner::Manner;
-use crate::network::Network;
 use crate::refusals::bare;
 use crate::report::Report;
 use crate::response::{GroupRange, Response};
@@ -43,7 +43,7 @@ pub fn respond(
     operation: &Operation,
     answered: Answered<'_>,
     reply: Option<&Message>,
-    network: &Network<'_>,
+    network: &Directory<'_>,
 ) -> Result<Response, Memory>
     requires asks { IsAsked operation.now }
     requires reply { ForSome (option_map (λ m. m.now) reply) (λ m. HasSpelling m.body) }

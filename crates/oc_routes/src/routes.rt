@@ -31,7 +31,7 @@ use oc_base::words::is;
 use oc_base::{Bytes, GroupName, NodeId};
 use oc_http::{Head, MESSAGE_PATH, Method, PROBE_PATH, Text};
 use oc_model::Input;
-use oc_policy::{Action, MAX_RULES, Rule, Verdict, decide};
+use oc_policy::{Action, Decision, MAX_RULES, Rule, decide};
 use oc_wire::{WireFault, decode};
 use std::alloc::Global;
 
@@ -116,12 +116,12 @@ fn permit(
 }
 
 /// What a verdict lets through.
-fn permitted_by(verdict: Verdict) -> Result<(), Refused>
+fn permitted_by(verdict: Decision) -> Result<(), Refused>
     ensures { result ≡ permitted_by verdict }
 {
     match verdict {
-        Verdict::Allowed => Ok(()),
-        Verdict::Denied(rule) => Err(Refused::Denied(rule)),
+        Decision::Allowed => Ok(()),
+        Decision::Denied(rule) => Err(Refused::Denied(rule)),
     }
 }
 

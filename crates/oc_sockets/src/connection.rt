@@ -9,13 +9,13 @@ use crate::tools::Tools;
 use crate::unsent::Unsent;
 use mio::net::TcpStream;
 use mio::{Interest, Registry, Token};
-use oc_events::{Arrival, Coming, ConnectionId, Ending, Event};
+use oc_link::{Arrival, Coming, ConnectionId, Ending, LinkEvent};
 use std::alloc::Global;
 use std::net::Shutdown;
 
 /// What a connection is doing.
 #[derive(Clone, Copy, PartialEq, Eq)]
-pub(crate) enum Stage {
+pub(crate) enum ConnectionStage {
     /// Its next request comes, once all of the last reply has gone out.
     Awaiting,
     /// Its request was taken, and its reply was not given whole.
@@ -34,7 +34,7 @@ pub(crate) enum Fate {
     /// It waits for its peer or for whoever answers it.
     Stays,
     /// This is to be told of it.
-    Tells(Event),
+    Tells(LinkEvent),
     /// It is to be dropped, and that it failed is to be told.
     Lost,
     /// It is to be dropped.
@@ -66,7 +66,7 @@ pub(crate) struct Claim {
 pub(crate) struct Connection {
     stream: TcpStream,
     pub(crate) id: u64,
-    pub(crate) stage: Stage,
+    pub(crate) stage: ConnectionStage,
     /// Which request is awaited or answered.
     number: u64,
     pub(crate) incoming: Incoming,
@@ -105,7 +105,7 @@ impl Connection {
         Connection {
             stream,
             id,
-            stage: Stage::Awaiting,
+            stage: ConnectionStage::Awaiting,
             number: 1,
             incoming: Incoming::new(alloc),
             is_large: false,
@@ -151,11 +151,11 @@ impl Connection {
     pub(crate) fn advance(&mut self, tools: &mut Tools, now: u64, most: usize) {
         self.send(tools, now);
         match self.stage {
-            Stage::Awaiting => self.receive(tools, now, most),
-            Stage::Finishing => self.end(now),
+            ConnectionStage::Awaiting => self.receive(tools, now, most),
+            ConnectionStage::Finishing => self.end(now),
             _ => {}
         }
-        if self.stage == Stage::Lingering {
+        if self.stage == ConnectionStage::Lingering {
             self.drain(tools);
         }
     }
@@ -182,10 +182,10 @@ impl Connection {
     /// All that it was given has gone out. Where its next request is awaited, its time begins now.
     fn note_sent(&mut self, now: u64) {
         self.deadline = Deadline::never();
-        if self.stage == Stage::Awaiting && !self.is_fed {
+        if self.stage == ConnectionStage::Awaiting && !self.is_fed {
             self.is_watched = false;
             self.begin_head(now);
-        } else if self.stage == Stage::Awaiting {
+        } else if self.stage == ConnectionStage::Awaiting {
             self.begin_body(now);
         }
     }
@@ -223,7 +223,7 @@ impl Connection {
 
     /// Whether it has as many bytes as a request may have without one of the places for large ones.
     pub(crate) fn is_held(&self) -> bool {
-        self.stage == Stage::Awaiting
+        self.stage == ConnectionStage::Awaiting
             && !self.is_large
             && self.incoming.len() >= LARGE_BYTES
             && !self.incoming.is_ripe(self.is_fed)
@@ -232,7 +232,10 @@ impl Connection {
     /// Gives it bytes to send: they go out at once as far as its socket takes them, and what is left is kept. A
     /// connection for which that is too much fails.
     pub(crate) fn give(&mut self, tools: &mut Tools, bytes: &[u8], now: u64) {
-        let is_open = matches!(self.stage, Stage::Awaiting | Stage::Answering);
+        let is_open = matches!(
+            self.stage,
+            ConnectionStage::Awaiting | ConnectionStage::Answering
+        );
         if self.incoming.has_failed || !is_open {
             return;
         }
@@ -241,9 +244,9 @@ impl Connection {
         self.has_begun = true;
         self.fed_at = now;
         self.went = self.went.saturating_add(bytes.len());
-        let rest = self.write(tools, bytes);
+        let rest = self.write(bytes);
         if rest.is_empty() {
-            if self.stage == Stage::Awaiting {
+            if self.stage == ConnectionStage::Awaiting {
                 self.begin_body(now);
             }
             return;
@@ -258,7 +261,7 @@ impl Connection {
     }
 
     /// Writes what the socket takes now of these bytes, where nothing is to go out before them; answers the rest.
-    fn write<'b>(&mut self, tools: &mut Tools, bytes: &'b [u8]) -> &'b [u8] {
+    fn write<'b>(&mut self, bytes: &'b [u8]) -> &'b [u8] {
         let mut rest = bytes;
         for _ in 0..bytes.len() {
             if rest.is_empty() || !self.is_writable || !self.unsent.is_empty() {
@@ -266,7 +269,6 @@ impl Connection {
             }
             match write_some(&mut self.stream, rest) {
                 Moved::Bytes(count) => {
-                    tools.went = tools.went.saturating_add(count as u64);
                     rest = rest.get(count..).unwrap_or(&[]);
                 }
                 Moved::Nothing => self.is_writable = false,
@@ -286,7 +288,7 @@ impl Connection {
         if !self.incoming.take(tools, bytes, count) {
             self.incoming.has_failed = true;
         }
-        self.stage = Stage::Answering;
+        self.stage = ConnectionStage::Answering;
         self.is_told = false;
         self.is_fed = false;
         self.has_begun = false;
@@ -303,12 +305,12 @@ impl Connection {
         self.is_watched = ending.watched;
         if ending.keeps {
             self.number = self.number.saturating_add(1);
-            self.stage = Stage::Awaiting;
+            self.stage = ConnectionStage::Awaiting;
             if self.unsent.is_empty() && !self.incoming.has_failed {
                 self.note_sent(now);
             }
         } else {
-            self.stage = Stage::Finishing;
+            self.stage = ConnectionStage::Finishing;
             self.end(now);
         }
     }
@@ -321,33 +323,33 @@ impl Connection {
             return;
         }
         if self.is_all && self.went <= SHORT_REPLY {
-            self.stage = Stage::Over;
+            self.stage = ConnectionStage::Over;
             return;
         }
-        self.stage = Stage::Lingering;
+        self.stage = ConnectionStage::Lingering;
         self.since = now;
         self.deadline = Deadline::after(now, LINGER_MILLIS);
         self.is_late = false;
         if self.stream.shutdown(Shutdown::Write).is_err() {
-            self.stage = Stage::Over;
+            self.stage = ConnectionStage::Over;
         }
     }
 
     /// Drops what has come, until the peer's end.
     fn drain(&mut self, tools: &mut Tools) {
         for _ in 0..MOST_READS {
-            if !self.is_readable || self.stage != Stage::Lingering {
+            if !self.is_readable || self.stage != ConnectionStage::Lingering {
                 return;
             }
             match read_some(&mut self.stream, &mut tools.piece) {
                 Moved::Bytes(count) => {
                     self.dropped = self.dropped.saturating_add(count);
                     if self.dropped >= LINGER_BYTES {
-                        self.stage = Stage::Over;
+                        self.stage = ConnectionStage::Over;
                     }
                 }
                 Moved::Nothing => self.is_readable = false,
-                Moved::End | Moved::Failed => self.stage = Stage::Over,
+                Moved::End | Moved::Failed => self.stage = ConnectionStage::Over,
             }
         }
     }
@@ -368,12 +370,12 @@ impl Connection {
             return;
         }
         match self.stage {
-            Stage::Awaiting if self.unsent.is_empty() => {
+            ConnectionStage::Awaiting if self.unsent.is_empty() => {
                 let is_ripe = self.incoming.is_ripe(self.is_fed);
                 self.is_late = self.is_told || !is_ripe;
                 self.is_told = self.is_told && is_ripe;
             }
-            Stage::Lingering => self.stage = Stage::Over,
+            ConnectionStage::Lingering => self.stage = ConnectionStage::Over,
             _ => self.incoming.has_failed = true,
         }
     }
@@ -384,13 +386,14 @@ impl Connection {
             return Fate::Lost;
         }
         match self.stage {
-            Stage::Awaiting => self.fate_of_request(),
-            Stage::Answering if self.is_fed && self.unsent.is_empty() => {
-                Fate::Tells(Event::Room(ConnectionId(self.id)))
+            ConnectionStage::Awaiting => self.fate_of_request(),
+            ConnectionStage::Answering if self.is_fed && self.unsent.is_empty() => {
+                Fate::Tells(LinkEvent::Room(ConnectionId(self.id)))
             }
-            Stage::Finishing if self.incoming.has_failed => Fate::Over,
-            Stage::Over => Fate::Over,
-            Stage::Answering | Stage::Finishing | Stage::Lingering => Fate::Stays,
+            ConnectionStage::Finishing if self.incoming.has_failed => Fate::Over,
+            ConnectionStage::Over => Fate::Over,
+            ConnectionStage::Answering | ConnectionStage::Finishing | ConnectionStage::Lingering =>
+                Fate::Stays,
         }
     }
 
@@ -410,7 +413,7 @@ impl Connection {
         if self.is_told || !(is_over || is_full || self.incoming.is_ripe(self.is_fed)) {
             return Fate::Stays;
         }
-        Fate::Tells(Event::Request(self.arrival()))
+        Fate::Tells(LinkEvent::Request(self.arrival()))
     }
 
     /// Its request as it is told. Of one that came whole it does not matter what came behind it.
@@ -434,7 +437,7 @@ impl Connection {
     /// What was to be told of it was told.
     pub(crate) fn note_told(&mut self) {
         match self.stage {
-            Stage::Awaiting => self.is_told = true,
+            ConnectionStage::Awaiting => self.is_told = true,
             _ => self.is_fed = false,
         }
     }
@@ -442,13 +445,13 @@ impl Connection {
     /// Whether there may be more to read than `advance` read: it would not be told again.
     pub(crate) fn is_busy(&self, most: usize) -> bool {
         let is_read = match self.stage {
-            Stage::Awaiting => {
+            ConnectionStage::Awaiting => {
                 self.unsent.is_empty()
                     && !self.incoming.is_over()
                     && self.incoming.len() < most
                     && !self.incoming.is_ripe(self.is_fed)
             }
-            Stage::Lingering => true,
+            ConnectionStage::Lingering => true,
             _ => false,
         };
         self.is_readable && is_read
@@ -456,23 +459,26 @@ impl Connection {
 
     /// The system told that its socket failed. Where it is read, the reading tells.
     pub(crate) fn note_failure(&mut self) {
-        if matches!(self.stage, Stage::Answering | Stage::Finishing) {
+        if matches!(
+            self.stage,
+            ConnectionStage::Answering | ConnectionStage::Finishing
+        ) {
             self.incoming.has_failed = true;
         }
     }
 
     /// Whether anything of what it was given has still to go out, or its peer to end.
     pub(crate) fn is_leaving(&self) -> bool {
-        !self.unsent.is_empty() || self.stage == Stage::Lingering
+        !self.unsent.is_empty() || self.stage == ConnectionStage::Lingering
     }
 
     /// Whether it is to be told where it is dropped: its reply was not given whole, or did not go out whole and that
     /// is to be told. Once all went out it is not watched any more, or leaves these stages.
     pub(crate) fn is_missed(&self) -> bool {
         match self.stage {
-            Stage::Answering => true,
-            Stage::Awaiting | Stage::Finishing => self.is_watched,
-            Stage::Lingering | Stage::Over => false,
+            ConnectionStage::Answering => true,
+            ConnectionStage::Awaiting | ConnectionStage::Finishing => self.is_watched,
+            ConnectionStage::Lingering | ConnectionStage::Over => false,
         }
     }
 
@@ -481,9 +487,9 @@ impl Connection {
     /// drop the one before.
     pub(crate) fn claim(&self) -> Option<Claim> {
         let (kind, since) = match self.stage {
-            Stage::Lingering | Stage::Over => (ClaimKind::ReadOut, self.since),
+            ConnectionStage::Lingering | ConnectionStage::Over => (ClaimKind::ReadOut, self.since),
             _ if !self.unsent.is_empty() => (ClaimKind::Content, self.fed_at),
-            Stage::Awaiting => {
+            ConnectionStage::Awaiting => {
                 if self.incoming.is_ripe(self.is_fed) || (self.is_readable && !self.is_held()) {
                     return None;
                 }
@@ -497,7 +503,7 @@ impl Connection {
 
     /// Whether its request was told, with nothing more to come, and was not taken.
     pub(crate) fn is_left(&self) -> bool {
-        self.stage == Stage::Awaiting
+        self.stage == ConnectionStage::Awaiting
             && self.is_told
             && (self.incoming.is_over() || self.is_late || self.incoming.len() >= MOST_MESSAGE)
     }

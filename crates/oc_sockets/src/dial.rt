@@ -8,14 +8,14 @@ use crate::tools::Tools;
 use crate::unsent::Unsent;
 use mio::net::TcpStream;
 use oc_base::{MAX_BODY_BYTES, MAX_HEAD_BYTES};
-use oc_events::{Coming, DialId};
+use oc_link::{Coming, DialId};
 use std::io::ErrorKind;
 use std::mem;
 use std::net::SocketAddr;
 
 /// How far a dial is.
 #[derive(Clone, Copy, PartialEq, Eq)]
-pub(crate) enum Stage {
+pub(crate) enum DialStage {
     /// It is not connected yet.
     Connecting,
     /// Its request goes out.
@@ -35,7 +35,7 @@ pub(crate) enum Stage {
 pub(crate) struct Dial {
     pub(crate) id: DialId,
     stream: Option<TcpStream>,
-    pub(crate) stage: Stage,
+    pub(crate) stage: DialStage,
     /// Where it may be connected to, and how many of these were tried.
     addresses: Vec<SocketAddr>,
     tried: usize,
@@ -64,7 +64,11 @@ impl Dial {
         Dial {
             id,
             stream: None,
-            stage: if is_kept { Stage::Refused } else { Stage::Over },
+            stage: if is_kept {
+                DialStage::Refused
+            } else {
+                DialStage::Over
+            },
             addresses,
             tried: 0,
             unsent,
@@ -81,7 +85,7 @@ impl Dial {
     /// This is the stream on which it is being connected.
     pub(crate) fn begin(&mut self, stream: TcpStream) {
         self.stream = Some(stream);
-        self.stage = Stage::Connecting;
+        self.stage = DialStage::Connecting;
         self.is_readable = false;
         self.is_writable = false;
     }
@@ -100,7 +104,7 @@ impl Dial {
 
     /// It is over, and its reply ends so.
     fn end(&mut self, coming: Coming) {
-        self.stage = Stage::Over;
+        self.stage = DialStage::Over;
         self.coming = coming;
         self.stream = None;
     }
@@ -110,16 +114,19 @@ impl Dial {
         let Some(mut stream) = self.stream.take() else {
             return;
         };
-        if self.stage == Stage::Connecting {
+        if self.stage == DialStage::Connecting {
             self.connect(&mut stream, now);
         }
-        if self.stage == Stage::Asking {
+        if self.stage == DialStage::Asking {
             self.ask(&mut stream, tools, now);
         }
-        if matches!(self.stage, Stage::Asking | Stage::Waiting | Stage::Hearing) {
+        if matches!(
+            self.stage,
+            DialStage::Asking | DialStage::Waiting | DialStage::Hearing
+        ) {
             self.hear(&mut stream, tools, now);
         }
-        if !matches!(self.stage, Stage::Refused | Stage::Over) {
+        if !matches!(self.stage, DialStage::Refused | DialStage::Over) {
             self.stream = Some(stream);
         }
     }
@@ -131,19 +138,19 @@ impl Dial {
             return;
         }
         if !matches!(stream.take_error(), Ok(None)) {
-            self.stage = Stage::Refused;
+            self.stage = DialStage::Refused;
             return;
         }
         match stream.peer_addr() {
             Ok(_) => {
                 // Without it a request that is written in two pieces may wait for an acknowledgement.
                 let _set = stream.set_nodelay(true).is_ok();
-                self.stage = Stage::Asking;
+                self.stage = DialStage::Asking;
                 let end = self.left(now, BEGIN_MILLIS);
                 self.deadline = Deadline::after(now, end).with_pause(now, DIAL_PAUSE_MILLIS);
             }
             Err(error) if error.kind() == ErrorKind::NotConnected => self.is_writable = false,
-            Err(_) => self.stage = Stage::Refused,
+            Err(_) => self.stage = DialStage::Refused,
         }
     }
 
@@ -171,7 +178,7 @@ impl Dial {
             self.deadline.progress(now);
         }
         if self.unsent.is_empty() {
-            self.stage = Stage::Waiting;
+            self.stage = DialStage::Waiting;
             self.deadline = Deadline::after(now, self.left(now, BEGIN_MILLIS));
         }
     }
@@ -179,7 +186,7 @@ impl Dial {
     /// Reads what has come of its reply.
     fn hear(&mut self, stream: &mut TcpStream, tools: &mut Tools, now: u64) {
         for _ in 0..MOST_READS {
-            if !self.is_readable || self.stage == Stage::Over {
+            if !self.is_readable || self.stage == DialStage::Over {
                 return;
             }
             match read_some(stream, &mut tools.piece) {
@@ -202,8 +209,8 @@ impl Dial {
 
     /// Some of its reply came.
     fn note_progress(&mut self, now: u64) {
-        if self.stage != Stage::Hearing {
-            self.stage = Stage::Hearing;
+        if self.stage != DialStage::Hearing {
+            self.stage = DialStage::Hearing;
             let end = self.left(now, DIAL_MILLIS);
             self.deadline = Deadline::after(now, end).with_pause(now, DIAL_PAUSE_MILLIS);
         }
@@ -212,7 +219,6 @@ impl Dial {
 
     /// Keeps that many bytes of the piece, and looks at them; false where there is no memory for them.
     fn keep(&mut self, tools: &mut Tools, count: usize) -> bool {
-        tools.came = tools.came.saturating_add(count as u64);
         let piece = tools.piece.get(..count).unwrap_or(&[]);
         if self.bytes.extend_from_slice(piece).is_err() {
             return false;
@@ -266,7 +272,7 @@ impl Dial {
 
     /// Whether its time has run out.
     pub(crate) fn is_due(&self, now: u64) -> bool {
-        self.stage != Stage::Over && self.deadline.is_over(now)
+        self.stage != DialStage::Over && self.deadline.is_over(now)
     }
 
     /// Ends it where its time has run out.
@@ -278,7 +284,7 @@ impl Dial {
 
     /// Whether there may be more to read than `advance` read: it would not be told again.
     pub(crate) fn is_busy(&self) -> bool {
-        self.is_readable && matches!(self.stage, Stage::Waiting | Stage::Hearing)
+        self.is_readable && matches!(self.stage, DialStage::Waiting | DialStage::Hearing)
     }
 
     /// What came of its reply, and how that ends.

@@ -85,7 +85,6 @@ impl Incoming {
         let room = most.saturating_sub(self.bytes.len()).min(tools.piece.len());
         let moved = read_some(stream, &mut tools.piece[..room]);
         if let Moved::Bytes(count) = moved {
-            tools.came = tools.came.saturating_add(count as u64);
             let before = self.bytes.len();
             let piece = tools.piece.get(..count).unwrap_or(&[]);
             if self.bytes.extend_from_slice(piece).is_err() {

@@ -27,4 +27,4 @@ mod tools;
 mod turns;
 mod unsent;
 
-pub use link::{SocketLink, Traffic};
+pub use link::SocketLink;

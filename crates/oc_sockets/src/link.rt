@@ -1,27 +1,18 @@
 ghost use Rattle.std.specs.Prelude.{◌≡◌};
-ghost use Rattle.oc_events.specs.Counts.{no_counts};
+ghost use Rattle.oc_link.specs.Counts.{no_counts};
 
 use crate::limits::FINISH_MILLIS;
 use crate::names::addresses_of;
 use crate::sockets::{Happened, Sockets};
 use crate::times::Watch;
-use oc_events::{Coming, ConnectionId, Counts, DialId, Ending, Event, Link};
 use oc_io::Failed;
+use oc_link::{Coming, ConnectionId, DialId, Ending, Link, LinkCounts, LinkEvent};
 use std::alloc::Global;
 use std::collections::VecDeque;
 use std::net::{Net, TcpStream};
 use std::rt::Clock;
 use std::time::Duration;
 use std::{io, mem};
-
-/// How many bytes passed through the calls of a link.
-#[derive(Clone, Copy, Debug, PartialEq, Eq)]
-pub struct Traffic {
-    /// Those that were read.
-    pub came: u64,
-    /// Those that were written.
-    pub went: u64,
-}
 
 /// Sockets as a link. It tells no story.
 #[derive(Drop)]
@@ -36,7 +27,7 @@ pub struct SocketLink<'a, R> {
     /// What the last event lends, and whose it is as long as it was not taken.
     lent: Vec<u8>,
     lender: Option<ConnectionId>,
-    counts: Counts,
+    counts: LinkCounts,
     /// The node that waits for connections, if one does.
     node: Option<u64>,
     /// Where it could not wait, and why.
@@ -57,7 +48,7 @@ impl<'a, R: Net<Stream = TcpStream> + Clock + Eprint> SocketLink<'a, R> {
             stray: VecDeque::new(alloc),
             lent: Vec::new(alloc),
             lender: None,
-            counts: Counts::none(),
+            counts: LinkCounts::none(),
             node,
             place: String::new(alloc),
             error: None,
@@ -80,15 +71,6 @@ impl<'a, R: Net<Stream = TcpStream> + Clock + Eprint> SocketLink<'a, R> {
         }
     }
 
-    /// How many bytes passed through its calls so far, over all connections and dials.
-    pub fn traffic(&self) -> Traffic {
-        let (came, went) = match &self.sockets {
-            Some(sockets) => sockets.traffic(),
-            None => (0, 0),
-        };
-        Traffic { came, went }
-    }
-
     /// Gives back to its connection what the last event lent and was not taken.
     fn give_back(&mut self) {
         let bytes = mem::replace(&mut self.lent, Vec::new(self.alloc));
@@ -103,7 +85,7 @@ impl<'a, R: Net<Stream = TcpStream> + Clock + Eprint> SocketLink<'a, R> {
     fn happened(&mut self, wait: u64) -> io::Result<Happened> {
         if let Some(dial) = self.stray.pop_front() {
             return Ok(Happened {
-                event: Event::Reply(dial, Coming::Failed),
+                event: LinkEvent::Reply(dial, Coming::Failed),
                 bytes: Vec::new(self.alloc),
             });
         }
@@ -112,7 +94,7 @@ impl<'a, R: Net<Stream = TcpStream> + Clock + Eprint> SocketLink<'a, R> {
             None => {
                 self.rt.sleep(Duration::from_millis(wait));
                 Ok(Happened {
-                    event: Event::Quiet,
+                    event: LinkEvent::Quiet,
                     bytes: Vec::new(self.alloc),
                 })
             }
@@ -160,7 +142,7 @@ impl<R: Net<Stream = TcpStream> + Clock + Eprint> Link for SocketLink<'_, R> {
         }
     }
 
-    fn next(&mut self, wait: u64) -> Result<Event, Failed> {
+    fn next(&mut self, wait: u64) -> Result<LinkEvent, Failed> {
         let counts = self.counts;
         self.give_back();
         let begun = self.watch.millis(self.rt);
@@ -244,9 +226,9 @@ impl<R: Net<Stream = TcpStream> + Clock + Eprint> Link for SocketLink<'_, R> {
 }
 
 /// Whose bytes an event lends.
-fn lender_of(event: &Event) -> Option<ConnectionId> {
+fn lender_of(event: &LinkEvent) -> Option<ConnectionId> {
     match event {
-        Event::Request(arrival) => Some(arrival.connection),
+        LinkEvent::Request(arrival) => Some(arrival.connection),
         _ => None,
     }
 }

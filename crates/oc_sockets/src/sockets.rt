@@ -3,7 +3,7 @@ mod calls;
 mod dialling;
 mod looking;
 
-use crate::connection::Stage;
+use crate::connection::ConnectionStage;
 use crate::dial::Dial;
 use crate::limits::{
     DIALS, MOST_IN_A_ROW, MOST_LARGE, MOST_TRIES, PLACES, SHUT_MILLIS, SWEEP_MILLIS,
@@ -16,7 +16,7 @@ use crate::tools::Tools;
 use crate::turns::Turns;
 use mio::net::TcpListener;
 use mio::{Interest, Registry, Token};
-use oc_events::{ConnectionId, Event, Loss};
+use oc_link::{ConnectionId, LinkEvent, Loss};
 use std::alloc::Global;
 use std::collections::VecDeque;
 use std::io::{self, ErrorKind};
@@ -29,7 +29,7 @@ const LISTENER: usize = PLACES + DIALS;
 /// One thing that happened, and what it lends.
 #[derive(Drop)]
 pub(crate) struct Happened {
-    pub(crate) event: Event,
+    pub(crate) event: LinkEvent,
     pub(crate) bytes: Vec<u8>,
 }
 
@@ -104,11 +104,6 @@ impl Sockets {
         })
     }
 
-    /// How many bytes came and went so far, over all connections and dials.
-    pub(crate) fn traffic(&self) -> (u64, u64) {
-        (self.tools.came, self.tools.went)
-    }
-
     /// One thing that happened, by the time the wait is over.
     pub(crate) fn next<R: Net<Stream = TcpStream> + Clock>(
         &mut self,
@@ -131,11 +126,11 @@ impl Sockets {
                 break;
             }
         }
-        Ok(self.with_nothing(Event::Quiet))
+        Ok(self.with_nothing(LinkEvent::Quiet))
     }
 
     /// An event that lends nothing.
-    fn with_nothing(&self, event: Event) -> Happened {
+    fn with_nothing(&self, event: LinkEvent) -> Happened {
         Happened {
             event,
             bytes: Vec::new(self.tools.alloc),
@@ -188,7 +183,7 @@ impl Sockets {
                 if woken.has_failed {
                     connection.note_failure();
                 }
-                if connection.stage == Stage::Awaiting {
+                if connection.stage == ConnectionStage::Awaiting {
                     self.turns.push_asking(woken.token);
                 } else {
                     self.turns.push(woken.token);

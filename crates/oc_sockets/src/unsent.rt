@@ -46,7 +46,7 @@ impl Unsent {
     }
 
     /// Sends what the socket takes now, and says what the last call did: `Bytes` where all went out.
-    pub(crate) fn send(&mut self, stream: &mut TcpStream, tools: &mut Tools) -> Moved {
+    pub(crate) fn send(&mut self, stream: &mut TcpStream, tools: &Tools) -> Moved {
         let mut moved = Moved::Nothing;
         for _ in 0..self.bytes.len() {
             if self.is_empty() {
@@ -58,7 +58,6 @@ impl Unsent {
                 return moved;
             };
             self.sent = self.sent.saturating_add(count);
-            tools.went = tools.went.saturating_add(count as u64);
         }
         self.clear(tools);
         moved

@@ -17,7 +17,7 @@ use std::rt::Files;
 #[derive(Drop)]
 pub struct FileDisk<'a, R> {
     rt: &'a R,
-    place: Place<'a>,
+    place: FilePlace<'a>,
     file: Option<File>,
     size: u64,
     faults: u64,
@@ -27,7 +27,7 @@ pub struct FileDisk<'a, R> {
 
 /// Where a file is: its path, which begins with that of its folder, and its name in it.
 #[derive(Clone, Copy)]
-pub struct Place<'a> {
+pub struct FilePlace<'a> {
     pub folder: &'a str,
     pub path: &'a str,
     pub name: &'a str,
@@ -35,7 +35,7 @@ pub struct Place<'a> {
 
 impl<'a, R: Files<File = File>> FileDisk<'a, R> {
     /// The disk of the file at this place.
-    pub fn new(rt: &'a R, place: Place<'a>) -> FileDisk<'a, R> {
+    pub fn new(rt: &'a R, place: FilePlace<'a>) -> FileDisk<'a, R> {
         FileDisk {
             rt,
             place,
@@ -72,7 +72,7 @@ impl<'a, R: Files<File = File>> FileDisk<'a, R> {
 /// The file, opened and locked if it was not open yet.
 fn opened<'f, R: Files<File = File>>(
     rt: &R,
-    place: Place<'_>,
+    place: FilePlace<'_>,
     file: &'f mut Option<File>,
 ) -> io::Result<&'f File> {
     if file.is_none() {
@@ -86,7 +86,7 @@ fn opened<'f, R: Files<File = File>>(
 
 /// Opens the file and takes its lock; makes it where there is none. The folder is synced each time: an
 /// earlier program may have made the file and been stopped before it had done so.
-fn open_locked<R: Files<File = File>>(rt: &R, place: Place<'_>) -> io::Result<File> {
+fn open_locked<R: Files<File = File>>(rt: &R, place: FilePlace<'_>) -> io::Result<File> {
     let mut how = OpenOptions::new();
     how.read(true).write(true).create(true);
     let file = how.open(rt, place.path)?;
@@ -157,7 +157,7 @@ fn within(at: u64, size: u64, most: usize) -> usize
 
 fn size_of<R: Files<File = File>>(
     rt: &R,
-    place: Place<'_>,
+    place: FilePlace<'_>,
     file: &mut Option<File>,
 ) -> io::Result<u64> {
     Ok(opened(rt, place, file)?.metadata()?.len())
@@ -165,7 +165,7 @@ fn size_of<R: Files<File = File>>(
 
 fn read_whole<R: Files<File = File>>(
     rt: &R,
-    place: Place<'_>,
+    place: FilePlace<'_>,
     file: &mut Option<File>,
     at: u64,
     buf: &mut [u8],
@@ -178,7 +178,7 @@ fn read_whole<R: Files<File = File>>(
 
 fn write_whole<R: Files<File = File>>(
     rt: &R,
-    place: Place<'_>,
+    place: FilePlace<'_>,
     file: &mut Option<File>,
     at: u64,
     bytes: &[u8],
@@ -188,7 +188,7 @@ fn write_whole<R: Files<File = File>>(
 
 fn sync_data<R: Files<File = File>>(
     rt: &R,
-    place: Place<'_>,
+    place: FilePlace<'_>,
     file: &mut Option<File>,
 ) -> io::Result<()> {
     opened(rt, place, file)?.sync_data()

@@ -6,14 +6,14 @@
 //! ([`Trouble`]).
 #![tactic(auto)]
 
-mod dials;
+mod client_connection;
 mod file_disk;
 mod input;
 mod outgoing;
 mod socket_dialler;
 mod trouble;
 
-pub use file_disk::{FileDisk, Place};
+pub use file_disk::{FileDisk, FilePlace};
 pub use input::{Input, NamedFile};
 pub use socket_dialler::SocketDialler;
 pub use trouble::Trouble;

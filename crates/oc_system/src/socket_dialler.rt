@@ -1,6 +1,6 @@
 ghost use Rattle.std.specs.Prelude.{◌≡◌};
 
-use crate::dials::Dials;
+use crate::client_connection::ClientConnection;
 use crate::trouble::Trouble;
 use oc_io::Failed;
 use oc_link::Dialler;
@@ -12,7 +12,7 @@ use std::rt::Clock;
 /// Sockets by which a client dials.
 #[derive(Drop)]
 pub struct SocketDialler<'a, R> {
-    dials: Dials<'a, R>,
+    dials: ClientConnection<'a, R>,
     /// How many calls failed.
     faults: u64,
     /// Where the last call that failed did, and why.
@@ -26,7 +26,7 @@ impl<'a, R: Net<Stream = TcpStream> + Clock> SocketDialler<'a, R> {
         ensures { result.faults ≡ 0 }
     {
         SocketDialler {
-            dials: Dials::new(rt, alloc),
+            dials: ClientConnection::new(rt, alloc),
             faults: 0,
             place: String::new(alloc),
             error: None,

@@ -1,13 +1,9 @@
 -- Certificates of rows, put into a log one after another.
-use Rattle.std.proofs.Common.{◌≡◌, ◌↔◌, IsTrue, ℕ, ◌+◌, ◌<◌, ◌≤◌, Bool, Option, Some, None, List, [], ◌∷◌, ◌++◌, length, drop, get_or, ap, sym, subst, ◌∙◌, arith, length-append}
+use Rattle.std.proofs.Common.{◌≡◌, ℕ, ◌+◌, ◌<◌, ◌≤◌, Option, Some, None, List, [], ◌∷◌, ◌++◌, length, drop, get_or, ap, sym, ◌∙◌, arith, length-append}
 use Rattle.std.proofs.lemmas.List.{drop-drop}
 use Rattle.oc_base.specs.declared.cert.Cert.{Cert}
-use Rattle.oc_model.specs.Node.{Log}
-use Rattle.oc_model.specs.ChangeLog.{IsWaiting}
 use Rattle.oc_updown.specs.TableView.{entries_of}
 use Rattle.oc_updown.proofs.Lines.{rows_at}
-use Rattle.oc_updown.specs.Waiting.{count_of}
-use Rattle.oc_updown.proofs.Counts.{counted_among, among_counted}
 
 -- the first row gives its certificate, and the rest the others
 pub entries_cons : (row : Option Cert) (rows : List (Option Cert)) → length (entries_of (row ∷ rows)) ≡ length (entries_of (row ∷ [])) + length (entries_of rows)
@@ -24,7 +20,3 @@ room_for_row certs before rows i row room within e so fits =
 -- one dropped more
 pub drop_more : (i : ℕ) (cs new : List Cert) → new ≡ drop 1 (drop i cs) → new ≡ drop (i + 1) cs
 drop_more i cs new e = e ∙ drop-drop 1 i cs
-
--- a test that says whether one is counted says whether one waits
-pub waits_exactly : (b : Bool) (x : ℕ) (l : Log) (cs : List Cert) → cs ≡ l.waiting → (IsTrue b ↔ (0 < count_of x cs)) → IsTrue b ↔ IsWaiting l x
-waits_exactly b x l cs e says = (λ h. counted_among x l.waiting (subst (λ (ks : List Cert). 0 < count_of x ks) e (says.0 h)), λ waits. says.1 (subst (λ (ks : List Cert). 0 < count_of x ks) (sym e) (among_counted x l.waiting waits.0 waits.1 waits.2)))

@@ -1,13 +1,13 @@
-ghost use Rattle.std.specs.Prelude.{◌≡◌, ◌+◌, ◌-◌, ◌^◌, ◌<◌, ◌≤◌, ◌↔◌, ◌++◌, [], ◌∷◌, IsTrue, Option, length, take, max, IfOk, OnOk, OnErr, IfSome};
+ghost use Rattle.std.specs.Prelude.{◌≡◌, ◌+◌, ◌-◌, ◌^◌, ◌<◌, ◌≤◌, ◌++◌, [], ◌∷◌, Option, length, take, max, IfOk, OnOk, OnErr, IfSome};
 ghost use Rattle.oc_base.specs.declared.limits.TheConstants.{MAX_BASE_ACKED};
 ghost use Rattle.oc_model.specs.Node.{empty_log};
-ghost use Rattle.oc_model.specs.ChangeLog.{begun_with, note, ack, acked_whole, IsWaiting};
+ghost use Rattle.oc_model.specs.ChangeLog.{begun_with, note, ack, acked_whole};
 ghost use Rattle.oc_updown.specs.TableView.{AreRows, AreRowsFrom, entries_of};
 ghost use Rattle.oc_base.specs.Lawful.{IsNode};
 
 use crate::Table;
 use crate::waiting::Waiting;
-use oc_base::{Cert, Memory, NodeId};
+use oc_base::{Cert, Memory};
 use std::alloc::Global;
 use std::marker::Model;
 
@@ -118,14 +118,6 @@ impl ChangeLog {
         ensures below { self.now.log.length < 2 ^ 63 }
     {
         self.acked + self.waiting.len() as u64
-    }
-
-    /// Whether a certificate about this node is not acknowledged.
-    pub fn waiting(&self, subject: NodeId) -> bool
-        requires { IsNode self.now.nodes subject }
-        ensures { IsTrue result ↔ IsWaiting self.now.log subject }
-    {
-        self.waiting.has(subject)
     }
 
     /// Puts the first certificates that wait, at most `limit`, at the end of a vector, and gives the

@@ -1,33 +1,28 @@
-ghost use Rattle.std.specs.Prelude.{◌≡◌, ℕ, ◌+◌, ◌-◌, ◌^◌, ◌<◌, ◌≤◌, slice_index, slice_set, ◌↔◌, ◌∷◌, [], ◌++◌, IsTrue, take, drop, length, IfOk, IfSome, OnOk, vec_len, vec_capacity};
+ghost use Rattle.std.specs.Prelude.{◌≡◌, ℕ, ◌+◌, ◌-◌, ◌^◌, ◌<◌, ◌≤◌, slice_index, slice_set, ◌∷◌, [], ◌++◌, take, drop, length, IfOk, IfSome, OnOk, vec_len, vec_capacity};
 ghost use Rattle.std.specs.VecDeque.{deque_len, deque_capacity};
 ghost use Rattle.oc_updown.specs.TableView.{AreTableRows, entries_of};
 ghost use Rattle.oc_base.specs.Lawful.{IsNode};
-ghost use Rattle.oc_updown.specs.Waiting.{count_of};
 
-use oc_base::{Cert, Memory, NodeId, Slots, push_reserved};
+use oc_base::{Cert, Memory, Slots, push_reserved};
 use std::alloc::Global;
 use std::collections::VecDeque;
 use std::marker::Model;
 
-/// The certificates that wait, in their order, and how many of them are about each node. A contract
-/// sees them as a list, with the number of nodes and how many certificates there is room for.
+/// The certificates that wait, in their order, each about one of the nodes. A contract sees them as a list,
+/// with the number of nodes and how many certificates there is room for.
 #[derive(Drop)]
 pub(crate) struct Waiting {
+    nodes: u32,
     certs: VecDeque<Cert>,
-    /// By the index of the node.
-    counts: Slots<u64>,
 }
 
 impl Model for Waiting {
-    ghost use Rattle.std.specs.Prelude.{length};
     ghost use Rattle.std.specs.VecDeque.{deque_capacity};
-    ghost use Rattle.oc_updown.specs.Waiting.{WaitingView, AreCounts, AreOfNodes};
+    ghost use Rattle.oc_updown.specs.Waiting.{WaitingView};
 
     ghost Value = { WaitingView };
 
-    ghost view = { λ w. record { nodes = length w.counts.items; certs = w.certs.items; room = deque_capacity w.certs } };
-
-    ghost invariant = { λ w. AreCounts w.counts.items w.certs.items × AreOfNodes (length w.counts.items) w.certs.items };
+    ghost view = { λ w. record { nodes = w.nodes; certs = w.certs.items; room = deque_capacity w.certs } };
 }
 
 impl Waiting {
@@ -36,8 +31,8 @@ impl Waiting {
         ensures certs { IfOk result (λ waiting. waiting.certs ≡ []) }
     {
         Ok(Waiting {
+            nodes,
             certs: VecDeque::new(alloc),
-            counts: Slots::new(alloc, nodes as usize, 0)?,
         })
     }
 
@@ -69,14 +64,6 @@ impl Waiting {
         }
     }
 
-    /// Whether one of them is about this node.
-    pub(crate) fn has(&self, subject: NodeId) -> bool
-        requires { IsNode self.now.nodes subject }
-        ensures { IsTrue result ↔ (0 < count_of subject self.now.certs) }
-    {
-        self.counts.get_or(subject.index(), 0) > 0
-    }
-
     /// Puts one at the end. There is room for it.
     pub(crate) fn push(&mut self, cert: &Cert)
         requires subject { IsNode self.old.nodes cert.now.subject }
@@ -85,8 +72,6 @@ impl Waiting {
         ensures room { self.new.room ≡ self.old.room }
         ensures nodes { self.new.nodes ≡ self.old.nodes }
     {
-        let index = cert.subject.index();
-        self.counts.put(index, self.counts.get_or(index, 0) + 1);
         put(&mut self.certs, cert);
     }
 
@@ -96,10 +81,7 @@ impl Waiting {
         ensures room { self.new.room ≡ self.old.room }
         ensures nodes { self.new.nodes ≡ self.old.nodes }
     {
-        if let Some(cert) = self.certs.pop_front() {
-            let index = cert.subject.index();
-            self.counts.put(index, self.counts.get_or(index, 0) - 1);
-        }
+        self.certs.pop_front();
     }
 
     /// Gives up the first of them, this many or all.
@@ -148,7 +130,6 @@ impl Waiting {
         ensures nodes { self.new.nodes ≡ self.old.nodes }
     {
         self.certs.clear();
-        self.counts.fill(0);
     }
 }
 

@@ -26,8 +26,8 @@ use Rattle.oc_words.specs.declared.request.Download.{Download}
 use Rattle.oc_words.specs.declared.request.LogWord.TheVariants.{Inputs, Brief}
 use Rattle.oc_words.specs.declared.request.Member.{Member}
 use Rattle.oc_words.specs.declared.request.Onto.TheVariants.{New, Append, Resume}
-use Rattle.oc_words.specs.declared.request.Request.{Request}
-use Rattle.oc_words.specs.declared.request.Request.TheVariants.{Replay, Gen, Get, Rules, Version}
+use Rattle.oc_words.specs.declared.request.Invocation.{Invocation}
+use Rattle.oc_words.specs.declared.request.Invocation.TheVariants.{Replay, Gen, Get, Rules, Version}
 use Rattle.oc_words.specs.declared.request.Sample.{Sample}
 use Rattle.oc_words.specs.declared.request.Service.{Service}
 use Rattle.oc_words.specs.declared.request.TheConstants.{ENDLESS, MAX_EVENTS, MAX_FOLLOWED}
@@ -307,11 +307,11 @@ start_word url start download is =
     no_flag _ _ start b second
 
 -- a request of fields that are as they have to be
-of_fields : {A : Type 0} (make : A → Request) (said : Result A _) (fields : A) → said ≡ Ok fields → result_ok (asking make said) ≡ Some (make fields)
+of_fields : {A : Type 0} (make : A → Invocation) (said : Result A _) (fields : A) → said ≡ Ok fields → result_ok (asking make said) ≡ Some (make fields)
 of_fields make said fields is = ap (λ s. result_ok (asking make s)) is
 
 -- words that ask for something ask not for nothing
-something : (words row : List Text) (request : Request) → words ≡ row → asked row ≡ Some request → asked words ≢ None
+something : (words row : List Text) (request : Invocation) → words ≡ row → asked row ≡ Some request → asked words ≢ None
 something words row request is asks = λ none. let asks_too : asked words ≡ Some request = ap asked is ∙ asks in cc
 
 pub plain_asks : (words : List Text) → IsPlain words → asked words ≢ None

@@ -8,15 +8,15 @@ use Rattle.clap.specs.declared.error.Error.{Error}
 use Rattle.clap.specs.declared.error.kind.ErrorKind.{ErrorKind}
 use Rattle.clap.specs.declared.error.kind.ErrorKind.TheVariants as kind
 use Rattle.oc_base.specs.declared.why.Why.{Why}
-use Rattle.oc_words.specs.declared.request.Request.{Request}
+use Rattle.oc_words.specs.declared.request.Invocation.{Invocation}
 use Rattle.oc_words.specs.declared.words.WordsFault.{WordsFault}
 use Rattle.oc_words.specs.declared.words.WordsFault.TheVariants.{Usage, Memory}
 use Rattle.oc_words.specs.Command.{command}
-use Rattle.oc_words.specs.Words.{Answers, Verdict, asked, asked_by, asking, request_of, verdict_among, verdict_by, verdict_of}
+use Rattle.oc_words.specs.Words.{Answers, ParseOutcome, asked, asked_by, asking, request_of, verdict_among, verdict_by, verdict_of}
 use Rattle.oc_words.proofs.PureKinds.{pure_faults}
 
 -- memory is answered by memory, and each other kind by its verdict
-abbrev pub AnswersKind : ErrorKind → Result Request WordsFault → Type 0
+abbrev pub AnswersKind : ErrorKind → Result Invocation WordsFault → Type 0
 AnswersKind k r = (k ≡ kind.OutOfMemory → r ≡ Err Memory) × (k ≢ kind.OutOfMemory → r ≡ ok_or (asked_by (verdict_by k) None) Usage)
 
 -- words that are not accepted ask for the same, whatever follows the name of a subcommand
@@ -25,18 +25,18 @@ not_accepted kind.DisplayHelp named = refl
 not_accepted k named = refl
 
 -- what answers a kind of error answers the verdict that it has
-by_kind : (v : Verdict) (named : Option (Text × List Row)) (k : ErrorKind) (r : Result Request WordsFault) → AnswersKind k r
+by_kind : (v : ParseOutcome) (named : Option (Text × List Row)) (k : ErrorKind) (r : Result Invocation WordsFault) → AnswersKind k r
     → (k ≡ kind.OutOfMemory) ⊎ (verdict_by k ≡ v) → Answers (asked_by v named) r
 by_kind v named kind.OutOfMemory r a h = inr (a.0 refl)
 by_kind v named k r a (inl e) = cc
-by_kind v named k r a (inr e) = inl (a.1 (λ m. cc) ∙ ap (λ (o : Option Request). ok_or o Usage) (not_accepted k named ∙ ap (λ w. asked_by w named) e))
+by_kind v named k r a (inr e) = inl (a.1 (λ m. cc) ∙ ap (λ (o : Option Invocation). ok_or o Usage) (not_accepted k named ∙ ap (λ w. asked_by w named) e))
 
 -- what answers the words of a command's fields answers those of the command
-abbrev over : {A : Type 0} → (A → Request) → Result A WordsFault → Result Request WordsFault
+abbrev over : {A : Type 0} → (A → Invocation) → Result A WordsFault → Result Invocation WordsFault
 over make (Ok fields) = Ok (make fields)
 over make (Err why) = Err why
 
-pub asks_with : {A : Type 0} (make : A → Request) (said : Result A Why) (fields : A)
+pub asks_with : {A : Type 0} (make : A → Invocation) (said : Result A Why) (fields : A)
     → Answers (result_ok said) (Ok fields) → Answers (result_ok (asking make said)) (Ok (make fields))
 asks_with make (Ok x) fields (inl same) = inl (ap (over make) same)
 asks_with make (Err why) fields (inl same) = inl (ap (over make) same)
@@ -68,7 +68,7 @@ module _ (a : App) (is : a ≡ command) (words : List Text) where
       ap₂ asked_by (ap verdict_among no_fault) same_named
 
   -- an error came, which is of one of the kinds that can
-  pub failed : (e : Error) (r : Result Request WordsFault)
+  pub failed : (e : Error) (r : Result Invocation WordsFault)
       → (is_simple_and_free a ≡ true → HasKind (fault_of a words) e) → AnswersKind (kind_of e) r → Answers (asked words) r
   unfolding verdict_of asked
   failed e r h answer =

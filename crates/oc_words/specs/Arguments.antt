@@ -10,8 +10,8 @@ use Rattle.oc_words.specs.Requests.{download_in, member_without, onto_in, sample
 use Rattle.oc_words.specs.declared.request.Download.{Download}
 use Rattle.oc_words.specs.declared.request.Member.{Member}
 use Rattle.oc_words.specs.declared.request.Paths.{Paths}
-use Rattle.oc_words.specs.declared.request.Request.{Request}
-use Rattle.oc_words.specs.declared.request.Request.TheVariants.{Replay}
+use Rattle.oc_words.specs.declared.request.Invocation.{Invocation}
+use Rattle.oc_words.specs.declared.request.Invocation.TheVariants.{Replay}
 use Rattle.oc_words.specs.declared.request.Sample.{Sample}
 use Rattle.oc_words.specs.declared.request.Service.{Service}
 use Rattle.oc_words.specs.declared.request.Upload.{Upload}
@@ -37,7 +37,7 @@ sample_of rows = do
   sample_in seed_word nodes_word events_word
 
 -- what the arguments of `replay` ask for
-abbrev pub replay_of : List Row → Request
+abbrev pub replay_of : List Row → Invocation
 replay_of rows = Replay (is_flagged (codes "summary") rows) (first_of (codes "FILE") rows)
 
 -- what the arguments of `node` ask for

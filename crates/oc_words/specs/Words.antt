@@ -15,8 +15,8 @@ use Rattle.oc_words.specs.Command.{command}
 use Rattle.oc_words.specs.declared.request.Download.{Download}
 use Rattle.oc_words.specs.declared.request.Member.{Member}
 use Rattle.oc_words.specs.declared.request.Onto.{Onto}
-use Rattle.oc_words.specs.declared.request.Request.{Request}
-use Rattle.oc_words.specs.declared.request.Request.TheVariants.{Gen, Node, Check, CheckConfigured, Get, Put, Rules, Help, Version}
+use Rattle.oc_words.specs.declared.request.Invocation.{Invocation}
+use Rattle.oc_words.specs.declared.request.Invocation.TheVariants.{Gen, Node, Check, CheckConfigured, Get, Put, Rules, Help, Version}
 use Rattle.oc_words.specs.declared.request.Sample.{Sample}
 use Rattle.oc_words.specs.declared.request.Service.{Service}
 use Rattle.oc_words.specs.declared.words.WordsFault.{WordsFault}
@@ -25,84 +25,84 @@ use Rattle.oc_words.specs.declared.words.WordsFault.TheVariants.{Usage, Memory}
 -- ---- what `clap` makes of the words
 
 -- the words are accepted, answered by help or by the version, or refused
-pub data Verdict : Type 0 where
-  accepted : Verdict
-  helped : Verdict
-  versioned : Verdict
-  refused : Verdict
+pub data ParseOutcome : Type 0 where
+  accepted : ParseOutcome
+  helped : ParseOutcome
+  versioned : ParseOutcome
+  refused : ParseOutcome
 
 -- one kind of error is the answer by help, one that by the version, and each other is a refusal
-abbrev pub verdict_by : ErrorKind → Verdict
+abbrev pub verdict_by : ErrorKind → ParseOutcome
 verdict_by DisplayHelp = helped
 verdict_by DisplayVersion = versioned
 verdict_by _ = refused
 
 -- words at which no error may come are accepted; where several kinds may come at the same words,
 -- they have one verdict
-abbrev pub verdict_among : Kinds → Verdict
+abbrev pub verdict_among : Kinds → ParseOutcome
 verdict_among [] = accepted
 verdict_among (kind ∷ _) = verdict_by kind
 
 -- what `clap` makes of these words by the command of the program
-unfoldable pub verdict_of : List Text → Verdict
+unfoldable pub verdict_of : List Text → ParseOutcome
 verdict_of words = verdict_among (fault_of command words)
 
 -- ---- what they ask for
 
 -- a request of these arguments, if they are as they have to be
-abbrev pub asking : {A : Type 0} → (A → Request) → Result A Why → Result Request Why
+abbrev pub asking : {A : Type 0} → (A → Invocation) → Result A Why → Result Invocation Why
 asking make said = do
   fields ← said
   Ok (make fields)
 
 -- a node of the configuration in this file, on the files of this folder
-abbrev pub node_at : Option Text → Option Text → Service → Request
+abbrev pub node_at : Option Text → Option Text → Service → Invocation
 node_at config folder service = Node service (record { config = config; folder = folder })
 
 -- a node whose files are in this folder
-abbrev pub check_at : Option Text → Member → Request
+abbrev pub check_at : Option Text → Member → Invocation
 check_at folder member = Check member folder
 
 -- and one of the configuration in this file
-abbrev pub check_in : Option Text → Option Text → ℕ → Request
+abbrev pub check_in : Option Text → Option Text → ℕ → Invocation
 check_in config folder id = CheckConfigured id (record { config = config; folder = folder })
 
 -- the publishing of the input at this address
-abbrev pub put_at : Text → Onto → Bool → Option Text → Bool → Request
+abbrev pub put_at : Text → Onto → Bool → Option Text → Bool → Invocation
 put_at address onto seals token_file progress = Put (record { address = address; onto = onto; seals = seals; token_file = token_file; progress = progress })
 
 -- what `node` asks for
-abbrev pub node_of : List Row → Result Request Why
+abbrev pub node_of : List Row → Result Invocation Why
 node_of rows = asking (node_at (first_of (codes "config") rows) (first_of (codes "dir") rows)) (service_of rows)
 
 -- what `check` asks for, with its id and the number of nodes
-abbrev pub check_by_numbers : Text → Text → List Row → Result Request Why
+abbrev pub check_by_numbers : Text → Text → List Row → Result Invocation Why
 check_by_numbers id nodes rows = asking (check_at (first_of (codes "dir") rows)) (member_of id nodes rows)
 
 -- and with its id alone
-abbrev pub check_by_config : Text → List Row → Result Request Why
+abbrev pub check_by_config : Text → List Row → Result Invocation Why
 check_by_config id rows = asking (λ id. CheckConfigured id (paths_of rows)) (id_in id)
 
-abbrev pub check_by : Text → Option Text → List Row → Result Request Why
+abbrev pub check_by : Text → Option Text → List Row → Result Invocation Why
 check_by id None rows = check_by_config id rows
 check_by id (Some nodes) rows = check_by_numbers id nodes rows
 
 -- what `check` asks for
-abbrev pub check_of : List Row → Result Request Why
+abbrev pub check_of : List Row → Result Invocation Why
 check_of rows = do
   id ← word_of (codes "ID") rows
   check_by id (first_of (codes "NODES") rows) rows
 
 -- what `get` asks for
-abbrev pub get_of : List Row → Result Request Why
+abbrev pub get_of : List Row → Result Invocation Why
 get_of rows = asking Get (download_of rows)
 
 -- what `put` asks for
-abbrev pub put_of : List Row → Result Request Why
+abbrev pub put_of : List Row → Result Invocation Why
 put_of rows = asking Put (upload_of rows)
 
 -- what a subcommand that is no client's asks for
-abbrev pub other_by : Text → List Row → Result Request Why
+abbrev pub other_by : Text → List Row → Result Invocation Why
 other_by name rows =
     if bytes_eq name (codes "replay") then Ok (replay_of rows)
     else if bytes_eq name (codes "gen") then asking Gen (sample_of rows)
@@ -112,26 +112,26 @@ other_by name rows =
     else Err Count
 
 -- what a subcommand of this name asks for, by what its arguments were given
-abbrev pub request_by : Text → List Row → Result Request Why
+abbrev pub request_by : Text → List Row → Result Invocation Why
 request_by name rows =
     if bytes_eq name (codes "get") then get_of rows
     else if bytes_eq name (codes "put") then put_of rows
     else other_by name rows
 
 -- the same, of the subcommand that `clap` found, if any
-abbrev pub request_of : Option (Text × List Row) → Result Request Why
+abbrev pub request_of : Option (Text × List Row) → Result Invocation Why
 request_of None = Err Count
 request_of (Some named) = request_by named.0 named.1
 
 -- words that `clap` accepts ask for what their subcommand does, if its arguments are as they have to be
-abbrev pub asked_by : Verdict → Option (Text × List Row) → Option Request
+abbrev pub asked_by : ParseOutcome → Option (Text × List Row) → Option Invocation
 asked_by accepted named = result_ok (request_of named)
 asked_by helped named = Some Help
 asked_by versioned named = Some Version
 asked_by refused named = None
 
 -- what these words ask for: nothing where `clap` refuses them or a number is misspelled or out of its range
-unfoldable pub asked : List Text → Option Request
+unfoldable pub asked : List Text → Option Invocation
 asked words = asked_by (verdict_of words) (subcommand_of command words)
 
 -- The words are as in a row of the table of commands, with their numbers in range, and addresses, files and folders that do not begin with
@@ -196,7 +196,7 @@ abbrev pub Answers : {A : Type 0} → Option A → Result A WordsFault → Type 
 Answers asked result = (result ≡ ok_or asked Usage) ⊎ (result ≡ Err Memory)
 
 -- the numbers of a request are within their ranges
-abbrev pub IsRequest : Request → Type 0
+abbrev pub IsRequest : Invocation → Type 0
 IsRequest (Gen sample) = IsSample sample
 IsRequest (Node service paths) = IsService service
 IsRequest (Check member folder) = IsMember member

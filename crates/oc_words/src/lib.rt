@@ -1,6 +1,6 @@
 //! The words after the program's name: what they ask for, exactly as `clap` reads them.
 //!
-//! [`read_words`] gives the [`Request`] that the words make, with its numbers, or says that they make none: `asked` in
+//! [`read_words`] gives the [`Invocation`] that the words make, with its numbers, or says that they make none: `asked` in
 //! `specs/Words` is which one it is. `clap` reads them by the command that `subcommands` builds, which is proved to be the
 //! closed term `command` of `specs/Command`; so each row of the table of commands is computed ([`rows_ask`]). `reading`
 //! takes the arguments of a subcommand, and `parsing` their numbers, each spelled as in every text of the program and
@@ -25,8 +25,8 @@ mod words;
 pub use command::VERSION;
 pub use name::Name;
 pub use request::{
-    Download, ENDLESS, LogWord, MAX_EVENTS, MAX_FOLLOWED, MAX_TURNS, Member, Onto, Paths, Request,
-    Sample, Service, Upload,
+    Download, ENDLESS, Invocation, LogWord, MAX_EVENTS, MAX_FOLLOWED, MAX_TURNS, Member, Onto,
+    Paths, Sample, Service, Upload, text_of,
 };
 pub use status::Status;
 pub use tips::tip;

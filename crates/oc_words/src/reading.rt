@@ -9,7 +9,7 @@ ghost use Rattle.oc_words.specs.Words.{Answers};
 use crate::arguments::{copied, given, is_flagged, word};
 use crate::parsing::{member_without, onto_in, sample_in, service_in, start_in, times_in};
 use crate::words::WordsFault;
-use crate::{Download, Member, Name, Paths, Request, Sample, Service, Upload};
+use crate::{Download, Invocation, Member, Name, Paths, Sample, Service, Upload};
 use clap::ArgMatches;
 use oc_base::Why;
 use std::alloc::{AllocError, Global};
@@ -47,10 +47,10 @@ pub(crate) fn paths_of(alloc: Global, matches: &ArgMatches<'_>) -> Result<Paths,
 }
 
 /// What the arguments of `replay` ask for.
-pub(crate) fn replay_of(alloc: Global, matches: &ArgMatches<'_>) -> Result<Request, AllocError>
+pub(crate) fn replay_of(alloc: Global, matches: &ArgMatches<'_>) -> Result<Invocation, AllocError>
     ensures { IfOk result (λ request. request ≡ replay_of (rows_of (found_of matches.now))) }
 {
-    Ok(Request::Replay {
+    Ok(Invocation::Replay {
         summary: is_flagged(matches, "summary"),
         file: copied(alloc, matches, "FILE")?,
     })

@@ -17,7 +17,7 @@ pub const MAX_FOLLOWED: u64 = 1_000_000;
 
 /// What the words ask for.
 #[derive(Debug, Drop)]
-pub enum Request {
+pub enum Invocation {
     /// To play the schedule in this file, or on the input, and write its report or its summary.
     Replay { summary: bool, file: Option<Name> },
     /// To write the schedule that follows from a seed.
@@ -49,22 +49,22 @@ pub struct Paths {
     pub folder: Option<Name>,
 }
 
-impl Request {
+impl Invocation {
     /// The id of the node that is to run; none where none is.
     pub fn node(&self) -> Option<u64>
         ensures { result ≡ node_of self.now }
     {
         match self {
-            Request::Node(service, _) => Some(service.id),
-            Request::Replay { .. }
-            | Request::Gen(_)
-            | Request::Check(..)
-            | Request::CheckConfigured(..)
-            | Request::Get(_)
-            | Request::Put(_)
-            | Request::Rules(_)
-            | Request::Help
-            | Request::Version => None,
+            Invocation::Node(service, _) => Some(service.id),
+            Invocation::Replay { .. }
+            | Invocation::Gen(_)
+            | Invocation::Check(..)
+            | Invocation::CheckConfigured(..)
+            | Invocation::Get(_)
+            | Invocation::Put(_)
+            | Invocation::Rules(_)
+            | Invocation::Help
+            | Invocation::Version => None,
         }
     }
 
@@ -73,15 +73,17 @@ impl Request {
         ensures { option_map (λ name. name.now) result ≡ file_of self.now }
     {
         match self {
-            Request::Replay { file, .. } => text_of(file),
-            Request::Node(_, paths) | Request::CheckConfigured(_, paths) => text_of(&paths.config),
-            Request::Rules(config) => text_of(config),
-            Request::Gen(_)
-            | Request::Check(..)
-            | Request::Get(_)
-            | Request::Put(_)
-            | Request::Help
-            | Request::Version => None,
+            Invocation::Replay { file, .. } => text_of(file),
+            Invocation::Node(_, paths) | Invocation::CheckConfigured(_, paths) => text_of(
+                &paths.config,
+            ),
+            Invocation::Rules(config) => text_of(config),
+            Invocation::Gen(_)
+            | Invocation::Check(..)
+            | Invocation::Get(_)
+            | Invocation::Put(_)
+            | Invocation::Help
+            | Invocation::Version => None,
         }
     }
 
@@ -90,15 +92,17 @@ impl Request {
         ensures { option_map (λ name. name.now) result ≡ folder_of self.now }
     {
         match self {
-            Request::Node(_, paths) | Request::CheckConfigured(_, paths) => text_of(&paths.folder),
-            Request::Check(_, folder) => text_of(folder),
-            Request::Replay { .. }
-            | Request::Gen(_)
-            | Request::Get(_)
-            | Request::Put(_)
-            | Request::Rules(_)
-            | Request::Help
-            | Request::Version => None,
+            Invocation::Node(_, paths) | Invocation::CheckConfigured(_, paths) => text_of(
+                &paths.folder,
+            ),
+            Invocation::Check(_, folder) => text_of(folder),
+            Invocation::Replay { .. }
+            | Invocation::Gen(_)
+            | Invocation::Get(_)
+            | Invocation::Put(_)
+            | Invocation::Rules(_)
+            | Invocation::Help
+            | Invocation::Version => None,
         }
     }
 
@@ -107,22 +111,22 @@ impl Request {
         ensures { option_map (λ name. name.now) result ≡ token_file_of self.now }
     {
         match self {
-            Request::Get(download) => text_of(&download.token_file),
-            Request::Put(upload) => text_of(&upload.token_file),
-            Request::Replay { .. }
-            | Request::Gen(_)
-            | Request::Node(..)
-            | Request::Check(..)
-            | Request::CheckConfigured(..)
-            | Request::Rules(_)
-            | Request::Help
-            | Request::Version => None,
+            Invocation::Get(download) => text_of(&download.token_file),
+            Invocation::Put(upload) => text_of(&upload.token_file),
+            Invocation::Replay { .. }
+            | Invocation::Gen(_)
+            | Invocation::Node(..)
+            | Invocation::Check(..)
+            | Invocation::CheckConfigured(..)
+            | Invocation::Rules(_)
+            | Invocation::Help
+            | Invocation::Version => None,
         }
     }
 }
 
 /// The text of a name, where there is one.
-fn text_of(name: &Option<Name>) -> Option<&str>
+pub fn text_of(name: &Option<Name>) -> Option<&str>
     ensures { option_map (λ name. name.now) result ≡ name.now }
 {
     match name {

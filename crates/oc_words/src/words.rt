@@ -8,7 +8,7 @@ ghost use Rattle.oc_words.specs.Requests.{download_in, id_in, member_in, sample_
 ghost use Rattle.oc_words.specs.Words.{Answers, IsPlain, IsRequest, asked, asked_by, asking, check_at, check_by_config, check_by_numbers, check_in, check_of, get_of, node_at, node_of};
 ghost use Rattle.oc_words.specs.Words.{other_by, put_at, put_of, request_by, request_of, texts_of, verdict_by};
 
-use crate::Request;
+use crate::Invocation;
 use crate::arguments::{copied, given, word};
 use crate::command::command;
 use crate::parsing::id_in;
@@ -63,7 +63,7 @@ impl From<Why> for WordsFault {
 ///
 /// `Usage` comes exactly where `clap` refuses them for a cause other than memory and does not answer
 /// by help, or where a number is not spelled as one or is out of its range.
-pub fn read_words(alloc: Global, words: &[String]) -> Result<Request, WordsFault>
+pub fn read_words(alloc: Global, words: &[String]) -> Result<Invocation, WordsFault>
     ensures answers { Answers (asked (texts_of words.now)) result }
     ensures range { IfOk result IsRequest }
 {
@@ -75,7 +75,7 @@ pub fn read_words(alloc: Global, words: &[String]) -> Result<Request, WordsFault
 }
 
 /// What words that `clap` accepts ask for.
-fn request_of(alloc: Global, matches: &ArgMatches<'_>) -> Result<Request, WordsFault>
+fn request_of(alloc: Global, matches: &ArgMatches<'_>) -> Result<Invocation, WordsFault>
     ensures answers { Answers (result_ok (request_of (subcommand_rows_of matches.now))) result }
     ensures range { IfOk result IsRequest }
 {
@@ -86,7 +86,11 @@ fn request_of(alloc: Global, matches: &ArgMatches<'_>) -> Result<Request, WordsF
 }
 
 /// What a subcommand of this name asks for.
-fn request_by(alloc: Global, name: &str, arguments: &ArgMatches<'_>) -> Result<Request, WordsFault>
+fn request_by(
+    alloc: Global,
+    name: &str,
+    arguments: &ArgMatches<'_>,
+) -> Result<Invocation, WordsFault>
     ensures answers { Answers (result_ok (request_by name.now (rows_of (found_of arguments.now)))) result }
     ensures range { IfOk result IsRequest }
 {
@@ -100,52 +104,52 @@ fn request_by(alloc: Global, name: &str, arguments: &ArgMatches<'_>) -> Result<R
 }
 
 /// What `get` asks for.
-fn get_of(alloc: Global, arguments: &ArgMatches<'_>) -> Result<Request, WordsFault>
+fn get_of(alloc: Global, arguments: &ArgMatches<'_>) -> Result<Invocation, WordsFault>
     ensures answers { Answers (result_ok (get_of (rows_of (found_of arguments.now)))) result }
     ensures range { IfOk result IsRequest }
 {
-    Ok(Request::Get(download_of(alloc, arguments)?))
+    Ok(Invocation::Get(download_of(alloc, arguments)?))
 }
 
 /// What `put` asks for.
-fn put_of(alloc: Global, arguments: &ArgMatches<'_>) -> Result<Request, WordsFault>
+fn put_of(alloc: Global, arguments: &ArgMatches<'_>) -> Result<Invocation, WordsFault>
     ensures answers { Answers (result_ok (put_of (rows_of (found_of arguments.now)))) result }
     ensures range { IfOk result IsRequest }
 {
-    Ok(Request::Put(upload_of(alloc, arguments)?))
+    Ok(Invocation::Put(upload_of(alloc, arguments)?))
 }
 
 /// What a subcommand that is no client's asks for.
-fn other_by(alloc: Global, name: &str, arguments: &ArgMatches<'_>) -> Result<Request, WordsFault>
+fn other_by(alloc: Global, name: &str, arguments: &ArgMatches<'_>) -> Result<Invocation, WordsFault>
     ensures answers { Answers (result_ok (other_by name.now (rows_of (found_of arguments.now)))) result }
     ensures range { IfOk result IsRequest }
 {
     if name == "replay" {
         Ok(replay_of(alloc, arguments)?)
     } else if name == "gen" {
-        Ok(Request::Gen(sample_of(arguments)?))
+        Ok(Invocation::Gen(sample_of(arguments)?))
     } else if name == "node" {
         node_of(alloc, arguments)
     } else if name == "check" {
         check_of(alloc, arguments)
     } else if name == "rules" {
-        Ok(Request::Rules(copied(alloc, arguments, "config")?))
+        Ok(Invocation::Rules(copied(alloc, arguments, "config")?))
     } else {
         Err(WordsFault::Usage)
     }
 }
 
 /// What `node` asks for.
-fn node_of(alloc: Global, arguments: &ArgMatches<'_>) -> Result<Request, WordsFault>
+fn node_of(alloc: Global, arguments: &ArgMatches<'_>) -> Result<Invocation, WordsFault>
     ensures answers { Answers (result_ok (node_of (rows_of (found_of arguments.now)))) result }
     ensures range { IfOk result IsRequest }
 {
     let service = service_of(arguments)?;
-    Ok(Request::Node(service, paths_of(alloc, arguments)?))
+    Ok(Invocation::Node(service, paths_of(alloc, arguments)?))
 }
 
 /// What `check` asks for.
-fn check_of(alloc: Global, arguments: &ArgMatches<'_>) -> Result<Request, WordsFault>
+fn check_of(alloc: Global, arguments: &ArgMatches<'_>) -> Result<Invocation, WordsFault>
     ensures answers { Answers (result_ok (check_of (rows_of (found_of arguments.now)))) result }
     ensures range { IfOk result IsRequest }
 {
@@ -162,12 +166,12 @@ fn check_by_numbers(
     id: &str,
     nodes: &str,
     arguments: &ArgMatches<'_>,
-) -> Result<Request, WordsFault>
+) -> Result<Invocation, WordsFault>
     ensures answers { Answers (result_ok (check_by_numbers id.now nodes.now (rows_of (found_of arguments.now)))) result }
     ensures range { IfOk result IsRequest }
 {
     let member = member_of(arguments, id, nodes)?;
-    Ok(Request::Check(member, copied(alloc, arguments, "dir")?))
+    Ok(Invocation::Check(member, copied(alloc, arguments, "dir")?))
 }
 
 /// What `check` asks for, with its id alone.
@@ -175,24 +179,24 @@ fn check_by_config(
     alloc: Global,
     id: &str,
     arguments: &ArgMatches<'_>,
-) -> Result<Request, WordsFault>
+) -> Result<Invocation, WordsFault>
     ensures answers { Answers (result_ok (check_by_config id.now (rows_of (found_of arguments.now)))) result }
     ensures range { IfOk result IsRequest }
 {
     let id = id_in(id)?;
-    Ok(Request::CheckConfigured(id, paths_of(alloc, arguments)?))
+    Ok(Invocation::CheckConfigured(id, paths_of(alloc, arguments)?))
 }
 
 /// The answer to an error of `clap`.
-fn answer_to(kind: ErrorKind) -> Result<Request, WordsFault>
+fn answer_to(kind: ErrorKind) -> Result<Invocation, WordsFault>
     ensures memory { kind ≡ ErrorKind.OutOfMemory → result ≡ Err WordsFault.Memory }
     ensures other { kind ≢ ErrorKind.OutOfMemory → result ≡ ok_or (asked_by (verdict_by kind) None) WordsFault.Usage }
     ensures range { IfOk result IsRequest }
 {
     match kind {
         ErrorKind::OutOfMemory => Err(WordsFault::Memory),
-        ErrorKind::DisplayHelp => Ok(Request::Help),
-        ErrorKind::DisplayVersion => Ok(Request::Version),
+        ErrorKind::DisplayHelp => Ok(Invocation::Help),
+        ErrorKind::DisplayVersion => Ok(Invocation::Version),
         _ => Err(WordsFault::Usage),
     }
 }
@@ -200,12 +204,12 @@ fn answer_to(kind: ErrorKind) -> Result<Request, WordsFault>
 /// What the words of each row of the table of commands ask for. Words that do not begin with `-` go to the
 /// arguments in their order, and ask for what these say.
 pub fn rows_ask()
-    ensures replaying { asked (codes "replay" ∷ []) ≡ Some (Request.Replay false None) }
-    ensures summing { asked (codes "replay" ∷ codes "--summary" ∷ []) ≡ Some (Request.Replay true None) }
-    ensures listing { asked (codes "rules" ∷ []) ≡ Some (Request.Rules None) }
+    ensures replaying { asked (codes "replay" ∷ []) ≡ Some (Invocation.Replay false None) }
+    ensures summing { asked (codes "replay" ∷ codes "--summary" ∷ []) ≡ Some (Invocation.Replay true None) }
+    ensures listing { asked (codes "rules" ∷ []) ≡ Some (Invocation.Rules None) }
     ensures generating { (seed nodes events : Text) → IsNoFlag seed → IsNoFlag nodes → IsNoFlag events
         → asked (codes "gen" ∷ seed ∷ nodes ∷ events ∷ [])
-        ≡ result_ok (asking Request.Gen (sample_in seed nodes events)) }
+        ≡ result_ok (asking Invocation.Gen (sample_in seed nodes events)) }
     ensures serving { (id turns : Text) → IsNoFlag id → IsNoFlag turns
         → asked (codes "node" ∷ id ∷ codes "--turns" ∷ turns ∷ [])
         ≡ result_ok (asking (node_at None None) (service_in id (Some turns) false None)) }
@@ -217,21 +221,21 @@ pub fn rows_ask()
         ≡ result_ok (asking (check_at None) (member_in id nodes chain)) }
     ensures getting { (url : Text) → IsNoFlag url
         → asked (codes "get" ∷ url ∷ [])
-        ≡ result_ok (asking Request.Get (download_in url None None None false)) }
+        ≡ result_ok (asking Invocation.Get (download_in url None None None false)) }
     ensures following { (url times : Text) → IsNoFlag url → IsNoFlag times
         → asked (codes "get" ∷ url ∷ codes "--follow" ∷ times ∷ [])
-        ≡ result_ok (asking Request.Get (download_in url (Some times) None None false)) }
+        ≡ result_ok (asking Invocation.Get (download_in url (Some times) None None false)) }
 
     ensures plain { (words : List Text) → IsPlain words → asked words ≢ None }
 {}
 
 /// What words ask for that name files and folders, or a node of a configuration, or that ask about the program.
 pub fn places_ask()
-    ensures versioned { asked (codes "--version" ∷ []) ≡ Some Request.Version }
+    ensures versioned { asked (codes "--version" ∷ []) ≡ Some Invocation.Version }
     ensures replaying { (file : Text) → IsNoFlag file
-        → asked (codes "replay" ∷ file ∷ []) ≡ Some (Request.Replay false (Some file)) }
+        → asked (codes "replay" ∷ file ∷ []) ≡ Some (Invocation.Replay false (Some file)) }
     ensures listing { (config : Text) → IsNoFlag config
-        → asked (codes "rules" ∷ codes "--config" ∷ config ∷ []) ≡ Some (Request.Rules (Some config)) }
+        → asked (codes "rules" ∷ codes "--config" ∷ config ∷ []) ≡ Some (Invocation.Rules (Some config)) }
     ensures serving { (id : Text) → IsNoFlag id
         → asked (codes "node" ∷ id ∷ []) ≡ result_ok (asking (node_at None None) (service_in id None false None)) }
     ensures serving_there { (id config folder : Text) → IsNoFlag id → IsNoFlag config → IsNoFlag folder
@@ -269,17 +273,17 @@ pub fn clients_ask()
     ensures said_both { (url : Text) → IsNoFlag url → asked (codes "put" ∷ url ∷ codes "--append" ∷ codes "--resume" ∷ []) ≡ None }
     ensures getting_from { (url start : Text) → IsNoFlag url → IsNoFlag start
         → asked (codes "get" ∷ url ∷ codes "--from" ∷ start ∷ [])
-        ≡ result_ok (asking Request.Get (download_in url None (Some start) None false)) }
+        ≡ result_ok (asking Invocation.Get (download_in url None (Some start) None false)) }
     ensures getting_as { (url file : Text) → IsNoFlag url → IsNoFlag file
         → asked (codes "get" ∷ url ∷ codes "--token-file" ∷ file ∷ [])
-        ≡ result_ok (asking Request.Get (download_in url None None (Some file) false)) }
+        ≡ result_ok (asking Invocation.Get (download_in url None None (Some file) false)) }
 
     // Lines tell how far it came.
     ensures publishing_told { (url : Text) → IsNoFlag url
         → asked (codes "put" ∷ url ∷ codes "--progress" ∷ []) ≡ Some (put_at url New false None true) }
     ensures getting_told { (url : Text) → IsNoFlag url
         → asked (codes "get" ∷ url ∷ codes "--progress" ∷ [])
-        ≡ result_ok (asking Request.Get (download_in url None None None true)) }
+        ≡ result_ok (asking Invocation.Get (download_in url None None None true)) }
 {}
 
 /// What words ask for that say what a node writes of its inputs: one of two words, once.

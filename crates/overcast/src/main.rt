@@ -1,7 +1,7 @@
 //! The program `overcast`.
 #![tactic(auto)]
 
-use oc_start::{end_early, given_words, run_words};
+use oc_program::{end_early, given_words, run_words};
 use std::process::ExitCode;
 
 fn main(rt: HostRuntime) -> ExitCode {

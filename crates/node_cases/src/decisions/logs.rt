@@ -45,7 +45,7 @@ impl Acts for LogOfSix {
             }
             "take" => take(alloc, self, fields, said),
             "state" => put_state(self, said),
-            "waiting" => put_waiting(self, said),
+            "waiting" => put_waiting(alloc, self, said),
             _ => Err(Fault::Field),
         }
     }
@@ -134,10 +134,12 @@ fn put_state(changes: &LogOfSix, said: &mut String) -> Result<(), Fault> {
 }
 
 /// Puts the nodes about which something waits.
-fn put_waiting(changes: &LogOfSix, said: &mut String) -> Result<(), Fault> {
+fn put_waiting(alloc: Global, changes: &LogOfSix, said: &mut String) -> Result<(), Fault> {
+    let mut certs = Vec::new(alloc);
+    changes.log.take(usize::MAX, &mut certs)?;
     said.push_str("{")?;
     for node in 1..=NODES {
-        if changes.log.waiting(NodeId(node)) {
+        if certs.iter().any(|cert| cert.subject == NodeId(node)) {
             write!(said, " {node}")?;
         }
     }

@@ -5,7 +5,7 @@ use crate::connection::Connection;
 use crate::limits::{MOST_ACCEPTED, PLACES, SHUT_MILLIS};
 use libc::EMFILE;
 use mio::net::TcpStream as Stream;
-use oc_events::{ConnectionId, Loss};
+use oc_link::{ConnectionId, Loss};
 use std::io::{self, ErrorKind};
 
 /// The system as a whole has no more files, by POSIX.
@@ -45,7 +45,7 @@ impl Sockets {
                     }
                     // The connection that waited is over, or the call was interrupted: the next one is taken.
                     ErrorKind::ConnectionAborted | ErrorKind::Interrupted => {}
-                    // Memory is wanting, or else something that does not pass by asking again at once.
+                    // Memory ran out, or else something that does not pass by asking again at once.
                     _ => {
                         self.shut(now);
                         return;

@@ -1,9 +1,9 @@
 //! What is done to a connection from above.
 
 use super::Sockets;
-use crate::connection::Stage;
+use crate::connection::ConnectionStage;
 use crate::limits::LARGE_BYTES;
-use oc_events::{ConnectionId, Ending};
+use oc_link::{ConnectionId, Ending};
 
 impl Sockets {
     /// What came on a connection, which is given back or taken.
@@ -65,7 +65,7 @@ impl Sockets {
         };
         if let Some(finished) = self.places.get_mut(place) {
             finished.finish(ending, now);
-            if finished.stage == Stage::Over {
+            if finished.stage == ConnectionStage::Over {
                 self.drop_at(place);
             } else {
                 self.turns.push(place);

@@ -2,11 +2,11 @@
 
 use super::accepting::is_out_of_files;
 use super::{Happened, Sockets, dial_at};
-use crate::dial::{Dial, Stage};
+use crate::dial::{Dial, DialStage};
 use crate::limits::PLACES;
 use mio::net::TcpStream as Stream;
 use mio::{Interest, Token};
-use oc_events::{DialId, Event};
+use oc_link::{DialId, LinkEvent};
 use std::io;
 use std::net::{Net, SocketAddr, TcpStream};
 
@@ -40,7 +40,7 @@ impl Sockets {
     fn connect<R: Net<Stream = TcpStream>>(&mut self, rt: &R, place: usize) {
         for _ in 0..MOST_ADDRESSES {
             let address = match dial_at(&mut self.dials, place) {
-                Some(dial) if dial.stage == Stage::Refused => dial.next_address(),
+                Some(dial) if dial.stage == DialStage::Refused => dial.next_address(),
                 _ => return,
             };
             let Some(address) = address else {
@@ -51,7 +51,7 @@ impl Sockets {
             }
         }
         if let Some(dial) = dial_at(&mut self.dials, place) {
-            if dial.stage == Stage::Refused {
+            if dial.stage == DialStage::Refused {
                 dial.fail();
             }
         }
@@ -101,7 +101,7 @@ impl Sockets {
     ) -> Option<Happened> {
         let dial = dial_at(&mut self.dials, place)?;
         dial.advance(&mut self.tools, now);
-        if dial.stage == Stage::Refused {
+        if dial.stage == DialStage::Refused {
             self.connect(rt, place);
         }
         let dial = dial_at(&mut self.dials, place)?;
@@ -109,11 +109,11 @@ impl Sockets {
         if dial.is_busy() {
             self.turns.push(place);
         }
-        if dial.stage != Stage::Over {
+        if dial.stage != DialStage::Over {
             return None;
         }
         let (coming, bytes) = dial.outcome(&self.tools);
-        let event = Event::Reply(dial.id, coming);
+        let event = LinkEvent::Reply(dial.id, coming);
         if let Some(slot) = self.dials.get_mut(place.saturating_sub(PLACES)) {
             *slot = None;
         }

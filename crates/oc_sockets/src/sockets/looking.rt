@@ -3,7 +3,7 @@
 use super::{Happened, Sockets};
 use crate::connection::Fate;
 use crate::limits::{LARGE_BYTES, MOST_LARGE, MOST_MESSAGE, PLACES};
-use oc_events::{Event, Loss};
+use oc_link::{LinkEvent, Loss};
 use std::net::{Net, TcpStream};
 
 impl Sockets {
@@ -15,7 +15,7 @@ impl Sockets {
         now: u64,
     ) -> Option<Happened> {
         if let Some(lost) = self.gone.pop_front() {
-            return Some(self.with_nothing(Event::Gone(lost.connection, lost.loss)));
+            return Some(self.with_nothing(LinkEvent::Gone(lost.connection, lost.loss)));
         }
         let place = self.turns.pop()?;
         self.in_a_row = self.in_a_row.saturating_add(1);
@@ -50,7 +50,7 @@ impl Sockets {
             Fate::Over => self.drop_at(place),
             Fate::Tells(event) => {
                 connection.note_told();
-                if let Event::Request(_) = event {
+                if let LinkEvent::Request(_) = event {
                     let bytes = connection.incoming.lend(&self.tools);
                     return Some(Happened { event, bytes });
                 }

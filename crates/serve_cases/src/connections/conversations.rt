@@ -1,7 +1,7 @@
 //! Downloads over a link and onto a sink in memory.
 
 use crate::connections::texts::{put_text, text_in, texts_in};
-use oc_fetch::{GetEnd, Manner, follow, get};
+use oc_fetch::{FetchOptions, GetEnd, follow, get};
 use oc_io::{MemSink, Sink};
 use oc_link::{Dialler, MemDialler};
 use std::alloc::Global;
@@ -80,10 +80,10 @@ fn download<L: Dialler, S: Sink>(
 }
 
 /// The byte to begin from and the token, where they are given.
-fn manner_in<'a>(fields: &mut RowFields<'a>) -> Result<Manner<'a>, Fault> {
+fn manner_in<'a>(fields: &mut RowFields<'a>) -> Result<FetchOptions<'a>, Fault> {
     let from = given(fields.text());
     let token = given(fields.text());
-    Ok(Manner {
+    Ok(FetchOptions {
         from: match from {
             Some(from) => Some(RowFields::of(from, ' ').number()?),
             None => None,

@@ -5,7 +5,7 @@ use crate::connections::texts::{put_text, text_in};
 use oc_fetch::ProgressLines;
 use oc_io::{MemSink, MemSource};
 use oc_link::MemDialler;
-use oc_put::{Aside, Destination, Pause, Place, Plan, PutEnd, put};
+use oc_put::{Aside, Destination, Pause, Publication, PutEnd, WriteMode, put};
 use std::alloc::Global;
 use std::str;
 use test_tools::{Fault, RowFields, RowStep};
@@ -57,15 +57,15 @@ pub fn put_words(alloc: Global, given: &str, said: &mut String) -> Result<(), Fa
 }
 
 /// How a row publishes: `new`, `append` or `resume`, and `seal` or `-`.
-fn plan_in(call: &mut RowStep<'_>) -> Result<Plan, Fault> {
+fn plan_in(call: &mut RowStep<'_>) -> Result<Publication, Fault> {
     let place = match call.word {
-        "new" => Place::New,
-        "append" => Place::Append,
-        "resume" => Place::Resume,
+        "new" => WriteMode::New,
+        "append" => WriteMode::Append,
+        "resume" => WriteMode::Resume,
         _ => return Err(Fault::Field),
     };
     let seal = call.fields.text() == "seal";
-    Ok(Plan { place, seal })
+    Ok(Publication { place, seal })
 }
 
 /// Tells how a publishing ended, how many pauses it made, its lines, and what each dial was sent.

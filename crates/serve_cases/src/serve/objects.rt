@@ -3,8 +3,8 @@
 
 use crate::serve::steps::{MOST_STEPS, numbers_in, small_in, split_step};
 use oc_base::Bytes;
-use oc_events::{Coming, ConnectionId, DialId, Happening, Loss, MemLink, Step};
 use oc_io::{MemDisk, MemSink};
+use oc_link::{Coming, ConnectionId, DialId, Happening, Loss, MemLink, Step};
 use std::alloc::Global;
 use test_tools::{Fault, RowFields, spelled_in};
 

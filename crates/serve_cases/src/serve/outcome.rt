@@ -4,9 +4,9 @@ use crate::serve::objects::{fail_in, link_in, new_disk, sink_in};
 use crate::serve::running::{Play, run};
 use crate::serve::settings::Setting;
 use crate::serve::steps::{said_by, small_in};
-use oc_events::{Call, ConnectionId, Event, MemLink, given};
 use oc_io::{MemDisk, MemSink};
 use oc_keep::Files;
+use oc_link::{Call, ConnectionId, LinkEvent, MemLink, given};
 use oc_service::{Log, NodeEnd, Ran, Site};
 use std::alloc::Global;
 use test_tools::{Fault, put_spelled};
@@ -230,7 +230,7 @@ fn has_come(calls: &[Call], connection: ConnectionId) -> bool {
 
 fn comes_by(call: &Call, connection: ConnectionId) -> bool {
     match call {
-        Call::Next(Event::Request(arrival), _) => arrival.connection == connection,
+        Call::Next(LinkEvent::Request(arrival), _) => arrival.connection == connection,
         _ => false,
     }
 }

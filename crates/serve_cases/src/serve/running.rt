@@ -2,8 +2,8 @@
 
 use oc_base::NodeId;
 use oc_config::read;
-use oc_events::Link;
 use oc_io::{Disk, Sink};
+use oc_link::Link;
 use oc_service::{Log, Ran, Site, Task, run_node};
 use std::alloc::Global;
 use test_tools::Fault;

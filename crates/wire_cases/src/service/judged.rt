@@ -2,11 +2,10 @@
 
 use crate::service::requests::put_refusal;
 use oc_base::NodeId;
-use oc_events::{Arrival, Coming, ConnectionId};
 use oc_http::HeadReader;
+use oc_link::{Arrival, Coming, ConnectionId};
 use oc_mac::Key;
-use oc_reply::{Hint, Request, Terms, Verdict, judge};
-use oc_routes::{Operation, Report};
+use oc_routes::{Hint, Operation, Report, Request, Terms, Verdict, judge};
 use std::alloc::Global;
 use test_tools::{Fault, RowFields, spelled_in};
 

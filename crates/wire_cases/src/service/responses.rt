@@ -8,7 +8,7 @@ ghost use Rattle.oc_wire.specs.Spelling.{HasSpelling};
 use crate::service::asking::{ReadRequest, request_in};
 use oc_base::NodeId;
 use oc_model::{Answer, Message};
-use oc_routes::{Answered, Network, Operation, Persistence, Response, is_last, respond};
+use oc_routes::{Answered, Directory, Operation, Persistence, Response, is_last, respond};
 use oc_wire::decode;
 use std::alloc::Global;
 use test_tools::{Fault, RowFields, put_spelled, spelled_in};
@@ -115,7 +115,7 @@ fn respond_with(
         last,
         report,
     };
-    let network = Network {
+    let network = Directory {
         addresses: &addresses,
         key: None,
     };

@@ -3,7 +3,7 @@
 use crate::service::texts::text_in;
 use oc_base::GroupName;
 use oc_config::read;
-use oc_policy::{Action, MAX_RULES, Rule, Verdict, decide};
+use oc_policy::{Action, Decision, MAX_RULES, Rule, decide};
 use std::alloc::Global;
 use test_tools::{Fault, RowFields, group_in};
 
@@ -59,7 +59,7 @@ fn put_verdict<'a>(
         return Err(Fault::Unready);
     }
     match decide(rules, action, group, area, shown) {
-        Verdict::Allowed => Ok(said.push_str("allowed")?),
-        Verdict::Denied(rule) => Ok(write!(said, "denied {rule}")?),
+        Decision::Allowed => Ok(said.push_str("allowed")?),
+        Decision::Denied(rule) => Ok(write!(said, "denied {rule}")?),
     }
 }

@@ -1,6 +1,6 @@
 use Rattle.clap.specs.Words.{found_of, rows_of}
 use Rattle.oc_words.specs.Arguments.{download_of}
-use Rattle.oc_words.specs.declared.request.Request.TheVariants.{Get}
+use Rattle.oc_words.specs.declared.request.Invocation.TheVariants.{Get}
 use Rattle.oc_words.proofs.WordLemmas.{asks_with}
 use Rattle.oc_words.proofs.words.get_of.Goals as goal
 

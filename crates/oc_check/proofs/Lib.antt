@@ -1,4 +1,0 @@
-pub mod Safely
-mod Headers
-mod Shown
-pub mod Complete

@@ -1,0 +1,78 @@
+ghost use Rattle.std.specs.Prelude.{◌≡◌, ℕ, List, Option, OnErr, OnOk};
+ghost use Rattle.oc_link.specs.declared.call.Call.{Call};
+ghost use Rattle.oc_link.specs.declared.call.Call.TheVariants as acts;
+ghost use Rattle.oc_link.specs.declared.counts.LinkCounts.{LinkCounts};
+ghost use Rattle.oc_link.specs.Counts.{Counted, CountsListening};
+ghost use Rattle.oc_link.specs.Told.{Adds, NextGives};
+
+use crate::call::Ending;
+use crate::event::LinkEvent;
+use crate::ids::{ConnectionId, DialId};
+use oc_io::Failed;
+
+/// A network and a clock, as a running node uses them: connections that come in, and dials.
+///
+/// A link that tells its story says which calls were made and what they answered. Sockets tell nothing, and for
+/// them only the clauses on counts hold. Times are in milliseconds where nothing else is said.
+pub trait Link {
+    /// The calls that were made and did not fail, oldest first, if the link tells them.
+    ghost story: { Self → Option (List Call) };
+
+    /// How many calls failed so far, by their kind, and how long the link has waited.
+    ghost counts: { Self → LinkCounts };
+
+    /// What the last event lends.
+    ghost lends: { Self → List ℕ };
+
+    /// Waits for connections at that address from now on.
+    fn listen(&mut self, address: &str) -> Result<(), Failed>
+        ensures listens { OnOk result (Adds (acts.Listen address.now) (story self.old) (story self.new)) }
+        ensures fails { OnErr result (story self.new ≡ story self.old) }
+        ensures counts { CountsListening result (counts self.old) (counts self.new) };
+
+    /// One thing that happened, at the latest when the wait is over. It is the only call that waits. Which of
+    /// several things comes first is the link's choice.
+    fn next(&mut self, wait: u64) -> Result<LinkEvent, Failed>
+        ensures story { NextGives result (lends self.new) (story self.old) (story self.new) }
+        ensures counts { Counted result wait (counts self.old) (counts self.new) };
+
+    /// What came by the event that `next` gave last: of a request all that came and was not taken yet, and all of
+    /// a reply. It is to be read before any other call.
+    fn lent(&self) -> &[u8]
+        ensures { result.now ≡ lends self.now };
+
+    /// Takes that many of the bytes that came on a connection as its request, whose reply is then under way.
+    fn take(&mut self, connection: ConnectionId, count: u64)
+        ensures story { Adds (acts.Take connection count) (story self.old) (story self.new) }
+        ensures counts { counts self.new ≡ counts self.old };
+
+    /// Gives a connection these bytes to send, all of them. Where they can't be kept or sent, it is told later.
+    fn give(&mut self, connection: ConnectionId, bytes: &[u8])
+        ensures story { Adds (acts.Give connection bytes.now) (story self.old) (story self.new) }
+        ensures counts { counts self.new ≡ counts self.old };
+
+    /// Says that the reply of a connection was given whole, and what becomes of the connection.
+    fn finish(&mut self, connection: ConnectionId, ending: Ending)
+        ensures story { Adds (acts.Finish connection ending) (story self.old) (story self.new) }
+        ensures counts { counts self.new ≡ counts self.old };
+
+    /// Ends a connection at once. What it was given may not have been sent.
+    fn break_off(&mut self, connection: ConnectionId)
+        ensures story { Adds (acts.BreakOff connection) (story self.old) (story self.new) }
+        ensures counts { counts self.new ≡ counts self.old };
+
+    /// Begins a dial to that address, on which these bytes are sent. Its reply, or that it failed, is told later.
+    fn dial(&mut self, dial: DialId, address: &str, bytes: &[u8])
+        ensures story { Adds (acts.Dial dial address.now bytes.now) (story self.old) (story self.new) }
+        ensures counts { counts self.new ≡ counts self.old };
+
+    /// The time in seconds, any number. It counts from a moment of the link's own choice.
+    fn now(&mut self) -> u64
+        ensures story { Adds (acts.Now result) (story self.old) (story self.new) }
+        ensures counts { counts self.new ≡ counts self.old };
+
+    /// The time in milliseconds, any number. It counts from a moment of the link's own choice.
+    fn millis(&mut self) -> u64
+        ensures story { Adds (acts.Millis result) (story self.old) (story self.new) }
+        ensures counts { counts self.new ≡ counts self.old };
+}

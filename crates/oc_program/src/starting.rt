@@ -1,0 +1,156 @@
+//! A run over the real things.
+
+ghost use Rattle.std.specs.Prelude.{◌≡◌, IfErr, IfOk};
+ghost use Rattle.oc_program.specs.Started.{HasRun};
+ghost use Rattle.oc_words.specs.Words.{asked, texts_of};
+
+use crate::places::Places;
+use crate::second::Second;
+use crate::{End, Status, Streams, StreamsRun, Things, Traffic, WriterSink, run_on_streams, tell};
+use oc_keep::Files;
+use oc_sockets::SocketLink;
+use oc_system::{FileDisk, Input, NamedFile, SocketDialler, Trouble};
+use oc_words::tip;
+use oc_world::World;
+use std::io;
+
+/// Runs the program on these words, and gives its status. Where there is no memory to read them, the line says so.
+pub fn run_words(rt: &HostRuntime, words: &[String]) -> u8 {
+    match start(rt, words) {
+        Ok(ran) => ran.status,
+        Err(end) => end_early(rt, end),
+    }
+}
+
+/// Writes the line of an end that came before a run, and gives its status.
+pub fn end_early(rt: &HostRuntime, end: End) -> u8 {
+    tell(&mut WriterSink::new(rt.stderr()), &end, None);
+    end.status().number()
+}
+
+/// What a run over the real things left.
+#[derive(Clone, Copy)]
+pub struct Started {
+    /// The status.
+    pub status: u8,
+    /// What was read on the input.
+    pub input: Traffic,
+    /// What was read of the file of a token.
+    pub token: Traffic,
+    /// What was written on standard output.
+    pub output: Traffic,
+    /// What was written on standard error.
+    pub error: Traffic,
+}
+
+/// Runs the program on these words, over the standard streams and the files and sockets of the system: the
+/// input is the file that the words name, or else the standard input, and the three files are those of the folder that
+/// they name, or else of the present one ([`Places::of`]). A file is opened at the first call on it. Before it returns,
+/// what replies have still to go out is sent, as far as their receivers take it.
+///
+/// Where there is no memory to find the files, nothing is run.
+pub fn start(rt: &HostRuntime, words: &[String]) -> Result<Started, End>
+    // How it ended, and what had happened to the streams, the world, the files and the links.
+    ensures ended { IfOk result (HasRun ⟦<World as oc_replay::Stage>⟧.world ⟦<FileDisk<'static, HostRuntime> as oc_io::Disk>⟧.view
+        ⟦<SocketDialler<'static, HostRuntime> as oc_link::Dialler>⟧.story ⟦<SocketDialler<'static, HostRuntime> as oc_link::Dialler>⟧.faults
+        ⟦<SocketLink<'static, HostRuntime> as oc_link::Link>⟧.story ⟦<SocketLink<'static, HostRuntime> as oc_link::Link>⟧.counts
+        (asked (texts_of words.now))) }
+    ensures memory { IfErr result (λ end. end ≡ End.NoMemory) }
+{
+    let places = Places::of(rt.alloc(), words)?;
+    Ok(start_at(rt, words, &places))
+}
+
+/// The same, with the input and the files at these places. Where the status is that of an object that failed, a
+/// second line tells of that object, where it knows more; where it is that of words that are refused, what they may have
+/// been meant to be, where that is known.
+fn start_at(rt: &HostRuntime, words: &[String], places: &Places) -> Started
+    ensures ended { HasRun ⟦<World as oc_replay::Stage>⟧.world ⟦<FileDisk<'static, HostRuntime> as oc_io::Disk>⟧.view
+        ⟦<SocketDialler<'static, HostRuntime> as oc_link::Dialler>⟧.story ⟦<SocketDialler<'static, HostRuntime> as oc_link::Dialler>⟧.faults
+        ⟦<SocketLink<'static, HostRuntime> as oc_link::Link>⟧.story ⟦<SocketLink<'static, HostRuntime> as oc_link::Link>⟧.counts
+        (asked (texts_of words.now)) result }
+{
+    let alloc = rt.alloc();
+    let mut input = match &places.input {
+        Some(path) => Input::Named(NamedFile::new(rt, path.as_str())),
+        None => Input::Standard(rt.stdin()),
+    };
+    let mut token = match &places.token {
+        Some(path) => Input::Named(NamedFile::new(rt, path.as_str())),
+        None => Input::Standard(rt.stdin()),
+    };
+    let streams = Streams {
+        input: &mut input,
+        token: &mut token,
+        output: rt.stdout(),
+        error: rt.stderr(),
+    };
+    let stage = World::empty(alloc);
+    let control = FileDisk::new(rt, places.control());
+    let alternate = FileDisk::new(rt, places.alternate());
+    let content = FileDisk::new(rt, places.content());
+    let dialler = SocketDialler::new(rt, alloc);
+    let link = SocketLink::new(rt, alloc, places.node);
+    let pause = Second::new(rt);
+    let things = Things {
+        stage,
+        files: Files {
+            control,
+            alternate,
+            content,
+        },
+        dialler,
+        link,
+        pause,
+    };
+    let ran = run_on_streams(alloc, words, streams, things);
+    let StreamsRun {
+        status,
+        input: came,
+        token: shown,
+        output,
+        error,
+        mut things,
+    } = ran;
+    things.link.send_rest();
+    if status == Status::Usage.number() {
+        tell_tip(rt, words);
+    }
+    if status == Status::Failed.number() {
+        tell_trouble(rt, input.trouble());
+        tell_trouble(rt, token.trouble());
+        tell_trouble(rt, things.files.control.trouble());
+        tell_trouble(rt, things.files.alternate.trouble());
+        tell_trouble(rt, things.files.content.trouble());
+        tell_trouble(rt, things.dialler.trouble());
+        tell_link_trouble(rt, things.link.trouble());
+    }
+    Started {
+        status,
+        input: came,
+        token: shown,
+        output,
+        error,
+    }
+}
+
+/// Tells on the error output what words that were refused may have been meant to be, where that is known.
+fn tell_tip(rt: &HostRuntime, words: &[String]) {
+    if let Some(tip) = tip(rt.alloc(), words) {
+        let _ = eprintln!(rt; "overcast: {tip}");
+    }
+}
+
+/// Tells on the error output why a call failed, if one did.
+fn tell_trouble(rt: &HostRuntime, trouble: Option<Trouble<'_>>) {
+    if let Some(trouble) = trouble {
+        let _ = eprintln!(rt; "overcast: {trouble}");
+    }
+}
+
+/// The same of the link of a node: at which address it failed, and why.
+fn tell_link_trouble(rt: &HostRuntime, trouble: Option<(&str, io::Error)>) {
+    if let Some((address, error)) = trouble {
+        tell_trouble(rt, Some(Trouble::at(address, error)));
+    }
+}

@@ -1,0 +1,22 @@
+//! The words that the process was given.
+
+use crate::End;
+use std::rt::Env;
+use std::{env, io};
+
+/// The words after the program's name; or how the program ends where they cannot be read. A word that is not
+/// text is no word of the program.
+pub fn given_words<R: Env + AllocGlobal>(rt: &R) -> Result<Vec<String>, End> {
+    let given = match env::args(rt) {
+        Ok(given) => given,
+        Err(error) if error.kind() == io::ErrorKind::OutOfMemory => return Err(End::NoMemory),
+        Err(_) => return Err(End::Misused),
+    };
+    let mut words = Vec::new(rt.alloc());
+    for word in given.skip(1) {
+        if words.push(word).is_err() {
+            return Err(End::NoMemory);
+        }
+    }
+    Ok(words)
+}

@@ -1,5 +1,0 @@
-use Rattle.oc_reply.proofs.MacLaws.{have_mac, read_mac}
-use Rattle.oc_reply.proofs.law.a_message_has_its_mac.Goals as goal
-
-pub returns : goal.returns
-returns c = record { taken = have_mac; read = read_mac }

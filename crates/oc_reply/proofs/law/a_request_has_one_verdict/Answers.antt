@@ -1,5 +1,0 @@
-use Rattle.oc_reply.proofs.Cuts.{one_verdict, verdict_stays}
-use Rattle.oc_reply.proofs.law.a_request_has_one_verdict.Goals as goal
-
-pub returns : goal.returns
-returns c = record { one = one_verdict; cut = verdict_stays }

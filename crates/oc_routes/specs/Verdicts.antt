@@ -1,0 +1,115 @@
+-- What is to be done with the bytes that came on a connection.
+use Rattle.std.specs.Prelude.{◌≡◌, ℕ, ◌+◌, ◌-◌, Bool, true, false, not, ◌&&◌, nat_lt, if◌then◌else◌, Option, Some, None, Result, Ok, Err, List, [], ◌∷◌, length, take}
+use Rattle.oc_link.specs.declared.event.Arrival.{Arrival}
+use Rattle.oc_link.specs.declared.event.Coming.{Coming}
+use Rattle.oc_link.specs.declared.event.Coming.TheVariants.{Open, Ended, Failed}
+use Rattle.oc_http.specs.Answers.{AnswersRequest, IsDecided}
+use Rattle.oc_http.specs.declared.fault.HttpFault.{HttpFault}
+use Rattle.oc_http.specs.declared.fault.HttpFault.TheVariants as http
+use Rattle.oc_http.specs.declared.head.Head.{Head}
+use Rattle.oc_model.specs.declared.input.Input.{Input}
+use Rattle.oc_policy.specs.declared.rule.Rule.{Rule}
+use Rattle.oc_routes.specs.Connections.{awaits_continue, is_last}
+use Rattle.oc_routes.specs.Routes.{input_asked}
+use Rattle.oc_routes.specs.Refusals.{fault_of_http}
+use Rattle.oc_routes.specs.declared.fault.RouteFault.{RouteFault}
+use Rattle.oc_routes.specs.declared.fault.RouteFault.TheVariants as faults
+use Rattle.oc_routes.specs.declared.refused.Refused.{Refused}
+use Rattle.oc_routes.specs.declared.refused.Refused.TheVariants as refusals
+use Rattle.oc_routes.specs.Hints.{asked_with_hint}
+use Rattle.oc_routes.specs.Macs.{is_forged}
+use Rattle.oc_routes.specs.declared.hint.Asked.{Asked}
+use Rattle.oc_routes.specs.declared.hint.Hint.{Hint}
+use Rattle.oc_routes.specs.declared.hint.Hint.TheVariants.{Here}
+use Rattle.oc_routes.specs.declared.verdict.Request.{Request}
+use Rattle.oc_routes.specs.declared.verdict.Verdict.{Verdict}
+use Rattle.oc_routes.specs.declared.verdict.Verdict.TheVariants.{Wait, Leave, Permit, Refuse, Ask}
+
+-- by what requests are read: the node's id, among how many, its access rules, and the key of its network, where it has one
+pub record NodeTerms : Type 0 where
+  pub me : ℕ
+  pub nodes : ℕ
+  pub rules : List Rule
+  pub key : Option (List ℕ)
+
+abbrev pub terms_of : ℕ → ℕ → List Rule → Option (List ℕ) → NodeTerms
+terms_of me nodes rules key = record { me = me; nodes = nodes; rules = rules; key = key }
+
+-- the request of this number on the connection c
+abbrev pub arrival : ℕ → ℕ → Bool → Coming → Arrival
+arrival c number permitted coming = record { connection = c; number = number; permitted = permitted; coming = coming }
+
+-- a request is refused for a fault
+abbrev pub refused_for : RouteFault → Verdict
+refused_for (faults.Refused why) = Refuse why
+refused_for faults.Memory = Wait
+
+-- The bytes so far are a part of a request, none where there are none. One that ended without a byte is left without a word; a link tells of one
+-- that ran out of its time without a byte the same, or nothing.
+abbrev pub unfinished : Coming → Bool → Verdict
+unfinished Open none = Wait
+unfinished Ended none = if none then Leave else Refuse refusals.Ended
+unfinished Failed none = Refuse refusals.Source
+
+abbrev pub is_none : List ℕ → Bool
+is_none [] = true
+is_none (b ∷ bytes) = false
+
+-- a request that the node is to answer itself has no input
+abbrev pub input_for : Hint → Option Input → Option Input
+input_for Here input = None
+input_for hint input = input
+
+-- a whole request, with its body
+abbrev pub answered : Request → Result (Option Input) Refused → Verdict
+answered request (Ok input) = Ask (record request { input = input_for request.hint input })
+answered request (Err why) = Refuse why
+
+abbrev pub whole : NodeTerms → Head → Request → List ℕ → Verdict
+whole t head request body =
+    if is_forged t.key request.operation head.mac body then Refuse refusals.Mac
+    else answered request (input_asked t.nodes t.me request.operation body)
+
+-- a head that asks this, with what came behind it of the bytes that came
+abbrev pub with_body : NodeTerms → Arrival → ℕ → Head → List ℕ → Asked → Verdict
+with_body t a came head rest said =
+    if awaits_continue head && not a.permitted then Permit
+    else if nat_lt (length rest) head.length then unfinished a.coming false
+    else whole t head (record {
+      count = came - length rest + head.length;
+      operation = said.operation;
+      hint = said.hint;
+      input = None;
+      last = is_last head a.number;
+    }) (take head.length rest)
+
+abbrev pub routed : NodeTerms → Arrival → ℕ → Head → List ℕ → Result Asked Refused → Verdict
+routed t a came head rest (Ok said) = with_body t a came head rest said
+routed t a came head rest (Err why) = Refuse why
+
+-- a whole head, with what came behind it
+abbrev pub asked_behind : NodeTerms → Arrival → ℕ → Head → List ℕ → Verdict
+asked_behind t a came head rest = routed t a came head rest (asked_with_hint head t.rules)
+
+-- the fault by which a reader of heads met no head; none where the bytes ended before
+abbrev pub fault_met : HttpFault → Option RouteFault
+fault_met http.Ended = None
+fault_met fault = Some (fault_of_http fault)
+
+-- no head was read
+abbrev pub unread : Coming → Bool → Option RouteFault → Verdict
+unread coming none None = unfinished coming none
+unread coming none (Some fault) = refused_for fault
+
+-- what a reader of heads answered, with what it left
+abbrev pub verdict_for : NodeTerms → Arrival → List ℕ → List ℕ → Result Head HttpFault → Verdict
+verdict_for t a bytes rest (Ok head) = asked_behind t a (length bytes) head rest
+verdict_for t a bytes rest (Err fault) = unread a.coming (is_none bytes) (fault_met fault)
+
+-- The verdict on these bytes: what a source that gives these bytes and then ends is answered, where its end is what it is here.
+pub record IsVerdict (t : NodeTerms) (a : Arrival) (bytes : List ℕ) (v : Verdict) : Type 0 where
+  pub answer : Result Head HttpFault
+  pub rest : List ℕ
+  pub answers : AnswersRequest bytes rest answer
+  pub decided : IsDecided answer
+  pub verdict : v ≡ verdict_for t a bytes rest answer

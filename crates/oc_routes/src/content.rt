@@ -1,0 +1,55 @@
+ghost use Rattle.std.specs.Prelude.{◌≡◌, ◌+◌, ◌≤◌};
+ghost use Rattle.oc_routes.specs.Contents.{begun, behind, is_last};
+
+use crate::GroupRange;
+use oc_base::GroupName;
+
+/// How many bytes of a content are given at a time: 64 whole chunks.
+pub const PIECE_BYTES: usize = 262_144;
+
+/// The content of a group that is under way: a place in the group.
+#[derive(Clone, Copy, Debug, PartialEq, Eq)]
+pub struct UnderWay {
+    pub group: GroupName,
+    /// The offset of the next byte in the group.
+    pub at: u64,
+    /// The offset at which it ends.
+    pub end: u64,
+    /// It is given as chunks (RFC 9112, section 7.1).
+    pub chunked: bool,
+}
+
+impl UnderWay {
+    /// The content of a response, of which nothing was given yet.
+    pub fn begun(group: GroupName, content: GroupRange) -> UnderWay
+        requires { content.start + content.count ≤ u64.MAX }
+        ensures { result ≡ begun group content }
+    {
+        UnderWay {
+            group,
+            at: content.start,
+            end: content.start + content.count,
+            chunked: content.chunked,
+        }
+    }
+
+    /// Whether nothing of it is left behind `count` bytes more.
+    pub fn is_last(&self, count: usize) -> bool
+        ensures { result ≡ is_last self.now count }
+    {
+        self.end <= self.at.saturating_add(count as u64)
+    }
+
+    /// What is under way behind `count` bytes more; `None` where all of it was given.
+    pub fn behind(self, count: usize) -> Option<UnderWay>
+        ensures { result ≡ behind self count }
+    {
+        if self.is_last(count) {
+            return None;
+        }
+        Some(UnderWay {
+            at: self.at + count as u64,
+            ..self
+        })
+    }
+}

@@ -1,0 +1,103 @@
+//! What the query of a GET or HEAD of a group tells besides start and area.
+
+ghost use Rattle.std.specs.Prelude.{◌≡◌, ◌≤◌, length, IfOk};
+ghost use Rattle.oc_base.specs.declared.limits.TheConstants.{MAX_START as START_LIMIT};
+ghost use Rattle.oc_policy.specs.declared.deciding.TheConstants.{MAX_RULES as MOST_RULES};
+ghost use Rattle.oc_routes.specs.Hints.{asked_with_hint, hint_for, hint_in, hint_of};
+ghost use Rattle.oc_routes.specs.Lawful.{IsAsked};
+ghost use Rattle.oc_http.specs.Queries.{parts};
+ghost use Rattle.oc_routes.specs.Queries.{first_value, has_part};
+
+use crate::{Operation, Refused, first_value, has_part, number_told, route};
+use oc_base::MAX_START;
+use oc_http::{Head, Method};
+use oc_policy::Rule;
+
+/// What a client that asks for a group tells of it.
+#[derive(Clone, Copy, Debug, PartialEq, Eq)]
+pub enum Hint {
+    /// Nothing.
+    Plain,
+    /// The node that it asks is to answer itself.
+    Here,
+    /// The group is sealed with this many bytes.
+    Of(u64),
+    /// The group is there.
+    Known,
+}
+
+/// What a head asks, and what it tells.
+#[derive(Clone, Copy, Debug)]
+pub struct Asked {
+    pub operation: Operation,
+    pub hint: Hint,
+}
+
+/// What the head of a request asks under these access rules, with what its query tells, or the first
+/// fault: of the method, the path, the query, and then the rule that denies it. Takes no memory.
+pub fn route_with_hint(head: &Head, rules: &[Rule]) -> Result<Asked, Refused>
+    requires { length rules.now ≤ MOST_RULES }
+    ensures said { result ≡ asked_with_hint head.now rules.now }
+    ensures lawful { IfOk result (λ asked. IsAsked asked.operation) }
+{
+    match route(head, rules) {
+        Ok(operation) => match operation {
+            Operation::Client { .. } => Ok(Asked {
+                operation,
+                hint: hint_for(head.method, head.query.items())?,
+            }),
+            Operation::Report { .. } => {
+                let _hint = hint_for(head.method, head.query.items())?;
+                Ok(plain(operation))
+            }
+            _ => Ok(plain(operation)),
+        },
+        Err(Refused::Denied(rule)) => {
+            let _hint = hint_for(head.method, head.query.items())?;
+            Err(Refused::Denied(rule))
+        }
+        Err(why) => Err(why),
+    }
+}
+
+/// This is asked, and nothing is told.
+fn plain(operation: Operation) -> Asked
+    ensures { result ≡ record { operation = operation; hint = Hint.Plain } }
+{
+    Asked {
+        operation,
+        hint: Hint::Plain,
+    }
+}
+
+/// What a query tells, which only that of a GET or HEAD does.
+fn hint_for(method: Method, query: &[u8]) -> Result<Hint, Refused>
+    ensures { result ≡ hint_for method query.now }
+{
+    match method {
+        Method::Get | Method::Head => hint_in(query),
+        Method::Post | Method::Other => Ok(Hint::Plain),
+    }
+}
+
+/// What a query tells.
+fn hint_in(query: &[u8]) -> Result<Hint, Refused>
+    ensures { result ≡ hint_in query.now }
+{
+    let length = number_told(MAX_START, first_value(b"of=", query))?;
+    Ok(hint_of(has_part("here", query), has_part("known", query), length))
+}
+
+/// What these parts tell together.
+fn hint_of(here: bool, known: bool, length: Option<u64>) -> Hint
+    ensures { result ≡ hint_of here known length }
+{
+    if here {
+        return Hint::Here;
+    }
+    match length {
+        Some(length) => Hint::Of(length),
+        None if known => Hint::Known,
+        None => Hint::Plain,
+    }
+}

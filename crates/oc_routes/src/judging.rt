@@ -1,0 +1,134 @@
+//! What is to be done with the bytes that came on a connection so far.
+
+ghost use Rattle.std.specs.Prelude.{◌≡◌, ◌≤◌, ◌++◌, length, option_map, IfOk};
+ghost use Rattle.oc_base.specs.declared.limits.TheConstants.{MAX_BODY_BYTES as MOST_BODY};
+ghost use Rattle.oc_policy.specs.declared.deciding.TheConstants.{MAX_RULES as MOST_RULES};
+ghost use Rattle.oc_routes.specs.Asks.{IsLawfulVerdict};
+ghost use Rattle.oc_routes.specs.Verdicts.{IsVerdict, asked_behind, fault_met, input_for, terms_of, unfinished};
+
+use crate::hint::{Hint, route_with_hint};
+use crate::macs::is_forged;
+use crate::rest::Rest;
+use crate::terms::Terms;
+use crate::verdict::{Request, Verdict};
+use crate::{Refused, RouteFault, awaits_continue, input_of, is_last};
+use oc_base::Memory;
+use oc_http::{Head, HeadReader, HttpFault};
+use oc_link::{Arrival, Coming};
+use oc_model::Input;
+use std::alloc::Global;
+
+/// What is to be done with a connection for the bytes of its request that came so far. For a request it is
+/// what it would be if these bytes came in one piece, however they are cut.
+pub fn judge(
+    alloc: Global,
+    heads: &mut HeadReader,
+    terms: &Terms<'_>,
+    arrival: Arrival,
+    bytes: &[u8],
+) -> Result<Verdict, Memory>
+    requires { length terms.now.rules.now ≤ MOST_RULES }
+    ensures verdict { IfOk result (IsVerdict (terms_of terms.now.me terms.now.nodes terms.now.rules.now (option_map (λ k. k.now) terms.now.key)) arrival bytes.now) }
+    ensures lawful { IfOk result (IsLawfulVerdict terms.now.nodes terms.now.me) }
+{
+    let mut source = Rest::of(bytes);
+    match heads.read_head(&mut source) {
+        Ok(head) => behind_head(
+            alloc,
+            terms,
+            arrival,
+            bytes.len() as u64,
+            &head,
+            source.left,
+        ),
+        Err(fault) => match fault_met(fault) {
+            None => Ok(unfinished(arrival.coming, bytes.is_empty())),
+            Some(RouteFault::Refused(why)) => Ok(Verdict::Refuse(why)),
+            Some(RouteFault::Memory) => Err(Memory),
+        },
+    }
+}
+
+/// The fault by which a reader of heads met no head; `None` where the bytes ended before.
+fn fault_met(fault: HttpFault) -> Option<RouteFault>
+    ensures { result ≡ fault_met fault }
+{
+    match fault {
+        HttpFault::Ended => None,
+        fault => Some(RouteFault::from(fault)),
+    }
+}
+
+/// The verdict behind a whole head, with the bytes that came behind it.
+fn behind_head(
+    alloc: Global,
+    terms: &Terms<'_>,
+    arrival: Arrival,
+    came: u64,
+    head: &Head,
+    rest: &[u8],
+) -> Result<Verdict, Memory>
+    requires rules { length terms.now.rules.now ≤ MOST_RULES }
+    requires body { head.now.length ≤ MOST_BODY }
+    ensures verdict { IfOk result (λ verdict. verdict
+        ≡ asked_behind (terms_of terms.now.me terms.now.nodes terms.now.rules.now (option_map (λ k. k.now) terms.now.key)) arrival came head.now rest.now) }
+    ensures lawful { IfOk result (IsLawfulVerdict terms.now.nodes terms.now.me) }
+{
+    let said = match route_with_hint(head, terms.rules) {
+        Ok(said) => said,
+        Err(why) => return Ok(Verdict::Refuse(why)),
+    };
+    if awaits_continue(head) && !arrival.permitted {
+        return Ok(Verdict::Permit);
+    }
+    if (rest.len() as u64) < head.length {
+        return Ok(unfinished(arrival.coming, false));
+    }
+    let body = &rest[..head.length as usize];
+    if is_forged(terms.key, &said.operation, head.mac.as_ref(), body) {
+        return Ok(Verdict::Refuse(Refused::Mac));
+    }
+    let body = copied(alloc, body)?;
+    match input_of(alloc, &said.operation, body, terms.me, terms.nodes) {
+        Ok(input) => Ok(Verdict::Ask(Request {
+            count: came.saturating_sub(rest.len() as u64) + head.length,
+            operation: said.operation,
+            hint: said.hint,
+            input: input_for(said.hint, input),
+            last: is_last(head, arrival.number),
+        })),
+        Err(RouteFault::Refused(why)) => Ok(Verdict::Refuse(why)),
+        Err(RouteFault::Memory) => Err(Memory),
+    }
+}
+
+/// The input of a request: none where the node is to answer itself.
+fn input_for(hint: Hint, input: Option<Input>) -> Option<Input>
+    ensures { result ≡ input_for hint input }
+{
+    match hint {
+        Hint::Here => None,
+        Hint::Plain | Hint::Of(_) | Hint::Known => input,
+    }
+}
+
+/// The verdict on a request of which the bytes so far are a part, `none` where none came.
+fn unfinished(coming: Coming, none: bool) -> Verdict
+    ensures { result ≡ unfinished coming none }
+{
+    match coming {
+        Coming::Open => Verdict::Wait,
+        Coming::Ended if none => Verdict::Leave,
+        Coming::Ended => Verdict::Refuse(Refused::Ended),
+        Coming::Failed => Verdict::Refuse(Refused::Source),
+    }
+}
+
+/// A copy of these bytes.
+fn copied(alloc: Global, bytes: &[u8]) -> Result<Vec<u8>, Memory>
+    ensures { IfOk result (λ copy. copy.items ≡ bytes.now) }
+{
+    let mut copy = Vec::new(alloc);
+    copy.extend_from_slice(bytes)?;
+    Ok(copy)
+}

@@ -1,0 +1,146 @@
+ghost use Rattle.std.specs.Prelude.{◌≡◌, ◌≤◌, length, IfOk};
+
+use crate::outgoing::Outgoing;
+use std::alloc::Global;
+use std::io::{self, ErrorKind};
+use std::mem;
+use std::net::{Net, TcpStream};
+use std::rt::Clock;
+
+/// The outgoing connection of a client: one at a time.
+#[derive(Drop)]
+pub(crate) struct ClientConnection<'a, R> {
+    rt: &'a R,
+    alloc: Global,
+    outgoing: Option<Outgoing>,
+    /// Where the outgoing connection leads, if it may be kept for further requests; and the further request
+    /// on it, if no byte of its reply has come.
+    address: String,
+    asked: Vec<u8>,
+}
+
+impl<'a, R: Net<Stream = TcpStream> + Clock> ClientConnection<'a, R> {
+    /// No outgoing connection, over the sockets of this runtime.
+    pub(crate) fn new(rt: &'a R, alloc: Global) -> ClientConnection<'a, R> {
+        ClientConnection {
+            rt,
+            alloc,
+            outgoing: None,
+            address: String::new(alloc),
+            asked: Vec::new(alloc),
+        }
+    }
+
+    /// Where the outgoing connection leads, or the last one did.
+    pub(crate) fn address(&self) -> &str {
+        self.address.as_str()
+    }
+
+    /// Connects, and writes what is to be said first.
+    pub(crate) fn reach(&mut self, address: &str, bytes: &[u8]) -> io::Result<()> {
+        self.asked.clear();
+        self.address.clear();
+        self.address.push_str(address)?;
+        self.connect()?;
+        self.say(bytes)
+    }
+
+    /// Makes the outgoing connection, in the place of the one before.
+    fn connect(&mut self) -> io::Result<()> {
+        self.outgoing = None;
+        let made = Outgoing::reach(self.rt, self.alloc, self.address.as_str())?;
+        self.outgoing = Some(made);
+        Ok(())
+    }
+
+    /// Writes all these bytes on the outgoing connection.
+    fn say(&mut self, bytes: &[u8]) -> io::Result<()> {
+        match &mut self.outgoing {
+            Some(outgoing) => outgoing.write_all(self.rt, bytes),
+            None => Err(io::Error::from(ErrorKind::NotConnected)),
+        }
+    }
+
+    /// Makes a further request on the outgoing connection. Its peer may have ended it meanwhile; then it is made
+    /// on a new one (RFC 9112, section 9.3.1).
+    pub(crate) fn ask(&mut self, bytes: &[u8]) -> io::Result<()> {
+        self.asked.clear();
+        self.asked.extend_from_slice(bytes)?;
+        match self.say(bytes) {
+            Err(error) if is_end(&error) => self.ask_anew(),
+            said => said,
+        }
+    }
+
+    /// Makes the further request on a new connection, once.
+    fn ask_anew(&mut self) -> io::Result<()> {
+        self.connect()?;
+        let asked = mem::replace(&mut self.asked, Vec::new(self.alloc));
+        self.say(asked.as_slice())
+    }
+
+    /// Reads from the outgoing connection.
+    pub(crate) fn hear(&mut self, buf: &mut [u8]) -> io::Result<usize>
+        ensures within { IfOk result (λ n. n ≤ length buf.old) }
+    {
+        let count = self.give(buf);
+        if count > 0 || buf.is_empty() || self.outgoing.is_none() {
+            return Ok(count);
+        }
+        self.refill_asked()?;
+        Ok(self.give(buf))
+    }
+
+    /// Gives what came on the outgoing connection and was not given yet.
+    fn give(&mut self, buf: &mut [u8]) -> usize
+        ensures within { result ≤ length buf.old }
+        ensures length { length buf.new ≡ length buf.old }
+    {
+        match &mut self.outgoing {
+            Some(outgoing) => outgoing.give(buf),
+            None => 0,
+        }
+    }
+
+    /// Reads another piece, from a new connection where this one ended before a further request was answered.
+    fn refill_asked(&mut self) -> io::Result<usize> {
+        let filled = self.refill();
+        if !self.asked.is_empty() && has_ended(&filled) {
+            self.ask_anew()?;
+            return self.refill();
+        }
+        if filled.is_ok() {
+            self.asked.clear();
+        }
+        filled
+    }
+
+    /// Reads another piece from the outgoing connection, and answers its length.
+    fn refill(&mut self) -> io::Result<usize> {
+        match &mut self.outgoing {
+            Some(outgoing) => outgoing.fill(self.rt),
+            None => Ok(0),
+        }
+    }
+
+    /// Ends the outgoing connection.
+    pub(crate) fn hang_up(&mut self) {
+        self.outgoing = None;
+    }
+}
+
+/// Whether a read found that the peer ended the connection.
+fn has_ended(read: &io::Result<usize>) -> bool {
+    match read {
+        Ok(count) => *count == 0,
+        Err(error) => is_end(error),
+    }
+}
+
+/// Whether the peer ended the connection.
+fn is_end(error: &io::Error) -> bool {
+    matches!(
+        error.kind(),
+        ErrorKind::ConnectionReset | ErrorKind::ConnectionAborted | ErrorKind::BrokenPipe
+    )
+}

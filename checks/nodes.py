@@ -67,13 +67,13 @@ class Network:
         os.makedirs(path, exist_ok=True)
         return path
 
-    def start(self, node, *words, head="", files=None):
-        """Starts a node with further words, with these lines at the head of its configuration, and with at most so many open
-        files; comes back once it listens."""
+    def start(self, node, *words, head="", files=None, under=()):
+        """Starts a node with further words, with these lines at the head of its configuration, with at most this many open
+        files, and as what the command `under` runs; comes back once it listens."""
         home = self.home(node)
         with open(os.path.join(home, "network.toml"), "w") as it:
             it.write(head + self.configuration)
-        words = [PROGRAM, "node", str(node), "--config", "network.toml", *words]
+        words = [*under, PROGRAM, "node", str(node), "--config", "network.toml", *words]
         with open(os.path.join(home, "lines"), "ab") as lines, open(os.path.join(home, "errors"), "ab") as errors:
             it = subprocess.Popen(words, cwd=home, stdin=subprocess.DEVNULL, stdout=lines, stderr=errors,
                                   preexec_fn=files and (lambda: resource.setrlimit(resource.RLIMIT_NOFILE, (files, files))))

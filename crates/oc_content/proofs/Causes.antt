@@ -13,18 +13,18 @@ use Rattle.oc_journal.specs.declared.errors.AppendError.TheVariants as appends
 use Rattle.oc_journal.specs.declared.errors.LoadError.{LoadError}
 use Rattle.oc_journal.specs.declared.errors.LoadError.TheVariants as loads
 use Rattle.oc_base.specs.declared.group.Group.{Group}
-use Rattle.oc_content.specs.declared.errors.ContentError.{ContentError}
-use Rattle.oc_content.specs.declared.errors.ContentError.TheVariants.{Disk, NotJournal, BadFrame, Memory}
+use Rattle.oc_journal.specs.declared.errors.FileError.{FileError}
+use Rattle.oc_journal.specs.declared.errors.FileError.TheVariants.{Disk, NotJournal, BadFrame, Memory}
 use Rattle.oc_content.specs.ContentFile.{content_of, more, IsFirstBad}
 use Rattle.oc_content.specs.ContentView.{RefusesIndex, content_with}
 use Rattle.oc_content.specs.declared.index.Index.{Index}
 use Rattle.oc_content.specs.Indexes.{rooms, memory_of}
-use Rattle.oc_content.specs.Errors.{load_error}
+use Rattle.oc_journal.specs.Errors.{of_load}
 use Rattle.oc_content.specs.Promises.{RefusesContent, ClosesByCommit}
 use Rattle.oc_content.proofs.Meanings.{none_more}
 
 -- the journal was refused
-pub refused_load : (old new : DiskView) (error : LoadError) → RefusesLoad old new error → RefusesContent old new (load_error error)
+pub refused_load : (old new : DiskView) (error : LoadError) → RefusesLoad old new error → RefusesContent old new (of_load error)
 refused_load old new loads.Disk why = why
 refused_load old new loads.NotJournal why = why
 refused_load old new loads.Memory why = tt
@@ -37,7 +37,7 @@ fails_later u v w goes fails = record {
 }
 
 -- the journal was loaded, and its frames refused
-pub refused_index : (u v w : DiskView) (frames : List (List ℕ)) (error : ContentError) → GoesOn u v → (IsTrue u.honest → frames ≡ frames_of u.seen) → (IsTrue u.honest → ¬ IsNoJournal u.seen) → RefusesIndex v w frames error → RefusesContent u w error
+pub refused_index : (u v w : DiskView) (frames : List (List ℕ)) (error : FileError) → GoesOn u v → (IsTrue u.honest → frames ≡ frames_of u.seen) → (IsTrue u.honest → ¬ IsNoJournal u.seen) → RefusesIndex v w frames error → RefusesContent u w error
 refused_index u v w frames Disk goes are journal why = fails_later u v w goes why
 refused_index u v w frames NotJournal goes are journal why = absurd why
 refused_index u v w frames (BadFrame i) goes are journal why = λ honest.
@@ -58,7 +58,7 @@ not_some content none some = absurd (no_some (subst (λ (c : Option (List Group)
     no_some is = cc
 
 -- a good file on a reliable disk is refused for want of memory alone
-pub refused_memory : (old new : DiskView) (error : ContentError) → RefusesContent old new error → IsTrue old.reliable → IsTrue old.honest → ¬ IsNoJournal old.seen → IsSome (content_of (frames_of old.seen)) → error ≡ Memory
+pub refused_memory : (old new : DiskView) (error : FileError) → RefusesContent old new error → IsTrue old.reliable → IsTrue old.honest → ¬ IsNoJournal old.seen → IsSome (content_of (frames_of old.seen)) → error ≡ Memory
 refused_memory old new Disk why sure honest journal good = absurd (why.unsure (record { reliable = sure; room = omega arith; calls = omega arith }))
 refused_memory old new NotJournal why sure honest journal good = absurd (journal (why honest))
 refused_memory old new (BadFrame i) why sure honest journal good =
@@ -66,7 +66,7 @@ refused_memory old new (BadFrame i) why sure honest journal good =
 refused_memory old new Memory why sure honest journal good = refl
 
 -- why frames were not indexed, cause by cause
-pub refuses_index : (old new : DiskView) (frames : List (List ℕ)) (error : ContentError) → (error ≡ Disk → FailsToRead old new) → (error ≡ NotJournal → ⊥) → ((i : ℕ) → error ≡ BadFrame i → IsTrue old.honest → IsFirstBad frames i) → RefusesIndex old new frames error
+pub refuses_index : (old new : DiskView) (frames : List (List ℕ)) (error : FileError) → (error ≡ Disk → FailsToRead old new) → (error ≡ NotJournal → ⊥) → ((i : ℕ) → error ≡ BadFrame i → IsTrue old.honest → IsFirstBad frames i) → RefusesIndex old new frames error
 refuses_index old new frames Disk disk journal bad = disk refl
 refuses_index old new frames NotJournal disk journal bad = journal refl
 refuses_index old new frames (BadFrame i) disk journal bad = bad i refl

@@ -2,8 +2,8 @@
 use Rattle.std.proofs.Common.{ℕ, IsErrOf, Err, refl}
 use Rattle.oc_journal.specs.declared.errors.FrameError.{FrameError}
 use Rattle.oc_journal.specs.declared.errors.FrameError.TheVariants as frames
-use Rattle.oc_content.specs.declared.errors.ContentError.TheVariants.{Disk, NotJournal, BadFrame, Memory}
-use Rattle.oc_content.specs.Errors.{frame_error}
+use Rattle.oc_journal.specs.declared.errors.FileError.TheVariants.{Disk, NotJournal, BadFrame, Memory}
+use Rattle.oc_journal.specs.Errors.{of_frame}
 
 -- memory ran out
 pub memory_not_bad : {T : Type 0} (i : ℕ) → IsErrOf {T = T} (Err Memory) (BadFrame i) → ⊥
@@ -26,16 +26,16 @@ pub bad_not_journal : {T : Type 0} (i : ℕ) → IsErrOf {T = T} (Err (BadFrame 
 bad_not_journal i is = absurd cc
 
 -- a frame was not read
-pub unread_not_bad : {T : Type 0} (e : FrameError) (i : ℕ) → IsErrOf {T = T} (Err (frame_error e)) (BadFrame i) → ⊥
+pub unread_not_bad : {T : Type 0} (e : FrameError) (i : ℕ) → IsErrOf {T = T} (Err (of_frame e)) (BadFrame i) → ⊥
 unread_not_bad frames.Disk i is = absurd cc
 unread_not_bad frames.Memory i is = absurd cc
 
 -- and the file is a journal
-pub unread_not_journal : {T : Type 0} (e : FrameError) → IsErrOf {T = T} (Err (frame_error e)) NotJournal → ⊥
+pub unread_not_journal : {T : Type 0} (e : FrameError) → IsErrOf {T = T} (Err (of_frame e)) NotJournal → ⊥
 unread_not_journal frames.Disk is = absurd cc
 unread_not_journal frames.Memory is = absurd cc
 
 -- a call failed where the journal says so
-pub unread_disk : {T U : Type 0} (e : FrameError) → IsErrOf {T = T} (Err (frame_error e)) Disk → IsErrOf {T = U} (Err e) frames.Disk
+pub unread_disk : {T U : Type 0} (e : FrameError) → IsErrOf {T = T} (Err (of_frame e)) Disk → IsErrOf {T = U} (Err e) frames.Disk
 unread_disk frames.Disk is = refl
 unread_disk frames.Memory is = absurd cc

@@ -4,8 +4,8 @@ use Rattle.oc_base.specs.declared.shelf.Shelf.{Shelf}
 use Rattle.oc_io.specs.DiskView.{DiskView, FailsToRead}
 use Rattle.oc_journal.specs.JournalView.{JournalView}
 use Rattle.oc_journal.specs.Promises.{OnlyReads, NoneFailed}
-use Rattle.oc_content.specs.declared.errors.ContentError.{ContentError}
-use Rattle.oc_content.specs.declared.errors.ContentError.TheVariants.{Disk, NotJournal, BadFrame, Memory}
+use Rattle.oc_journal.specs.declared.errors.FileError.{FileError}
+use Rattle.oc_journal.specs.declared.errors.FileError.TheVariants.{Disk, NotJournal, BadFrame, Memory}
 use Rattle.oc_base.specs.declared.named.Lookup.{Lookup}
 use Rattle.oc_content.specs.declared.index.Index.{Index}
 use Rattle.oc_base.specs.declared.group.Group.{Group}
@@ -75,7 +75,7 @@ pub record IsOpened {D : Type 0} (view : D → DiskView) (j : JournalView D) (c 
   pub shelved : IsTrue (view j.disk).honest → IsShelved c.journal.frames c.shelves
 
 -- why the frames of a loaded journal were not indexed: a call failed, or this is the first bad one
-abbrev pub RefusesIndex : DiskView → DiskView → List (List ℕ) → ContentError → Type 0
+abbrev pub RefusesIndex : DiskView → DiskView → List (List ℕ) → FileError → Type 0
 RefusesIndex old new frames Disk = FailsToRead old new
 RefusesIndex old new frames NotJournal = ⊥
 RefusesIndex old new frames (BadFrame i) = IsTrue old.honest → IsFirstBad frames i

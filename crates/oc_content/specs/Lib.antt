@@ -1,4 +1,3 @@
-pub mod Errors
 pub mod GroupPieces
 pub mod ContentFile
 pub mod Putting

@@ -3,8 +3,8 @@ use Rattle.std.specs.Prelude.{◌≡◌, ℕ, ◌+◌, ◌≤◌, Bool, IsTrue, 
 use Rattle.oc_io.specs.DiskView.{DiskView, FailsToRead}
 use Rattle.oc_journal.specs.JournalFile.{IsNoJournal}
 use Rattle.oc_journal.specs.Promises.{IsLoaded, OnlyReads, HasRoom, Appends, ClosesByAppend}
-use Rattle.oc_content.specs.declared.errors.ContentError.{ContentError}
-use Rattle.oc_content.specs.declared.errors.ContentError.TheVariants.{Disk, NotJournal, BadFrame, Memory}
+use Rattle.oc_journal.specs.declared.errors.FileError.{FileError}
+use Rattle.oc_journal.specs.declared.errors.FileError.TheVariants.{Disk, NotJournal, BadFrame, Memory}
 use Rattle.oc_content.specs.ContentFile.{content_of, groups_in, with_entry, IsBadAt, IsShelved, IsSameElsewhere}
 use Rattle.oc_content.specs.ContentView.{ContentView, PieceView, IsPrepared}
 use Rattle.oc_content.specs.Entries.{written}
@@ -19,7 +19,7 @@ pub record IsContentOf {D : Type 0} (view : D → DiskView) (disk : D) (new : Co
   pub shelved : IsTrue (view disk).honest → IsShelved new.journal.frames new.shelves
 
 -- why a disk was not loaded: a call failed, its file is no journal, or this is its first bad frame
-abbrev pub RefusesContent : DiskView → DiskView → ContentError → Type 0
+abbrev pub RefusesContent : DiskView → DiskView → FileError → Type 0
 RefusesContent old new Disk = FailsToRead old new
 RefusesContent old new NotJournal = IsTrue old.honest → IsNoJournal old.seen
 RefusesContent old new (BadFrame i) = IsTrue old.honest → IsBadAt old.seen i

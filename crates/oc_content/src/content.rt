@@ -14,7 +14,7 @@ ghost use Rattle.oc_content.specs.Promises.{IsContentOf, RefusesContent, PutsNot
 ghost use Rattle.oc_content.specs.Putting.{group_state_in, fault_of};
 
 use crate::committing::append;
-use crate::errors::{ContentError, PutError, ReadError};
+use crate::errors::{PutError, ReadError};
 use crate::frame_reads::read_group;
 use crate::index::Index;
 use crate::indexing::index_frames;
@@ -23,7 +23,7 @@ use crate::putting::{NewBytes, ready};
 use crate::spot::Spot;
 use oc_base::{GroupName, MAX_GROUP_BYTES, MAX_GROUPS, MAX_PUBLISH_BYTES, Shelf};
 use oc_io::{Disk, MemDisk};
-use oc_journal::{AppendError, Journal};
+use oc_journal::{AppendError, FileError, Journal};
 use std::alloc::Global;
 use std::marker::Model;
 
@@ -47,8 +47,10 @@ impl<D: Disk> Model for Content<D> {
 
 impl<D: Disk> Content<D> {
     /// Loads the content of a disk. A file of at most 9 bytes is new, and its header is written. On
-    /// a refusal the disk comes back.
-    pub fn load(alloc: Global, disk: D) -> Result<Content<D>, (D, ContentError)>
+    /// a refusal the disk comes back. A bad frame is one that is no content body, that does not begin
+    /// where its group ends or adds nothing to it, that would be a 65th group or pass 2^40 bytes, or
+    /// whose group is sealed.
+    pub fn load(alloc: Global, disk: D) -> Result<Content<D>, (D, FileError)>
         ensures loaded { IfOk result (λ content. IsContentOf D.view disk content) }
         ensures safely { IfOk result (λ content. LoadsSafely (D.view disk) (D.view content.journal.disk)) }
         ensures safely_err { IfErr result (λ refused. LoadsSafely (D.view disk) (D.view refused.0)) }
@@ -58,11 +60,11 @@ impl<D: Disk> Content<D> {
         // A good file on a reliable disk is loaded.
         ensures works { IfErr result (λ refused. IsTrue (D.view disk).reliable
             → ¬ IsNoJournal (D.view disk).seen → IsSome (content_of (frames_of (D.view disk).seen))
-            → refused.1 ≡ ContentError.Memory) }
+            → refused.1 ≡ FileError.Memory) }
     {
         match Journal::load(alloc, disk) {
             Ok(journal) => indexed(alloc, journal),
-            Err((disk, error)) => Err((disk, ContentError::from(error))),
+            Err((disk, error)) => Err((disk, FileError::from(error))),
         }
     }
 
@@ -187,7 +189,7 @@ impl<D: Disk> Content<D> {
 }
 
 /// The content of a journal that was loaded.
-fn indexed<D: Disk>(alloc: Global, mut journal: Journal<D>) -> Result<Content<D>, (D, ContentError)>
+fn indexed<D: Disk>(alloc: Global, mut journal: Journal<D>) -> Result<Content<D>, (D, FileError)>
     ensures opened { IfOk result (λ content. IsOpened D.view journal content) }
     ensures stays_err { IfErr result (λ refused. StaysAsItWas (D.view journal.disk) (D.view refused.0)) }
     ensures refuses { IfErr result

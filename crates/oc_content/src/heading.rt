@@ -1,13 +1,12 @@
 //! What is before the bytes in the body of a frame.
 
-ghost use Rattle.std.specs.Prelude.{◌≡◌, ◌+◌, ◌^◌, ◌<◌, ◌≤◌, ◌++◌, length, take, IfOk, IfSome};
+ghost use Rattle.std.specs.Prelude.{◌≡◌, ◌+◌, ◌^◌, ◌<◌, ◌≤◌, length, take, IfOk, IfSome};
 ghost use Rattle.std.specs.Int.{w64, from_be_bytes};
 ghost use Rattle.oc_base.specs.Names.{IsGroupName};
-ghost use Rattle.oc_base.specs.declared.limits.TheConstants.{MAX_FRAME_BYTES};
 ghost use Rattle.oc_content.specs.Entries.{entry_of, fields, heading};
 ghost use Rattle.oc_content.specs.Headings.{IsBehind, IsHeadingOf};
 
-use oc_base::{GroupName, MAX_PUBLISH_BYTES};
+use oc_base::GroupName;
 use std::alloc::{AllocError, Global};
 
 /// The byte that begins a sealed body. No name has this length.
@@ -58,22 +57,19 @@ impl Heading {
         }
     }
 
-    /// The body of a frame: this heading, and then these bytes.
-    pub fn body(&self, alloc: Global, bytes: &[u8]) -> Result<Vec<u8>, AllocError>
-        requires { length bytes.now ≤ MAX_PUBLISH_BYTES }
-        ensures body { IfOk result (λ body.
-            body.items ≡ heading self.now.seals self.now.group self.now.start ++ bytes.now) }
-        ensures short { IfOk result (λ body. length body.items ≤ MAX_FRAME_BYTES) }
+    /// What the body of a frame has before its bytes.
+    pub fn front(&self, alloc: Global) -> Result<Vec<u8>, AllocError>
+        ensures front { IfOk result (λ front. front.items ≡ heading self.now.seals self.now.group self.now.start) }
+        ensures short { IfOk result (λ front. length front.items < 512) }
     {
-        let mut body = Vec::new(alloc);
+        let mut front = Vec::new(alloc);
         if self.seals {
-            body.push(SEALED)?;
+            front.push(SEALED)?;
         }
-        body.push(name_len(self.group))?;
-        body.extend_from_slice(self.group.bytes())?;
-        body.extend_from_slice(&self.start.to_be_bytes())?;
-        body.extend_from_slice(bytes)?;
-        Ok(body)
+        front.push(name_len(self.group))?;
+        front.extend_from_slice(self.group.bytes())?;
+        front.extend_from_slice(&self.start.to_be_bytes())?;
+        Ok(front)
     }
 }
 

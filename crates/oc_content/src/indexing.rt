@@ -5,20 +5,19 @@ ghost use Rattle.oc_journal.specs.Promises.{OnlyReads, NoneFailed, ClosesByRead}
 ghost use Rattle.oc_content.specs.ContentFile.{IsFirstBad};
 ghost use Rattle.oc_content.specs.ContentView.{IsIndexed};
 
-use crate::errors::ContentError;
 use crate::index::Index;
 use oc_io::Disk;
-use oc_journal::Journal;
+use oc_journal::{FileError, Journal};
 use std::alloc::Global;
 
 /// Reads each frame once, in order, up to the first bad one.
-pub fn index_frames<D: Disk>(alloc: Global, journal: &mut Journal<D>) -> Result<Index, ContentError>
+pub fn index_frames<D: Disk>(alloc: Global, journal: &mut Journal<D>) -> Result<Index, FileError>
     ensures indexed { IfOk result (λ index. IsIndexed D.view journal.new index) }
-    ensures bad { (i : ℕ) → IsErrOf result (ContentError.BadFrame i)
+    ensures bad { (i : ℕ) → IsErrOf result (FileError.BadFrame i)
         → IsTrue (D.view journal.old.disk).honest → IsFirstBad journal.old.frames i }
-    ensures disk { IsErrOf result ContentError.Disk → ClosesByRead D.view journal.old journal.new }
+    ensures disk { IsErrOf result FileError.Disk → ClosesByRead D.view journal.old journal.new }
     ensures none_failed { OnOk result (NoneFailed D.view journal.old journal.new) }
-    ensures journal { IsErrOf result ContentError.NotJournal → ⊥ }
+    ensures journal { IsErrOf result FileError.NotJournal → ⊥ }
     ensures same { OnlyReads D.view journal.old journal.new }
 {
     let mut index = Index::new(alloc)?;
@@ -26,7 +25,7 @@ pub fn index_frames<D: Disk>(alloc: Global, journal: &mut Journal<D>) -> Result<
     for number in 0..journal.count() {
         journal.frame(number, &mut body)?;
         if !index.take(alloc, number, &body)? {
-            return Err(ContentError::BadFrame(number));
+            return Err(FileError::BadFrame(number));
         }
     }
     Ok(index)

@@ -32,10 +32,10 @@ mod spot;
 mod track;
 
 pub use content::Content;
-pub use errors::{ContentError, PutError, ReadError};
+pub use errors::{PutError, ReadError};
 pub use law::{bodies_say_their_entry, groups_are_their_pieces};
 pub use oc_base::Shelf;
-pub use oc_journal::AppendError;
+pub use oc_journal::{AppendError, FileError};
 pub use piece::Piece;
 pub use putting::NewBytes;
 pub use spot::Spot;

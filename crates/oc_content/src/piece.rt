@@ -88,8 +88,8 @@ fn framed(alloc: Global, heading: &Heading, bytes: &[u8]) -> Result<Frame, Alloc
     ensures { IfOk result (λ frame. frame
         ≡ heading_of heading.now.seals heading.now.group heading.now.start ++ bytes.now) }
 {
-    let body = heading.body(alloc, bytes)?;
-    match Frame::new(alloc, &body) {
+    let front = heading.front(alloc)?;
+    match Frame::joined(alloc, &front, bytes) {
         Ok(frame) => Ok(frame),
         Err(FrameFault::Memory) => Err(AllocError),
         Err(FrameFault::TooLong) => unreachable!(),

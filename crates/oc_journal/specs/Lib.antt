@@ -5,3 +5,4 @@ pub mod Promises
 pub mod FrameBytes
 pub mod Stopped
 pub mod Written
+pub mod Errors

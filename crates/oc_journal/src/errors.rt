@@ -1,6 +1,8 @@
 ghost use Rattle.std.specs.Prelude.{◌≡◌};
 ghost use Rattle.oc_journal.specs.declared.errors.LoadError.TheVariants.{Disk as LoadDisk, Memory as LoadMemory};
 ghost use Rattle.oc_journal.specs.declared.errors.FrameError.TheVariants.{Memory as FrameMemory};
+ghost use Rattle.oc_journal.specs.declared.errors.FileError.TheVariants.{Memory as FileMemory};
+ghost use Rattle.oc_journal.specs.Errors.{of_load, of_frame};
 
 use oc_io::Failed;
 use std::alloc::{AllocError, AllocFailed};
@@ -43,6 +45,58 @@ pub enum FrameError {
     Disk,
     /// Memory ran out.
     Memory,
+}
+
+/// Why a file of frames was not loaded, whose frames have a form of their own.
+#[derive(Clone, Copy, Debug, PartialEq, Eq)]
+pub enum FileError {
+    /// A call on the disk failed.
+    Disk,
+    /// The file is no journal.
+    NotJournal,
+    /// The frame of this number, counted from 0, is the first that does not belong there.
+    BadFrame(u64),
+    /// Memory ran out.
+    Memory,
+}
+
+impl From<LoadError> for FileError {
+    ghost from_gives = { λ error made. made ≡ of_load error };
+
+    fn from(error: LoadError) -> FileError {
+        match error {
+            LoadError::Disk => FileError::Disk,
+            LoadError::NotJournal => FileError::NotJournal,
+            LoadError::Memory => FileError::Memory,
+        }
+    }
+}
+
+impl From<FrameError> for FileError {
+    ghost from_gives = { λ error made. made ≡ of_frame error };
+
+    fn from(error: FrameError) -> FileError {
+        match error {
+            FrameError::Disk => FileError::Disk,
+            FrameError::Memory => FileError::Memory,
+        }
+    }
+}
+
+impl From<AllocError> for FileError {
+    ghost from_gives = { λ _ error. error ≡ FileMemory };
+
+    fn from(_error: AllocError) -> FileError {
+        FileError::Memory
+    }
+}
+
+impl<T: Drop> From<AllocFailed<T>> for FileError {
+    ghost from_gives = { λ _ error. error ≡ FileMemory };
+
+    fn from(_error: AllocFailed<T>) -> FileError {
+        FileError::Memory
+    }
 }
 
 impl From<Failed> for LoadError {

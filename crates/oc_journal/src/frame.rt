@@ -1,4 +1,4 @@
-ghost use Rattle.std.specs.Prelude.{◌≡◌, ◌↔◌, ◌<◌, ◌≤◌, length, IfOk, IsErrOf};
+ghost use Rattle.std.specs.Prelude.{◌≡◌, ◌↔◌, ◌+◌, ◌<◌, ◌≤◌, ◌++◌, length, IfOk, IsErrOf};
 ghost use Rattle.oc_journal.specs.JournalFile.{encoded};
 ghost use Rattle.oc_journal.specs.declared.frame.FrameFault.TheVariants.{Memory as FrameMemory};
 
@@ -50,11 +50,20 @@ impl Frame {
         ensures short { IfOk result (λ _. length body.now ≤ MAX_FRAME_BYTES) }
         ensures too_long { IsErrOf result FrameFault.TooLong ↔ (MAX_FRAME_BYTES < length body.now) }
     {
-        if body.len() > MAX_FRAME_BYTES {
+        Frame::joined(alloc, &[], body)
+    }
+
+    /// A frame of the body that is these bytes, one behind the other. Each byte is copied once.
+    pub fn joined(alloc: Global, front: &[u8], rest: &[u8]) -> Result<Frame, FrameFault>
+        ensures body { IfOk result (λ frame. frame ≡ front.now ++ rest.now) }
+        ensures short { IfOk result (λ _. length front.now + length rest.now ≤ MAX_FRAME_BYTES) }
+        ensures too_long { IsErrOf result FrameFault.TooLong ↔ (MAX_FRAME_BYTES < length front.now + length rest.now) }
+    {
+        if rest.len() > MAX_FRAME_BYTES || front.len() > MAX_FRAME_BYTES - rest.len() {
             return Err(FrameFault::TooLong);
         }
         Ok(Frame {
-            bytes: encode(alloc, body)?,
+            bytes: encode(alloc, front, rest)?,
         })
     }
 
@@ -75,14 +84,16 @@ impl Frame {
     }
 }
 
-/// The length, the body and a closed gate.
-fn encode(alloc: Global, body: &[u8]) -> Result<Vec<u8>, AllocError>
-    requires { length body.now ≤ MAX_FRAME_BYTES }
-    ensures { IfOk result (λ bytes. bytes.items ≡ encoded body.now) }
+/// The length of a body that is these bytes, the body and a closed gate.
+fn encode(alloc: Global, front: &[u8], rest: &[u8]) -> Result<Vec<u8>, AllocError>
+    requires { length front.now + length rest.now ≤ MAX_FRAME_BYTES }
+    ensures { IfOk result (λ bytes. bytes.items ≡ encoded (front.now ++ rest.now)) }
 {
-    let mut bytes = Vec::with_capacity(alloc, body.len() + 5)?;
-    bytes.extend_from_slice(&(body.len() as u32).to_be_bytes())?;
-    bytes.extend_from_slice(body)?;
+    let count = front.len() + rest.len();
+    let mut bytes = Vec::with_capacity(alloc, count + 5)?;
+    bytes.extend_from_slice(&(count as u32).to_be_bytes())?;
+    bytes.extend_from_slice(front)?;
+    bytes.extend_from_slice(rest)?;
     bytes.push(CLOSED)?;
     Ok(bytes)
 }

@@ -43,7 +43,7 @@ mod stopped;
 mod stops;
 mod synced;
 
-pub use errors::{AppendError, FrameError, LoadError, RestartError};
+pub use errors::{AppendError, FileError, FrameError, LoadError, RestartError};
 pub use frame::{Frame, FrameFault};
 pub use journal::Journal;
 pub use stops::is_kept_new;

@@ -3,13 +3,19 @@ use Rattle.std.proofs.Common.{◌≡◌, ◌∙◌, ℕ, suc, inl, inr, refl, sy
 use Rattle.std.proofs.lemmas.List.{take-append-drop}
 use Rattle.oc_base.specs.declared.group.Group.{Group}
 use Rattle.oc_content.specs.ContentFile.{content_of, IsFirstBad, more}
+use Rattle.oc_content.specs.Promises.{RefusesContent}
+use Rattle.oc_journal.specs.declared.errors.FileError.{FileError}
+use Rattle.oc_journal.specs.declared.errors.FileError.TheVariants as causes
+use Rattle.oc_keep.specs.Errors.{IsOutOfMemory}
 use Rattle.oc_keep.specs.Files.{Disks, AreHonest, OneRose}
 use Rattle.oc_keep.specs.Promises.{HoldFiles, RefusesNode}
 use Rattle.oc_keep.specs.declared.errors.KeepLoad.{KeepLoad}
 use Rattle.oc_keep.specs.declared.errors.KeepLoad.TheVariants as loads
-use Rattle.oc_keep.specs.declared.errors.Which.TheVariants.{Control, Alternate, Content}
 use Rattle.oc_io.specs.DiskView.{DiskView}
 use Rattle.oc_store.specs.ControlFiles.{IsBadAt, IsGood}
+use Rattle.oc_store.specs.Promises.{RefusesSide}
+use Rattle.oc_store.specs.declared.errors.Side.{Side}
+use Rattle.oc_store.specs.declared.errors.Side.TheVariants.{First, Second}
 
 -- frames after a bad one mean nothing
 still_none : (bodies : List (List ℕ)) → fold more None bodies ≡ None
@@ -34,14 +40,24 @@ good_is_not_bad : (nodes i : ℕ) (file : List ℕ) → IsGood nodes file → Is
 good_is_not_bad nodes i file good bad = let a = good.1 in let b = bad.1 in cc
 
 module _ {D : Type 0} (view : D → DiskView) (nodes : ℕ) (d e : Disks D) (honest : AreHonest view d) (files : HoldFiles view nodes d) (sound : OneRose view d e → ⊥) where
-  pub only_memory : (error : KeepLoad) → RefusesNode view nodes d e error → error ≡ loads.Memory
-  only_memory loads.Disk (inl h) = absurd (sound (inl h.count))
-  only_memory loads.Disk (inr (inl h)) = absurd (sound (inr (inl h.1.count)))
-  only_memory loads.Disk (inr (inr h)) = absurd (sound (inr (inr h.2.count)))
-  only_memory (loads.NotJournal Control) h = absurd (files.control.0 (h honest.control))
-  only_memory (loads.NotJournal Alternate) h = absurd (files.alternate.0 (h.1 honest.alternate))
-  only_memory (loads.NotJournal Content) h = absurd (files.content.0 (h.2 honest.content))
-  only_memory (loads.BadFrame Control i) h = absurd (good_is_not_bad nodes i _ files.control (h honest.control))
-  only_memory (loads.BadFrame Alternate i) h = absurd (good_is_not_bad nodes i _ files.alternate (h.1 honest.alternate))
-  only_memory (loads.BadFrame Content i) h = let bad = h.2 honest.content in absurd (not_both _ files.content.1 (bad_means_none _ i bad.1))
+  -- a control file
+  control_memory : (side : Side) (cause : FileError) → RefusesSide nodes (view d.control) (view d.alternate) (view e.control) (view e.alternate) side cause → cause ≡ causes.Memory
+  control_memory First causes.Disk h = absurd (sound (inl h.count))
+  control_memory Second causes.Disk h = absurd (sound (inr (inl h.1.count)))
+  control_memory First causes.NotJournal h = absurd (files.control.0 (h honest.control))
+  control_memory Second causes.NotJournal h = absurd (files.alternate.0 (h.1 honest.alternate))
+  control_memory First (causes.BadFrame i) h = absurd (good_is_not_bad nodes i _ files.control (h honest.control))
+  control_memory Second (causes.BadFrame i) h = absurd (good_is_not_bad nodes i _ files.alternate (h.1 honest.alternate))
+  control_memory side causes.Memory h = refl
+
+  -- the content file
+  content_memory : (cause : FileError) → RefusesContent (view d.content) (view e.content) cause → cause ≡ causes.Memory
+  content_memory causes.Disk h = absurd (sound (inr (inr h.count)))
+  content_memory causes.NotJournal h = absurd (files.content.0 (h honest.content))
+  content_memory (causes.BadFrame i) h = let bad = h honest.content in absurd (not_both _ files.content.1 (bad_means_none _ i bad.1))
+  content_memory causes.Memory h = refl
+
+  pub only_memory : (error : KeepLoad) → RefusesNode view nodes d e error → IsOutOfMemory error
+  only_memory (loads.Store error) h = control_memory error.side error.cause h
+  only_memory (loads.Content cause) h = content_memory cause h.2
   only_memory loads.Memory h = refl

@@ -1,11 +1,9 @@
--- What a load leaves, and why it refuses.
-use Rattle.std.proofs.Common.{◌≡◌, inl, inr, ℕ, ◌+◌, ◌≤◌, false, IsSome, IsTrue, List, refl, sym, ap, subst, ◌∙◌}
+-- What a load leaves.
+use Rattle.std.proofs.Common.{◌≡◌, ℕ, ◌+◌, ◌≤◌, false, IsSome, IsTrue, List, refl, sym, ap, subst, ◌∙◌}
 use Rattle.oc_base.specs.declared.limits.TheConstants.{MAX_BASE_ACKED, MAX_LOG_LENGTH}
 use Rattle.oc_content.specs.ContentFile.{content_of, groups_in}
 use Rattle.oc_content.specs.ContentView.{ContentView}
-use Rattle.oc_content.specs.declared.errors.ContentError.{ContentError}
-use Rattle.oc_content.specs.declared.errors.ContentError.TheVariants as contents
-use Rattle.oc_content.specs.Promises.{IsContentOf, RefusesContent}
+use Rattle.oc_content.specs.Promises.{IsContentOf}
 use Rattle.oc_journal.specs.JournalFile.{frames_of}
 use Rattle.oc_journal.specs.JournalView.{IsLikeAnImage}
 use Rattle.oc_journal.specs.Promises as journals
@@ -16,15 +14,11 @@ use Rattle.oc_node.specs.NodeView.{IsReached, NodeView}
 use Rattle.oc_io.specs.DiskView.{DiskView, IsConsistent}
 use Rattle.oc_io.proofs.DiskMoments.{LeavesOnly-start, StaysAsItWas-none}
 use Rattle.oc_store.specs.ControlFiles.{current_frames, records_of, recovered as recovered_records}
-use Rattle.oc_store.specs.declared.errors.Side.TheVariants.{First, Second}
-use Rattle.oc_store.specs.declared.errors.StoreError.{StoreError}
-use Rattle.oc_store.specs.declared.errors.StoreError.TheVariants as stores
-use Rattle.oc_store.specs.Promises.{HasGood, IsStoreOf, LoadBothSafely, RefusesFiles}
+use Rattle.oc_store.specs.Promises.{IsStoreOf, LoadBothSafely}
 use Rattle.oc_store.specs.StoreView.{AreGood, Recovers, StoreView, first_disk, second_disk}
-use Rattle.oc_keep.specs.Errors.{of_content, of_store}
 use Rattle.oc_keep.specs.Files.{Disks, Survives, disks, recovered}
 use Rattle.oc_keep.specs.KeptView.{IsHonest, IsKept, KeptView, disks_of, header_of, kept_of, node_of}
-use Rattle.oc_keep.specs.Promises.{IsNodeOf, LoadsSafely, RefusesNode}
+use Rattle.oc_keep.specs.Promises.{IsNodeOf, LoadsSafely}
 use Rattle.oc_keep.proofs.Leaving.{told}
 use Rattle.oc_keep.proofs.Stays.{Law, all_honest, kept_survives, was_honest}
 
@@ -127,22 +121,3 @@ module _ {D : Type 0} (view : D → DiskView) (h : Header) (me : ℕ) (x y z : D
     };
     unclosed = refl;
   }
-
--- Refusals
-
--- a control file was refused
-pub refused_control : {D : Type 0} (view : D → DiskView) (nodes : ℕ) (x y z x2 y2 : D) (error : StoreError) → RefusesFiles nodes (view x) (view y) (view x2) (view y2) error → RefusesNode view nodes (disks x y z) (disks x2 y2 z) (of_store error)
-refused_control view nodes x y z x2 y2 stores.Disk (inl why) = inl why
-refused_control view nodes x y z x2 y2 stores.Disk (inr why) = inr (inl why)
-refused_control view nodes x y z x2 y2 (stores.NotJournal First) why = why
-refused_control view nodes x y z x2 y2 (stores.NotJournal Second) why = why
-refused_control view nodes x y z x2 y2 (stores.BadFrame First i) why = why
-refused_control view nodes x y z x2 y2 (stores.BadFrame Second i) why = why
-refused_control view nodes x y z x2 y2 stores.Memory why = tt
-
--- the content file was refused
-pub refused_content : {D : Type 0} (view : D → DiskView) (nodes : ℕ) (d e : Disks D) (error : ContentError) → HasGood nodes (view d.control) → HasGood nodes (view d.alternate) → RefusesContent (view d.content) (view e.content) error → RefusesNode view nodes d e (of_content error)
-refused_content view nodes d e contents.Disk a b why = inr (inr (a, b, why))
-refused_content view nodes d e contents.NotJournal a b why = (a, b, why)
-refused_content view nodes d e (contents.BadFrame i) a b why = (a, b, why)
-refused_content view nodes d e contents.Memory a b why = tt

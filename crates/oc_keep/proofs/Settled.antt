@@ -13,6 +13,7 @@ use Rattle.oc_keep.specs.declared.errors.ReadyError.TheVariants as readies
 use Rattle.oc_keep.specs.declared.errors.TidyError.{TidyError}
 use Rattle.oc_keep.specs.declared.errors.TidyError.TheVariants as tidies
 use Rattle.oc_keep.specs.Calls.{FailsToReady, FailsToTidy, IsReadyFor, Tidies}
+use Rattle.oc_keep.specs.ControlStep.{DoesControlStep, control_step}
 use Rattle.oc_keep.specs.Files.{AreReliable}
 use Rattle.oc_keep.specs.KeptView.{IsFullAt, IsHonest, KeptView, disks_of, kept_of, node_of}
 use Rattle.oc_keep.specs.Promises.{Closes, IsTurnedOver}
@@ -48,6 +49,7 @@ ready_commits view n s c (Ok ready) b is can = subst (λ (closed : Bool). CanCom
 
 -- what a call that made an input ready promises
 pub made_ready : {D : Type 0} (view : D → DiskView) (i : Input) (k k2 : KeptView D) (r : Result ReadyView ReadyError)
+    → IfOk r (λ ready. DoesControlStep (control_step k i) k.node.control ready)
     → IfOk r (λ ready. IsHonest view k → outcome_of (node_of k) ready ≡ step (node_of k) i)
     → IfOk r (λ ready. IsHonest view k → is_written ready.write ≡ writes (node_of k) i)
     → IfOk r (λ ready. IsFullToWrite k2 ready.write ↔ IsFullAt k i)
@@ -55,8 +57,8 @@ pub made_ready : {D : Type 0} (view : D → DiskView) (i : Input) (k k2 : KeptVi
     → IfOk r (λ ready. AreReliable view (disks_of k2) → ¬ IsFullToWrite k2 ready.write)
     → ((IsErrOf r readies.Disk → ⊥) → k2.closed ≡ k.closed)
     → IfOk r (λ ready. IsReadyFor view i ready k k2)
-made_ready view i k k2 (Err e) steps written full can fits still = tt
-made_ready view i k k2 (Ok ready) steps written full can fits still = record { step_is = steps; writes_is = written; full = full; commits = can; fits = fits; still = still (λ wrong. absurd cc) }
+made_ready view i k k2 (Err e) control steps written full can fits still = tt
+made_ready view i k k2 (Ok ready) control steps written full can fits still = record { control = control; step_is = steps; writes_is = written; full = full; commits = can; fits = fits; still = still (λ wrong. absurd cc) }
 
 -- and of one that did not
 pub unmade_ready : {D : Type 0} (view : D → DiskView) (i : Input) (k k2 : KeptView D) (r : Result ReadyView ReadyError)

@@ -1,7 +1,7 @@
 -- An input made ready is its step.
-use Rattle.std.proofs.Common.{◌≡◌, ◌↔◌, ℕ, zero, suc, ◌+◌, ◌≤◌, ◌<◌, ◌^◌, Bool, true, false, not, IsTrue, List, [], ◌∷◌, ◌++◌, length, take, drop, get_or, Option, Some, None, is_some, option_map, unwrap_or, refl, sym, ap, subst, ◌∙◌, arith}
+use Rattle.std.proofs.Common.{◌≡◌, ◌↔◌, ℕ, zero, suc, ◌+◌, ◌≤◌, ◌<◌, ◌^◌, Bool, true, false, not, IsTrue, List, [], ◌∷◌, length, take, drop, get_or, Option, Some, None, is_some, option_map, unwrap_or, refl, sym, ap, subst, ◌∙◌, arith}
 use Rattle.std.specs.List.{AllByRecursion}
-use Rattle.std.proofs.lemmas.List.{append-nil, length-take, length-drop, nil_from_length, take_all}
+use Rattle.std.proofs.lemmas.List.{length-take, length-drop, take_all}
 use Rattle.oc_base.specs.declared.group.Group.{Group}
 use Rattle.oc_base.specs.declared.named.Lookup.{Lookup}
 use Rattle.oc_base.specs.declared.named.Lookup.TheVariants.{Found, Free}
@@ -34,13 +34,14 @@ use Rattle.oc_model.specs.Step.{Piece, filled, finished, kept_at, piece_of, plan
 use Rattle.oc_model.specs.Numbers.{is_empty}
 use Rattle.oc_node.specs.Applying.{CanApply}
 use Rattle.oc_node.specs.NodeView.{NodeView}
-use Rattle.oc_node.specs.Planned.{PlanView, control_after, planned}
+use Rattle.oc_node.specs.Planned.{PlanView, control_after, filled_with, planned}
 use Rattle.oc_io.specs.DiskView.{DiskView, IsReliable}
 use Rattle.oc_record.specs.Spelling.{records_bytes}
 use Rattle.oc_store.specs.ControlFiles.{begun_generation}
 use Rattle.oc_store.specs.StoreView.{StoreView}
 use Rattle.oc_keep.specs.declared.ready.Write.{Write}
 use Rattle.oc_keep.specs.declared.ready.Write.TheVariants as writes
+use Rattle.oc_keep.specs.ControlStep.{AreSent, DoesControlStep, Fetches}
 use Rattle.oc_keep.specs.KeptView.{IsFullAt, IsFullByPlan, IsFullWith, KeptView, kept_of}
 use Rattle.oc_keep.specs.Puts.{CanKeep, CanPut, CanWant, entry_for}
 use Rattle.oc_keep.specs.ReadyView.{CanCommit, CanWrite, IsFullToWrite, groups_with, is_written, outcome_of}
@@ -99,18 +100,23 @@ read_whole new whole count n start long within there read =
     let all : length new ≤ n = omega (arith, same, long, within, there, length-take n new, length-take count (drop start whole), length-drop start whole) in
     sym (take_all n new all) ∙ read
 
--- a buffer that was written whole
-pub written_back : (new items result : List ℕ) (len : ℕ) → length new ≡ length items → len ≡ length items → result ≡ take len (new ++ drop (length new) items) → result ≡ new
-written_back new items result len long whole is =
-    let none : drop (length new) items ≡ [] = nil_from_length (drop (length new) items) (omega (arith, long, length-drop (length new) items)) in
-    is ∙ ap (λ (xs : List ℕ). take len (new ++ xs)) none ∙ ap (take len) (append-nil new) ∙ take_all len new (omega (arith, long, whole))
-
 -- the length of a line is that of its group's bytes
 pub held_there : (g : List ℕ) (ks : List Group) (l : Shelf) → line_of g (shelf ks) ≡ Some l → l.held ≡ length (bytes_of g ks)
 held_there g ks l there = by_group (group_of g ks) (sym (line_of-shelf g ks) ∙ there) where
   by_group : (k : Option Group) → option_map shelf_of k ≡ Some l → l.held ≡ length (or_empty g k).bytes
   by_group None e = absurd cc
   by_group (Some k) e = let same : shelf_of k ≡ l = cc in ap (λ (x : Shelf). x.held) (sym same)
+
+-- bytes that were put into the chunk of what is wanted
+pub filled_sent : (wants : Option Want) (w : Want) (p q : PlanView) (bytes : List ℕ) → Some w ≡ wants → length bytes ≡ w.count → q ≡ filled_with bytes p → AreSent wants p.sends q.sends
+filled_sent wants w p q bytes is long fills = subst (λ (o : Option Want). AreSent o p.sends q.sends) is (bytes, long, ap (λ (x : PlanView). x.sends) fills)
+
+-- nothing is wanted, and nothing was put
+pub none_sent : {D : Type 0} (view : D → DiskView) (c : ContentView D) (p : PlanView) → None ≡ p.wants → Fetches view c p p
+none_sent view c p is = record {
+  sends = subst (λ (o : Option Want). AreSent o p.sends p.sends) is refl;
+  groups = λ honest. ap (λ (o : Option Want). fetched (groups_in c.journal.frames) o p) is;
+}
 
 -- lines that tell the groups of frames
 pub lines_are : (bodies : List (List ℕ)) (lines : List Shelf) → IsShelved bodies lines → lines ≡ shelf (groups_in bodies)
@@ -165,6 +171,22 @@ made_writes view s c n lines i p w made is = by_write w is ∙ ap has_change mad
   by_write writes.Nothing is = rw (is.0, is.1) refl
   by_write (writes.Records frame) is = rw (empty_is p.records is.some) refl
   by_write (writes.Content piece) is = rw (is.none, is.keeps) refl
+
+-- once it has its bytes, it is the control step, whatever they are
+pub made_control : {D : Type 0} (view : D → DiskView) (s : StoreView D) (c : ContentView D) (n : Control) (lines : List Shelf) (i : Input) (p q : PlanView) (w : Write)
+    → planned n p ≡ plan n lines i → q ≡ record p { sends = q.sends; room = q.room } → AreSent p.wants p.sends q.sends → IsWriteOf view s lines c p (piece_of i) w
+    → DoesControlStep (plan n lines i) n (record { plan = q; write = w })
+made_control view s c n lines i p q w made rest sent is = record {
+  step = record {
+    control = same ∙ ap (λ (o : Plan). o.node) made;
+    answer = ap (λ (x : PlanView). x.answer) rest ∙ ap (λ (o : Plan). o.answer) made;
+    sends = subst (λ (o : Plan). AreSent o.wants o.sends q.sends) made sent;
+  };
+  writes = made_writes view s c n lines i p w made is;
+}
+  where
+    same : control_after n q ≡ control_after n p
+    same = ap (control_after n) rest
 
 -- what a step writes begins with no snapshot
 no_snapshot : (rs : List Record) → AllByRecursion IsSoundRecord rs → begun_generation rs ≡ 0

@@ -3,16 +3,20 @@ use Rattle.std.proofs.Common.{◌≡◌, ◌↔◌, Bool, true, false, IsTrue, I
 use Rattle.oc_io.specs.DiskView.{DiskView}
 use Rattle.oc_model.specs.declared.input.Input.{Input}
 use Rattle.oc_model.specs.Node.{Control}
+use Rattle.oc_node.specs.OutcomeView.{OutcomeView}
+use Rattle.oc_node.specs.Planned.{control_after}
 use Rattle.oc_keep.specs.declared.errors.CommitError.{CommitError}
 use Rattle.oc_keep.specs.declared.errors.CommitError.TheVariants as commits
 use Rattle.oc_keep.specs.declared.errors.KeepError.TheVariants as keeps
 use Rattle.oc_keep.specs.declared.errors.ReadyError.{ReadyError}
 use Rattle.oc_keep.specs.declared.errors.ReadyError.TheVariants as readies
 use Rattle.oc_keep.specs.Calls.{DoesNothing, FailsToCommit, FailsToReady, IsSameOnFiles, RefusesInput, StaysTheSame}
+use Rattle.oc_keep.specs.ControlStep.{AreSent, DoesControlStep, IsControlStep, control_step}
 use Rattle.oc_keep.specs.Errors.{of_commit, of_ready}
 use Rattle.oc_keep.specs.Files.{AllGoOn}
 use Rattle.oc_keep.specs.KeptView.{IsFullAt, IsHonest, KeptView, disks_of, header_of, node_of}
 use Rattle.oc_keep.specs.Promises.{Closes, IsSameNode}
+use Rattle.oc_keep.specs.ReadyView.{ReadyView, outcome_of, told_of}
 use Rattle.oc_keep.proofs.Runs.{all_go_on_then, one_rose_after}
 use Rattle.oc_keep.proofs.Stays.{all_honest}
 
@@ -68,6 +72,15 @@ module _ {D : Type 0} (view : D → DiskView) where
     node = same_then old.node.control mid.node.control new.node.control same.nothing.control then.node;
     goes_on = all_go_on_then view (disks_of old) (disks_of mid) (disks_of new) same.goes_on then.goes_on;
     generation = λ honest. then.generation (all_honest view (disks_of old) (disks_of mid) same.goes_on honest) ∙ same.nothing.store.generation;
+  }
+
+  -- the control step that was made ready was done
+  pub taken_control : (old mid new : KeptView D) (i : Input) (ready : ReadyView) (outcome : OutcomeView) → mid.node.control ≡ old.node.control → DoesControlStep (control_step old i) old.node.control ready
+      → new.node.control ≡ control_after mid.node.control ready.plan → outcome ≡ told_of (outcome_of (node_of mid) ready) → IsControlStep (control_step old i) new.node.control outcome
+  taken_control old mid new i ready outcome same does committed told = record {
+    control = committed ∙ ap (λ (n : Control). control_after n ready.plan) same ∙ does.step.control;
+    answer = ap (λ (o : OutcomeView). o.answer) told ∙ does.step.answer;
+    sends = subst (λ (o : OutcomeView). AreSent (control_step old i).wants (control_step old i).sends o.sends) (sym told) does.step.sends;
   }
 
   -- an input that was not made ready was not taken

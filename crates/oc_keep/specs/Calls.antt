@@ -5,6 +5,8 @@ use Rattle.oc_model.specs.declared.input.Input.{Input}
 use Rattle.oc_model.specs.NextWorld.{writes}
 use Rattle.oc_model.specs.Step.{step}
 use Rattle.oc_node.specs.OutcomeView.{OutcomeView}
+use Rattle.oc_node.specs.Planned.{control_after}
+use Rattle.oc_keep.specs.ControlStep.{DoesControlStep, IsControlStep, control_step}
 use Rattle.oc_keep.specs.declared.errors.CommitError.{CommitError}
 use Rattle.oc_keep.specs.declared.errors.CommitError.TheVariants as commits
 use Rattle.oc_keep.specs.declared.errors.KeepError.{KeepError}
@@ -38,10 +40,12 @@ pub record DoesNothing {D : Type 0} (view : D → DiskView) (old new : KeptView 
 
 -- Taking an input
 
--- it was taken with this outcome: outcome and node are those of the step, every crash now leaves the node, and no file was full for it
+-- it was taken with this outcome: outcome and node are those of the step, every crash now leaves the node, and no file was full for it;
+-- whatever the disks do, control state and outcome are those of the control step, but for the bytes of a chunk
 pub record TakesInput {D : Type 0} (view : D → DiskView) (i : Input) (outcome : OutcomeView) (old new : KeptView D) : Type 0 where
   pub is_open : new.closed ≡ false
   pub fits : ¬ IsFullAt old i
+  pub control : IsControlStep (control_step old i) new.node.control outcome
   pub outcome_is : IsHonest view old → outcome ≡ told_of (step (node_of old) i)
   pub node : IsHonest view old → node_of new ≡ (step (node_of old) i).node
   pub survives : IsHonest view old → NodeSurvives view new (node_of new)
@@ -60,8 +64,9 @@ pub record RefusesInput {D : Type 0} (view : D → DiskView) (error : KeepError)
 
 -- Making it ready
 
--- what was made ready will do the step, and it can be committed
+-- what was made ready will do the step, the control step whatever the disks do, and it can be committed
 pub record IsReadyFor {D : Type 0} (view : D → DiskView) (i : Input) (ready : ReadyView) (old new : KeptView D) : Type 0 where
+  pub control : DoesControlStep (control_step old i) old.node.control ready
   pub step_is : IsHonest view old → outcome_of (node_of old) ready ≡ step (node_of old) i
   pub writes_is : IsHonest view old → is_written ready.write ≡ writes (node_of old) i
   pub full : IsFullToWrite new ready.write ↔ IsFullAt old i
@@ -77,9 +82,10 @@ FailsToReady view readies.Disk i old new = (¬ IsFullAt old i) × Closes view ol
 
 -- Committing it
 
--- what was made ready was done, and every crash now leaves the node
+-- what was made ready was done, its control part whatever the disks do, and every crash now leaves the node
 pub record Commits {D : Type 0} (view : D → DiskView) (ready : ReadyView) (outcome : OutcomeView) (old new : KeptView D) : Type 0 where
   pub is_open : new.closed ≡ false
+  pub control : new.node.control ≡ control_after old.node.control ready.plan
   pub outcome_is : outcome ≡ told_of (outcome_of (node_of old) ready)
   pub node : IsHonest view old → node_of new ≡ (outcome_of (node_of old) ready).node
   pub survives : IsHonest view old → NodeSurvives view new (node_of new)

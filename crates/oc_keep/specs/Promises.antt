@@ -1,18 +1,17 @@
 -- What the calls of a node on its files promise.
-use Rattle.std.specs.Prelude.{◌≡◌, ◌⊎◌, ℕ, ◌+◌, true, false, IsTrue, IsSome, List, [], ◌∷◌}
-use Rattle.oc_content.specs.ContentFile.{content_of, IsBadAt as IsBadContentAt}
-use Rattle.oc_content.specs.Promises.{PutsNothing}
+use Rattle.std.specs.Prelude.{◌≡◌, ℕ, ◌+◌, true, false, IsSome, List, [], ◌∷◌}
+use Rattle.oc_content.specs.ContentFile.{content_of}
+use Rattle.oc_content.specs.Promises.{PutsNothing, RefusesContent}
 use Rattle.oc_journal.specs.JournalFile.{frames_of, IsNoJournal}
 use Rattle.oc_model.specs.Node.{Control, Header}
 use Rattle.oc_model.specs.Snapshot.{snapshot}
 use Rattle.oc_record.specs.Spelling.{records_bytes}
 use Rattle.oc_store.specs.Sides.{opposite}
-use Rattle.oc_io.specs.DiskView.{DiskView, FailsToRead}
-use Rattle.oc_store.specs.ControlFiles.{IsGood, IsBadAt}
-use Rattle.oc_store.specs.Promises.{HasGood}
+use Rattle.oc_io.specs.DiskView.{DiskView}
+use Rattle.oc_store.specs.ControlFiles.{IsGood}
+use Rattle.oc_store.specs.Promises.{HasGood, RefusesFiles}
 use Rattle.oc_keep.specs.declared.errors.KeepLoad.{KeepLoad}
 use Rattle.oc_keep.specs.declared.errors.KeepLoad.TheVariants as loads
-use Rattle.oc_keep.specs.declared.errors.Which.TheVariants.{Control as ControlFile, Alternate, Content}
 use Rattle.oc_keep.specs.Files.{Disks, AreHonest, AllGoOn, AlwaysLeaves, IsLeft, MayLeave, OneRose, Survives, recovered}
 use Rattle.oc_keep.specs.KeptView.{KeptView, disks_of, header_of, node_of}
 use Rattle.oc_keep.specs.Writing.{KeepsStore}
@@ -53,20 +52,8 @@ pub record LoadsSafely {D : Type 0} (view : D → DiskView) (h : Header) (me : �
 
 -- why a node was not loaded: what is said of a file comes only where those before it are good
 abbrev pub RefusesNode : {D : Type 0} → (D → DiskView) → ℕ → Disks D → Disks D → KeepLoad → Type 0
-RefusesNode view nodes d e loads.Disk =
-    FailsToRead (view d.control) (view e.control)
-    ⊎ (HasGood nodes (view d.control) × FailsToRead (view d.alternate) (view e.alternate))
-    ⊎ (HasGood nodes (view d.control) × HasGood nodes (view d.alternate) × FailsToRead (view d.content) (view e.content))
-RefusesNode view nodes d e (loads.NotJournal ControlFile) = IsTrue (view d.control).honest → IsNoJournal (view d.control).seen
-RefusesNode view nodes d e (loads.NotJournal Alternate) =
-    HasGood nodes (view d.control) × (IsTrue (view d.alternate).honest → IsNoJournal (view d.alternate).seen)
-RefusesNode view nodes d e (loads.NotJournal Content) =
-    HasGood nodes (view d.control) × HasGood nodes (view d.alternate) × (IsTrue (view d.content).honest → IsNoJournal (view d.content).seen)
-RefusesNode view nodes d e (loads.BadFrame ControlFile i) = IsTrue (view d.control).honest → IsBadAt nodes i (view d.control).seen
-RefusesNode view nodes d e (loads.BadFrame Alternate i) =
-    HasGood nodes (view d.control) × (IsTrue (view d.alternate).honest → IsBadAt nodes i (view d.alternate).seen)
-RefusesNode view nodes d e (loads.BadFrame Content i) =
-    HasGood nodes (view d.control) × HasGood nodes (view d.alternate) × (IsTrue (view d.content).honest → IsBadContentAt (view d.content).seen i)
+RefusesNode view nodes d e (loads.Store error) = RefusesFiles nodes (view d.control) (view d.alternate) (view e.control) (view e.alternate) error
+RefusesNode view nodes d e (loads.Content cause) = HasGood nodes (view d.control) × HasGood nodes (view d.alternate) × RefusesContent (view d.content) (view e.content) cause
 RefusesNode view nodes d e loads.Memory = Unit {0}
 
 -- Changing

@@ -6,10 +6,10 @@ use Rattle.oc_model.specs.Step.{step}
 use Rattle.oc_io.specs.DiskView.{DiskView}
 use Rattle.oc_keep.specs.declared.errors.KeepError.{KeepError}
 use Rattle.oc_keep.specs.declared.errors.KeepError.TheVariants as keeps
-use Rattle.oc_keep.specs.declared.errors.KeepLoad.TheVariants as loads
 use Rattle.oc_keep.specs.declared.ended.Trial.{Trial}
 use Rattle.oc_keep.specs.declared.ended.TrialEnd.{TrialEnd}
 use Rattle.oc_keep.specs.declared.ended.TrialEnd.TheVariants.{All, Load, Take}
+use Rattle.oc_keep.specs.Errors.{IsOutOfMemory}
 use Rattle.oc_keep.specs.Files.{Disks, IsLeft, Leaves, OneRose, SameAsEither, Survives, recovered}
 use Rattle.oc_keep.specs.KeptView.{IsFullAt, KeptView, disks_of, header_of, node_of}
 use Rattle.oc_keep.specs.Promises.{RefusesNode}
@@ -83,5 +83,5 @@ pub record EndsFull {D : Type 0} (old : KeptView D) (is : List Input) (new : Kep
 -- all were taken, or memory ran out
 abbrev pub EndsSurely : TrialEnd → Type 0
 EndsSurely All = Unit {0}
-EndsSurely (Load error) = error ≡ loads.Memory
+EndsSurely (Load error) = IsOutOfMemory error
 EndsSurely (Take error) = error ≡ keeps.Memory

@@ -1,33 +1,20 @@
 ghost use Rattle.std.specs.Prelude.{◌≡◌};
 ghost use Rattle.oc_keep.specs.declared.errors.ReadyError.TheVariants.{Memory as ReadyMemory};
 ghost use Rattle.oc_keep.specs.declared.errors.TidyError.TheVariants.{Memory as TidyMemory};
-ghost use Rattle.oc_keep.specs.Errors.{file_of, of_store, of_content, of_ready, of_commit};
+ghost use Rattle.oc_keep.specs.Errors.{cause_of, of_ready, of_commit};
 
 use oc_base::Memory;
-use oc_content::ContentError;
-use oc_store::{Side, StoreError};
+use oc_store::{FileError, StoreError};
 use std::alloc::AllocError;
-
-/// One of the three files of a node.
-#[derive(Clone, Copy, Debug, PartialEq, Eq)]
-pub enum Which {
-    /// The first control file.
-    Control,
-    /// The second control file.
-    Alternate,
-    Content,
-}
 
 /// Why a node was not loaded from its files.
 #[derive(Clone, Copy, Debug, PartialEq, Eq)]
 pub enum KeepLoad {
-    /// A call on a disk failed.
-    Disk,
-    /// This file is no journal.
-    NotJournal(Which),
-    /// The frame of this number, counted from 0, is the first of this file that does not belong there.
-    BadFrame(Which, u64),
-    /// Memory ran out.
+    /// A control file was not loaded.
+    Store(StoreError),
+    /// The content file was not loaded.
+    Content(FileError),
+    /// Memory ran out for the node.
     Memory,
 }
 
@@ -86,38 +73,15 @@ pub enum KeptRead {
     Disk,
 }
 
-impl From<StoreError> for KeepLoad {
-    ghost from_gives = { λ error made. made ≡ of_store error };
-
-    fn from(error: StoreError) -> KeepLoad {
-        match error {
-            StoreError::Disk => KeepLoad::Disk,
-            StoreError::NotJournal(side) => KeepLoad::NotJournal(file_of(side)),
-            StoreError::BadFrame(side, number) => KeepLoad::BadFrame(file_of(side), number),
-            StoreError::Memory => KeepLoad::Memory,
-        }
-    }
-}
-
-/// The control file of a side.
-fn file_of(side: Side) -> Which
-    ensures { result ≡ file_of side }
-{
-    match side {
-        Side::First => Which::Control,
-        Side::Second => Which::Alternate,
-    }
-}
-
-impl From<ContentError> for KeepLoad {
-    ghost from_gives = { λ error made. made ≡ of_content error };
-
-    fn from(error: ContentError) -> KeepLoad {
-        match error {
-            ContentError::Disk => KeepLoad::Disk,
-            ContentError::NotJournal => KeepLoad::NotJournal(Which::Content),
-            ContentError::BadFrame(number) => KeepLoad::BadFrame(Which::Content, number),
-            ContentError::Memory => KeepLoad::Memory,
+impl KeepLoad {
+    /// The cause, whichever of the files it is.
+    pub fn cause(self) -> FileError
+        ensures { result ≡ cause_of self }
+    {
+        match self {
+            KeepLoad::Store(error) => error.cause,
+            KeepLoad::Content(cause) => cause,
+            KeepLoad::Memory => FileError::Memory,
         }
     }
 }

@@ -4,6 +4,7 @@ ghost use Rattle.oc_base.specs.Lawful.{IsNode};
 ghost use Rattle.oc_base.specs.Shelves.{held_of};
 ghost use Rattle.oc_base.specs.Stops.{is_kept_new};
 ghost use Rattle.oc_base.specs.declared.limits.TheConstants.{DUE_BYTES, MAX_LOG_LENGTH};
+ghost use Rattle.oc_keep.specs.Errors.{IsOutOfMemory};
 ghost use Rattle.oc_keep.specs.Files.{AllGoOn, AreReliable, SameAsEither, disks_in, SameDurable, Survives, disks};
 ghost use Rattle.oc_keep.specs.KeptView.{AtAnyMoment, IsFullAt, IsFullOn, IsHonest, IsKept, IsRipe, NodeSurvives, disks_of, header_in, header_of, node_of};
 ghost use Rattle.oc_keep.specs.Promises.{ChangesNothing, Closes, HoldFiles, IsNodeOf, IsSameNode, IsTurnedOver, LeavesFiles, LoadsSafely, RefusesNode};
@@ -75,7 +76,7 @@ impl<D: Disk> Kept<D> {
 
         // The files of a node on reliable disks are loaded.
         ensures works { IfErr result (λ refused. AreReliable D.view (disks_in files)
-            → HoldFiles D.view seat.nodes (disks_in files) → refused.1 ≡ KeepLoad.Memory) }
+            → HoldFiles D.view seat.nodes (disks_in files) → IsOutOfMemory refused.1) }
     {
         let Files {
             control,
@@ -91,13 +92,13 @@ impl<D: Disk> Kept<D> {
                         alternate,
                         content,
                     },
-                    KeepLoad::from(error),
+                    KeepLoad::Store(error),
                 ));
             }
         };
         let content = match Content::load(alloc, content) {
             Ok(content) => content,
-            Err((content, error)) => {
+            Err((content, cause)) => {
                 let (control, alternate) = store.into_disks();
                 return Err((
                     Files {
@@ -105,7 +106,7 @@ impl<D: Disk> Kept<D> {
                         alternate,
                         content,
                     },
-                    KeepLoad::from(error),
+                    KeepLoad::Content(cause),
                 ));
             }
         };

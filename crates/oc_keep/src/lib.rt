@@ -31,11 +31,12 @@ mod turning;
 mod writing;
 
 pub use ended::{Trial, TrialEnd};
-pub use errors::{CommitError, KeepError, KeepLoad, KeptRead, ReadyError, TidyError, Which};
+pub use errors::{CommitError, KeepError, KeepLoad, KeptRead, ReadyError, TidyError};
 pub use files::Files;
 pub use kept::Kept;
 pub use law::prepare_refuses_nothing_that_is_kept;
 pub use oc_node::{Node, Outcome};
+pub use oc_store::{FileError, Side, StoreError};
 pub use ready::Ready;
 pub use seat::Seat;
 pub use status::{status_of, status_recovered};

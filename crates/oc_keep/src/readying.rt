@@ -2,17 +2,16 @@
 
 ghost use Rattle.std.specs.Prelude.{◌≡◌, ◌≢◌, ◌↔◌, ◌⊎◌, ◌≤◌, false, IsTrue, IsErrOf, None, Some, IfOk, IfErr, OnOk, OnErr};
 ghost use Rattle.oc_base.specs.declared.limits.TheConstants.{MAX_LOG_LENGTH};
-ghost use Rattle.oc_content.specs.ContentFile.{IsShelved, groups_in};
+ghost use Rattle.oc_content.specs.ContentFile.{IsShelved};
 ghost use Rattle.oc_content.specs.Promises.{PutsNothing};
 ghost use Rattle.oc_journal.specs.Promises.{ClosesByRead, NoneFailed};
+ghost use Rattle.oc_keep.specs.ControlStep.{DoesControlStep, Fetches};
 ghost use Rattle.oc_keep.specs.KeptView.{IsFullAt, kept_of, node_of};
 ghost use Rattle.oc_keep.specs.Promises.{ChangesNothing};
 ghost use Rattle.oc_keep.specs.Puts.{CanWant};
-ghost use Rattle.oc_keep.specs.ReadyView.{CanCommit, IsFullToWrite, is_written, outcome_of};
-ghost use Rattle.oc_keep.specs.Writing.{KeepsStore, fetched};
+ghost use Rattle.oc_keep.specs.ReadyView.{CanCommit, IsFullToWrite, outcome_of};
 ghost use Rattle.oc_model.specs.declared.want.Want.{Want};
 ghost use Rattle.oc_model.specs.Lawful.{IsInput};
-ghost use Rattle.oc_model.specs.NextWorld.{has_change};
 ghost use Rattle.oc_model.specs.Step.{plan, step};
 ghost use Rattle.oc_node.specs.Planned.{IsWanting};
 
@@ -43,7 +42,7 @@ pub fn make_ready<D: Disk>(
     ensures step { IfOk result (λ ready. IsTrue (D.view content.old.journal.disk).honest
         → outcome_of (node_of (kept_of node.old store.old content.old false)) ready ≡ step (node_of (kept_of node.old store.old content.old false)) input.now) }
     ensures commits { IfOk result (λ ready. CanCommit D.view (kept_of node.new store.new content.new false) ready) }
-    ensures writes { IfOk result (λ ready. is_written ready.write ≡ has_change (plan node.old.control content.old.shelves input.now)) }
+    ensures control { IfOk result (λ ready. DoesControlStep (plan node.old.control content.old.shelves input.now) node.old.control ready) }
     ensures full { IfOk result (λ ready. IsFullToWrite (kept_of node.new store.new content.new false) ready.write
         ↔ IsFullAt (kept_of node.old store.old content.old false) input.now) }
     ensures nothing { ChangesNothing D.view (kept_of node.old store.old content.old false) (kept_of node.new store.new content.new false) }
@@ -90,8 +89,7 @@ fn fetch<D: Disk>(
     requires wanting { (w : Want) → plan.old.wants ≡ Some w → IsWanting plan.old w.count }
     requires shelved { IsTrue (D.view content.old.journal.disk).honest
         → IsShelved content.old.journal.frames content.old.shelves }
-    ensures fetched { OnOk result (IsTrue (D.view content.old.journal.disk).honest
-        → plan.new ≡ fetched (groups_in content.old.journal.frames) plan.old.wants plan.old) }
+    ensures fetched { OnOk result (Fetches D.view content.old plan.old plan.new) }
     ensures rest { plan.new ≡ record plan.old { sends = plan.new.sends; room = plan.new.room } }
     ensures content { PutsNothing D.view content.old content.new }
     ensures disk { IsErrOf result ReadyError.Disk → ClosesByRead D.view content.old.journal content.new.journal }
@@ -105,7 +103,7 @@ fn fetch<D: Disk>(
     let mut bytes = vec![in alloc; 0; want.count as usize]?;
     match content.read(&want.group, want.start, &mut bytes) {
         Ok(_) => {
-            plan.fill(&bytes);
+            plan.fill(bytes);
             Ok(())
         }
         Err(ReadError::Disk) => Err(ReadyError::Disk),

@@ -219,3 +219,19 @@ merge_schedule h past (l ∷ ls) w k on =
     let one : IsWorldOf h (past ++ l ∷ []) (world_after w first.0) = line_leads h past w l.node l.entry first.0 on.0 k on.1 first.1 in
     let rest = merge_schedule h (past ++ l ∷ []) ls (world_after w first.0) one on.2 in
     (first.0 ++ rest.0, (first.0, rest.0, refl, first.1, rest.1))
+
+-- One line more, and its events
+
+pub merge_more : (h : Header) (past ls : List Line) (l : Line) → GoOn h past ls → IsNode h.nodes l.node → CanFollow h (past ++ ls) l.node l.entry → GoOn h past (ls ++ l ∷ [])
+merge_more h past [] l on is can = (is, subst (λ (all : List Line). CanFollow h all l.node l.entry) (append-nil past) can, tt)
+merge_more h past (k ∷ ks) l on is can =
+    (on.0, on.1, merge_more h (past ++ k ∷ []) ks l on.2 is (subst (λ (all : List Line). CanFollow h all l.node l.entry) (sym (append_assoc past (k ∷ []) ks)) can))
+
+pub schedule_more : (w : World) (ls : List Line) (l : Line) (es more : List Event) → IsScheduleOf w ls es → AreEventsOf (world_after w es) l.node l.entry more → IsScheduleOf w (ls ++ l ∷ []) (es ++ more)
+schedule_more w [] l es more of are =
+    let here : AreEventsOf w l.node l.entry more = subst (λ (us : List Event). AreEventsOf (world_after w us) l.node l.entry more) of are in
+    (more, [], ap (λ (us : List Event). us ++ more) of ∙ sym (append-nil more), here, refl)
+schedule_more w (k ∷ ks) l es more of are =
+    let behind : AreEventsOf (world_after w (of.0 ++ of.1)) l.node l.entry more = subst (λ (us : List Event). AreEventsOf (world_after w us) l.node l.entry more) of.2 are in
+    let there : AreEventsOf (world_after (world_after w of.0) of.1) l.node l.entry more = subst (λ (v : World). AreEventsOf v l.node l.entry more) (world_after-append w of.0 of.1) behind in
+    (of.0, of.1 ++ more, ap (λ (us : List Event). us ++ more) of.2 ∙ append_assoc of.0 of.1 more, of.3, schedule_more (world_after w of.0) ks l of.1 more of.4 there)

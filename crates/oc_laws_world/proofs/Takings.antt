@@ -1,6 +1,6 @@
 -- A merge that takes lines until none can be taken takes the most, whatever order it tries.
-use Rattle.std.proofs.Common.{◌≡◌, ℕ, true, List, [], ◌∷◌, ◌++◌, ⊎_elim, refl, ap, sym, subst, ◌∙◌, append_assoc, append-nil}
-use Rattle.std.proofs.lemmas.Bool.{cases_eq}
+use Rattle.std.proofs.Common.{◌≡◌, ℕ, ◌<◌, true, Some, List, [], ◌∷◌, ◌++◌, slice_get, ⊎_elim, refl, ap, sym, subst, ◌∙◌, append_assoc, append-nil}
+use Rattle.std.proofs.lemmas.Bool.{cases_eq, cases_order}
 use Rattle.std.proofs.lemmas.List.{append_cancel_left}
 use Rattle.oc_model.specs.declared.input.Input.{Input}
 use Rattle.oc_model.specs.declared.input.Input.TheVariants.{Delivered}
@@ -8,7 +8,7 @@ use Rattle.oc_model.specs.declared.message.Message.{Message}
 use Rattle.oc_model.specs.Node.{Header, new_node}
 use Rattle.oc_model.specs.Numbers.{IsAmong}
 use Rattle.oc_laws_world.specs.Merges.{Entry, Starts, Takes, Line, line, sent_by_all, entries_of, is_any, WasSent, CanCome, CanFollow, GoOn}
-use Rattle.oc_laws_world.specs.Taking.{Records, CanBeTaken, AreTaken, IsFull, IsBeginning}
+use Rattle.oc_laws_world.specs.Taking.{Records, CanBeTaken, AreTaken, IsFull, IsBeginning, IsFirst, AreInOrder}
 use Rattle.oc_laws_world.proofs.MergeLists.{entries-append, entries_here, entries_there, sent_longer}
 
 -- Beginnings
@@ -122,3 +122,37 @@ full_most r most other taken full tried = takes_most r most (taken_within r [] m
 -- so there is one such
 pub full_one : (r : Records) (a b : List Line) → AreTaken r [] a → IsFull r a → AreTaken r [] b → IsFull r b → (x : ℕ) → entries_of x a ≡ entries_of x b
 full_one r a b takes_a full_a takes_b full_b x = begins_both (entries_of x a) (entries_of x b) (full_most r b a takes_b full_b takes_a x) (full_most r a b takes_a full_a takes_b x)
+
+-- The order of the input
+
+-- lines in the order of the input are a taking
+pub order_taking : (r : Records) (past ls : List Line) → AreInOrder r past ls → AreTaken r past ls
+order_taking r past [] ordered = tt
+order_taking r past (l ∷ ls) ordered = (ordered.0.1.can.2, order_taking r (past ++ l ∷ []) ls ordered.1)
+
+-- one line is the first
+first_one : (r : Records) (taken : List Line) (i j : ℕ) (k l : Line) → IsFirst r taken i k → IsFirst r taken j l → k ≡ l
+first_one r taken i j k l one other =
+    ⊎_elim same (λ apart. ⊎_elim (λ (less : i < j). absurd (other.none_before i k less one.can)) (λ (more : j < i). absurd (one.none_before j l more other.can)) apart) (cases_order i j) where
+      same : i ≡ j → k ≡ l
+      same e =
+          let here : Some k ≡ Some l = sym one.can.0 ∙ (ap (slice_get r.lines) e ∙ other.can.0) in
+          cc
+
+-- so two such takings behind which nothing can be taken are one
+pub order_one : (r : Records) (past a b : List Line) → AreInOrder r past a → IsFull r (past ++ a) → AreInOrder r past b → IsFull r (past ++ b) → a ≡ b
+order_one r past [] [] first full_a second full_b = refl
+order_one r past [] (l ∷ ls) first full_a second full_b = absurd (full_a l.node l.entry (subst (λ (ms : List Line). CanBeTaken r ms l.node l.entry) (sym (append-nil past)) second.0.1.can.2))
+order_one r past (k ∷ ks) [] first full_a second full_b = absurd (full_b k.node k.entry (subst (λ (ms : List Line). CanBeTaken r ms k.node k.entry) (sym (append-nil past)) first.0.1.can.2))
+order_one r past (k ∷ ks) (l ∷ ls) first full_a second full_b =
+    let same : k ≡ l = first_one r past first.0.0 second.0.0 k l first.0.1 second.0.1 in
+    let second_on : AreInOrder r (past ++ k ∷ []) ls = subst (λ (m : Line). AreInOrder r (past ++ m ∷ []) ls) (sym same) second.1 in
+    let full_k : IsFull r ((past ++ k ∷ []) ++ ks) = subst (IsFull r) (sym (append_assoc past (k ∷ []) ks)) full_a in
+    let full_l : IsFull r ((past ++ k ∷ []) ++ ls) = subst (λ (m : Line). IsFull r ((past ++ m ∷ []) ++ ls)) (sym same) (subst (IsFull r) (sym (append_assoc past (l ∷ []) ls)) full_b) in
+    ap (λ (m : Line). m ∷ ks) same ∙ ap (λ (ms : List Line). l ∷ ms) (order_one r (past ++ k ∷ []) ks ls first.1 full_k second_on full_l)
+
+-- the first line that can be taken may come next
+pub order_more : (r : Records) (past ls : List Line) (place : ℕ) (l : Line) → AreInOrder r past ls → IsFirst r (past ++ ls) place l → AreInOrder r past (ls ++ l ∷ [])
+order_more r past [] place l ordered first = ((place, subst (λ (ms : List Line). IsFirst r ms place l) (append-nil past) first), tt)
+order_more r past (k ∷ ks) place l ordered first =
+    (ordered.0, order_more r (past ++ k ∷ []) ks place l ordered.1 (subst (λ (ms : List Line). IsFirst r ms place l) (sym (append_assoc past (k ∷ []) ks)) first))

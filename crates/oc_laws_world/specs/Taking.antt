@@ -1,4 +1,4 @@
-use Rattle.std.specs.Prelude.{◌≡◌, ℕ, Bool, true, List, [], ◌∷◌, ◌++◌}
+use Rattle.std.specs.Prelude.{◌≡◌, ℕ, ◌<◌, Bool, true, Some, List, [], ◌∷◌, ◌++◌, length, take, slice_get}
 use Rattle.oc_base.specs.Lawful.{IsNode}
 use Rattle.oc_model.specs.Node.{Header}
 use Rattle.oc_laws_world.specs.Merges.{Entry, Line, entries_of, CanFollow}
@@ -36,3 +36,24 @@ IsFull r taken = (x : ℕ) (e : Entry) → CanBeTaken r taken x e → ⊥
 -- xs is a beginning of ys
 abbrev pub IsBeginning : List Entry → List Entry → Type 0
 IsBeginning xs ys = (rest : List Entry) × (ys ≡ xs ++ rest)
+
+-- The order of the input
+
+-- the line at this place of the input is next in its record, and can be taken
+abbrev pub CanBeTakenAt : Records → List Line → ℕ → Line → Type 0
+CanBeTakenAt r taken place l =
+    (slice_get r.lines place ≡ Some l) × (length (entries_of l.node (take place r.lines)) ≡ length (entries_of l.node taken))
+    × CanBeTaken r taken l.node l.entry
+
+-- and no line before it can be
+pub record IsFirst (r : Records) (taken : List Line) (place : ℕ) (l : Line) : Type 0 where
+  pub can : CanBeTakenAt r taken place l
+  pub none_before : (earlier : ℕ) (k : Line) → earlier < place → CanBeTakenAt r taken earlier k → ⊥
+
+-- each of these lines, when its turn comes, is the first of the input that can be taken
+abbrev pub AreInOrder : Records → List Line → List Line → Type 0
+AreInOrder r past [] = Unit {0}
+AreInOrder r past (l ∷ ls) = ((place : ℕ) × IsFirst r past place l) × AreInOrder r (past ++ l ∷ []) ls
+
+abbrev pub IsInOrder : Records → List Line → Type 0
+IsInOrder r taken = AreInOrder r [] taken

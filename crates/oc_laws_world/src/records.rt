@@ -10,9 +10,9 @@ ghost use Rattle.oc_model.specs.Numbers.{IsAmong};
 ghost use Rattle.oc_model.specs.World.{new_world, node};
 ghost use Rattle.oc_laws_world.specs.ExamplesMerges.{Copying, CopyingAt2, CopyingScheduled, CopyingHeld, MissedLeftOut, TakenKept};
 ghost use Rattle.oc_laws_world.specs.MergedLaws.{AllHold};
-ghost use Rattle.oc_laws_world.specs.Merges.{Entry, Line, line, IsMerge, IsScheduleOf, WasSent, after_entries, entries_of, own_fold};
+ghost use Rattle.oc_laws_world.specs.Merges.{Entry, Line, line, IsMerge, CanFollow, AreEventsOf, IsScheduleOf, WasSent, after_entries, entries_of, own_fold};
 ghost use Rattle.oc_laws_world.specs.Missed.{Deed, Started, after_deeds, record_of, without_missed, StartsFit, HaveSameFiles, IsStory};
-ghost use Rattle.oc_laws_world.specs.Taking.{Records, CanBeTaken, IsTaking, IsFull, IsBeginning};
+ghost use Rattle.oc_laws_world.specs.Taking.{Records, CanBeTaken, IsTaking, IsFull, IsBeginning, IsFirst, IsInOrder};
 
 use crate::{
     ask_numbers_have_one_peer, content_stays_true, parent_links_form_no_cycle, ranks_hold,
@@ -27,12 +27,16 @@ use crate::{
 /// each node is the fold of its own entries, and the net has exactly what their steps sent.
 ///
 /// So all that holds throughout every run holds of a recorded network: the laws of this crate in each
-/// world on the way, and so every other law about lists of events.
+/// world on the way, and so every other law about lists of events. A merge goes on line by line, and its
+/// schedule with it.
 pub fn records_are_schedules()
     ensures scheduled { (h : Header) (ls : List Line) → IsMerge h ls → (es : List Event) × IsScheduleOf (new_world h) ls es }
     ensures folds { (h : Header) (ls : List Line) (es : List Event) → IsMerge h ls → IsScheduleOf (new_world h) ls es → (x : ℕ) → IsNode h.nodes x → node (world_after (new_world h) es) x ≡ own_fold h ls x }
     ensures net { (h : Header) (ls : List Line) (es : List Event) → IsMerge h ls → IsScheduleOf (new_world h) ls es → (m : Message) → IsAmong m (world_after (new_world h) es).net ↔ WasSent h ls m }
     ensures laws { (h : Header) (ls : List Line) (es : List Event) → IsMerge h ls → IsScheduleOf (new_world h) ls es → AllHold (new_world h) es }
+    ensures one_more { (h : Header) (ls : List Line) (l : Line) → IsMerge h ls → IsNode h.nodes l.node → CanFollow h ls l.node l.entry → IsMerge h (ls ++ l ∷ []) }
+    ensures its_events { (h : Header) (ls : List Line) (l : Line) (es more : List Event) → IsScheduleOf (new_world h) ls es
+        → AreEventsOf (world_after (new_world h) es) l.node l.entry more → IsScheduleOf (new_world h) (ls ++ l ∷ []) (es ++ more) }
 {
     content_stays_true();
     ranks_hold();
@@ -54,13 +58,17 @@ pub fn merges_compute()
 /// record, whatever order it tried.
 ///
 /// To take a line forbids none of another node. What was taken of each node is a beginning of its record,
-/// and all of it is a merge, as [`records_are_schedules`] wants it.
+/// and all of it is a merge, as [`records_are_schedules`] wants it. Of those that always take the first line
+/// of the input that can be taken there is one.
 pub fn merging_takes_the_most()
     ensures stays { (r : Records) (taken : List Line) (x y : ℕ) (d e : Entry) → (x ≡ y → ⊥) → CanBeTaken r taken y e → CanBeTaken r (taken ++ line x d ∷ []) y e }
     ensures front { (r : Records) (taken : List Line) → IsTaking r taken → (x : ℕ) → IsBeginning (entries_of x taken) (entries_of x r.lines) }
     ensures merge { (r : Records) (taken : List Line) → IsTaking r taken → IsMerge r.header taken }
     ensures most { (r : Records) (taken other : List Line) → IsTaking r taken → IsFull r taken → IsTaking r other → (x : ℕ) → IsBeginning (entries_of x other) (entries_of x taken) }
     ensures one { (r : Records) (a b : List Line) → IsTaking r a → IsFull r a → IsTaking r b → IsFull r b → (x : ℕ) → entries_of x a ≡ entries_of x b }
+    ensures ordered { (r : Records) (taken : List Line) → IsInOrder r taken → IsTaking r taken }
+    ensures one_more { (r : Records) (taken : List Line) (place : ℕ) (l : Line) → IsInOrder r taken → IsFirst r taken place l → IsInOrder r (taken ++ l ∷ []) }
+    ensures one_order { (r : Records) (a b : List Line) → IsInOrder r a → IsFull r a → IsInOrder r b → IsFull r b → a ≡ b }
 {}
 
 /// Of a record whose last lines before a stop may tell of inputs that were not taken, these lines are

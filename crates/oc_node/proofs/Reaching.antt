@@ -1,5 +1,5 @@
 -- A node as inputs and starts leave it.
-use Rattle.std.proofs.Common.{◌≡◌, ℕ, Bool, ◌+◌, ◌≤◌, Option, None, ◌⊎◌, List, [], ◌∷◌, length, replicate, refl, ap, sym, subst, ◌∙◌, arith}
+use Rattle.std.proofs.Common.{◌≡◌, ℕ, Bool, ◌+◌, ◌<◌, ◌≤◌, Option, None, ◌⊎◌, List, [], ◌∷◌, length, replicate, refl, ap, sym, subst, ◌∙◌, arith}
 use Rattle.std.specs.List.{AllByRecursion}
 use Rattle.std.proofs.lemmas.List.{length-replicate}
 use Rattle.oc_base.specs.Lawful.{IsNode}
@@ -21,8 +21,9 @@ use Rattle.oc_laws_step.specs.Sound.{IsSound}
 use Rattle.oc_laws_step.proofs.LawfulSteps.{lawful_fits, lawful_new, lawful_planned}
 use Rattle.oc_laws_step.proofs.Soundness.{sound_new, sound_planned}
 use Rattle.oc_laws_step.proofs.Steps.{writes}
-use Rattle.oc_state.specs.DurableView.{IsKept}
-use Rattle.oc_step.specs.Applying.{CanApply}
+use Rattle.oc_state.specs.DurableView.{IsKept, brought_by}
+use Rattle.oc_state.proofs.Folding.{brought_most}
+use Rattle.oc_step.specs.Applying.{CanApply, HaveRoom}
 use Rattle.oc_state.specs.declared.volatile.Volatile.{Volatile}
 use Rattle.oc_step.specs.NodeView.{NodeView, IsReached, control_of}
 use Rattle.oc_step.specs.Planned.{PlanView, control_after, planned}
@@ -102,15 +103,18 @@ pub plan_folds : (n : Control) (lines : List Shelf) (i : Input) (p : PlanView) �
 plan_folds n lines i p made = sym (ap (λ (o : Plan). o.node.kept) made)
 
 -- a plan of a step can be applied, where there is room for its table and all its records
-pub plan_applies : (v w : NodeView) (lines : List Shelf) (i : Input) (p : PlanView) → IsReached v.control → IsShelf lines → IsInput v.control.nodes v.control.me i → planned v.control p ≡ plan v.control lines i → AllByRecursion (IsListUpdate v.control.nodes) p.updates → FitsFrame p.records → v.control.kept.log.length ≤ MAX_LOG_LENGTH → w.control ≡ v.control → length w.control.kept.log.waiting + (length w.control.kept.table + length p.records) ≤ w.room → CanApply w p
-plan_applies v w lines i p reached fair input made updates fits short same room = rw same (record {
+pub plan_applies : (v w : NodeView) (lines : List Shelf) (i : Input) (p : PlanView) → IsReached v.control → IsShelf lines → IsInput v.control.nodes v.control.me i → planned v.control p ≡ plan v.control lines i → AllByRecursion (IsListUpdate v.control.nodes) p.updates → FitsFrame p.records → v.control.kept.log.length ≤ MAX_LOG_LENGTH → w.control ≡ v.control → length w.control.kept.log.waiting + (length w.control.kept.table + brought_by p.records) ≤ w.room → (0 < length p.updates → HaveRoom v.control.nodes w.lists) → CanApply w p
+plan_applies v w lines i p reached fair input made updates fits short same room lists = rw same (record {
   reached = reached_step v.control lines i p reached fair input short made;
   records = records_lawful v.control lines i p reached fair input short fits.records made;
   updates = updates;
-  room = record {
-    waiting = omega (arith, rw same at room);
-    rows = omega (arith, rw same at room);
-    places = omega (arith, short, fits.records);
-    based = omega (arith, fits.records);
-  };
+  room = (
+    record {
+      waiting = omega (arith, rw same at room);
+      rows = omega (arith, rw same at room);
+      places = omega (arith, short, fits.records, brought_most p.records);
+      based = omega (arith, fits.records, brought_most p.records);
+    },
+    lists,
+  );
 })

@@ -1,4 +1,4 @@
-ghost use Rattle.std.specs.Prelude.{◌≡◌, ◌+◌, ◌≤◌, ◌⊎◌, None, Some, [], length, IfOk, IfSome, OnOk, OnErr};
+ghost use Rattle.std.specs.Prelude.{◌≡◌, ◌+◌, ◌<◌, ◌≤◌, ◌⊎◌, None, Some, [], length, IfOk, IfSome, OnOk, OnErr};
 ghost use Rattle.std.specs.List.{AllByRecursion};
 ghost use Rattle.oc_base.specs.Shelves.{IsShelf};
 ghost use Rattle.oc_laws_step.specs.Frames.{FitsFrame};
@@ -9,6 +9,7 @@ ghost use Rattle.oc_model.specs.Records.{folded};
 ghost use Rattle.oc_model.specs.Snapshot.{snapshot};
 ghost use Rattle.oc_model.specs.Step.{plan, step};
 ghost use Rattle.oc_node.specs.Planning.{IsPlanFor};
+ghost use Rattle.oc_state.specs.DurableView.{brought_by};
 ghost use Rattle.oc_step.specs.Applying.{CanApply, IsStepOf};
 ghost use Rattle.oc_step.specs.Planned.{IsWanting, control_after, planned};
 ghost use Rattle.oc_state.specs.ListUpdates.{IsListUpdate};
@@ -21,17 +22,17 @@ ghost use Rattle.oc_state.specs.Position.{position_of};
 
 use crate::outcome::Outcome;
 use crate::step::take;
-use oc_base::{Memory, NodeId, Rank, Shelf, Slots};
+use oc_base::{Memory, NodeId, Rank, Shelf};
 use oc_model::{Input, Mode, Record};
 use oc_state::modes::parent_of;
-use oc_state::{Durable, Position, Tries, Volatile, update_all};
+use oc_state::{Durable, Position, Tries, Volatile, reserve_lists, update_all};
 use oc_step::{Before, Changes, Plan, Step};
-use oc_updown::{ChangeLog, Leases, Measures, Table};
+use oc_updown::{ChangeLog, Leases, Measures, Slots, Table};
 use std::alloc::Global;
 use std::marker::Model;
 
-/// One node, except for its content. Contracts see the model's control state, and how many certificates
-/// there is room for in the change log.
+/// One node, except for its content. Contracts see the model's control state, how many certificates
+/// there is room for in the change log, and for how many nodes there is memory in the lists.
 #[derive(Drop)]
 pub struct Node {
     id: NodeId,
@@ -63,6 +64,7 @@ impl Model for Node {
     ghost view = { λ n. record {
       control = control_of n.id n.nodes n.chain n.chunk n.areas.items n.durable.kept (soft_of n.volatile n.tries) n.leases.ends n.rates.items n.counts.items;
       room = n.durable.room;
+      lists = record { leases = n.leases.room; rates = n.rates.room; counts = n.counts.room };
     } };
 
     ghost invariant = { λ n. (n.durable.nodes ≡ n.nodes)
@@ -133,7 +135,13 @@ impl Node {
         ensures node { self.new.control ≡ self.old.control }
     {
         let plan = self.make_plan(input, shelf)?;
-        self.durable.reserve(plan.records().len())?;
+        reserve_for(
+            &plan,
+            &mut self.durable,
+            &mut self.leases,
+            &mut self.rates,
+            &mut self.counts,
+        )?;
         Ok(plan)
     }
 
@@ -338,4 +346,26 @@ impl Node {
     {
         self.durable.position()
     }
+}
+
+/// Takes the memory for what a plan does to these parts of the node.
+fn reserve_for(
+    plan: &Plan,
+    durable: &mut Durable,
+    leases: &mut Leases,
+    rates: &mut Slots<u64>,
+    counts: &mut Slots<u64>,
+) -> Result<(), Memory>
+    ensures records { OnOk result (length durable.new.kept.log.waiting + (length durable.new.kept.table + brought_by plan.now.records) ≤ durable.new.room) }
+    ensures kept { durable.new.kept ≡ durable.old.kept }
+    ensures nodes { durable.new.nodes ≡ durable.old.nodes }
+    ensures ends { leases.new.ends ≡ leases.old.ends }
+    ensures rates { rates.new.items ≡ rates.old.items }
+    ensures counts { counts.new.items ≡ counts.old.items }
+    ensures leases_room { OnOk result (0 < length plan.now.updates → length leases.new.ends ≤ leases.new.room) }
+    ensures rates_room { OnOk result (0 < length plan.now.updates → length rates.new.items ≤ rates.new.room) }
+    ensures counts_room { OnOk result (0 < length plan.now.updates → length counts.new.items ≤ counts.new.room) }
+{
+    reserve_lists(plan.updates(), leases, rates, counts)?;
+    durable.reserve(plan.records())
 }

@@ -1,5 +1,5 @@
 -- What is durable, one record after another.
-use Rattle.std.proofs.Common.{◌≡◌, ℕ, suc, ◌+◌, ◌-◌, ◌<◌, ◌≤◌, ◌^◌, ◌⊎◌, inl, inr, true, ◌==◌, nat_lt, if◌then◌else◌, Some, List, [], ◌∷◌, ◌++◌, length, drop, get_or, refl, ap, sym, subst, ◌∙◌, arith, length-append, length-drop}
+use Rattle.std.proofs.Common.{◌≡◌, ℕ, zero, suc, ◌+◌, ◌-◌, ◌<◌, ◌≤◌, max, ◌^◌, ◌⊎◌, inl, inr, true, ◌==◌, nat_lt, if◌then◌else◌, Some, List, [], ◌∷◌, ◌++◌, length, drop, get_or, refl, ap, sym, subst, ◌∙◌, arith, length-append, length-drop}
 use Rattle.std.specs.List.{AllByRecursion}
 use Rattle.std.proofs.lemmas.Bool.{cond_both}
 use Rattle.std.proofs.lemmas.List.{length-replicate}
@@ -20,7 +20,7 @@ use Rattle.oc_laws_step.specs.Sound.{AreAbove, IsSoundAs, IsSoundDurable}
 use Rattle.oc_laws_step.proofs.Folds.{sound_fold_one}
 use Rattle.oc_laws_step.proofs.LawfulFolds.{lawful_fold_one, lawful_new_durable}
 use Rattle.oc_laws_step.proofs.Ranges.{few_rows}
-use Rattle.oc_state.specs.DurableView.{DurableView, HasRoom, IsKept}
+use Rattle.oc_state.specs.DurableView.{DurableView, HasRoom, IsKept, brought, brought_by}
 use Rattle.oc_state.proofs.Lists.{drop_at}
 
 -- Sound
@@ -80,52 +80,105 @@ all_above nodes (k ∷ ks) certs = (omega (arith, certs.0.subject.0), all_above 
 pub rows_few : (nodes : ℕ) (d : Durable) → IsKept nodes d → length d.table ≤ nodes
 rows_few nodes d kept = let few : 0 + length d.table ≤ nodes = few_rows nodes d.table 0 (omega arith) (all_above nodes d.table kept.lawful.table) kept.lawful.sorted kept.lawful.table in omega arith
 
+-- Memory for rows
+
+-- where more room was made for certificates, the table still has memory for all rows
+pub rows_more : (room rows memory more : ℕ) → (0 < room → rows ≤ memory) → memory ≤ more → 0 < room → rows ≤ more
+rows_more room rows memory more was grows some = let before : rows ≤ memory = was some in omega arith
+
+pub rows_most : (room more rows memory now : ℕ) → (0 < room → rows ≤ memory) → (0 < more → rows ≤ now) → memory ≤ now → 0 < max room more → rows ≤ now
+rows_most room zero rows memory now was is grows some = rows_more room rows memory now was grows (omega (arith, some))
+rows_most room (suc more) rows memory now was is grows some = is (omega arith)
+
+-- and it has it where there is room for one
+pub rows_there : (room rows memory waiting : ℕ) → (0 < room → rows ≤ memory) → waiting + 1 ≤ room → rows ≤ memory
+rows_there room rows memory waiting was one = was (omega (arith, one))
+
 -- Room
 
--- the log after one more record: it has one more that waits, or the whole table of this many rows, or a new base
-record Follows (rows : ℕ) (was now : Log) : Type 0 where
-  waiting : (length now.waiting ≤ length was.waiting + 1) ⊎ (length now.waiting ≤ rows)
-  length : (now.length ≤ was.length + 1) ⊎ (now.length ≤ MAX_BASE_ACKED)
+none_few : 0 ≤ 1
+none_few = omega arith
 
-follows_same : (rows : ℕ) (l : Log) → Follows rows l l
-follows_same rows l = record { waiting = inl (omega arith); length = inl (omega arith) }
+one_few : 1 ≤ 1
+one_few = omega arith
 
-follows_empty : (rows : ℕ) (l : Log) → Follows rows l empty_log
-follows_empty rows l = record { waiting = inr (omega arith); length = inr (omega arith) }
+-- no record brings more than one certificate
+pub brought_few : (r : Record) → brought r ≤ 1
+brought_few (records.Ask s p) = none_few
+brought_few (records.Joined p r) = none_few
+brought_few records.Lost = none_few
+brought_few records.Acting = none_few
+brought_few (records.Ranked r) = none_few
+brought_few (records.OldEntry x s p dead) = one_few
+brought_few (records.Acked upto) = none_few
+brought_few (records.Ancestors xs) = none_few
+brought_few (records.Rate p rate hops) = none_few
+brought_few (records.Epoch e) = none_few
+brought_few (records.Base n) = none_few
+brought_few (records.Snapshot g) = none_few
+brought_few (records.Entry c) = one_few
+brought_few (records.Info number clients) = none_few
 
-follows_noted : (rows : ℕ) (m : Mode) (l : Log) (c : Cert) → Follows rows l (noted m l c)
-follows_noted rows modes.Idle l c = follows_same rows l
-follows_noted rows (modes.Asking p) l c = follows_same rows l
+-- and so no list more than it is long
+pub brought_most : (rs : List Record) → brought_by rs ≤ length rs
+brought_most [] = omega arith
+brought_most (r ∷ rs) = let most : brought r + brought_by rs ≤ suc (length rs) = omega (arith, brought_few r, brought_most rs) in most
+
+-- what is counted so far, and what the rest brings, is all
+pub brought_on : (rs : List Record) (i : ℕ) (r : Record) (count : ℕ) → i < length rs → r ≡ get_or rs i r → count + brought_by (drop i rs) ≡ brought_by rs → count + brought r + brought_by (drop (i + 1) rs) ≡ brought_by rs
+brought_on rs i r count within e so =
+    let here : brought_by (drop i rs) ≡ brought r + brought_by (drop (i + 1) rs) = ap brought_by (drop_at rs i r within e) in
+    omega (arith, so, here)
+
+pub brought_end : (rs : List Record) (i count : ℕ) → length rs ≤ i → count + brought_by (drop i rs) ≡ brought_by rs → count ≡ brought_by rs
+brought_end rs i count over so =
+    let none : brought_by (drop i rs) ≡ 0 = ap brought_by (drop_of_length-le rs over) in
+    omega (arith, so, none)
+
+-- the log after a record that brings this many: so many more wait, or the whole table of this many rows, or a new base
+record Follows (rows more : ℕ) (was now : Log) : Type 0 where
+  waiting : (length now.waiting ≤ length was.waiting + more) ⊎ (length now.waiting ≤ rows)
+  length : (now.length ≤ was.length + more) ⊎ (now.length ≤ MAX_BASE_ACKED)
+
+follows_same : (rows more : ℕ) (l : Log) → Follows rows more l l
+follows_same rows more l = record { waiting = inl (omega arith); length = inl (omega arith) }
+
+follows_empty : (rows more : ℕ) (l : Log) → Follows rows more l empty_log
+follows_empty rows more l = record { waiting = inr (omega arith); length = inr (omega arith) }
+
+follows_noted : (rows : ℕ) (m : Mode) (l : Log) (c : Cert) → Follows rows 1 l (noted m l c)
+follows_noted rows modes.Idle l c = follows_same rows 1 l
+follows_noted rows (modes.Asking p) l c = follows_same rows 1 l
 follows_noted rows (modes.Joined p) l c = record { waiting = inl (let more : length (l.waiting ++ c ∷ []) ≡ length l.waiting + length (c ∷ []) = length-append l.waiting (c ∷ []) in omega arith); length = inl (omega arith) }
-follows_noted rows modes.Acting l c = follows_same rows l
+follows_noted rows modes.Acting l c = follows_same rows 1 l
 
-follows_acked : (rows : ℕ) (l : Log) (upto : ℕ) → Follows rows l (ack l upto)
+follows_acked : (rows : ℕ) (l : Log) (upto : ℕ) → Follows rows 0 l (ack l upto)
 follows_acked rows l upto =
-    cond_both (is_ahead l upto) (record { length = l.length; acked = upto; waiting = drop (upto - l.acked) l.waiting }) l (Follows rows l)
+    cond_both (is_ahead l upto) (record { length = l.length; acked = upto; waiting = drop (upto - l.acked) l.waiting }) l (Follows rows 0 l)
     (λ _. record { waiting = inl (omega (arith, length-drop (upto - l.acked) l.waiting)); length = inl (omega arith) })
-    (λ _. follows_same rows l)
+    (λ _. follows_same rows 0 l)
 
-follows_one : (nodes : ℕ) (d : Durable) (r : Record) → IsRecord nodes r → IsKept nodes d → Follows (length d.table) d.log (fold_one d r).log
-follows_one nodes d (records.Ask s p) ok kept = follows_empty (length d.table) d.log
+follows_one : (nodes : ℕ) (d : Durable) (r : Record) → IsRecord nodes r → IsKept nodes d → Follows (length d.table) (brought r) d.log (fold_one d r).log
+follows_one nodes d (records.Ask s p) ok kept = follows_empty (length d.table) 0 d.log
 follows_one nodes d (records.Joined p r) ok kept =
-    cond_both (d.seq == 0) d (record d { mode = modes.Joined p; rank = Some r; log = begun_with d.table }) (λ e. Follows (length d.table) d.log e.log)
-    (λ _. follows_same (length d.table) d.log)
+    cond_both (d.seq == 0) d (record d { mode = modes.Joined p; rank = Some r; log = begun_with d.table }) (λ e. Follows (length d.table) 0 d.log e.log)
+    (λ _. follows_same (length d.table) 0 d.log)
     (λ _. let few : length d.table ≤ nodes = rows_few nodes d kept in record { waiting = inr (omega arith); length = inr (omega (arith, few, kept.few)) })
-follows_one nodes d records.Lost ok kept = follows_empty (length d.table) d.log
-follows_one nodes d records.Acting ok kept = follows_empty (length d.table) d.log
-follows_one nodes d (records.Ranked r) ok kept = follows_same (length d.table) d.log
+follows_one nodes d records.Lost ok kept = follows_empty (length d.table) 0 d.log
+follows_one nodes d records.Acting ok kept = follows_empty (length d.table) 0 d.log
+follows_one nodes d (records.Ranked r) ok kept = follows_same (length d.table) 0 d.log
 follows_one nodes d (records.OldEntry x s p dead) ok kept = follows_noted (length d.table) d.mode d.log (record { subject = x; seq = s; parent = p; dead = dead; number = 0; clients = 0 })
 follows_one nodes d (records.Acked upto) ok kept = follows_acked (length d.table) d.log upto
-follows_one nodes d (records.Ancestors xs) ok kept = follows_same (length d.table) d.log
-follows_one nodes d (records.Rate p rate hops) ok kept = follows_same (length d.table) d.log
-follows_one nodes d (records.Epoch e) ok kept = follows_same (length d.table) d.log
+follows_one nodes d (records.Ancestors xs) ok kept = follows_same (length d.table) 0 d.log
+follows_one nodes d (records.Rate p rate hops) ok kept = follows_same (length d.table) 0 d.log
+follows_one nodes d (records.Epoch e) ok kept = follows_same (length d.table) 0 d.log
 follows_one nodes d (records.Base n) ok kept =
-    cond_both (is_joined d.mode) (record d { log = acked_whole n }) d (λ e. Follows (length d.table) d.log e.log)
+    cond_both (is_joined d.mode) (record d { log = acked_whole n }) d (λ e. Follows (length d.table) 0 d.log e.log)
     (λ _. record { waiting = inr (omega arith); length = inr ok })
-    (λ _. follows_same (length d.table) d.log)
-follows_one nodes d (records.Snapshot g) ok kept = follows_empty (length d.table) d.log
+    (λ _. follows_same (length d.table) 0 d.log)
+follows_one nodes d (records.Snapshot g) ok kept = follows_empty (length d.table) 0 d.log
 follows_one nodes d (records.Entry c) ok kept = follows_noted (length d.table) d.mode d.log c
-follows_one nodes d (records.Info number clients) ok kept = follows_same (length d.table) d.log
+follows_one nodes d (records.Info number clients) ok kept = follows_same (length d.table) 0 d.log
 
 -- a certificate that is put is one row more at the most
 put_rows : (t : List Cert) (c : Cert) → length (put t c) ≤ length t + 1
@@ -138,10 +191,10 @@ put_rows (k ∷ ks) c =
 merge_rows : (t : List Cert) (c : Cert) → length (merge t c) ≤ length t + 1
 merge_rows t c = cond_both (is_news t c) (put t c) t (λ u. length u ≤ length t + 1) (λ _. put_rows t c) (λ _. omega arith)
 
--- the table after one more record has one more row at the most
-rows_one : (d : Durable) (r : Record) → length (fold_one d r).table ≤ length d.table + 1
+-- the table after one more record has as many more rows at the most as the record brings
+rows_one : (d : Durable) (r : Record) → length (fold_one d r).table ≤ length d.table + brought r
 rows_one d (records.Ask s p) = omega arith
-rows_one d (records.Joined p r) = cond_both (d.seq == 0) d (record d { mode = modes.Joined p; rank = Some r; log = begun_with d.table }) (λ e. length e.table ≤ length d.table + 1) (λ _. omega arith) (λ _. omega arith)
+rows_one d (records.Joined p r) = cond_both (d.seq == 0) d (record d { mode = modes.Joined p; rank = Some r; log = begun_with d.table }) (λ e. length e.table ≤ length d.table + 0) (λ _. omega arith) (λ _. omega arith)
 rows_one d records.Lost = omega arith
 rows_one d records.Acting = omega arith
 rows_one d (records.Ranked r) = omega arith
@@ -150,23 +203,23 @@ rows_one d (records.Acked upto) = omega arith
 rows_one d (records.Ancestors xs) = omega arith
 rows_one d (records.Rate p rate hops) = omega arith
 rows_one d (records.Epoch e) = omega arith
-rows_one d (records.Base n) = cond_both (is_joined d.mode) (record d { log = acked_whole n }) d (λ e. length e.table ≤ length d.table + 1) (λ _. omega arith) (λ _. omega arith)
+rows_one d (records.Base n) = cond_both (is_joined d.mode) (record d { log = acked_whole n }) d (λ e. length e.table ≤ length d.table + 0) (λ _. omega arith) (λ _. omega arith)
 rows_one d (records.Snapshot g) = omega arith
 rows_one d (records.Entry c) = merge_rows d.table c
 rows_one d (records.Info number clients) = omega arith
 
 -- there is room for the records that are left
-room_one : (v : DurableView) (r : Record) (more : ℕ) → IsRecord v.nodes r → IsKept v.nodes v.kept → HasRoom v (suc more) → HasRoom (record v { kept = fold_one v.kept r }) more
+room_one : (v : DurableView) (r : Record) (more : ℕ) → IsRecord v.nodes r → IsKept v.nodes v.kept → HasRoom v (brought r + more) → HasRoom (record v { kept = fold_one v.kept r }) more
 room_one v r more ok kept room = by_log (follows_one v.nodes v.kept r ok kept) where
-  by_waiting : (n : ℕ) → (n ≤ length v.kept.log.waiting + 1) ⊎ (n ≤ length v.kept.table) → n + more ≤ v.room
+  by_waiting : (n : ℕ) → (n ≤ length v.kept.log.waiting + brought r) ⊎ (n ≤ length v.kept.table) → n + more ≤ v.room
   by_waiting n (inl h) = omega (arith, h, room.waiting)
   by_waiting n (inr h) = omega (arith, h, room.rows)
 
-  by_length : (n : ℕ) → (n ≤ v.kept.log.length + 1) ⊎ (n ≤ MAX_BASE_ACKED) → n + more < 2 ^ 63
+  by_length : (n : ℕ) → (n ≤ v.kept.log.length + brought r) ⊎ (n ≤ MAX_BASE_ACKED) → n + more < 2 ^ 63
   by_length n (inl h) = omega (arith, h, room.places)
   by_length n (inr h) = omega (arith, h, room.based)
 
-  by_log : Follows (length v.kept.table) v.kept.log (fold_one v.kept r).log → HasRoom (record v { kept = fold_one v.kept r }) more
+  by_log : Follows (length v.kept.table) (brought r) v.kept.log (fold_one v.kept r).log → HasRoom (record v { kept = fold_one v.kept r }) more
   by_log f = record {
     waiting = by_waiting (length (fold_one v.kept r).log.waiting) f.waiting;
     rows = omega (arith, room.rows, rows_one v.kept r);
@@ -174,15 +227,24 @@ room_one v r more ok kept room = by_log (follows_one v.nodes v.kept r ok kept) w
     based = omega (arith, room.based);
   }
 
--- room for more is room for one
-room_first : (v : DurableView) (more : ℕ) → HasRoom v (suc more) → HasRoom v 1
-room_first v more room = record { waiting = omega (arith, room.waiting); rows = omega (arith, room.rows); places = omega (arith, room.places); based = omega (arith, room.based) }
+-- room for more is room for the first
+room_first : (v : DurableView) (one more : ℕ) → HasRoom v (one + more) → HasRoom v one
+room_first v one more room = record { waiting = omega (arith, room.waiting); rows = omega (arith, room.rows); places = omega (arith, room.places); based = omega (arith, room.based) }
+
+-- room for one more certificate, where any record is folded
+pub room_for : (v : DurableView) (r : Record) → length v.kept.log.waiting + (length v.kept.table + 1) ≤ v.room → v.kept.log.length + 1 < 2 ^ 63 → HasRoom v (brought r)
+room_for v r room places = record {
+  waiting = omega (arith, room, brought_few r);
+  rows = omega (arith, room, brought_few r);
+  places = omega (arith, places, brought_few r);
+  based = omega (arith, brought_few r);
+}
 
 -- the log is no longer than one more, or than a base may be
 pub length_one : (nodes : ℕ) (d : Durable) (r : Record) (most : ℕ) → IsRecord nodes r → IsKept nodes d → MAX_BASE_ACKED ≤ most → d.log.length ≤ most → (fold_one d r).log.length ≤ most + 1
 length_one nodes d r most ok kept base less = by_length ((follows_one nodes d r ok kept).length) where
-  by_length : ((fold_one d r).log.length ≤ d.log.length + 1) ⊎ ((fold_one d r).log.length ≤ MAX_BASE_ACKED) → (fold_one d r).log.length ≤ most + 1
-  by_length (inl h) = omega arith
+  by_length : ((fold_one d r).log.length ≤ d.log.length + brought r) ⊎ ((fold_one d r).log.length ≤ MAX_BASE_ACKED) → (fold_one d r).log.length ≤ most + 1
+  by_length (inl h) = omega (arith, brought_few r)
   by_length (inr h) = omega arith
 
 -- The steps of a list
@@ -227,28 +289,28 @@ pub record FoldsOn (first now : DurableView) (all rest : List Record) : Type 0 w
   pub nodes : now.nodes ≡ first.nodes
   pub same : now.room ≡ first.room
   pub kept : IsKept now.nodes now.kept
-  pub room : HasRoom now (length rest)
+  pub room : HasRoom now (brought_by rest)
   pub lawful : AllByRecursion (IsRecord now.nodes) rest
 
-pub folds_begin : (v : DurableView) (rs : List Record) → IsKept v.nodes v.kept → HasRoom v (length rs) → AllByRecursion (IsRecord v.nodes) rs → FoldsOn v v rs rs
+pub folds_begin : (v : DurableView) (rs : List Record) → IsKept v.nodes v.kept → HasRoom v (brought_by rs) → AllByRecursion (IsRecord v.nodes) rs → FoldsOn v v rs rs
 folds_begin v rs kept room lawful = record { folds = refl; nodes = refl; same = refl; kept = kept; room = room; lawful = lawful }
 
-pub folds_first : (first now : DurableView) (all rest : List Record) (r : Record) (rs : List Record) → rest ≡ r ∷ rs → FoldsOn first now all rest → IsRecord now.nodes r × IsKept now.nodes now.kept × HasRoom now 1
+pub folds_first : (first now : DurableView) (all rest : List Record) (r : Record) (rs : List Record) → rest ≡ r ∷ rs → FoldsOn first now all rest → IsRecord now.nodes r × IsKept now.nodes now.kept × HasRoom now (brought r)
 folds_first first now all rest r rs e on =
     let lawful = subst (λ (xs : List Record). AllByRecursion (IsRecord now.nodes) xs) e on.lawful in
-    let room = subst (λ (xs : List Record). HasRoom now (length xs)) e on.room in
-    (lawful.0, on.kept, room_first now (length rs) room)
+    let room = subst (λ (xs : List Record). HasRoom now (brought_by xs)) e on.room in
+    (lawful.0, on.kept, room_first now (brought r) (brought_by rs) room)
 
 pub folds_on : (first now next : DurableView) (all rest : List Record) (r : Record) (rs : List Record) → rest ≡ r ∷ rs → next ≡ record now { kept = fold_one now.kept r } → FoldsOn first now all rest → FoldsOn first next all rs
 folds_on first now next all rest r rs e made on =
     let lawful = subst (λ (xs : List Record). AllByRecursion (IsRecord now.nodes) xs) e on.lawful in
-    let room = subst (λ (xs : List Record). HasRoom now (length xs)) e on.room in
+    let room = subst (λ (xs : List Record). HasRoom now (brought_by xs)) e on.room in
     subst (λ (v : DurableView). FoldsOn first v all rs) (sym made) (record {
       folds = sym (ap (λ (xs : List Record). folded now.kept xs) e) ∙ on.folds;
       nodes = on.nodes;
       same = on.same;
       kept = kept_one now.nodes now.kept r lawful.0 on.kept;
-      room = room_one now r (length rs) lawful.0 on.kept room;
+      room = room_one now r (brought_by rs) lawful.0 on.kept room;
       lawful = lawful.1;
     })
 

@@ -1,8 +1,10 @@
 -- What a contract sees of the durable parts of a node.
-use Rattle.std.specs.Prelude.{ℕ, ◌+◌, ◌≤◌, ◌<◌, ◌^◌, List, length}
+use Rattle.std.specs.Prelude.{ℕ, ◌+◌, ◌≤◌, ◌<◌, ◌^◌, List, [], ◌∷◌, length}
 use Rattle.oc_base.specs.declared.cert.Cert.{Cert}
 use Rattle.oc_base.specs.declared.limits.TheConstants.{MAX_NODES, MAX_BASE_ACKED}
 use Rattle.oc_model.specs.declared.reading.Reading.{Reading}
+use Rattle.oc_model.specs.declared.record.Record.{Record}
+use Rattle.oc_model.specs.declared.record.Record.TheVariants as records
 use Rattle.oc_model.specs.Node.{Durable, Log}
 use Rattle.oc_laws_step.specs.LawfulNode.{IsLawfulDurable}
 use Rattle.oc_laws_step.specs.Sound.{IsSoundDurable}
@@ -28,7 +30,17 @@ durable_of s table log ancestors measures = record {
   measures = measures;
 }
 
--- there is room to fold this many records: each lets at most one more certificate wait, or the whole table
+-- how many certificates a record brings
+abbrev pub brought : Record → ℕ
+brought (records.Entry c) = 1
+brought (records.OldEntry x s p dead) = 1
+brought r = 0
+
+abbrev pub brought_by : List Record → ℕ
+brought_by [] = 0
+brought_by (r ∷ rs) = brought r + brought_by rs
+
+-- there is room to fold records that bring this many certificates: each lets at most one more wait, or the whole table
 pub record HasRoom (v : DurableView) (more : ℕ) : Type 0 where
   pub waiting : length v.kept.log.waiting + more ≤ v.room
   pub rows : length v.kept.table + more ≤ v.room

@@ -1,12 +1,14 @@
 -- What updates do to the lists that have an item for each node: lease ends, rates of children, redirection counts.
-use Rattle.std.specs.Prelude.{ℕ, ◌+◌, ◌≤◌, Option, List, [], ◌∷◌}
+use Rattle.std.specs.Prelude.{◌≡◌, ℕ, ◌+◌, ◌≤◌, Option, List, [], ◌∷◌, length}
 use Rattle.oc_base.specs.Lawful.{IsNode}
 use Rattle.oc_base.specs.declared.cert.Cert.{Cert}
 use Rattle.oc_base.specs.declared.limits.TheConstants.{LAST_SECOND}
+use Rattle.oc_base.specs.SlotsView.{SlotsView}
 use Rattle.oc_model.specs.Leases.{renew, start_all}
 use Rattle.oc_model.specs.Numbers.{capped, at, put_at}
 use Rattle.oc_state.specs.declared.list_update.ListUpdate.{ListUpdate}
 use Rattle.oc_state.specs.declared.list_update.ListUpdate.TheVariants as updates
+use Rattle.oc_updown.specs.LeasesView.{LeasesView}
 
 -- an update of one of `nodes` nodes, while the clock runs
 abbrev pub IsListUpdate : ℕ → ListUpdate → Type 0
@@ -43,3 +45,12 @@ rates_after rates (u ∷ us) = rates_after (rates_by rates u) us
 abbrev pub counts_after : List ℕ → List ListUpdate → List ℕ
 counts_after counts [] = counts
 counts_after counts (u ∷ us) = counts_after (counts_by counts u) us
+
+-- the lists have an item for each of this many nodes, and memory for all of them
+pub record AreReserved (nodes : ℕ) (ends : LeasesView) (told sent : SlotsView ℕ) : Type 0 where
+  pub leases : length ends.ends ≡ nodes
+  pub leases_room : nodes ≤ ends.room
+  pub rates : length told.items ≡ nodes
+  pub rates_room : nodes ≤ told.room
+  pub counts : length sent.items ≡ nodes
+  pub counts_room : nodes ≤ sent.room

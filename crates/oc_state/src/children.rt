@@ -5,7 +5,8 @@ ghost use Rattle.oc_model.specs.Numbers.{at};
 ghost use Rattle.oc_updown.specs.TableView.{AreTableRows, entries_of};
 ghost use Rattle.oc_state.specs.Children.{child_of_row, other_child_of_row, told_of_row, told_children};
 
-use oc_base::{Cert, Child, Memory, NodeId, Slots};
+use oc_base::{Cert, Child, Memory, NodeId};
+use oc_updown::Slots;
 use std::alloc::Global;
 
 /// The subject of a row, if it is a leased child of this node.

@@ -3,7 +3,7 @@ ghost use Rattle.oc_base.specs.declared.limits.TheConstants.{MAX_BASE_ACKED, MAX
 ghost use Rattle.oc_model.specs.Lawful.{AreRecords, IsRecord};
 ghost use Rattle.oc_model.specs.Node.{new_durable};
 ghost use Rattle.oc_model.specs.Records.{fold_one, folded};
-ghost use Rattle.oc_state.specs.DurableView.{DurableView, HasRoom, IsKept};
+ghost use Rattle.oc_state.specs.DurableView.{DurableView, HasRoom, IsKept, brought, brought_by};
 ghost use Rattle.oc_state.specs.Position.{position_of};
 
 use crate::Position;
@@ -22,8 +22,8 @@ pub struct Durable {
     position: Position,
     table: Table,
     log: ChangeLog,
-    /// For how many certificates room was made in the log. A recovery that runs out of memory leaves it as it was,
-    /// though the log keeps the memory that it has.
+    /// For how many certificates room was made in the log; with any, the table has memory for all rows. A recovery
+    /// that runs out of memory leaves it as it was, though the log and the table keep the memory that they have.
     room: usize,
     /// Nearest first.
     ancestors: IdList,
@@ -32,7 +32,7 @@ pub struct Durable {
 }
 
 impl Model for Durable {
-    ghost use Rattle.std.specs.Prelude.{◌≡◌, ◌≤◌};
+    ghost use Rattle.std.specs.Prelude.{◌≡◌, ◌<◌, ◌≤◌};
     ghost use Rattle.oc_state.specs.DurableView.{DurableView, durable_of};
 
     ghost Value = { DurableView };
@@ -43,7 +43,7 @@ impl Model for Durable {
       room = d.room;
     } };
 
-    ghost invariant = { λ d. (d.log.nodes ≡ d.nodes) × (d.table.nodes ≡ d.nodes) × (d.room ≤ d.log.room) };
+    ghost invariant = { λ d. (d.log.nodes ≡ d.nodes) × (d.table.nodes ≡ d.nodes) × (d.room ≤ d.log.room) × (0 < d.room → d.table.nodes ≤ d.table.room) };
 }
 
 impl Durable {
@@ -106,17 +106,30 @@ impl Durable {
         &self.measures
     }
 
-    /// Makes room to fold this many records more: for each a certificate in the log, or the whole table.
-    pub fn reserve(&mut self, records: usize) -> Result<(), Memory>
-        ensures room { OnOk result (length self.new.kept.log.waiting + (length self.new.kept.table + records) ≤ self.new.room) }
+    /// Makes room to fold these records: for each certificate that they bring one in the log, or the whole table. Where
+    /// there is none, it takes no memory.
+    pub fn reserve(&mut self, changes: &[Record]) -> Result<(), Memory>
+        ensures room { OnOk result (length self.new.kept.log.waiting + (length self.new.kept.table + brought_by changes.now) ≤ self.new.room) }
         ensures stays { self.old.room ≤ self.new.room }
         ensures kept { self.new.kept ≡ self.old.kept }
         ensures nodes { self.new.nodes ≡ self.old.nodes }
     {
-        let more = rows_in_use(&self.table).checked_add(records).ok_or(Memory)?;
-        self.log.reserve(more)?;
+        self.reserve_certs(brought_by(changes))
+    }
+
+    /// Makes room for this many certificates.
+    #[tactic(auto, using(crate::proofs::Folding::rows_more, crate::proofs::Folding::rows_most))]
+    fn reserve_certs(&mut self, certs: usize) -> Result<(), Memory>
+        ensures room { OnOk result (length self.new.kept.log.waiting + (length self.new.kept.table + certs) ≤ self.new.room) }
+        ensures stays { self.old.room ≤ self.new.room }
+        ensures kept { self.new.kept ≡ self.old.kept }
+        ensures nodes { self.new.nodes ≡ self.old.nodes }
+    {
+        let more = rows_in_use(&self.table).checked_add(certs).ok_or(Memory)?;
         let waiting = (self.log.length() - self.log.acked()) as usize;
         let room = waiting.checked_add(more).ok_or(Memory)?;
+        reserve_rows(&mut self.table, room)?;
+        self.log.reserve(more)?;
         self.room = self.room.max(room);
         Ok(())
     }
@@ -169,7 +182,7 @@ impl Durable {
     }
 
     /// Does what a record says, and takes the memory for that.
-    #[tactic(auto, using(crate::proofs::Folding::length_one))]
+    #[tactic(auto, using(crate::proofs::Folding::length_one, crate::proofs::Folding::room_for))]
     fn fold_copy(&mut self, change: &Record) -> Result<(), Memory>
         requires lawful { IsRecord self.old.nodes change.now }
         requires kept { IsKept self.old.nodes self.old.kept }
@@ -180,7 +193,7 @@ impl Durable {
         ensures err { OnErr result (self.new.kept ≡ self.old.kept) }
     {
         let change = change.clone()?;
-        self.reserve(1)?;
+        self.reserve_certs(1)?;
         self.fold(change);
         Ok(())
     }
@@ -189,7 +202,7 @@ impl Durable {
     pub fn fold_all(&mut self, changes: Vec<Record>)
         requires lawful { AreRecords self.old.nodes changes.items }
         requires kept { IsKept self.old.nodes self.old.kept }
-        requires room { HasRoom self.old (length changes.items) }
+        requires room { HasRoom self.old (brought_by changes.items) }
         ensures { self.new ≡ record self.old { kept = folded self.old.kept changes.items } }
     {
         for change in changes {
@@ -198,11 +211,11 @@ impl Durable {
     }
 
     /// Does what a record says. Takes no memory.
-    #[tactic(auto, using(crate::proofs::Folding::rows_few))]
+    #[tactic(auto, using(crate::proofs::Folding::rows_few, crate::proofs::Folding::rows_there))]
     pub fn fold(&mut self, change: Record)
         requires lawful { IsRecord self.old.nodes change }
         requires kept { IsKept self.old.nodes self.old.kept }
-        requires room { HasRoom self.old 1 }
+        requires room { HasRoom self.old (brought change) }
         ensures { self.new ≡ record self.old { kept = fold_one self.old.kept change } }
     {
         let mode = self.position.mode;
@@ -241,6 +254,41 @@ impl Durable {
             _ => {}
         }
     }
+}
+
+/// How many certificates these records bring.
+#[tactic(auto, using(crate::proofs::Folding::brought_on, crate::proofs::Folding::brought_end))]
+fn brought_by(changes: &[Record]) -> usize
+    ensures { result ≡ brought_by changes.now }
+{
+    let mut count = 0;
+    for change in changes {
+        count += brought(change);
+    }
+    count
+}
+
+/// How many certificates a record brings.
+fn brought(change: &Record) -> usize
+    ensures value { result ≡ brought change.now }
+    ensures few { result ≤ 1 }
+{
+    match change {
+        Record::Entry { .. } | Record::OldEntry { .. } => 1,
+        _ => 0,
+    }
+}
+
+/// Takes the memory for the rows of a table, where room for certificates is wanted.
+fn reserve_rows(table: &mut Table, room: usize) -> Result<(), Memory>
+    ensures room { OnOk result (0 < room → table.new.nodes ≤ table.new.room) }
+    ensures stays { table.old.room ≤ table.new.room }
+    ensures rest { table.new ≡ record table.old { room = table.new.room } }
+{
+    if room == 0 {
+        return Ok(());
+    }
+    table.reserve()
 }
 
 /// How many rows of a table are in use, at least as many as there are certificates.

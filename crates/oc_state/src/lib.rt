@@ -24,7 +24,7 @@ mod tries;
 mod volatile;
 
 pub use durable::Durable;
-pub use list_update::{ListUpdate, update_all};
+pub use list_update::{ListUpdate, reserve_lists, update_all};
 pub use position::Position;
 pub use tries::Tries;
 pub use volatile::Volatile;

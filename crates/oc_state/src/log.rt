@@ -1,4 +1,4 @@
-ghost use Rattle.std.specs.Prelude.{◌≡◌, ◌+◌, ◌<◌, ◌^◌, length, IfOk};
+ghost use Rattle.std.specs.Prelude.{◌≡◌, ◌+◌, ◌<◌, ◌≤◌, ◌^◌, length, IfOk};
 ghost use Rattle.oc_base.specs.Lawful.{IsCert};
 ghost use Rattle.oc_model.specs.Records.{noted};
 ghost use Rattle.oc_model.specs.Table.{merge};
@@ -9,15 +9,17 @@ use oc_updown::{ChangeLog, Table};
 use std::alloc::Global;
 
 /// Merges a certificate into the table of a node in this mode; where the node is joined, puts it at the end
-/// of the log too. Takes no memory: the log has room for one more, which is asked in every mode, so that
-/// callers need not look at it.
+/// of the log too. Takes no memory: the table has it for all rows, and the log has room for one more, which is asked
+/// in every mode, so that callers need not look at it.
 pub(crate) fn enter(table: &mut Table, log: &mut ChangeLog, mode: Mode, cert: &Cert)
     requires cert { IsCert table.old.nodes cert.now }
     requires nodes { log.old.nodes ≡ table.old.nodes }
+    requires rows { table.old.nodes ≤ table.old.room }
     requires room { length log.old.log.waiting < log.old.room }
     requires places { log.old.log.length + 1 < 2 ^ 63 }
     ensures entries { table.new.entries ≡ merge table.old.entries cert.now }
     ensures rows { table.new.nodes ≡ table.old.nodes }
+    ensures rows_room { table.new.room ≡ table.old.room }
     ensures log { log.new.log ≡ noted mode log.old.log cert.now }
     ensures nodes { log.new.nodes ≡ log.old.nodes }
     ensures room { log.new.room ≡ log.old.room }

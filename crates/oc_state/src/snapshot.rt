@@ -9,9 +9,9 @@ use crate::Position;
 use crate::durable::Durable;
 use crate::log::all_waiting;
 use crate::ranks::rank_or_last;
-use oc_base::{Cert, IdList, Memory, NodeId, Rank, Slots};
+use oc_base::{Cert, IdList, Memory, NodeId, Rank};
 use oc_model::{Mode, Record};
-use oc_updown::Measures;
+use oc_updown::{Measures, Slots};
 use std::alloc::Global;
 
 // A snapshot: records that give one state, whatever was before them.

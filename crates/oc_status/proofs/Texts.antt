@@ -1,11 +1,9 @@
 -- Texts put one after the other.
-use Rattle.std.proofs.Common.{◌≡◌, ℕ, ◌+◌, ◌<◌, Bool, true, false, Result, OnOk, List, ◌++◌, length, drop, get_or, refl, ap, sym, ◌∙◌, append_assoc}
+use Rattle.std.proofs.Common.{◌≡◌, ℕ, ◌+◌, ◌<◌, Result, OnOk, List, ◌++◌, length, drop, get_or, refl, ap, sym, ◌∙◌, append_assoc}
 use Rattle.std.specs.List.{flat_map}
-use Rattle.std.specs.Int.{from_bool}
 use Rattle.std.proofs.lemmas.List.{at_drop_more}
 use Rattle.std.proofs.lemmas.Result.{on_ok_weaker}
 use Rattle.oc_base.specs.declared.shelf.Shelf.{Shelf}
-use Rattle.oc_status.specs.Metrics.{one_if}
 
 -- a text is put behind what was put
 pub then_put : (a b c so_far x : List ℕ) → b ≡ a ++ so_far → c ≡ b ++ x → c ≡ a ++ (so_far ++ x)
@@ -28,8 +26,3 @@ pub lines_go_on : (text : Shelf → List ℕ) (lines : List Shelf) (i : ℕ) (li
 lines_go_on text lines i line before after whole within e put so =
     let here : flat_map text (drop i lines) ≡ text line ++ flat_map text (drop (i + 1) lines) = at_drop_more (flat_map text) lines i line within ∙ ap (λ (x : Shelf). text x ++ flat_map text (drop (i + 1) lines)) (sym e) in
     rw put (append_assoc before (text line) (flat_map text (drop (i + 1) lines)) ∙ (ap (λ (l : List ℕ). before ++ l) (sym here) ∙ so))
-
--- a flag as a number
-pub one_if_is : (b : Bool) → from_bool b ≡ one_if b
-one_if_is true = refl
-one_if_is false = refl

@@ -1,6 +1,7 @@
 -- What a node tells of itself at `/!metrics`, in the text format of Prometheus, version 0.0.4: for each metric two lines that
 -- name it, and its samples.
-use Rattle.std.specs.Prelude.{ℕ, ◌-◌, Bool, if◌then◌else◌, List, ◌++◌, length, codes, decimal}
+use Rattle.std.specs.Prelude.{ℕ, ◌-◌, List, ◌++◌, length, codes, decimal}
+use Rattle.std.specs.Int.{from_bool}
 use Rattle.std.specs.List.{flat_map}
 use Rattle.oc_base.specs.declared.shelf.Shelf.{Shelf}
 use Rattle.oc_model.specs.declared.mode.Mode.{Mode}
@@ -22,15 +23,12 @@ gauge name says value = heading name says ++ name ++ codes " " ++ decimal value 
 unfoldable pub sample : List ℕ → Shelf → ℕ → List ℕ
 sample name line value = name ++ codes "{group=\"" ++ line.group ++ codes "\"} " ++ decimal value ++ codes "\n"
 
-abbrev pub one_if : Bool → ℕ
-one_if is_so = if is_so then 1 else 0
-
 -- the node's place in the tree
 abbrev pub place_gauges : Mode → List ℕ
 place_gauges mode =
     gauge (codes "overcast_up") (codes "The node answers.") 1
-    ++ gauge (codes "overcast_acting") (codes "The node acts as root.") (one_if (is_acting mode))
-    ++ gauge (codes "overcast_joined") (codes "The node is joined to a parent.") (one_if (is_joined mode))
+    ++ gauge (codes "overcast_acting") (codes "The node acts as root.") (from_bool (is_acting mode))
+    ++ gauge (codes "overcast_joined") (codes "The node is joined to a parent.") (from_bool (is_joined mode))
 
 -- what is counted of the node: who is listed beneath it, the rows of its table, its leased children, the clients in its own count,
 -- and what its parent has not acknowledged
@@ -57,7 +55,7 @@ held_samples shelf = flat_map (λ line. sample (codes "overcast_group_bytes") li
 
 -- whether each group is sealed
 abbrev pub sealed_samples : List Shelf → List ℕ
-sealed_samples shelf = flat_map (λ line. sample (codes "overcast_group_sealed") line (one_if line.sealed)) shelf
+sealed_samples shelf = flat_map (λ line. sample (codes "overcast_group_sealed") line (from_bool line.sealed)) shelf
 
 -- its groups
 abbrev pub group_gauges : List Shelf → List ℕ

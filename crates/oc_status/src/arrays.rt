@@ -7,7 +7,7 @@ ghost use Rattle.oc_status.specs.Status.{list_text};
 use oc_base::{Memory, put};
 
 /// What an array contains.
-pub(crate) trait Item {
+pub(crate) trait ArrayItem {
     /// Its text.
     ghost text: { Self → List ℕ };
 
@@ -18,7 +18,11 @@ pub(crate) trait Item {
 
 /// Puts `,"NAME":[..]`.
 #[tactic(auto, unfolding(crate::specs::Status::list_text))]
-pub(crate) fn put_list<I: Item>(out: &mut Vec<u8>, name: &str, items: &[I]) -> Result<(), Memory>
+pub(crate) fn put_list<I: ArrayItem>(
+    out: &mut Vec<u8>,
+    name: &str,
+    items: &[I],
+) -> Result<(), Memory>
     ensures { OnOk result (out.new.items ≡ out.old.items ++ list_text name.now I.text items.now) }
 {
     put(out, b",\"")?;
@@ -28,7 +32,7 @@ pub(crate) fn put_list<I: Item>(out: &mut Vec<u8>, name: &str, items: &[I]) -> R
 }
 
 /// Puts an array.
-fn put_array<I: Item>(out: &mut Vec<u8>, items: &[I]) -> Result<(), Memory>
+fn put_array<I: ArrayItem>(out: &mut Vec<u8>, items: &[I]) -> Result<(), Memory>
     ensures { OnOk result (out.new.items ≡ out.old.items ++ array_text I.text items.now) }
 {
     put(out, b"[")?;
@@ -37,7 +41,7 @@ fn put_array<I: Item>(out: &mut Vec<u8>, items: &[I]) -> Result<(), Memory>
 }
 
 /// Puts the items, with a comma between each two.
-fn put_separated<I: Item>(out: &mut Vec<u8>, items: &[I]) -> Result<(), Memory>
+fn put_separated<I: ArrayItem>(out: &mut Vec<u8>, items: &[I]) -> Result<(), Memory>
     ensures { OnOk result (out.new.items ≡ out.old.items ++ separated I.text items.now) }
 {
     let Some((first, rest)) = items.split_first() else {

@@ -4,13 +4,13 @@ ghost use Rattle.std.specs.Prelude.{◌≡◌, ◌++◌, not, OnOk};
 ghost use Rattle.oc_status.specs.Json.{number_text};
 ghost use Rattle.oc_status.specs.Status.{cert_text, child_text, group_text, own_text, row_text};
 
-use crate::arrays::Item;
+use crate::arrays::ArrayItem;
 use crate::json::{put_exact, put_field, put_flag, put_number_or_null, put_quoted};
 use crate::leased::Leased;
 use crate::rows::Row;
 use oc_base::{Cert, Memory, NodeId, Shelf, put};
 
-impl Item for NodeId {
+impl ArrayItem for NodeId {
     ghost text = { number_text };
 
     fn put(&self, out: &mut Vec<u8>) -> Result<(), Memory> {
@@ -18,7 +18,7 @@ impl Item for NodeId {
     }
 }
 
-impl Item for Shelf {
+impl ArrayItem for Shelf {
     ghost text = { group_text };
 
     fn put(&self, out: &mut Vec<u8>) -> Result<(), Memory> {
@@ -30,7 +30,7 @@ impl Item for Shelf {
     }
 }
 
-impl Item for Row {
+impl ArrayItem for Row {
     ghost text = { row_text };
 
     fn put(&self, out: &mut Vec<u8>) -> Result<(), Memory> {
@@ -41,7 +41,7 @@ impl Item for Row {
     }
 }
 
-impl Item for Leased {
+impl ArrayItem for Leased {
     ghost text = { child_text };
 
     fn put(&self, out: &mut Vec<u8>) -> Result<(), Memory> {

@@ -1,14 +1,18 @@
 -- One more change of a step under way.
-use Rattle.std.proofs.Common.{◌≡◌, ℕ, Option, List, [], ◌∷◌, ◌++◌, refl}
+use Rattle.std.proofs.Common.{◌≡◌, ℕ, Option, List, [], ◌∷◌, ◌++◌, refl, ap}
 use Rattle.std.specs.List.{AllByRecursion}
 use Rattle.oc_base.specs.declared.cert.Cert.{Cert}
 use Rattle.oc_model.specs.declared.record.Record.{Record}
-use Rattle.oc_model.specs.Node.{Durable}
+use Rattle.oc_model.specs.Leases.{start_all}
+use Rattle.oc_model.specs.Node.{Control, Durable}
+use Rattle.oc_model.specs.Plan.{Plan}
 use Rattle.oc_model.specs.Records.{fold_one, folded}
 use Rattle.oc_model.proofs.Lists.{all_append}
 use Rattle.oc_laws_step.proofs.Goes.{folded-append}
 use Rattle.oc_state.specs.declared.list_update.ListUpdate.{ListUpdate}
+use Rattle.oc_state.specs.declared.list_update.ListUpdate.TheVariants as list_updates
 use Rattle.oc_state.specs.ListUpdates.{IsListUpdate, leases_by, rates_by, counts_by, leases_after, rates_after, counts_after}
+use Rattle.oc_step.specs.StepView.{updates}
 
 -- one more record
 pub folded_more : (d : Durable) (rs : List Record) (r : Record) → folded d (rs ++ r ∷ []) ≡ fold_one (folded d rs) r
@@ -29,3 +33,7 @@ counts_more counts (u ∷ us) t = counts_more (counts_by counts u) us t
 
 pub updates_more : (nodes : ℕ) (us : List ListUpdate) (u : ListUpdate) → AllByRecursion (IsListUpdate nodes) us → IsListUpdate nodes u → AllByRecursion (IsListUpdate nodes) (us ++ u ∷ [])
 updates_more nodes us u all one = all_append (IsListUpdate nodes) us (u ∷ []) all (one, tt)
+
+-- where there is no certificate, no lease begins
+pub none_start : (base : Control) (now : ℕ) (o : Plan) → base.kept.table ≡ [] → updates base (list_updates.Start now) o ≡ o
+none_start base now o none = ap (λ (t : List Cert). record o { node = record o.node { leases = start_all t base.me o.node.leases now } }) none

@@ -1,5 +1,5 @@
 -- When a plan can be applied, and of which step it is.
-use Rattle.std.specs.Prelude.{◌≡◌, List, length}
+use Rattle.std.specs.Prelude.{◌≡◌, ℕ, ◌<◌, ◌≤◌, List, length}
 use Rattle.std.specs.List.{AllByRecursion}
 use Rattle.oc_base.specs.Groups.{shelf}
 use Rattle.oc_base.specs.declared.shelf.Shelf.{Shelf}
@@ -7,8 +7,8 @@ use Rattle.oc_model.specs.declared.input.Input.{Input}
 use Rattle.oc_model.specs.Lawful.{AreRecords}
 use Rattle.oc_model.specs.Node.{Control, Node}
 use Rattle.oc_model.specs.Step.{plan, step}
-use Rattle.oc_state.specs.DurableView.{DurableView, HasRoom}
-use Rattle.oc_step.specs.NodeView.{NodeView, IsReached}
+use Rattle.oc_state.specs.DurableView.{DurableView, HasRoom, brought_by}
+use Rattle.oc_step.specs.NodeView.{ListRooms, NodeView, IsReached}
 use Rattle.oc_step.specs.Planned.{PlanView, control_after, planned}
 use Rattle.oc_state.specs.ListUpdates.{IsListUpdate}
 
@@ -16,12 +16,22 @@ use Rattle.oc_state.specs.ListUpdates.{IsListUpdate}
 abbrev pub durable_in : NodeView → DurableView
 durable_in v = record { nodes = v.control.nodes; kept = v.control.kept; room = v.room }
 
--- the plan is for this node as it is: it leaves the node as an input may, and there is room for what it writes
+-- each list has memory for this many nodes
+pub record HaveRoom (nodes : ℕ) (rooms : ListRooms) : Type 0 where
+  pub leases : nodes ≤ rooms.leases
+  pub rates : nodes ≤ rooms.rates
+  pub counts : nodes ≤ rooms.counts
+
+-- there is room for what a plan writes, and for its updates, if there are any
+abbrev pub HasRoomFor : NodeView → PlanView → Type 0
+HasRoomFor v p = HasRoom (durable_in v) (brought_by p.records) × (0 < length p.updates → HaveRoom v.control.nodes v.lists)
+
+-- the plan is for this node as it is: it leaves the node as an input may, and there is room for what it does
 pub record CanApply (v : NodeView) (p : PlanView) : Type 0 where
   pub reached : IsReached (control_after v.control p)
   pub records : AreRecords v.control.nodes p.records
   pub updates : AllByRecursion (IsListUpdate v.control.nodes) p.updates
-  pub room : HasRoom (durable_in v) (length p.records)
+  pub room : HasRoomFor v p
 
 -- the node has this control state, and holds groups of this shelf
 abbrev pub HasParts : Node → Control → List Shelf → Type 0

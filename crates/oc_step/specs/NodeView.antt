@@ -7,10 +7,17 @@ use Rattle.oc_model.specs.Node.{Control, Durable}
 use Rattle.oc_laws_step.specs.LawfulNode.{IsLawfulControl}
 use Rattle.oc_laws_step.specs.Sound.{IsSound}
 
--- the control state, and how many certificates there is room for in its change log
+-- for how many nodes there is memory in the lists that have an item for each
+pub record ListRooms : Type 0 where
+  pub leases : ℕ
+  pub rates : ℕ
+  pub counts : ℕ
+
+-- the control state, how many certificates there is room for in its change log, and the memory of its lists
 pub record NodeView : Type 0 where
   pub control : Control
   pub room : ℕ
+  pub lists : ListRooms
 
 -- the control state of these parts
 abbrev pub control_of : ℕ → ℕ → ℕ → ℕ → List ℕ → Durable → Soft → List (Option ℕ) → List ℕ → List ℕ → Control

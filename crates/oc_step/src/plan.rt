@@ -12,7 +12,6 @@ use oc_model::{Answer, Body, Message, Record, Want};
 use oc_state::{ListUpdate, Tries, Volatile};
 use std::alloc::Global;
 use std::marker::Model;
-use std::mem;
 
 /// What one input will do to a node, before anything is done: its records, its messages and its answer,
 /// and what changes of the parts of the node that no record keeps. It holds all memory that the step
@@ -83,6 +82,13 @@ impl Plan {
         ensures { result.now ≡ self.now.records }
     {
         &self.records
+    }
+
+    /// What the step changes of the lists that have an item for each node.
+    pub fn updates(&self) -> &[ListUpdate]
+        ensures { result.now ≡ self.now.updates }
+    {
+        &self.updates
     }
 
     /// The messages that the step sends. Where the plan wants bytes, the chunk has them once it is
@@ -212,17 +218,15 @@ impl Plan {
         Ok(())
     }
 
-    /// Puts the bytes that the step wants into its chunk. Takes no memory.
-    pub fn fill(&mut self, bytes: &[u8])
-        requires { IsWanting self.old (length bytes.now) }
-        ensures fills { self.new ≡ filled_with bytes.now self.old }
-        ensures step { (n : Node) (i : Input) (w : Want) → IsPlanOf n i self.old → self.old.wants ≡ Some w → bytes.now ≡ bytes_wanted n.groups w → IsStepOf n i self.new }
+    /// Puts the bytes that the step wants into its chunk. Takes no memory, and copies nothing.
+    pub fn fill(&mut self, bytes: Vec<u8>)
+        requires { IsWanting self.old (length bytes.items) }
+        ensures fills { self.new ≡ filled_with bytes.items self.old }
+        ensures step { (n : Node) (i : Input) (w : Want) → IsPlanOf n i self.old → self.old.wants ≡ Some w → bytes.items ≡ bytes_wanted n.groups w → IsStepOf n i self.new }
     {
-        let empty = Vec::new(*self.buffer.allocator());
-        let mut buffer = mem::replace(&mut self.buffer, empty);
-        let _no_memory_taken = buffer.extend_from_slice(bytes);
+        self.buffer = Vec::new(*self.buffer.allocator());
         if !self.sends.is_empty() {
-            fill_message(&mut self.sends[0], buffer);
+            fill_message(&mut self.sends[0], bytes);
         }
     }
 

@@ -1,4 +1,4 @@
-ghost use Rattle.std.specs.Prelude.{◌≡◌, ◌≤◌, ◌<◌, ◌^◌, [], true, vec_len, OnOk, IfOk, IfSome, IfNone, drop};
+ghost use Rattle.std.specs.Prelude.{◌≡◌, ◌≤◌, ◌<◌, ◌^◌, [], true, vec_len, IsTrue, OnOk, IfOk, IfSome, IfNone, drop};
 ghost use Rattle.oc_model.specs.Plan.{begun, write, send, answers, ignored, with_soft, searching, is_member, rate_to};
 ghost use Rattle.oc_model.specs.Adoption.{chain_child};
 ghost use Rattle.std.specs.List.{AllByRecursion};
@@ -322,8 +322,30 @@ impl<'a> Step<'a> {
     }
 
     /// Changes one of the lists that have an item for each node.
-    #[tactic(auto, using(crate::proofs::Steps::leases_more, crate::proofs::Steps::rates_more, crate::proofs::Steps::counts_more, crate::proofs::Steps::updates_more))]
     pub fn update(&mut self, update: ListUpdate) -> Result<(), Memory>
+        requires { IsListUpdate self.old.base.nodes update }
+        ensures { OnOk result (self.new ≡ goes self.old (updates self.old.base update self.old.plan)) }
+    {
+        if self.changes_nothing(&update) {
+            return Ok(());
+        }
+        self.note_update(update)
+    }
+
+    /// Whether an update finds nothing to change: where no node has a certificate, no lease begins.
+    #[tactic(auto, using(crate::proofs::Steps::none_start))]
+    fn changes_nothing(&self, update: &ListUpdate) -> bool
+        ensures { IsTrue result → updates self.now.base update.now self.now.plan ≡ self.now.plan }
+    {
+        match update {
+            ListUpdate::Start { .. } => self.node.table().is_blank(),
+            _ => false,
+        }
+    }
+
+    /// One more update in the plan.
+    #[tactic(auto, using(crate::proofs::Steps::leases_more, crate::proofs::Steps::rates_more, crate::proofs::Steps::counts_more, crate::proofs::Steps::updates_more))]
+    fn note_update(&mut self, update: ListUpdate) -> Result<(), Memory>
         requires { IsListUpdate self.old.base.nodes update }
         ensures { OnOk result (self.new ≡ goes self.old (updates self.old.base update self.old.plan)) }
     {

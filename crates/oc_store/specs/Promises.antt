@@ -1,15 +1,15 @@
 -- What the calls of a store promise.
-use Rattle.std.specs.Prelude.{◌≡◌, ◌⊎◌, ℕ, ◌+◌, ◌<◌, ◌≤◌, false, true, IsTrue, List, [], ◌∷◌, ◌++◌, length, unwrap_or}
+use Rattle.std.specs.Prelude.{◌≡◌, ℕ, ◌+◌, ◌<◌, ◌≤◌, false, true, IsTrue, List, [], ◌∷◌, ◌++◌, length, unwrap_or}
 use Rattle.oc_io.specs.DiskView.{DiskView, Takes, Fails, FailsToRead, HasNoFault}
+use Rattle.oc_journal.specs.declared.errors.FileError.{FileError}
+use Rattle.oc_journal.specs.declared.errors.FileError.TheVariants as causes
 use Rattle.oc_journal.specs.JournalFile.{frames_of, IsNoJournal}
 use Rattle.oc_journal.specs.Promises.{LoadsSafely, OnlyReads, NoneFailed, Appends, ClosesByAppend}
 use Rattle.oc_model.specs.declared.record.Record.{Record}
 use Rattle.oc_model.specs.Lawful.{AreRecords}
 use Rattle.oc_store.specs.declared.errors.Side.TheVariants.{First, Second}
-use Rattle.oc_store.specs.declared.errors.SideError.{SideError}
-use Rattle.oc_store.specs.declared.errors.SideError.TheVariants as sides
+use Rattle.oc_store.specs.declared.errors.Side.{Side}
 use Rattle.oc_store.specs.declared.errors.StoreError.{StoreError}
-use Rattle.oc_store.specs.declared.errors.StoreError.TheVariants as stores
 use Rattle.oc_store.specs.ControlFiles.{generation_in, generation_of, current_side, recovered_frames, recovered, IsGood, IsBadAt}
 use Rattle.oc_store.specs.Sides.{opposite}
 use Rattle.oc_store.specs.StoreView.{StoreView, first_disk, second_disk, AreGood, AreHonest, Recovers, RecoversEither}
@@ -21,20 +21,20 @@ abbrev pub HasGood : ℕ → DiskView → Type 0
 HasGood nodes v = IsTrue v.honest → IsGood nodes v.seen
 
 -- why one control file was not loaded: a call failed, it is no journal, or this is its first frame that is no list of records
-abbrev pub RefusesFile : ℕ → DiskView → DiskView → SideError → Type 0
-RefusesFile nodes old new sides.Disk = FailsToRead old new
-RefusesFile nodes old new sides.NotJournal = IsTrue old.honest → IsNoJournal old.seen
-RefusesFile nodes old new (sides.BadFrame number) = IsTrue old.honest → IsBadAt nodes number old.seen
-RefusesFile nodes old new sides.Memory = Unit {0}
+abbrev pub RefusesFile : ℕ → DiskView → DiskView → FileError → Type 0
+RefusesFile nodes old new causes.Disk = FailsToRead old new
+RefusesFile nodes old new causes.NotJournal = IsTrue old.honest → IsNoJournal old.seen
+RefusesFile nodes old new (causes.BadFrame number) = IsTrue old.honest → IsBadAt nodes number old.seen
+RefusesFile nodes old new causes.Memory = Unit {0}
 
--- why two control files were not loaded: what is said of the second comes only where the first is good
+-- the same of one of two control files: what is said of the second comes only where the first is good
+abbrev pub RefusesSide : ℕ → DiskView → DiskView → DiskView → DiskView → Side → FileError → Type 0
+RefusesSide nodes a b a2 b2 First cause = RefusesFile nodes a a2 cause
+RefusesSide nodes a b a2 b2 Second cause = HasGood nodes a × RefusesFile nodes b b2 cause
+
+-- why two control files were not loaded
 abbrev pub RefusesFiles : ℕ → DiskView → DiskView → DiskView → DiskView → StoreError → Type 0
-RefusesFiles nodes a b a2 b2 stores.Disk = FailsToRead a a2 ⊎ (HasGood nodes a × FailsToRead b b2)
-RefusesFiles nodes a b a2 b2 (stores.NotJournal First) = RefusesFile nodes a a2 sides.NotJournal
-RefusesFiles nodes a b a2 b2 (stores.NotJournal Second) = HasGood nodes a × RefusesFile nodes b b2 sides.NotJournal
-RefusesFiles nodes a b a2 b2 (stores.BadFrame First number) = RefusesFile nodes a a2 (sides.BadFrame number)
-RefusesFiles nodes a b a2 b2 (stores.BadFrame Second number) = HasGood nodes a × RefusesFile nodes b b2 (sides.BadFrame number)
-RefusesFiles nodes a b a2 b2 stores.Memory = Unit {0}
+RefusesFiles nodes a b a2 b2 error = RefusesSide nodes a b a2 b2 error.side error.cause
 
 -- a load of both disks: at every moment a crash leaves on each the frames that a crash at the start would have left
 pub record LoadBothSafely (a b a2 b2 : DiskView) : Type 0 where

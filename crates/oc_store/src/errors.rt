@@ -1,9 +1,7 @@
 ghost use Rattle.std.specs.Prelude.{◌≡◌};
-ghost use Rattle.oc_store.specs.declared.errors.SideError.TheVariants.{Memory as SideMemory};
-ghost use Rattle.oc_store.specs.Sides.{error_on, of_load, of_frame, opposite};
+ghost use Rattle.oc_store.specs.Sides.{opposite};
 
-use oc_journal::{FrameError, LoadError};
-use std::alloc::{AllocError, AllocFailed};
+use oc_journal::FileError;
 use std::error::Error;
 use std::fmt;
 
@@ -16,29 +14,25 @@ pub enum Side {
 
 /// Why a store was not loaded.
 #[derive(Clone, Copy, Debug, PartialEq, Eq)]
-pub enum StoreError {
-    /// A call on a disk failed.
-    Disk,
-    /// This file is no journal.
-    NotJournal(Side),
-    /// The frame of this number, counted from 0, of this file is no list of control records.
-    BadFrame(Side, u64),
-    /// Memory ran out.
-    Memory,
+pub struct StoreError {
+    /// The file that was not loaded.
+    pub side: Side,
+    pub cause: FileError,
 }
 
 impl fmt::Display for StoreError {
     fn fmt<W: fmt::Write>(&self, f: &mut fmt::Formatter<W>) -> fmt::Result {
-        match self {
-            StoreError::Disk => write!(f, "a call on a disk failed"),
-            StoreError::NotJournal(side) => write!(f, "the {side} control file is no journal"),
-            StoreError::BadFrame(side, number) => {
+        let side = self.side;
+        match self.cause {
+            FileError::Disk => write!(f, "a call on a disk failed"),
+            FileError::NotJournal => write!(f, "the {side} control file is no journal"),
+            FileError::BadFrame(number) => {
                 write!(
                     f,
                     "frame {number} of the {side} control file is no list of records"
                 )
             }
-            StoreError::Memory => write!(f, "out of memory"),
+            FileError::Memory => write!(f, "out of memory"),
         }
     }
 }
@@ -63,67 +57,5 @@ impl fmt::Display for Side {
             Side::First => write!(f, "first"),
             Side::Second => write!(f, "second"),
         }
-    }
-}
-
-/// Why one of the files was not loaded.
-#[derive(Clone, Copy, Debug, PartialEq, Eq)]
-pub enum SideError {
-    Disk,
-    NotJournal,
-    BadFrame(u64),
-    Memory,
-}
-
-impl SideError {
-    /// The same for a store, for that file.
-    pub fn on(self, side: Side) -> StoreError
-        ensures { result ≡ error_on side self }
-    {
-        match self {
-            SideError::Disk => StoreError::Disk,
-            SideError::NotJournal => StoreError::NotJournal(side),
-            SideError::BadFrame(number) => StoreError::BadFrame(side, number),
-            SideError::Memory => StoreError::Memory,
-        }
-    }
-}
-
-impl From<LoadError> for SideError {
-    ghost from_gives = { λ error made. made ≡ of_load error };
-
-    fn from(error: LoadError) -> SideError {
-        match error {
-            LoadError::Disk => SideError::Disk,
-            LoadError::NotJournal => SideError::NotJournal,
-            LoadError::Memory => SideError::Memory,
-        }
-    }
-}
-
-impl From<FrameError> for SideError {
-    ghost from_gives = { λ error made. made ≡ of_frame error };
-
-    fn from(error: FrameError) -> SideError {
-        match error {
-            FrameError::Disk => SideError::Disk,
-            FrameError::Memory => SideError::Memory,
-        }
-    }
-}
-
-impl From<AllocError> for SideError {
-    ghost from_gives = { λ _ error. error ≡ SideMemory };
-
-    fn from(_error: AllocError) -> SideError {
-        SideError::Memory
-    }
-}
-
-impl<T: Drop> From<AllocFailed<T>> for SideError {
-    ghost from_gives = { λ _ error. error ≡ SideMemory };
-
-    fn from(_error: AllocFailed<T>) -> SideError {
-        SideError::Memory
     }
 }

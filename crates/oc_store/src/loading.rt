@@ -5,12 +5,10 @@ ghost use Rattle.oc_model.specs.Lawful.{AreRecords};
 ghost use Rattle.oc_record.specs.Reading.{decoded};
 ghost use Rattle.oc_store.specs.ControlFiles.{records_of, first_bad, generation_of};
 ghost use Rattle.oc_store.specs.Promises.{HasGood, RefusesFile};
-ghost use Rattle.oc_store.specs.declared.errors.SideError.TheVariants.{NotJournal as SideNotJournal, Disk as SideDisk, BadFrame as SideBadFrame};
 
-use crate::errors::SideError;
 use crate::generation::generation_of;
 use oc_io::Disk;
-use oc_journal::Journal;
+use oc_journal::{FileError, Journal};
 use oc_record::{Record, RecordFault, decode};
 use std::alloc::Global;
 
@@ -36,7 +34,7 @@ pub fn load_file<D: Disk>(
     alloc: Global,
     disk: D,
     nodes: u32,
-) -> Result<ControlFile<D>, (D, SideError)>
+) -> Result<ControlFile<D>, (D, FileError)>
     ensures loaded { IfOk result (λ file. IsLoaded D.view disk file.journal) }
     ensures lawful { IfOk result (λ file. AreRecords nodes file.contents.list.items) }
     ensures list { IfOk result (λ file. IsTrue (D.view disk).honest
@@ -51,7 +49,7 @@ pub fn load_file<D: Disk>(
 {
     let mut journal = match Journal::load(alloc, disk) {
         Ok(journal) => journal,
-        Err((disk, error)) => return Err((disk, SideError::from(error))),
+        Err((disk, error)) => return Err((disk, FileError::from(error))),
     };
     match read(alloc, nodes, &mut journal) {
         Ok(contents) => Ok(ControlFile { journal, contents }),
@@ -60,7 +58,7 @@ pub fn load_file<D: Disk>(
 }
 
 /// What the frames say.
-fn read<D: Disk>(alloc: Global, nodes: u32, journal: &mut Journal<D>) -> Result<Contents, SideError>
+fn read<D: Disk>(alloc: Global, nodes: u32, journal: &mut Journal<D>) -> Result<Contents, FileError>
     ensures lawful { IfOk result (λ contents. AreRecords nodes contents.list.items) }
     ensures list { IfOk result (λ contents. IsTrue (D.view journal.old.disk).honest
         → contents.list.items ≡ records_of nodes journal.old.frames) }
@@ -68,10 +66,10 @@ fn read<D: Disk>(alloc: Global, nodes: u32, journal: &mut Journal<D>) -> Result<
         → contents.generation ≡ generation_of journal.old.frames) }
     ensures good { OnOk result (IsTrue (D.view journal.old.disk).honest
         → first_bad nodes journal.old.frames ≡ None) }
-    ensures bad_frame { IfErr result (λ error. (number : ℕ) → error ≡ SideBadFrame number → IsTrue (D.view journal.old.disk).honest
+    ensures bad_frame { IfErr result (λ error. (number : ℕ) → error ≡ FileError.BadFrame number → IsTrue (D.view journal.old.disk).honest
         → first_bad nodes journal.old.frames ≡ Some number) }
-    ensures journal { IfErr result (λ error. error ≡ SideNotJournal → ⊥) }
-    ensures disk { IfErr result (λ error. error ≡ SideDisk → ClosesByRead D.view journal.old journal.new) }
+    ensures journal { IfErr result (λ error. error ≡ FileError.NotJournal → ⊥) }
+    ensures disk { IfErr result (λ error. error ≡ FileError.Disk → ClosesByRead D.view journal.old journal.new) }
     ensures none_failed { OnOk result (NoneFailed D.view journal.old journal.new) }
     ensures same { OnlyReads D.view journal.old journal.new }
 {
@@ -85,16 +83,16 @@ fn read_all<D: Disk>(
     alloc: Global,
     nodes: u32,
     journal: &mut Journal<D>,
-) -> Result<Vec<Record>, SideError>
+) -> Result<Vec<Record>, FileError>
     ensures lawful { IfOk result (λ list. AreRecords nodes list.items) }
     ensures list { IfOk result (λ list. IsTrue (D.view journal.old.disk).honest
         → list.items ≡ records_of nodes journal.old.frames) }
     ensures good { OnOk result (IsTrue (D.view journal.old.disk).honest
         → first_bad nodes journal.old.frames ≡ None) }
-    ensures bad_frame { IfErr result (λ error. (number : ℕ) → error ≡ SideBadFrame number → IsTrue (D.view journal.old.disk).honest
+    ensures bad_frame { IfErr result (λ error. (number : ℕ) → error ≡ FileError.BadFrame number → IsTrue (D.view journal.old.disk).honest
         → first_bad nodes journal.old.frames ≡ Some number) }
-    ensures journal { IfErr result (λ error. error ≡ SideNotJournal → ⊥) }
-    ensures disk { IfErr result (λ error. error ≡ SideDisk → ClosesByRead D.view journal.old journal.new) }
+    ensures journal { IfErr result (λ error. error ≡ FileError.NotJournal → ⊥) }
+    ensures disk { IfErr result (λ error. error ≡ FileError.Disk → ClosesByRead D.view journal.old journal.new) }
     ensures none_failed { OnOk result (NoneFailed D.view journal.old journal.new) }
     ensures same { OnlyReads D.view journal.old journal.new }
 {
@@ -112,16 +110,16 @@ fn read_frame<D: Disk>(
     nodes: u32,
     journal: &mut Journal<D>,
     number: u64,
-) -> Result<Vec<Record>, SideError>
+) -> Result<Vec<Record>, FileError>
     requires { number < length journal.old.frames }
     ensures lawful { IfOk result (λ list. AreRecords nodes list.items) }
     ensures list { IfOk result (λ list. IsTrue (D.view journal.old.disk).honest
         → decoded nodes (get_or journal.old.frames number []) ≡ Ok list.items) }
-    ensures bad_frame { IfErr result (λ error. (bad : ℕ) → error ≡ SideBadFrame bad
+    ensures bad_frame { IfErr result (λ error. (bad : ℕ) → error ≡ FileError.BadFrame bad
         → (bad ≡ number) × (IsTrue (D.view journal.old.disk).honest
         → IsErr (decoded nodes (get_or journal.old.frames number [])))) }
-    ensures journal { IfErr result (λ error. error ≡ SideNotJournal → ⊥) }
-    ensures disk { IfErr result (λ error. error ≡ SideDisk → ClosesByRead D.view journal.old journal.new) }
+    ensures journal { IfErr result (λ error. error ≡ FileError.NotJournal → ⊥) }
+    ensures disk { IfErr result (λ error. error ≡ FileError.Disk → ClosesByRead D.view journal.old journal.new) }
     ensures none_failed { OnOk result (NoneFailed D.view journal.old journal.new) }
     ensures same { OnlyReads D.view journal.old journal.new }
 {
@@ -129,7 +127,7 @@ fn read_frame<D: Disk>(
     journal.frame(number, &mut body)?;
     match decode(alloc, &body, nodes) {
         Ok(list) => Ok(list),
-        Err(RecordFault::Memory) => Err(SideError::Memory),
-        Err(_) => Err(SideError::BadFrame(number)),
+        Err(RecordFault::Memory) => Err(FileError::Memory),
+        Err(_) => Err(FileError::BadFrame(number)),
     }
 }

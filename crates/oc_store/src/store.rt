@@ -17,7 +17,7 @@ use crate::loading::{ControlFile, load_file};
 use crate::turning::turn_over;
 use oc_base::{DUE_BYTES, MAX_FRAME_BYTES, Memory};
 use oc_io::{Disk, MemDisk};
-use oc_journal::{AppendError, Frame, Journal, RestartError};
+use oc_journal::{AppendError, FileError, Frame, Journal, RestartError};
 use oc_record::Record;
 use std::alloc::Global;
 use std::marker::Model;
@@ -66,16 +66,27 @@ impl<D: Disk> Store<D> {
         ensures works { IfErr result (λ refused.
             IsTrue (D.view first).reliable → IsTrue (D.view second).reliable
             → IsGood nodes (D.view first).seen → IsGood nodes (D.view second).seen
-            → refused.2 ≡ StoreError.Memory) }
+            → refused.2.cause ≡ FileError.Memory) }
     {
         let first = match load_file(alloc, first, nodes) {
             Ok(file) => file,
-            Err((first, error)) => return Err((first, second, error.on(Side::First))),
+            Err((first, cause)) => return Err((
+                first,
+                second,
+                StoreError {
+                    side: Side::First,
+                    cause,
+                },
+            )),
         };
         let second = match load_file(alloc, second, nodes) {
             Ok(file) => file,
-            Err((second, error)) => {
-                return Err((first.journal.into_disk(), second, error.on(Side::Second)));
+            Err((second, cause)) => {
+                let error = StoreError {
+                    side: Side::Second,
+                    cause,
+                };
+                return Err((first.journal.into_disk(), second, error));
             }
         };
         if is_below(first.contents.generation, second.contents.generation) {

@@ -7,13 +7,15 @@ ghost use Rattle.oc_updown.specs.TableView.{AreTableRows, entries_of};
 ghost use Rattle.oc_base.specs.Lawful.{IsNode};
 ghost use Rattle.oc_updown.specs.Children.{start_row, ended_of_row};
 
+use crate::Slots;
 use crate::leases::LEASE_TIME;
-use oc_base::{Cert, NodeId, Slots};
+use oc_base::{Cert, NodeId};
 
 /// The lease of a child begins anew.
 pub(crate) fn renew(ends: &mut Slots<Option<u64>>, child: NodeId, now: u64)
     requires child { IsNode (length ends.old.items) child }
     requires now { now ≤ LAST_SECOND }
+    requires room { length ends.old.items ≤ ends.old.room }
     ensures ends { ends.new.items ≡ renew ends.old.items child now }
     ensures length { length ends.new.items ≡ length ends.old.items }
     ensures room { ends.new.room ≡ ends.old.room }
@@ -32,6 +34,7 @@ fn is_lease_of(parent: NodeId, cert: &Cert) -> bool
 fn start(ends: &mut Slots<Option<u64>>, child: NodeId, now: u64)
     requires child { IsNode (length ends.old.items) child }
     requires now { now ≤ LAST_SECOND }
+    requires room { length ends.old.items ≤ ends.old.room }
     ensures ends { ends.new.items ≡ start_if (at ends.old.items child None) ends.old.items child now }
     ensures length { length ends.new.items ≡ length ends.old.items }
     ensures room { ends.new.room ≡ ends.old.room }
@@ -45,6 +48,7 @@ fn start(ends: &mut Slots<Option<u64>>, child: NodeId, now: u64)
 fn start_of_row(row: &Option<Cert>, me: NodeId, ends: &mut Slots<Option<u64>>, now: u64)
     requires row { IfSome row.now (λ cert. IsNode (length ends.old.items) cert.subject) }
     requires now { now ≤ LAST_SECOND }
+    requires room { length ends.old.items ≤ ends.old.room }
     ensures ends { ends.new.items ≡ start_row me row.now ends.old.items now }
     ensures length { length ends.new.items ≡ length ends.old.items }
     ensures room { ends.new.room ≡ ends.old.room }
@@ -66,13 +70,15 @@ pub(crate) fn start_rows(
     requires rows { AreTableRows rows.now }
     requires nodes { length rows.now.items ≤ length ends.old.items }
     requires now { now ≤ LAST_SECOND }
+    requires room { length ends.old.items ≤ ends.old.room }
     ensures ends { ends.new.items ≡ start_all (entries_of rows.now.items) me ends.old.items now }
     ensures length { length ends.new.items ≡ length ends.old.items }
     ensures room { ends.new.room ≡ ends.old.room }
 {
+    let none = None;
     for place in 0..rows.used() {
-        let row = rows.get_or(place, None);
-        start_of_row(&row, me, ends, now);
+        let row = rows.lend_or(place, &none);
+        start_of_row(row, me, ends, now);
     }
 }
 
@@ -117,9 +123,10 @@ pub(crate) fn next_over(
     requires nodes { length rows.now.items ≤ length ends.now.items }
     ensures { result ≡ next_ended (entries_of rows.now.items) me ends.now.items after now }
 {
+    let none = None;
     for place in after as usize..rows.used() {
-        let row = rows.get_or(place, None);
-        let ended = ended_of_row(&row, me, ends, now);
+        let row = rows.lend_or(place, &none);
+        let ended = ended_of_row(row, me, ends, now);
         if ended.is_some() {
             return ended;
         }

@@ -1,12 +1,12 @@
-ghost use Rattle.std.specs.Prelude.{◌≡◌, ◌^◌, ◌≤◌, length, replicate, None, IfOk};
+ghost use Rattle.std.specs.Prelude.{◌≡◌, ◌^◌, ◌≤◌, length, replicate, None, IfOk, OnOk};
 ghost use Rattle.oc_base.specs.declared.limits.TheConstants.{LAST_SECOND};
 ghost use Rattle.oc_model.specs.Leases.{renew, start_all, next_ended};
 ghost use Rattle.oc_base.specs.Lawful.{IsNode};
 ghost use Rattle.oc_updown.specs.Ended.{IsNextEnded};
 
-use crate::Table;
 use crate::children::{next_over, renew, start_rows};
-use oc_base::{Memory, NodeId, Slots};
+use crate::{Slots, Table};
+use oc_base::{Memory, NodeId};
 use std::alloc::Global;
 use std::marker::Model;
 
@@ -40,6 +40,15 @@ impl Leases {
         })
     }
 
+    /// Takes the memory for the ends of all leases.
+    pub fn reserve(&mut self) -> Result<(), Memory>
+        ensures room { OnOk result (length self.new.ends ≤ self.new.room) }
+        ensures stays { self.old.room ≤ self.new.room }
+        ensures rest { self.new ≡ record self.old { room = self.new.room } }
+    {
+        self.ends.reserve()
+    }
+
     /// The second at which each lease ends, by the number of a child, where that is set.
     pub fn ends(&self) -> &Slots<Option<u64>>
         ensures { result.now.items ≡ self.now.ends }
@@ -47,11 +56,13 @@ impl Leases {
         &self.ends
     }
 
-    /// The lease of a child begins anew, and ends a lease's time from now. Takes no memory.
+    /// The lease of a child begins anew, and ends a lease's time from now. There is memory for all
+    /// ends. Takes no memory.
     #[tactic(auto, using(crate::proofs::Lengths::length_of_renewed))]
     pub fn renew(&mut self, child: NodeId, now: u64)
         requires child { IsNode (length self.old.ends) child }
         requires now { now ≤ LAST_SECOND }
+        requires room { length self.old.ends ≤ self.old.room }
         ensures ends { self.new.ends ≡ renew self.old.ends child now }
         ensures length { length self.new.ends ≡ length self.old.ends }
         ensures room { self.new.room ≡ self.old.room }
@@ -59,11 +70,13 @@ impl Leases {
         renew(&mut self.ends, child, now);
     }
 
-    /// Each leased child of this node without an end gets one, a lease's time from now. Takes no memory.
+    /// Each leased child of this node without an end gets one, a lease's time from now. There is
+    /// memory for all ends. Takes no memory.
     #[tactic(auto, using(crate::proofs::Lengths::length_of_started))]
     pub fn start_all(&mut self, table: &Table, me: NodeId, now: u64)
         requires nodes { table.now.nodes ≤ length self.old.ends }
         requires now { now ≤ LAST_SECOND }
+        requires room { length self.old.ends ≤ self.old.room }
         ensures ends { self.new.ends ≡ start_all table.now.entries me self.old.ends now }
         ensures length { length self.new.ends ≡ length self.old.ends }
         ensures room { self.new.room ≡ self.old.room }

@@ -2,7 +2,8 @@ ghost use Rattle.std.specs.Prelude.{◌≡◌, ◌≤◌, ◌<◌, length, repli
 ghost use Rattle.oc_model.specs.Measures.{reading_of, with_reading};
 ghost use Rattle.oc_model.specs.Node.{no_reading};
 
-use oc_base::{Memory, NodeId, Slots};
+use crate::Slots;
+use oc_base::{Memory, NodeId};
 use oc_model::Reading;
 use std::alloc::Global;
 use std::marker::Model;
@@ -17,12 +18,14 @@ pub struct Measures {
 }
 
 impl Model for Measures {
-    ghost use Rattle.std.specs.Prelude.{List};
+    ghost use Rattle.std.specs.Prelude.{◌≤◌, List, length};
     ghost use Rattle.oc_model.specs.declared.reading.Reading.{Reading};
 
     ghost Value = { List Reading };
 
     ghost view = { λ m. m.readings.items };
+
+    ghost invariant = { λ m. length m.readings.items ≤ m.readings.room };
 }
 
 impl Measures {
@@ -30,7 +33,8 @@ impl Measures {
     pub fn new(alloc: Global, nodes: u32) -> Result<Measures, Memory>
         ensures { IfOk result (λ all. all ≡ replicate nodes no_reading) }
     {
-        let readings = Slots::new(alloc, nodes as usize, NOTHING)?;
+        let mut readings = Slots::new(alloc, nodes as usize, NOTHING)?;
+        readings.reserve()?;
         Ok(Measures { readings })
     }
 

@@ -3,7 +3,8 @@ ghost use Rattle.oc_model.specs.Table.{newest, parent_in, is_news, put};
 ghost use Rattle.oc_updown.specs.TableView.{AreRows, entries_of};
 ghost use Rattle.oc_base.specs.Lawful.{IsNode, IsCert};
 
-use oc_base::{Cert, NodeId, Slots};
+use crate::Slots;
+use oc_base::{Cert, NodeId};
 
 /// The certificate of a node, if there is one.
 #[tactic(auto, using(crate::proofs::Entries::newest_zero))]
@@ -41,11 +42,12 @@ pub(crate) fn is_news(rows: &Slots<Option<Cert>>, cert: &Cert) -> bool
     }
 }
 
-/// Sets the row of the certificate's subject.
+/// Sets the row of the certificate's subject. There is memory for the rows.
 #[tactic(auto, using(crate::proofs::Entries::put_row, crate::proofs::Entries::set_fits, crate::proofs::Entries::put_found))]
 pub(crate) fn put(rows: &mut Slots<Option<Cert>>, cert: &Cert)
     requires rows { AreRows rows.old.items }
     requires cert { IsCert (length rows.old.items) cert.now }
+    requires room { length rows.old.items ≤ rows.old.room }
     ensures entries { entries_of rows.new.items ≡ put (entries_of rows.old.items) cert.now }
     ensures found { newest (entries_of rows.new.items) cert.now.subject ≡ Some cert.now }
     ensures rows { AreRows rows.new.items }

@@ -1,14 +1,15 @@
-ghost use Rattle.std.specs.Prelude.{◌≡◌, ◌≢◌, ◌≤◌, ◌↔◌, IsTrue, true, false, Some, [], length, map, IfOk, IfSome};
+ghost use Rattle.std.specs.Prelude.{◌≡◌, ◌≢◌, ◌≤◌, ◌↔◌, IsTrue, true, false, Some, [], length, map, IfOk, IfSome, OnOk};
 ghost use Rattle.oc_base.specs.declared.limits.TheConstants.{MAX_NODES};
 ghost use Rattle.oc_model.specs.Status.{listing};
 ghost use Rattle.oc_model.specs.Table.{newest, is_news, merge, leased_by, is_listed, IsListed, listed_in};
 ghost use Rattle.oc_updown.specs.TableView.{AreTableRows, entries_of};
 ghost use Rattle.oc_base.specs.Lawful.{IsCert};
 
+use crate::Slots;
 use crate::listing::lines_of;
 use crate::rows::{is_news, put, row_of};
 use crate::walk::is_listed;
-use oc_base::{Cert, Line, Memory, NodeId, Slots};
+use oc_base::{Cert, Line, Memory, NodeId};
 use std::alloc::Global;
 use std::marker::Model;
 
@@ -48,6 +49,15 @@ impl Table {
         })
     }
 
+    /// Takes the memory for the rows of all nodes.
+    pub fn reserve(&mut self) -> Result<(), Memory>
+        ensures room { OnOk result (self.new.nodes ≤ self.new.room) }
+        ensures stays { self.old.room ≤ self.new.room }
+        ensures rest { self.new ≡ record self.old { room = self.new.room } }
+    {
+        self.rows.reserve()
+    }
+
     /// Removes all certificates. Takes no memory.
     #[tactic(auto, using(crate::proofs::Entries::no_entries))]
     pub fn clear(&mut self)
@@ -59,9 +69,10 @@ impl Table {
     }
 
     /// Makes this the entry of its subject where there is none, or where it outranks the entry. Says
-    /// whether the entry changed. Takes no memory.
+    /// whether the entry changed. There is memory for the rows. Takes no memory.
     pub fn merge(&mut self, cert: &Cert) -> bool
-        requires { IsCert self.old.nodes cert.now }
+        requires cert { IsCert self.old.nodes cert.now }
+        requires room { self.old.nodes ≤ self.old.room }
         ensures news { result ≡ is_news self.old.entries cert.now }
         ensures entries { self.new.entries ≡ merge self.old.entries cert.now }
         ensures taken { IsTrue result → newest self.new.entries cert.now.subject ≡ Some cert.now }
@@ -75,6 +86,14 @@ impl Table {
         }
         put(&mut self.rows, cert);
         true
+    }
+
+    /// Whether no certificate was put since the table was made or cleared. Then it has none.
+    #[tactic(auto, using(crate::proofs::Entries::no_entries_past))]
+    pub fn is_blank(&self) -> bool
+        ensures { IsTrue result → self.now.entries ≡ [] }
+    {
+        self.rows.used() == 0
     }
 
     /// The newest certificate of a node.

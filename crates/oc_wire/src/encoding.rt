@@ -1,4 +1,4 @@
-ghost use Rattle.std.specs.Prelude.{◌≡◌, ◌<◌, ◌^◌, ◌∷◌, ◌++◌, false, length, OnOk, IfOk};
+ghost use Rattle.std.specs.Prelude.{◌≡◌, ◌+◌, ◌<◌, ◌^◌, ◌∷◌, ◌++◌, false, length, OnOk, IfOk, IfSome};
 ghost use Rattle.oc_base.specs.Spelling.{eight, flag, rank_bytes, ids_bytes};
 ghost use Rattle.oc_wire.specs.Spelling.{parent_bytes, rank_or_none_bytes, why_code, why_bytes, child_bytes, children_bytes, certs_bytes, name_bytes, line_bytes, have_bytes, is_large, length_bytes, text_bytes, code_of, fields_bytes, spelling, HasSpelling};
 
@@ -20,10 +20,40 @@ pub fn encode(alloc: Global, message: &Message) -> Result<Vec<u8>, Memory>
     ensures { IfOk result (λ bytes. bytes.items ≡ spelling message.now) }
 {
     let mut out = Vec::with_capacity(alloc, ROOM)?;
-    put_id(&mut out, &message.from)?;
-    put_id(&mut out, &message.to)?;
-    put_body(&mut out, &message.body)?;
+    put_message(&mut out, message)?;
     Ok(out)
+}
+
+/// Puts the one spelling of the message.
+pub fn put_message(out: &mut Vec<u8>, message: &Message) -> Result<(), Memory>
+    requires { HasSpelling message.now.body }
+    ensures { OnOk result (out.new.items ≡ out.old.items ++ spelling message.now) }
+{
+    put_id(out, &message.from)?;
+    put_id(out, &message.to)?;
+    put_body(out, &message.body)?;
+    Ok(())
+}
+
+/// How many bytes the spelling of a message has that brings a chunk; of another message that is not told.
+pub fn length_with_chunk(message: &Message) -> Option<u64>
+    requires { HasSpelling message.now.body }
+    ensures { IfSome result (λ count. count ≡ length (spelling message.now)) }
+{
+    match &message.body {
+        Body::Chunk { group, bytes, .. } => Some(chunk_length(*group, bytes)),
+        _ => None,
+    }
+}
+
+/// How many bytes the spelling of a message has that brings these bytes of this group: its two ids, its code, the name
+/// with its length, the start, the flag, and the bytes with their length.
+fn chunk_length(group: GroupName, bytes: &Bytes) -> u64
+    requires { length bytes.now < 2 ^ 32 }
+    ensures { result ≡ 19 + length group + length (length_bytes (is_large bytes.now) (length bytes.now)) + length bytes.now }
+{
+    let counting = if is_large(bytes) { 4 } else { 2 };
+    19 + u64::from(name_length(group)) + counting + bytes.items().len() as u64
 }
 
 /// The code of the kind, and the fields.

@@ -30,7 +30,7 @@ mod refusals;
 
 pub use codes::CODES;
 pub use decoding::decode;
-pub use encoding::encode;
+pub use encoding::{encode, length_with_chunk, put_message};
 pub use fault::WireFault;
 pub use http::{from_http, to_http};
 pub use http_fault::HttpWireFault;

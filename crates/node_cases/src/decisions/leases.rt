@@ -59,6 +59,7 @@ fn renew(parent: &mut Parent, mut fields: RowFields<'_>) -> Result<(), Fault> {
     if child.0 < 1 || NODES < child.0 || LAST_SECOND < now {
         return Err(Fault::Field);
     }
+    parent.leases.reserve()?;
     parent.leases.renew(child, now);
     Ok(())
 }
@@ -70,6 +71,7 @@ fn start(parent: &mut Parent, mut fields: RowFields<'_>) -> Result<(), Fault> {
     if LAST_SECOND < now {
         return Err(Fault::Field);
     }
+    parent.leases.reserve()?;
     parent.leases.start_all(&parent.table, me, now);
     Ok(())
 }

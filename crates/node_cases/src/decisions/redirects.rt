@@ -3,8 +3,7 @@
 ghost use Rattle.std.specs.Prelude.{◌≡◌};
 
 use crate::decisions::tables::table_in;
-use oc_base::Slots;
-use oc_updown::{Table, select};
+use oc_updown::{Slots, Table, select};
 use std::alloc::Global;
 use test_tools::{Fault, RowFields, put_shown};
 
@@ -44,6 +43,7 @@ fn put_node(
 /// These numbers, by their place.
 fn rows_of(alloc: Global, numbers: &[u64]) -> Result<Slots<u64>, Fault> {
     let mut rows = Slots::new(alloc, numbers.len(), 0)?;
+    rows.reserve()?;
     for (place, number) in numbers.iter().enumerate() {
         if place < rows.len() {
             rows.put(place, *number);

@@ -72,6 +72,7 @@ pub fn merge(table: &mut Table, cert: &Cert) -> Result<bool, Fault>
         && cert.number < u64::MAX
         && cert.clients < u64::MAX
     {
+        table.reserve()?;
         Ok(table.merge(cert))
     } else {
         Err(Fault::Field)

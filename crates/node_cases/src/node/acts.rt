@@ -4,7 +4,7 @@ ghost use Rattle.oc_model.specs.Lawful.{IsAct, IsInput};
 
 use oc_base::NodeId;
 use oc_model::{Act, Event, Input};
-use oc_schedule::read;
+use oc_schedule::{Scale, read};
 use oc_wire::decode;
 use std::alloc::Global;
 use test_tools::{Fault, RowStep};
@@ -19,7 +19,7 @@ pub fn act_in<const NODES: u32>(
     ensures { IfOk result (λ input. IsInput NODES me input) }
 {
     let text = schedule_of(alloc, step, NODES, me)?;
-    let Ok(schedule) = read(alloc, text.as_str().as_bytes()) else {
+    let Ok(schedule) = read(alloc, Scale::Usual, text.as_str().as_bytes()) else {
         return Err(Fault::Field);
     };
     if schedule.nodes != NODES || schedule.events.len() != 1 {

@@ -206,7 +206,7 @@ fn fill(alloc: Global, plan: &mut Plan, held: RowStep<'_>) -> Result<(), Fault>
     if start > bytes.len() || count > bytes.len() - start {
         return Err(Fault::Field);
     }
-    plan.fill(&bytes[start..start + count]);
+    plan.fill(bytes[start..start + count].to_vec(alloc)?);
     Ok(())
 }
 

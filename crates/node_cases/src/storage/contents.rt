@@ -2,7 +2,7 @@
 
 use crate::acting::{Acts, act_all};
 use oc_base::GroupName;
-use oc_content::{AppendError, Content, ContentError, NewBytes, ReadError};
+use oc_content::{AppendError, Content, FileError, NewBytes, ReadError};
 use oc_io::Disk;
 use std::alloc::Global;
 use std::str::SplitAsciiWhitespace;
@@ -46,12 +46,12 @@ fn refused<D: RowDisk>(
     alloc: Global,
     shown: &str,
     disk: D,
-    error: ContentError,
+    error: FileError,
     said: &mut String,
 ) -> Result<(), Fault> {
     put_shown(said, &error)?;
     match error {
-        ContentError::Disk => show(alloc, shown, disk.crashed(), said),
+        FileError::Disk => show(alloc, shown, disk.crashed(), said),
         _ => Ok(()),
     }
 }

@@ -6,7 +6,7 @@ ghost use Rattle.oc_record.specs.Spelling.{HaveSpellings, records_bytes};
 use crate::acting::{Acts, act_all};
 use oc_base::MAX_FRAME_BYTES;
 use oc_io::Disk;
-use oc_store::{Record, Store, StoreError};
+use oc_store::{FileError, Record, Store, StoreError};
 use std::alloc::Global;
 use std::str::SplitAsciiWhitespace;
 use test_tools::{Fault, RowDisk, RowFields, RowStep, disk_in, put_disk, put_shown};
@@ -52,8 +52,8 @@ fn refused<D: RowDisk>(
     said: &mut String,
 ) -> Result<(), Fault> {
     put_shown(said, &error)?;
-    match error {
-        StoreError::Disk => show(alloc, shown, first.crashed(), second.crashed(), said),
+    match error.cause {
+        FileError::Disk => show(alloc, shown, first.crashed(), second.crashed(), said),
         _ => Ok(()),
     }
 }

@@ -7,7 +7,7 @@ use Rattle.oc_keep.specs.ReadyView.{outcome_of}
 use Rattle.oc_keep.specs.Writing.{fetched}
 use Rattle.oc_keep.proofs.Ends.{done}
 use Rattle.oc_keep.proofs.Stays.{keeps_none, puts_none}
-use Rattle.oc_keep.proofs.Steps.{made_commits, made_full, made_plain, made_step, made_writes, none_then, plan_keeps, plan_wants, puts_then, still_shelved, wanting_fits}
+use Rattle.oc_keep.proofs.Steps.{made_commits, made_control, made_full, made_plain, made_step, none_then, plan_keeps, plan_wants, puts_then, still_shelved, wanting_fits}
 use Rattle.oc_keep.proofs.readying.make_ready.Goals as goal
 
 pub writing-requires-clause-keeps : goal.writing-requires-clause-keeps
@@ -25,7 +25,7 @@ returns-in-Ok-fetch-clause-step g c = λ honest.
     let p = c.in_ok-plan.plan in
     let made = rw c.groups.ensures.lines at c.in_ok-plan.ensures.made.control in
     let keeps = plan_keeps n p _ old.shelves _ made (c.prepare_refuses_nothing_that_is_kept.ensures.keeps n.nodes n old.shelves c.args.input.now c.requires.input c.groups.ensures.shelf) in
-    let bytes = c.in-Ok-fetch.ensures.fetched (still_honest (view old.journal.disk) (view new.journal.disk) c.writing.ensures.content.journal.disk.goes_on honest) in
+    let bytes = c.in-Ok-fetch.ensures.fetched.groups (still_honest (view old.journal.disk) (view new.journal.disk) c.writing.ensures.content.journal.disk.goes_on honest) in
     ap (λ (q : PlanView). outcome_of (record { control = n; groups = groups_in old.journal.frames }) (record { plan = q; write = c.in-Ok.write }))
     (bytes ∙ ap (λ (bodies : List (List ℕ)). fetched (groups_in bodies) p.wants p) (c.writing.ensures.content.journal.frames honest))
     ∙ made_step view c.writing.new.store new n old.journal.frames old.shelves c.args.input.now p c.in-Ok.write (c.groups.ensures.content honest) made keeps c.in-Ok.ensures.write
@@ -36,10 +36,11 @@ returns-in-Ok-fetch-clause-commits g c =
     made_commits g.D.Disk.view c.plan.new.self c.writing.new.store c.writing.new.content c.fetch.new.content c.args.content.now.shelves c.in_ok-plan.plan c.fetch.new.plan _ c.in-Ok.write
     c.in_ok-plan.ensures.made.applies (made_plain c.args.node.now.control c.args.content.now.shelves c.args.input.now c.in_ok-plan.plan made) c.fetch.ensures.rest c.fetch.ensures.content c.in-Ok.ensures.write
 
-pub returns-in-Ok-fetch-clause-writes : goal.returns-in-Ok-fetch-clause-writes
-returns-in-Ok-fetch-clause-writes g c =
+pub returns-in-Ok-fetch-clause-control : goal.returns-in-Ok-fetch-clause-control
+returns-in-Ok-fetch-clause-control g c =
     let made = rw c.groups.ensures.lines at c.in_ok-plan.ensures.made.control in
-    made_writes g.D.Disk.view c.writing.new.store c.writing.new.content c.args.node.now.control c.args.content.now.shelves c.args.input.now c.in_ok-plan.plan c.in-Ok.write made c.in-Ok.ensures.write
+    made_control g.D.Disk.view c.writing.new.store c.writing.new.content c.args.node.now.control c.args.content.now.shelves c.args.input.now c.in_ok-plan.plan c.fetch.new.plan c.in-Ok.write
+    made c.fetch.ensures.rest c.in-Ok-fetch.ensures.fetched.sends c.in-Ok.ensures.write
 
 pub returns-in-Ok-fetch-clause-full : goal.returns-in-Ok-fetch-clause-full
 returns-in-Ok-fetch-clause-full g c =
@@ -98,8 +99,8 @@ returns-in-Err-clause-step g c = tt
 pub returns-in-Err-clause-commits : goal.returns-in-Err-clause-commits
 returns-in-Err-clause-commits g c = tt
 
-pub returns-in-Err-clause-writes : goal.returns-in-Err-clause-writes
-returns-in-Err-clause-writes g c = tt
+pub returns-in-Err-clause-control : goal.returns-in-Err-clause-control
+returns-in-Err-clause-control g c = tt
 
 pub returns-in-Err-clause-full : goal.returns-in-Err-clause-full
 returns-in-Err-clause-full g c = tt
@@ -110,8 +111,8 @@ returns-in-Err-fetch-clause-step g c = tt
 pub returns-in-Err-fetch-clause-commits : goal.returns-in-Err-fetch-clause-commits
 returns-in-Err-fetch-clause-commits g c = tt
 
-pub returns-in-Err-fetch-clause-writes : goal.returns-in-Err-fetch-clause-writes
-returns-in-Err-fetch-clause-writes g c = tt
+pub returns-in-Err-fetch-clause-control : goal.returns-in-Err-fetch-clause-control
+returns-in-Err-fetch-clause-control g c = tt
 
 pub returns-in-Err-fetch-clause-full : goal.returns-in-Err-fetch-clause-full
 returns-in-Err-fetch-clause-full g c = tt

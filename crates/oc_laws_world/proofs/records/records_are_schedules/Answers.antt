@@ -1,6 +1,6 @@
 use Rattle.std.proofs.Common.{[], ap}
 use Rattle.oc_model.specs.World.{Process, new_world}
-use Rattle.oc_laws_world.proofs.Merged.{world_new, merge_leads, merge_schedule}
+use Rattle.oc_laws_world.proofs.Merged.{world_new, merge_leads, merge_schedule, merge_more, schedule_more}
 use Rattle.oc_laws_world.proofs.records.records_are_schedules.Goals as goal
 
 pub returns-clause-scheduled : goal.returns-clause-scheduled
@@ -28,3 +28,9 @@ returns-clause-laws c = λ h ls es merge schedule. record {
   one_peer = (c.ask_numbers_have_one_peer.ensures.one_peer h es).0;
   below = (c.ask_numbers_have_one_peer.ensures.below h es).0;
 }
+
+pub returns-clause-one_more : goal.returns-clause-one_more
+returns-clause-one_more c = λ h ls l merge is can. merge_more h [] ls l merge is can
+
+pub returns-clause-its_events : goal.returns-clause-its_events
+returns-clause-its_events c = λ h ls l es more of are. schedule_more (new_world h) ls l es more of are

@@ -10,7 +10,7 @@ pub start_of_row-requires-clause-row : goal.start_of_row-requires-clause-row
 start_of_row-requires-clause-row c =
     let rows = c.args.rows.now.items in
     let within : c.loop-place.place < length rows = omega (arith, c.loop-place-test.true, c.used-place-end.ensures.within) in
-    child_of_row (length rows) (length c.loop-place.ends.items) c.loop-place.place rows c.get_or-row.result within (c.get_or-row.ensures ∙ get_or_default rows c.loop-place.place None c.get_or-row.result within) c.loop-place.invariant.1 (omega (arith, c.requires.nodes, c.loop-place.invariant.3))
+    child_of_row (length rows) (length c.loop-place.ends.items) c.loop-place.place rows c.lend_or-row.result.now within (c.lend_or-row.ensures ∙ get_or_default rows c.loop-place.place None c.lend_or-row.result.now within) c.loop-place.invariant.1 (omega (arith, c.requires.nodes, c.loop-place.invariant.3))
 
 pub returns-clause-ends : goal.returns-clause-ends
 returns-clause-ends c =

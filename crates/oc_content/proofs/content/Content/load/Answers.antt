@@ -5,7 +5,7 @@ use Rattle.oc_io.proofs.DiskMoments.{still_honest}
 use Rattle.oc_journal.specs.JournalFile.{frames_of, IsNoJournal}
 use Rattle.oc_journal.specs.Promises.{LoadsSafely}
 use Rattle.oc_journal.proofs.ReadRuns.{LoadsSafely-reads, IsLoaded-reads}
-use Rattle.oc_content.specs.declared.errors.ContentError.TheVariants as errors
+use Rattle.oc_journal.specs.declared.errors.FileError.TheVariants as errors
 use Rattle.oc_content.specs.ContentFile.{content_of}
 use Rattle.oc_content.specs.ContentView.{IsOpened, RefusesIndex}
 use Rattle.oc_content.specs.Promises.{IsContentOf, RefusesContent}

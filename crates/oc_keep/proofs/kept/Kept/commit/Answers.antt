@@ -117,6 +117,7 @@ returns-in-Ok-clause-committed g c =
     let was_open : s.closed ≡ false = ap (λ (x : KeptView g.row.D.Denot). x.closed) c.self.view_is ∙ c.requires.open in
     rw (← c.self.view_is, ← c.ready.view_is) (record {
       is_open = was_open;
+      control = c.apply.ensures.control;
       outcome_is = c.apply.ensures.outcome;
       node = commit_node g.D.Disk.view c.frames_add_their_records.ensures.read k c.self.invariant was_open k2 c.ready.inside.plan c.ready.inside.write c.in-Ok.ensures.writes c.put.ensures.safely c.apply.ensures.control;
       survives = λ honest.

@@ -1,10 +1,8 @@
-use Rattle.std.proofs.Common.{ℕ, ◌+◌, ◌≤◌, refl, ap, subst, ◌∙◌}
+use Rattle.std.proofs.Common.{ℕ, ◌+◌, ◌≤◌, refl, subst}
 use Rattle.oc_base.specs.declared.limits.TheConstants.{MAX_BASE_ACKED}
 use Rattle.oc_store.specs.StoreView.{first_disk, second_disk}
-use Rattle.oc_keep.specs.Errors.{of_content, of_store}
-use Rattle.oc_keep.specs.Files.{disks, disks_in}
 use Rattle.oc_keep.specs.KeptView.{header_in}
-use Rattle.oc_keep.proofs.Loads.{loaded_kept, loaded_node, loads_controls, loads_files, refused_content, refused_control}
+use Rattle.oc_keep.proofs.Loads.{loaded_kept, loaded_node, loads_controls, loads_files}
 use Rattle.oc_keep.proofs.kept.Kept.load.Goals as goal
 
 pub returns-in-Err-clause-safely_err : goal.returns-in-Err-clause-safely_err
@@ -13,15 +11,10 @@ returns-in-Err-clause-safely_err g c =
     loads_controls g.D.Disk.view (header_in a.seat) a.seat.id a.files.control a.files.alternate a.files.content c.in-Err.control c.in-Err.alternate (λ x h. g.met.D.Disk.consistent x h) c.in-Err.ensures.safely_err
 
 pub returns-in-Err-clause-refuses : goal.returns-in-Err-clause-refuses
-returns-in-Err-clause-refuses g c =
-    let a = c.args in
-    rw c.from.ensures (refused_control g.D.Disk.view a.seat.nodes a.files.control a.files.alternate a.files.content c.in-Err.control c.in-Err.alternate c.in-Err.error c.in-Err.ensures.refuses)
+returns-in-Err-clause-refuses g c = c.in-Err.ensures.refuses
 
 pub returns-in-Err-load-clause-refuses : goal.returns-in-Err-load-clause-refuses
-returns-in-Err-load-clause-refuses g c =
-    let a = c.args in
-    let d = c.into_disks-control.result in
-    rw c.from-in-Err-load.ensures (refused_content g.D.Disk.view a.seat.nodes (disks_in a.files) (disks d.0 d.1 c.in-Err-load.content) c.in-Err-load.error c.in-Ok.ensures.loaded.good_first c.in-Ok.ensures.loaded.good_second c.in-Err-load.ensures.refuses)
+returns-in-Err-load-clause-refuses g c = (c.in-Ok.ensures.loaded.good_first, c.in-Ok.ensures.loaded.good_second, c.in-Err-load.ensures.refuses)
 
 pub returns-in-Err-load-clause-safely_err : goal.returns-in-Err-load-clause-safely_err
 returns-in-Err-load-clause-safely_err g c =
@@ -111,7 +104,7 @@ pub start-requires-clause-id : goal.start-requires-clause-id
 start-requires-clause-id g c = c.requires.id
 
 pub returns-in-Err-clause-works : goal.returns-in-Err-clause-works
-returns-in-Err-clause-works g c = λ sure files. c.from.ensures ∙ ap of_store (c.in-Err.ensures.works sure.control sure.alternate files.control files.alternate)
+returns-in-Err-clause-works g c = λ sure files. c.in-Err.ensures.works sure.control sure.alternate files.control files.alternate
 
 pub returns-in-Err-load-clause-works : goal.returns-in-Err-load-clause-works
-returns-in-Err-load-clause-works g c = λ sure files. c.from-in-Err-load.ensures ∙ ap of_content (c.in-Err-load.ensures.works sure.content files.content.0 files.content.1)
+returns-in-Err-load-clause-works g c = λ sure files. c.in-Err-load.ensures.works sure.content files.content.0 files.content.1

@@ -1,4 +1,4 @@
-use Rattle.std.proofs.Common.{◌≡◌, List, ap, sym, subst, ◌∙◌}
+use Rattle.std.proofs.Common.{◌≡◌, ◌<◌, List, length, ap, sym, subst, ◌∙◌}
 use Rattle.oc_model.specs.declared.record.Record.{Record}
 use Rattle.oc_model.specs.Node.{Control}
 use Rattle.oc_model.specs.Records.{folded}
@@ -6,10 +6,19 @@ use Rattle.oc_state.specs.DurableView.{DurableView}
 use Rattle.oc_state.specs.declared.list_update.ListUpdate.{ListUpdate}
 use Rattle.oc_state.specs.ListUpdates.{leases_after, rates_after, counts_after}
 use Rattle.oc_state.specs.Volatile.{soft_of}
+use Rattle.oc_step.specs.Applying.{HaveRoom}
 use Rattle.oc_step.specs.NodeView.{NodeView, IsReached, control_of}
 use Rattle.oc_step.specs.Planned.{control_after}
-use Rattle.oc_node.proofs.Applying.{control_applied, soft_applied}
+use Rattle.oc_node.proofs.Applying.{control_applied, lists_reserved, soft_applied}
 use Rattle.oc_node.proofs.node.Node.apply.Goals as goal
+
+pub update_all-requires-clause-lists : goal.update_all-requires-clause-lists
+update_all-requires-clause-lists c =
+    let n = c.self.inside in
+    let p = c.args.plan in
+    let sound = c.self.invariant.1.sound in
+    lists_reserved c.deref.result.now p.updates c.table.result.now.nodes n.nodes n.leases n.rates n.counts (c.deref.ensures.value ∙ c.into_changes-records.ensures.updates) (c.table.ensures.nodes ∙ c.self.invariant.0) sound.leases sound.rates sound.counts
+    (subst (λ (v : NodeView). 0 < length p.updates → HaveRoom v.control.nodes v.lists) (sym c.self.view_is) c.requires.room.1)
 
 -- the control state at the end
 control_at_end : (c : goal.After-drop-updates) → control_of c.self.inside.id c.self.inside.nodes c.self.inside.chain c.self.inside.chunk c.self.inside.areas.items c.fold_all.new.self.kept (soft_of c.into_changes-records.result.volatile c.step.new.self) c.update_all.new.leases.ends c.update_all.new.rates.items c.update_all.new.counts.items ≡ control_after c.args.self.now.control c.args.plan

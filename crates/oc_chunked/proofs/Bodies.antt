@@ -6,12 +6,12 @@ use Rattle.std.proofs.lemmas.List.{append_assoc, append-nil, drop_at}
 use Rattle.httparse.specs.Ascii.{crlf_bytes}
 use Rattle.httparse.specs.Grammar.{Field, LineEnd}
 use Rattle.oc_base.specs.declared.limits.TheConstants.{MAX_FIELDS}
+use Rattle.oc_http.proofs.Fronts.{same_front}
+use Rattle.oc_chunked.specs.Chunked.{ReadsFields}
 use Rattle.oc_chunked.specs.declared.fault.ChunkFault.TheVariants.{Bad, Long}
 use Rattle.oc_chunked.specs.declared.limits.TheConstants.{MAX_CHUNK_SIZE, MAX_TRAILER_BYTES}
 use Rattle.oc_chunked.specs.Stages.{DecoderState, in_chunk, in_trailer, ended, refused, is_final}
-use Rattle.oc_chunked.specs.Unfinished.{ReadsFields}
 use Rattle.oc_chunked.proofs.Forms.{fields_form}
-use Rattle.oc_chunked.proofs.Fronts.{same_front}
 use Rattle.oc_chunked.proofs.Collected.{Outcome, unended, hopeless, too_long, whole, Collects, IsLast, collects_once}
 
 -- the same stage and the same content, and no bytes between

@@ -4,11 +4,12 @@ use Rattle.std.proofs.lemmas.List.{append_assoc, append-nil, take-append-le, dro
 use Rattle.std.specs.List.{AllByRecursion}
 use Rattle.httparse.specs.Ascii.{crlf_bytes}
 use Rattle.httparse.specs.Grammar.{print_chunk_line, chunk_size}
+use Rattle.oc_http.proofs.Heads.{IsUnfinished-none}
 use Rattle.oc_chunked.specs.Chunked.{Chunk, print_chunk, print_chunks, content_of}
 use Rattle.oc_chunked.specs.declared.fault.ChunkFault.TheVariants.{Bad}
 use Rattle.oc_chunked.specs.Stages.{DecoderState, in_size, in_chunk, refused}
 use Rattle.oc_chunked.specs.Taken.{Takes, IsPartOfChunk, IsShortChunk}
-use Rattle.oc_chunked.proofs.Forms.{size_form, IsUnfinished-none}
+use Rattle.oc_chunked.proofs.Forms.{size_form}
 use Rattle.oc_chunked.proofs.Steps.{Takes-behind}
 
 -- a chunk with its size line and its CR LF

@@ -3,9 +3,9 @@ use Rattle.std.proofs.Common.{◌≡◌, ℕ, ◌<◌, ◌≤◌, ◌⊎◌, inl
 use Rattle.std.specs.Prelude.{⊤}
 use Rattle.std.proofs.lemmas.List.{append_assoc, append-nil}
 use Rattle.httparse.specs.Ascii.{line_feed}
-use Rattle.oc_chunked.specs.Unfinished.{IsUnfinished, IsHopeless}
-use Rattle.oc_chunked.proofs.LineEnds.{ended_line}
-use Rattle.oc_chunked.proofs.Forms.{IsForm}
+use Rattle.oc_http.specs.Unfinished.{IsUnfinished, IsHopeless}
+use Rattle.oc_http.proofs.LineEnds.{ended}
+use Rattle.oc_http.proofs.Heads.{IsForm}
 use Rattle.oc_chunked.proofs.Fronts.{all_or_less}
 
 pub data Outcome (T : Type 0) : Type 0 where
@@ -29,7 +29,7 @@ IsLast outcome = ⊤
 -- bytes that begin with a whole one are not unfinished
 unfinished_not_whole : {T : Type 0} {Reads : List ℕ → T → List ℕ → Type 0} → IsForm Reads → (p q bytes : List ℕ) (tree : T) → bytes ≡ p ++ q → IsUnfinished Reads bytes → Reads p tree [] → ⊥
 unfinished_not_whole form p q bytes tree e unfinished reads =
-    let line = ended_line (form.line tree) in
+    let line = ended (form.line tree) in
     let p_is : p ≡ line = form.front p tree [] reads ∙ append-nil line in
     unfinished.no_tree tree q (form.again p bytes tree [] q reads (e ∙ ap (λ (z : List ℕ). z ++ q) p_is))
 
@@ -90,7 +90,7 @@ collects_once form most p x (whole s) unended c d cond = absurd (unfinished_not_
 collects_once form most p x (whole s) hopeless c d cond = absurd (hopeless_not_whole form p x s d.0 c.0)
 collects_once form most p x (whole s) too_long c d cond = absurd (unfinished_not_whole form p x (p ++ x) s refl d.0 c.0)
 collects_once {T} {Reads} form most p x (whole s) (whole t) c d cond =
-    let line = ended_line (form.line s) in
+    let line = ended (form.line s) in
     let p_is : p ≡ line = form.front p s [] c.0 ∙ append-nil line in
     let again = form.again p (p ++ x) s [] x c.0 (ap (λ (z : List ℕ). z ++ x) p_is) in
     let one = form.unique (p ++ x) s t x [] again d.0 in

@@ -1,24 +1,5 @@
 -- Fronts of bytes.
-use Rattle.std.proofs.Common.{◌≡◌, ℕ, ◌≤◌, ◌⊎◌, inl, inr, List, [], ◌∷◌, ◌++◌, length, refl, arith}
-
--- of two prefixes the shorter is a prefix of the other
-pub shorter_front : (x y r s : List ℕ) → x ++ r ≡ y ++ s → length x ≤ length y → (z : List ℕ) × (y ≡ x ++ z)
-shorter_front [] y r s e less = (y, refl)
-shorter_front (a ∷ x) [] r s e less = absurd (omega (arith, less))
-shorter_front (a ∷ x) (b ∷ y) r s e less =
-    let inner : x ++ r ≡ y ++ s = cc in
-    let found = shorter_front x y r s inner (omega (arith, less)) in
-    (found.0, cc (found.1))
-
--- two prefixes that are equally long are one, and so is what follows them
-pub same_front : (x y r s : List ℕ) → x ++ r ≡ y ++ s → length x ≡ length y → (x ≡ y) × (r ≡ s)
-same_front [] [] r s e long = (refl, e)
-same_front [] (b ∷ y) r s e long = absurd (omega (arith, long))
-same_front (a ∷ x) [] r s e long = absurd (omega (arith, long))
-same_front (a ∷ x) (b ∷ y) r s e long =
-    let inner : x ++ r ≡ y ++ s = cc in
-    let found = same_front x y r s inner (omega (arith, long)) in
-    (cc (found.0), found.1)
+use Rattle.std.proofs.Common.{◌≡◌, ℕ, ◌⊎◌, inl, inr, List, [], ◌∷◌, ◌++◌, refl}
 
 -- a prefix of bytes is all of them, or is a prefix of all but the last
 pub all_or_less : (x r y : List ℕ) (b : ℕ) → x ++ r ≡ y ++ b ∷ [] → (r ≡ []) ⊎ ((z : List ℕ) × (y ≡ x ++ z))

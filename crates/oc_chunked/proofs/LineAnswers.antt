@@ -9,13 +9,14 @@ use Rattle.httparse.specs.declared.spans.HeaderSpan.{HeaderSpan}
 use Rattle.httparse.specs.Grammar.{Field, LineEnd, ReadsChunkLine, HasNoChunkLine, MayBecomeChunkLine, HasNoSection, MayBecomeSection, NeverHasSection}
 use Rattle.httparse.specs.Spans.{IsSectionWithin, IsSectionOf, SectionExceeds}
 use Rattle.oc_base.specs.declared.limits.TheConstants.{MAX_FIELDS}
+use Rattle.oc_http.specs.Unfinished.{IsUnfinished}
+use Rattle.oc_http.proofs.Heads.{IsUnfinished-open}
+use Rattle.oc_chunked.specs.Chunked.{ReadsFields}
 use Rattle.oc_chunked.specs.declared.fault.ChunkFault.TheVariants.{Bad}
 use Rattle.oc_chunked.specs.declared.limits.TheConstants.{FIELD_ROOM, MAX_SIZE_LINE_BYTES, MAX_TRAILER_BYTES}
 use Rattle.oc_chunked.specs.Stages.{in_size, in_trailer, refused, stage_at}
 use Rattle.oc_chunked.specs.Taken.{Takes}
-use Rattle.oc_chunked.specs.Unfinished.{IsUnfinished, ReadsFields}
 use Rattle.oc_chunked.specs.Views.{GoesOn, state_within, behind_fields}
-use Rattle.oc_chunked.proofs.Forms.{IsUnfinished-open}
 use Rattle.oc_chunked.proofs.SizeSteps.{size_more, size_long}
 use Rattle.oc_chunked.proofs.TrailerSteps.{trailer_more, trailer_long, trailer_bad, trailer_end, trailer_many}
 use Rattle.oc_chunked.proofs.FieldCounts.{never_fields, count_of_fields}

@@ -6,14 +6,14 @@ use Rattle.std.specs.List.{AllByRecursion}
 use Rattle.httparse.specs.Ascii.{crlf_bytes}
 use Rattle.httparse.specs.Grammar.{ChunkLine, IsChunkLine, print_chunk_line, chunk_size, ReadsChunkLine, Field, LineEnd}
 use Rattle.httparse.proofs.ChunkLemmas.{chunk_line_unique}
+use Rattle.oc_http.specs.Unfinished.{IsUnfinished}
+use Rattle.oc_http.proofs.Fronts.{shorter_front, same_front}
 use Rattle.oc_chunked.specs.declared.fault.ChunkFault.TheVariants.{Bad, Long, Memory}
 use Rattle.oc_chunked.specs.declared.limits.TheConstants.{MAX_SIZE_LINE_BYTES, MAX_TRAILER_BYTES}
-use Rattle.oc_chunked.specs.Chunked.{Chunk, IsChunk, print_chunk, print_chunks, content_of}
+use Rattle.oc_chunked.specs.Chunked.{Chunk, IsChunk, print_chunk, print_chunks, content_of, ReadsFields}
 use Rattle.oc_chunked.specs.Stages.{DecoderState, in_size, in_chunk, in_trailer, ended, refused, is_final}
 use Rattle.oc_chunked.specs.Taken.{IsSizeLine, IsShortChunk, IsClosedBy, LeadsOn, IsTaken}
-use Rattle.oc_chunked.specs.Unfinished.{IsUnfinished, ReadsFields}
 use Rattle.oc_chunked.proofs.Forms.{size_form}
-use Rattle.oc_chunked.proofs.Fronts.{shorter_front, same_front}
 use Rattle.oc_chunked.proofs.Collected.{Outcome, unended, hopeless, too_long, whole, Collects, IsLast, collects_once}
 use Rattle.oc_chunked.proofs.Bodies.{Agrees, IsComparable, stage_behind, IsBody, trailer, chunk, great, body_once, whole_not_body}
 

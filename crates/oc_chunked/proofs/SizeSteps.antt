@@ -6,13 +6,14 @@ use Rattle.std.proofs.Math.Seq.{take-nil, drop-nil}
 use Rattle.std.proofs.Math.Nat.{zero-sub}
 use Rattle.httparse.specs.Ascii.{line_feed, crlf_bytes}
 use Rattle.httparse.specs.Grammar.{ChunkLine, print_chunk_line, chunk_size, ReadsChunkLine, NeverHasChunkLine}
+use Rattle.oc_http.specs.Unfinished.{IsUnfinished}
+use Rattle.oc_http.proofs.Heads.{IsUnfinished-none}
 use Rattle.oc_chunked.specs.declared.fault.ChunkFault.TheVariants.{Bad, Long}
 use Rattle.oc_chunked.specs.declared.limits.TheConstants.{MAX_CHUNK_SIZE, MAX_SIZE_LINE_BYTES}
 use Rattle.oc_chunked.specs.Stages.{in_size, in_chunk, in_trailer, refused, stage_at}
 use Rattle.oc_chunked.specs.Taken.{Takes, IsPartOfSize, IsSizeLine}
-use Rattle.oc_chunked.specs.Unfinished.{IsUnfinished}
 use Rattle.oc_chunked.specs.Views.{behind_size_line}
-use Rattle.oc_chunked.proofs.Forms.{size_form, fields_form, IsUnfinished-none, whole_at_end}
+use Rattle.oc_chunked.proofs.Forms.{size_form, fields_form, whole_at_end}
 use Rattle.oc_chunked.proofs.Steps.{Takes-behind}
 
 -- a size line that is still unfinished

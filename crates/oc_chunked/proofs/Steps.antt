@@ -1,11 +1,12 @@
 -- One step more, from stage to stage.
 use Rattle.std.proofs.Common.{◌≡◌, ℕ, List, [], ◌++◌, take, drop, Some, refl, sym, ap, ◌∙◌, subst, arith}
 use Rattle.std.proofs.lemmas.List.{append_assoc, append-nil, take-append-drop}
+use Rattle.oc_http.proofs.Heads.{IsUnfinished-none}
 use Rattle.oc_chunked.specs.Chunked.{print_chunks, content_of}
 use Rattle.oc_chunked.specs.Stages.{DecoderState, in_size, in_chunk, in_trailer, ended, refused, fault_in}
 use Rattle.oc_chunked.specs.declared.fault.ChunkFault.{ChunkFault}
 use Rattle.oc_chunked.specs.Taken.{IsTaken, Takes, LeadsOn, RefusesPiece}
-use Rattle.oc_chunked.proofs.Forms.{size_form, IsUnfinished-none}
+use Rattle.oc_chunked.proofs.Forms.{size_form}
 
 -- no bytes lead nowhere else
 pub Takes-none : (s : DecoderState) → Takes s [] [] s

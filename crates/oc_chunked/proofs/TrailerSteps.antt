@@ -4,11 +4,12 @@ use Rattle.std.proofs.lemmas.List.{append_assoc, append-nil}
 use Rattle.httparse.specs.Ascii.{line_feed}
 use Rattle.httparse.specs.Grammar.{print_chunk_line, Field, LineEnd, NeverHasSection}
 use Rattle.oc_base.specs.declared.limits.TheConstants.{MAX_FIELDS}
+use Rattle.oc_http.specs.Unfinished.{IsUnfinished}
+use Rattle.oc_chunked.specs.Chunked.{ReadsFields}
 use Rattle.oc_chunked.specs.declared.fault.ChunkFault.TheVariants.{Bad, Long}
 use Rattle.oc_chunked.specs.declared.limits.TheConstants.{MAX_TRAILER_BYTES}
 use Rattle.oc_chunked.specs.Stages.{in_trailer, ended, refused}
 use Rattle.oc_chunked.specs.Taken.{Takes, IsClosedBy}
-use Rattle.oc_chunked.specs.Unfinished.{IsUnfinished, ReadsFields}
 use Rattle.oc_chunked.proofs.Forms.{fields_form, whole_at_end}
 use Rattle.oc_chunked.proofs.Steps.{Takes-behind}
 

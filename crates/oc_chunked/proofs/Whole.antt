@@ -8,10 +8,9 @@ use Rattle.httparse.specs.Ascii.{crlf_bytes}
 use Rattle.httparse.specs.Grammar.{ChunkLine, IsChunkLine, print_chunk_line, chunk_size, ReadsChunkLine, Field, LineEnd, print_section}
 use Rattle.oc_base.specs.declared.limits.TheConstants.{MAX_FIELDS}
 use Rattle.oc_chunked.specs.declared.limits.TheConstants.{MAX_SIZE_LINE_BYTES, MAX_TRAILER_BYTES}
-use Rattle.oc_chunked.specs.Chunked.{Chunk, IsChunk, print_chunk, print_chunks, content_of, Trailer, IsTrailer, print_trailer, IsChunked}
+use Rattle.oc_chunked.specs.Chunked.{Chunk, IsChunk, print_chunk, print_chunks, content_of, Trailer, IsTrailer, print_trailer, IsChunked, ReadsFields}
 use Rattle.oc_chunked.specs.Stages.{DecoderState, in_size, in_chunk, in_trailer, ended, refused, is_ended}
 use Rattle.oc_chunked.specs.Taken.{IsShortChunk, IsTaken}
-use Rattle.oc_chunked.specs.Unfinished.{ReadsFields}
 use Rattle.oc_chunked.proofs.Forms.{fields_form}
 use Rattle.oc_chunked.proofs.Collected.{Outcome, unended, hopeless, too_long, whole, Collects, collects_once}
 use Rattle.oc_chunked.proofs.Bodies.{Agrees, IsTrailerBody, stage_behind, trailer, chunk, great}

@@ -2,7 +2,7 @@
 use Rattle.std.specs.Prelude.{◌≡◌, ℕ, ◌<◌, ◌≤◌, List, ◌++◌, length, All}
 use Rattle.std.specs.List.{AllByRecursion, flat_map}
 use Rattle.httparse.specs.Ascii.{crlf_bytes}
-use Rattle.httparse.specs.Grammar.{ChunkLine, IsChunkLine, print_chunk_line, chunk_size, Field, IsField, LineEnd, print_section}
+use Rattle.httparse.specs.Grammar.{ChunkLine, IsChunkLine, print_chunk_line, chunk_size, Field, IsField, LineEnd, print_section, ReadsSection}
 use Rattle.oc_base.specs.declared.limits.TheConstants.{MAX_FIELDS}
 use Rattle.oc_chunked.specs.declared.limits.TheConstants.{MAX_CHUNK_SIZE}
 
@@ -44,6 +44,10 @@ pub record IsTrailer (e : Trailer) : Type 0 where
 
 abbrev pub print_trailer : Trailer → List ℕ
 print_trailer e = print_chunk_line e.line ++ print_section e.fields e.last
+
+-- the bytes are fields with their empty line, and then the rest
+abbrev pub ReadsFields : List ℕ → List Field × LineEnd → List ℕ → Type 0
+ReadsFields bytes fields rest = ReadsSection bytes fields.0 fields.1 rest
 
 -- the text is chunked for the content
 pub record IsChunked (text content : List ℕ) : Type 0 where

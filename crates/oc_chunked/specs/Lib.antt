@@ -1,5 +1,4 @@
 pub mod Chunked
-pub mod Unfinished
 pub mod Stages
 pub mod Taken
 pub mod Views

@@ -4,12 +4,12 @@ use Rattle.std.specs.List.{AllByRecursion}
 use Rattle.httparse.specs.Ascii.{crlf_bytes}
 use Rattle.httparse.specs.Grammar.{ChunkLine, IsChunkLine, print_chunk_line, chunk_size, ReadsChunkLine, Field, LineEnd}
 use Rattle.oc_base.specs.declared.limits.TheConstants.{MAX_FIELDS}
+use Rattle.oc_http.specs.Unfinished.{IsUnfinished, IsHopeless}
 use Rattle.oc_chunked.specs.declared.fault.ChunkFault.{ChunkFault}
 use Rattle.oc_chunked.specs.declared.fault.ChunkFault.TheVariants.{Bad, Long, Memory}
 use Rattle.oc_chunked.specs.declared.limits.TheConstants.{MAX_CHUNK_SIZE, MAX_SIZE_LINE_BYTES, MAX_TRAILER_BYTES}
-use Rattle.oc_chunked.specs.Chunked.{Chunk, IsChunk, print_chunks, content_of}
+use Rattle.oc_chunked.specs.Chunked.{Chunk, IsChunk, print_chunks, content_of, ReadsFields}
 use Rattle.oc_chunked.specs.Stages.{DecoderState, in_size, in_chunk, in_trailer, ended, refused}
-use Rattle.oc_chunked.specs.Unfinished.{IsUnfinished, IsHopeless, ReadsFields}
 
 -- a size line that is not too long
 pub record IsSizeLine (line : ChunkLine) : Type 0 where

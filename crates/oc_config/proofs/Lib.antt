@@ -8,7 +8,6 @@ pub mod Said
 pub mod Settled
 pub mod Walks
 pub mod Lawful
-mod Pads
 mod Lines
 mod Keys
 mod Splits

@@ -11,7 +11,7 @@ use Rattle.oc_config.specs.Nodes.{GivesNode, node_in, nodes_in}
 use Rattle.oc_config.specs.Settings.{NodeSettings}
 use Rattle.oc_config.specs.Known.{all_known, known_in}
 use Rattle.oc_config.specs.Values.{GivesBy, section_of, sections_of}
-use Rattle.oc_config.specs.declared.entry.Entry.{Entry}
+use Rattle.oc_config.specs.declared.node_entry.NodeEntry.{NodeEntry}
 use Rattle.oc_config.specs.declared.fault.ConfigFault.{ConfigFault}
 use Rattle.oc_config.specs.declared.fault.ConfigFault.TheVariants.{Toml, Missing, Value, Repeat, Measure, Unknown, Memory}
 use Rattle.oc_config.specs.declared.section.Section.{Section as CodeSection}
@@ -47,7 +47,7 @@ node_refused places fault ts i t inside is refused =
     ap (nodes_in places) (next_table ts i t inside is) ∙ ap (λ (r : Result (List (Option NodeSettings)) ConfigFault). r >>= (λ p. nodes_in p rest)) refused
 
 -- the fault of a node is that of all
-pub node_fault : (said : Result (List (Option NodeSettings)) ConfigFault) (places next : List (Option NodeSettings)) (fault : ConfigFault) (ts : Tables) (i : ℕ) (t : CodeSection) → i < length ts → t ≡ get_or ts i t → nodes_in places (sections_of (drop i ts)) ≡ said → GivesNode (Err fault) places next (section_of t) → GivesBy {X = Vec (Option Entry) Global} (λ v. v.items) (Err fault) said
+pub node_fault : (said : Result (List (Option NodeSettings)) ConfigFault) (places next : List (Option NodeSettings)) (fault : ConfigFault) (ts : Tables) (i : ℕ) (t : CodeSection) → i < length ts → t ≡ get_or ts i t → nodes_in places (sections_of (drop i ts)) ≡ said → GivesNode (Err fault) places next (section_of t) → GivesBy {X = Vec (Option NodeEntry) Global} (λ v. v.items) (Err fault) said
 node_fault said places next (Toml line) ts i t inside is rest gives = sym rest ∙ node_refused places (Toml line) ts i t inside is gives
 node_fault said places next (Missing place key) ts i t inside is rest gives = sym rest ∙ node_refused places (Missing place key) ts i t inside is gives
 node_fault said places next (Value place key) ts i t inside is rest gives = sym rest ∙ node_refused places (Value place key) ts i t inside is gives

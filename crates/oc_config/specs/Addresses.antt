@@ -1,6 +1,6 @@
 -- What an address is.
-use Rattle.std.specs.Prelude.{◌≡◌, ℕ, ◌<◌, ◌≤◌, Bool, true, false, not, ◌&&◌, ◌||◌, ◌==◌, nat_eq, nat_le, is_ok, is_some, List, [], ◌∷◌, length, codes}
-use Rattle.std.specs.Char.{is_ascii_alphanumeric, is_ascii_hexdigit}
+use Rattle.std.specs.Prelude.{ℕ, Bool, false, not, ◌&&◌, ◌||◌, ◌==◌, nat_eq, nat_le, is_ok, is_some, List, [], ◌∷◌, length, codes}
+use Rattle.std.specs.Char.{is_ascii_hexdigit}
 use Rattle.std.specs.List.{list_all, before_first, after_first, starts_with}
 use Rattle.std.specs.Net.Reader.{read_ipv6, whole_value}
 use Rattle.std.specs.Str.{byte}
@@ -8,13 +8,14 @@ use Rattle.oc_base.specs.Words.{number_in}
 use Rattle.oc_config.specs.declared.address.TheConstants.{MAX_ADDRESS_BYTES}
 
 -- a letter, a digit, `.` or `-`
-abbrev pub is_host_byte : ℕ → Bool
-is_host_byte b =
+abbrev pub is_hostname_byte : ℕ → Bool
+is_hostname_byte b =
     (nat_le (byte "a") b && nat_le b (byte "z")) || (nat_le (byte "A") b && nat_le b (byte "Z")) || (nat_le (byte "0") b && nat_le b (byte "9"))
     || b == byte "." || b == byte "-"
 
-abbrev pub is_host : List ℕ → Bool
-is_host host = not (length host == 0) && list_all is_host_byte host
+-- one or more of these bytes
+abbrev pub is_hostname : List ℕ → Bool
+is_hostname host = not (length host == 0) && list_all is_hostname_byte host
 
 -- a number from 1 to 65,535
 abbrev pub is_port : List ℕ → Bool
@@ -23,9 +24,9 @@ is_port text = is_ok (number_in 1 65535 text)
 abbrev pub is_colon : ℕ → Bool
 is_colon b = b == byte ":"
 
--- a host, a colon and a port
+-- a host name, a colon and a port
 abbrev pub is_named : List ℕ → Bool
-is_named text = is_host (before_first is_colon text) && is_port (after_first is_colon text)
+is_named text = is_hostname (before_first is_colon text) && is_port (after_first is_colon text)
 
 -- a hexadecimal digit, `:` or `.`
 abbrev pub is_ipv6_byte : ℕ → Bool
@@ -55,16 +56,6 @@ is_bracketed (b ∷ rest) = b == byte "[" && is_closed rest
 -- one of the two, of at most 255 bytes: where a node can listen
 abbrev pub is_address : List ℕ → Bool
 is_address text = nat_le (length text) MAX_ADDRESS_BYTES && (is_named text || is_bracketed text)
-
--- a letter, a digit, `.`, `-`, `:` or a bracket
-abbrev pub is_address_byte : ℕ → Bool
-is_address_byte b = is_ascii_alphanumeric b || b == byte "." || b == byte "-" || b == byte ":" || b == byte "[" || b == byte "]"
-
--- 1 to 255 such bytes
-pub record AreAddressBytes (text : List ℕ) : Type 0 where
-  pub some : 0 < length text
-  pub most : length text ≤ MAX_ADDRESS_BYTES
-  pub bytes : list_all is_address_byte text ≡ true
 
 -- the host is `0.0.0.0` or `[::]`, at which nobody can be reached
 abbrev pub is_everywhere : List ℕ → Bool

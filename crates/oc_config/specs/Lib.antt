@@ -1,4 +1,3 @@
-pub mod Padding
 pub mod Keys
 pub mod Settings
 pub mod Values

@@ -1,10 +1,10 @@
-ghost use Rattle.std.specs.Prelude.{◌≡◌, ◌==◌, is_some};
-ghost use Rattle.std.specs.List.{list_all, before_first, after_first};
+ghost use Rattle.std.specs.Prelude.{◌≡◌, is_some};
+ghost use Rattle.std.specs.List.{list_all};
 ghost use Rattle.std.specs.Net.Reader.{read_ipv6, whole_value};
-ghost use Rattle.oc_config.specs.Addresses.{is_address, is_behind_host, is_bracketed, is_closed, is_everywhere, is_host, is_host_byte, is_ipv6, is_ipv6_byte, is_named, is_port, is_reachable};
+ghost use Rattle.oc_config.specs.Addresses.{is_address, is_behind_host, is_bracketed, is_closed, is_everywhere, is_hostname, is_hostname_byte, is_ipv6, is_ipv6_byte, is_named, is_port, is_reachable};
 
-use oc_base::place_of;
 use oc_base::words::number;
+use oc_http::cut_at_first;
 use std::net::Ipv6Addr;
 
 /// The greatest number of bytes of an address.
@@ -32,12 +32,12 @@ fn is_everywhere(text: &[u8]) -> bool
     text.starts_with(b"0.0.0.0:") || text.starts_with(b"[::]:")
 }
 
-/// Whether a text is a host, `:` and a port.
+/// Whether a text is a host name, `:` and a port.
 fn is_named(text: &[u8]) -> bool
     ensures { result ≡ is_named text.now }
 {
     let (host, port) = cut_at_first(text, b':');
-    is_host(host) && is_port(port)
+    is_hostname(host) && is_port(port)
 }
 
 /// Whether a text is an address of IPv6 in brackets, `:` and a port.
@@ -93,31 +93,20 @@ fn is_behind_host(text: &[u8]) -> bool
     }
 }
 
-/// The bytes up to the first such byte, and what follows it.
-fn cut_at_first(bytes: &[u8], byte: u8) -> (&[u8], &[u8])
-    ensures before { result.0.now ≡ before_first (λ b. b == byte) bytes.now }
-    ensures after { result.1.now ≡ after_first (λ b. b == byte) bytes.now }
+fn is_hostname(host: &[u8]) -> bool
+    ensures { result ≡ is_hostname host.now }
 {
-    match place_of(bytes, byte) {
-        Some(at) => (&bytes[..at], &bytes[at + 1..]),
-        None => (bytes, &[]),
-    }
+    !host.is_empty() && are_hostname_bytes(host)
 }
 
-fn is_host(host: &[u8]) -> bool
-    ensures { result ≡ is_host host.now }
+fn are_hostname_bytes(bytes: &[u8]) -> bool
+    ensures { result ≡ list_all is_hostname_byte bytes.now }
 {
-    !host.is_empty() && are_host_bytes(host)
+    bytes.iter().all(|b| is_hostname_byte(*b))
 }
 
-fn are_host_bytes(bytes: &[u8]) -> bool
-    ensures { result ≡ list_all is_host_byte bytes.now }
-{
-    bytes.iter().all(|b| is_host_byte(*b))
-}
-
-fn is_host_byte(byte: u8) -> bool
-    ensures { result ≡ is_host_byte byte }
+fn is_hostname_byte(byte: u8) -> bool
+    ensures { result ≡ is_hostname_byte byte }
 {
     matches!(byte, b'a'..=b'z' | b'A'..=b'Z' | b'0'..=b'9' | b'.' | b'-')
 }

@@ -20,7 +20,7 @@ pub struct KeyName {
 impl Model for KeyName {
     ghost use Rattle.std.specs.Prelude.{◌≡◌, ℕ, ◌-◌, ◌≤◌, List, ◌++◌, length, take, replicate};
     ghost use Rattle.oc_config.specs.declared.key_name.TheConstants.{MAX_KEY_BYTES};
-    ghost use Rattle.oc_config.specs.Padding.{length_of_front, padded_again};
+    ghost use Rattle.oc_policy.specs.Padding.{length_of_front, padded_again};
 
     ghost Value = { List ℕ };
 
@@ -32,8 +32,8 @@ impl Model for KeyName {
     ghost inverse = { λ xs. record { bytes = xs ++ replicate (MAX_KEY_BYTES - length xs) 0; len = length xs } };
 
     ghost inverse_ok = { λ n h i. record {
-      bytes = padded_again n.len n.bytes h.0 h.1 h.2 i;
-      len = length_of_front n.len n.bytes h.0 h.1 i;
+      bytes = padded_again MAX_KEY_BYTES n.len n.bytes h.0 h.1 h.2 i;
+      len = length_of_front MAX_KEY_BYTES n.len n.bytes h.0 h.1 i;
     } };
 }
 

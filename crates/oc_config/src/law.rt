@@ -1,14 +1,15 @@
 ghost use Rattle.std.specs.Prelude.{◌≡◌, ℕ, true, Ok, List, length};
 ghost use Rattle.std.specs.List.{AllByRecursion};
-ghost use Rattle.oc_config.specs.Addresses.{AreAddressBytes, is_address};
+ghost use Rattle.oc_http.specs.Writing.{IsHost};
+ghost use Rattle.oc_config.specs.Addresses.{is_address};
 ghost use Rattle.oc_config.specs.Laws.{IsSaid};
 ghost use Rattle.oc_config.specs.Reading.{settings_in, node_tables_in};
 ghost use Rattle.oc_config.specs.Settings.{Settings};
 ghost use Rattle.oc_config.specs.Values.{Section};
 
-/// Each address consists of bytes that the host of a request may have, and of no more than a host may be long.
-pub fn addresses_are_short()
-    ensures { (text : List ℕ) → is_address text ≡ true → AreAddressBytes text }
+/// Each address may stand in a request as its host.
+pub fn each_address_is_a_host()
+    ensures { (text : List ℕ) → is_address text ≡ true → IsHost text }
 {}
 
 /// What is said of a node, at the place of its id, is what the table with that id says, whatever the order of the

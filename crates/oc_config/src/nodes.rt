@@ -10,8 +10,8 @@ ghost use Rattle.toml.specs.View.{view};
 
 use crate::address::{is_address, is_reachable};
 use crate::config_key::ConfigKey;
-use crate::entry::Entry;
 use crate::fault::ConfigFault;
+use crate::node_entry::NodeEntry;
 use crate::section::Section;
 use crate::values::whole;
 use oc_base::{MAX_NODES, Memory};
@@ -22,7 +22,7 @@ use toml::Value;
 pub(crate) fn nodes(
     alloc: Global,
     tables: &[Section<'_>],
-) -> Result<Vec<Option<Entry>>, ConfigFault>
+) -> Result<Vec<Option<NodeEntry>>, ConfigFault>
     requires { length tables.now ≤ MAX_NODES }
     ensures { GivesBy (λ v. v.items) result (nodes_in (replicate (length tables.now) None) (sections_of tables.now)) }
 {
@@ -34,7 +34,7 @@ pub(crate) fn nodes(
 }
 
 /// `count` empty places.
-fn free_places(alloc: Global, count: usize) -> Result<Vec<Option<Entry>>, Memory>
+fn free_places(alloc: Global, count: usize) -> Result<Vec<Option<NodeEntry>>, Memory>
     ensures { IfOk result (λ v. v.items ≡ replicate count None) }
 {
     let mut places = Vec::new(alloc);
@@ -47,7 +47,7 @@ fn free_places(alloc: Global, count: usize) -> Result<Vec<Option<Entry>>, Memory
 /// Puts what a table says of a node at the place of its id.
 fn put_node(
     alloc: Global,
-    places: &mut Vec<Option<Entry>>,
+    places: &mut Vec<Option<NodeEntry>>,
     table: &Section<'_>,
 ) -> Result<(), ConfigFault>
     requires { vec_len places.old ≤ MAX_NODES }
@@ -76,9 +76,9 @@ fn id(table: &Section<'_>, nodes: usize) -> Result<u32, ConfigFault>
 /// What a table says of a node, apart from its id, where no node before has its address.
 fn new_entry(
     alloc: Global,
-    places: &[Option<Entry>],
+    places: &[Option<NodeEntry>],
     table: &Section<'_>,
-) -> Result<Entry, ConfigFault>
+) -> Result<NodeEntry, ConfigFault>
     ensures { Gives result (new_entry_in places.now (section_of table.now)) }
 {
     let address = address(table)?;
@@ -88,7 +88,7 @@ fn new_entry(
 
 /// Refuses an address that a node before has.
 fn check_new(
-    places: &[Option<Entry>],
+    places: &[Option<NodeEntry>],
     table: &Section<'_>,
     address: &str,
 ) -> Result<(), ConfigFault>
@@ -101,13 +101,13 @@ fn check_new(
 }
 
 /// Whether one of these nodes has this address.
-fn is_taken(places: &[Option<Entry>], address: &str) -> bool
+fn is_taken(places: &[Option<NodeEntry>], address: &str) -> bool
     ensures { result ≡ list_any (has_address address.now) places.now }
 {
     places.iter().any(|place| has_address(place, address))
 }
 
-fn has_address(place: &Option<Entry>, address: &str) -> bool
+fn has_address(place: &Option<NodeEntry>, address: &str) -> bool
     ensures { result ≡ has_address address.now place.now }
 {
     match place {
@@ -117,12 +117,12 @@ fn has_address(place: &Option<Entry>, address: &str) -> bool
 }
 
 /// What a table says of a node with this address.
-fn entry(alloc: Global, table: &Section<'_>, address: &str) -> Result<Entry, ConfigFault>
+fn entry(alloc: Global, table: &Section<'_>, address: &str) -> Result<NodeEntry, ConfigFault>
     ensures { Gives result (entry_with (section_of table.now) address.now) }
 {
     let listen = listen(table, address)?;
     let area = node_area(table)?;
-    Ok(Entry {
+    Ok(NodeEntry {
         address: String::from_str(alloc, address)?,
         listen: String::from_str(alloc, listen)?,
         area,
@@ -179,7 +179,7 @@ pub(crate) struct Split {
 
 impl Split {
     /// What is at the places, in their order.
-    pub(crate) fn of(alloc: Global, places: Vec<Option<Entry>>) -> Result<Split, Memory>
+    pub(crate) fn of(alloc: Global, places: Vec<Option<NodeEntry>>) -> Result<Split, Memory>
         ensures { IfOk result (λ s. AreOf s.addresses.items s.listens.items s.areas.items places.items) }
     {
         let mut split = Split {
@@ -194,7 +194,7 @@ impl Split {
     }
 
     /// Puts what is said of a node after what is said of those before it.
-    fn put(&mut self, place: Option<Entry>) -> Result<(), Memory>
+    fn put(&mut self, place: Option<NodeEntry>) -> Result<(), Memory>
         ensures { (so_far : List (Option NodeSettings))
             → AreOf self.old.addresses.items self.old.listens.items self.old.areas.items so_far
             → OnOk result (AreOf self.new.addresses.items self.new.listens.items self.new.areas.items (so_far ++ place ∷ [])) }

@@ -6,8 +6,8 @@ use Rattle.oc_fetch.specs.Passing.{IsPassed, StopsPassing}
 use Rattle.oc_fetch.specs.Replies.{BreaksOff}
 use Rattle.oc_fetch.specs.declared.end.GetEnd.{GetEnd}
 use Rattle.oc_fetch.specs.declared.end.GetEnd.TheVariants as ends
-use Rattle.oc_fetch.specs.declared.extent.Extent.TheVariants.{Chunked}
-use Rattle.oc_fetch.specs.declared.extent.TheConstants.{MAX_OPEN_BYTES}
+use Rattle.oc_fetch.specs.declared.reply_framing.ReplyFraming.TheVariants.{Chunked}
+use Rattle.oc_fetch.specs.declared.reply_framing.TheConstants.{MAX_OPEN_BYTES}
 use Rattle.oc_fetch.proofs.Moving.{Then, front_whole, front_behind, unseen}
 use Rattle.oc_io.specs.Faults.{NoFall}
 use Rattle.oc_chunked.specs.Stages.{DecoderState, in_size, in_chunk, in_trailer, ended, refused, is_ended, wanted_at}

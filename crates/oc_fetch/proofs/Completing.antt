@@ -4,14 +4,14 @@ use Rattle.oc_fetch.specs.Addresses.{LeadsTo}
 use Rattle.oc_fetch.specs.Completeness.{HoldsWhole, LeadToContent, IsUnrefused}
 use Rattle.oc_fetch.specs.Conversations.{Replied, Redirects, Serves, EndsWith, EndsIn, Leads, EndsAt, wanted_after}
 use Rattle.oc_fetch.specs.Redirecting.{IsLost, sent_to}
-use Rattle.oc_fetch.specs.Replies.{IsBodiless, extent_of}
+use Rattle.oc_fetch.specs.Replies.{IsBodiless, framing_of}
 use Rattle.oc_fetch.specs.Turns.{Turn}
 use Rattle.oc_fetch.specs.FetchOptions.{FetchOptions}
 use Rattle.oc_fetch.specs.Wishes.{Wish, whole}
 use Rattle.oc_fetch.specs.declared.end.GetEnd.{GetEnd}
 use Rattle.oc_fetch.specs.declared.end.GetEnd.TheVariants as ends
-use Rattle.oc_fetch.specs.declared.extent.Extent.{Extent}
-use Rattle.oc_fetch.specs.declared.extent.Extent.TheVariants.{Counted, Chunked, ToTheEnd}
+use Rattle.oc_fetch.specs.declared.reply_framing.ReplyFraming.{ReplyFraming}
+use Rattle.oc_fetch.specs.declared.reply_framing.ReplyFraming.TheVariants.{Counted, Chunked, ToTheEnd}
 use Rattle.oc_fetch.specs.declared.client_state.ClientState.{ClientState}
 use Rattle.oc_fetch.proofs.OneHead.{OneAnswer, same_head, says_more, not_headless}
 use Rattle.oc_fetch.proofs.Spoken.{some_is}
@@ -35,12 +35,13 @@ AreFronts (turn ∷ turns) (text ∷ texts) = IsFrontOf turn text × AreFronts t
 pub one_url : (asked : Parts) (a b : List ℕ) (u v : Parts) → a ≡ b → LeadsTo asked a u → LeadsTo asked b v → u ≡ v
 one_url asked a b u v e p q = let parsed = sym p.joined ∙ ap (λ (x : List ℕ). parse_url (Some asked) x) e ∙ q.joined in cc
 
+-- a status is one number
+pub not_both : (n : ℕ) → n ≡ 200 → n ≡ 302 → ⊥
+not_both n a b = absurd (omega (arith, a, b))
+
 -- a head of a whole 200 is a 200
 abbrev IsContent : FetchOptions → ReplyHead → List ℕ → Type 0
-IsContent manner head behind = Serves (whole manner) head × HoldsWhole (extent_of head) behind
-
-not_both : (n : ℕ) → n ≡ 200 → n ≡ 302 → ⊥
-not_both n a b = absurd (omega (arith, a, b))
+IsContent manner head behind = Serves (whole manner) head × HoldsWhole (framing_of head) behind
 
 -- Where a turn led on
 
@@ -74,7 +75,7 @@ none_goes_on wish state [] content reached (Some turn) rest end none leads ends 
 -- Where the last turn ended
 
 -- where a whole content follows a head, its first bytes do not rule that out
-not_cut : (extent : Extent) (behind left : List ℕ) (over : Bool) → (over ≡ true → left ≡ []) → HoldsWhole extent (behind ++ left) → IsBodiless extent behind over → ⊥
+not_cut : (framing : ReplyFraming) (behind left : List ℕ) (over : Bool) → (over ≡ true → left ≡ []) → HoldsWhole framing (behind ++ left) → IsBodiless framing behind over → ⊥
 not_cut (Counted count) behind left over end holds none =
     let nothing : length left ≡ 0 = ap length (end none.1) in
     absurd (omega (arith, length-append behind left, nothing, holds, none.0))
@@ -104,8 +105,8 @@ content_unrefused one manner state turn text written ends.Reply front said (inr 
       | inr stops ↦ elim stops [
         | inl untaken ↦ untaken.0.untaken (ap (λ (h : ReplyHead). h.chunked) same.0 ∙ said.so.0.taken)
         | inr cut ↦
-            let holds : HoldsWhole (extent_of was.head) (was.behind ++ front.left) = subst (λ (h : ReplyHead). HoldsWhole (extent_of h) (was.behind ++ front.left)) (sym same.0) (subst (λ (b : List ℕ). HoldsWhole (extent_of said.head) b) (sym same.1) said.so.1) in
-            not_cut (extent_of was.head) was.behind front.left turn.over front.end holds cut.bodiless
+            let holds : HoldsWhole (framing_of was.head) (was.behind ++ front.left) = subst (λ (h : ReplyHead). HoldsWhole (framing_of h) (was.behind ++ front.left)) (sym same.0) (subst (λ (b : List ℕ). HoldsWhole (framing_of said.head) b) (sym same.1) said.so.1) in
+            not_cut (framing_of was.head) was.behind front.left turn.over front.end holds cut.bodiless
       ]
     ])
 

@@ -15,7 +15,7 @@ use Rattle.oc_link.specs.Story.{Story, IsHeardOut}
 
 -- What a loan of the outgoing connection says of the link
 
-told_at : (R : Story → Story → Type 0) (a b x y : Option Story) → a ≡ x → b ≡ y → Told R x y → Told R a b
+pub told_at : (R : Story → Story → Type 0) (a b x y : Option Story) → a ≡ x → b ≡ y → Told R x y → Told R a b
 told_at R a b x y p q t = subst (λ (o : Option Story). Told R o b) (sym p) (subst (λ (o : Option Story). Told R x o) (sym q) t)
 
 if_told_at : (b y : Option Story) → b ≡ y → IfTold y IsHeardOut → IfTold b IsHeardOut

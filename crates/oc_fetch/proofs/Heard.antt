@@ -5,7 +5,7 @@ use Rattle.oc_fetch.specs.Conversations.{Replied, Serves, Brings, after_content,
 use Rattle.oc_fetch.specs.Ends.{end_of_http}
 use Rattle.oc_fetch.specs.Passing.{Came, Sent, IsPassed, StopsPassing, IsHeard, IsLastHeard}
 use Rattle.oc_fetch.specs.Redirecting.{Follows, StaysAt}
-use Rattle.oc_fetch.specs.Replies.{IsHeadless, extent_of}
+use Rattle.oc_fetch.specs.Replies.{IsHeadless, framing_of}
 use Rattle.oc_fetch.specs.Wishes.{Wish, Takes}
 use Rattle.oc_fetch.specs.declared.end.GetEnd.{GetEnd}
 use Rattle.oc_fetch.specs.declared.end.GetEnd.TheVariants as ends
@@ -35,7 +35,7 @@ untaken gives fails ended takes breaks none_given none_taken wish head s k statu
 }
 
 -- the passing of the content stopped
-passing_stops : {S K : Type 0} (gives fails : S → List ℕ → S → Type 0) (ended : S → Type 0) (takes breaks : K → List ℕ → K → Type 0) (wish : Wish) (head : ReplyHead) (a c : S) (p r : K) (end : GetEnd) → Serves wish head → (stops : StopsPassing gives fails ended takes breaks (extent_of head) a c p r end) → StopsContent wish head stops.body stops.over stops.written end
+passing_stops : {S K : Type 0} (gives fails : S → List ℕ → S → Type 0) (ended : S → Type 0) (takes breaks : K → List ℕ → K → Type 0) (wish : Wish) (head : ReplyHead) (a c : S) (p r : K) (end : GetEnd) → Serves wish head → (stops : StopsPassing gives fails ended takes breaks (framing_of head) a c p r end) → StopsContent wish head stops.body stops.over stops.written end
 passing_stops gives fails ended takes breaks wish head a c p r ends.Reply serves stops = inr (record { passes = record { content = stops.content; serves = serves; begins = stops.begins; front = stops.front }; bodiless = stops.cause })
 passing_stops gives fails ended takes breaks wish head a c p r ends.Link serves stops = record { content = stops.content; serves = serves; begins = stops.begins; front = stops.front }
 passing_stops gives fails ended takes breaks wish head a c p r ends.Sink serves stops = record { content = stops.content; serves = serves; begins = stops.begins; front = stops.front }
@@ -45,7 +45,7 @@ passing_stops gives fails ended takes breaks wish head a c p r ends.BadUrl serve
 passing_stops gives fails ended takes breaks wish head a c p r (ends.Refused status) serves stops = absurd stops.cause
 passing_stops gives fails ended takes breaks wish head a c p r ends.Redirects serves stops = absurd stops.cause
 
-pub stopped_content : {S K : Type 0} (gives fails : S → List ℕ → S → Type 0) (ended : S → Type 0) (takes breaks : K → List ℕ → K → Type 0) (wish : Wish) (head : ReplyHead) (a c : S) (p r : K) (end : GetEnd) → Serves wish head → StopsPassing gives fails ended takes breaks (extent_of head) a c p r end → IsLastHeard gives fails ended takes breaks (StopsContent wish head) a c p r end
+pub stopped_content : {S K : Type 0} (gives fails : S → List ℕ → S → Type 0) (ended : S → Type 0) (takes breaks : K → List ℕ → K → Type 0) (wish : Wish) (head : ReplyHead) (a c : S) (p r : K) (end : GetEnd) → Serves wish head → StopsPassing gives fails ended takes breaks (framing_of head) a c p r end → IsLastHeard gives fails ended takes breaks (StopsContent wish head) a c p r end
 stopped_content gives fails ended takes breaks wish head a c p r end serves stops = record {
   reply = stops.body;
   over = stops.over;
@@ -57,7 +57,7 @@ stopped_content gives fails ended takes breaks wish head a c p r end serves stop
 }
 
 -- all of it was passed on
-pub brought : {S K : Type 0} (gives : S → List ℕ → S → Type 0) (ended : S → Type 0) (takes : K → List ℕ → K → Type 0) (wish : Wish) (state next : ClientState) (head : ReplyHead) (a c : S) (p r : K) (count : ℕ) → Serves wish head → ((content : List ℕ) → length content ≡ count → next ≡ after_content head content state) → IsPassed gives ended takes (extent_of head) a c p r count → IsHeard gives ended takes (λ body over content. Brings wish state head body over content next) a c p r
+pub brought : {S K : Type 0} (gives : S → List ℕ → S → Type 0) (ended : S → Type 0) (takes : K → List ℕ → K → Type 0) (wish : Wish) (state next : ClientState) (head : ReplyHead) (a c : S) (p r : K) (count : ℕ) → Serves wish head → ((content : List ℕ) → length content ≡ count → next ≡ after_content head content state) → IsPassed gives ended takes (framing_of head) a c p r count → IsHeard gives ended takes (λ body over content. Brings wish state head body over content next) a c p r
 brought gives ended takes wish state next head a c p r count serves next_is passed = record {
   reply = passed.body;
   over = passed.over;

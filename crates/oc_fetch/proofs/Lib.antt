@@ -1,7 +1,7 @@
 mod ChunkSteps
 mod Completing
 mod Dialling
-mod Exchanged
+pub mod Exchanged
 mod Fetched
 mod Heard
 mod Made
@@ -9,7 +9,7 @@ mod Moving
 mod OneHead
 mod Parts
 mod Redirected
-mod Spoken
+pub mod Spoken
 mod Talked
 mod Telling
 mod Texts

@@ -4,9 +4,9 @@ use Rattle.std.proofs.lemmas.List.{append_assoc, append-nil}
 use Rattle.oc_fetch.specs.Passing.{Came, Sent, IsMoved, IsHalted, IsOfCall, IsPassed, StopsBody, StopsPassing}
 use Rattle.oc_fetch.specs.declared.end.GetEnd.{GetEnd}
 use Rattle.oc_fetch.specs.declared.end.GetEnd.TheVariants.{Done, BadUrl, Refused, Redirects, Reply, Link, Sink, Memory}
-use Rattle.oc_fetch.specs.declared.extent.Extent.{Extent}
-use Rattle.oc_fetch.specs.declared.extent.Extent.TheVariants.{Counted, ToTheEnd}
-use Rattle.oc_fetch.specs.declared.extent.TheConstants.{MAX_OPEN_BYTES}
+use Rattle.oc_fetch.specs.declared.reply_framing.ReplyFraming.{ReplyFraming}
+use Rattle.oc_fetch.specs.declared.reply_framing.ReplyFraming.TheVariants.{Counted, ToTheEnd}
+use Rattle.oc_fetch.specs.declared.reply_framing.TheConstants.{MAX_OPEN_BYTES}
 use Rattle.oc_link.specs.Calls.{IsFront}
 
 -- one relation after another
@@ -57,15 +57,15 @@ moved_halted gives fails takes breaks came came_fails sent sent_fails a b c p q 
 }
 
 -- a call that failed stops any body
-stopped : (extent : Extent) (body : List ℕ) (over : Bool) (end : GetEnd) → IsOfCall end → StopsBody extent body over end
-stopped extent body over Link cause = tt
-stopped extent body over Sink cause = tt
-stopped extent body over Done cause = absurd cause
-stopped extent body over BadUrl cause = absurd cause
-stopped extent body over (Refused status) cause = absurd cause
-stopped extent body over Redirects cause = absurd cause
-stopped extent body over Reply cause = absurd cause
-stopped extent body over Memory cause = absurd cause
+stopped : (framing : ReplyFraming) (body : List ℕ) (over : Bool) (end : GetEnd) → IsOfCall end → StopsBody framing body over end
+stopped framing body over Link cause = tt
+stopped framing body over Sink cause = tt
+stopped framing body over Done cause = absurd cause
+stopped framing body over BadUrl cause = absurd cause
+stopped framing body over (Refused status) cause = absurd cause
+stopped framing body over Redirects cause = absurd cause
+stopped framing body over Reply cause = absurd cause
+stopped framing body over Memory cause = absurd cause
 
 -- no end was seen
 pub unseen : {P : Type 0} → false ≡ true → P

@@ -11,7 +11,7 @@ use Rattle.oc_fetch.specs.Wishes.{Wish}
 use Rattle.oc_fetch.specs.declared.end.GetEnd.{GetEnd}
 use Rattle.oc_fetch.specs.declared.end.GetEnd.TheVariants as ends
 use Rattle.oc_fetch.specs.declared.client_state.ClientState.{ClientState}
-use Rattle.oc_fetch.proofs.Completing.{one_url}
+use Rattle.oc_fetch.proofs.Completing.{one_url, not_both}
 use Rattle.oc_fetch.proofs.Fetched.{one_parsed, talked_so}
 use Rattle.oc_fetch.proofs.OneHead.{OneAnswer, same_head, not_headless}
 use Rattle.oc_fetch.proofs.Spoken.{some_is}
@@ -19,9 +19,6 @@ use Rattle.oc_http.specs.declared.reply.ReplyHead.{ReplyHead}
 use Rattle.std.proofs.lemmas.List.{append-nil}
 use Rattle.oc_link.specs.Story.{Story}
 use Rattle.url.specs.Parts.{Parts}
-
-not_both : (n : ℕ) → n ≡ 200 → n ≡ 302 → ⊥
-not_both n a b = absurd (omega (arith, a, b))
 
 -- Where it ends with `Redirects`
 

@@ -2,14 +2,14 @@
 use Rattle.std.specs.Prelude.{◌≡◌, ◌⊎◌, ℕ, ◌≤◌, List, [], ◌∷◌, ◌++◌, length, map, ⊤}
 use Rattle.oc_fetch.specs.Conversations.{Replied, Serves, Redirects}
 use Rattle.oc_fetch.specs.Downloads.{first_state}
-use Rattle.oc_fetch.specs.Replies.{extent_of}
+use Rattle.oc_fetch.specs.Replies.{framing_of}
 use Rattle.oc_fetch.specs.FetchOptions.{FetchOptions}
 use Rattle.oc_fetch.specs.Wishes.{whole}
 use Rattle.oc_fetch.specs.declared.end.GetEnd.{GetEnd}
 use Rattle.oc_fetch.specs.declared.end.GetEnd.TheVariants.{Done, Link, Sink, Memory}
-use Rattle.oc_fetch.specs.declared.extent.Extent.{Extent}
-use Rattle.oc_fetch.specs.declared.extent.Extent.TheVariants.{Counted, Chunked, ToTheEnd}
-use Rattle.oc_fetch.specs.declared.extent.TheConstants.{MAX_OPEN_BYTES}
+use Rattle.oc_fetch.specs.declared.reply_framing.ReplyFraming.{ReplyFraming}
+use Rattle.oc_fetch.specs.declared.reply_framing.ReplyFraming.TheVariants.{Counted, Chunked, ToTheEnd}
+use Rattle.oc_fetch.specs.declared.reply_framing.TheConstants.{MAX_OPEN_BYTES}
 use Rattle.oc_fetch.specs.declared.client_state.ClientState.{ClientState}
 use Rattle.oc_link.specs.Story.{Dial, Story, dials}
 use Rattle.url.specs.Parts.{Parts}
@@ -19,7 +19,7 @@ abbrev pub text_of : Dial → List ℕ
 text_of dial = dial.connection.read ++ dial.connection.left
 
 -- the bytes after a head hold a whole content, which has no chunks
-abbrev pub HoldsWhole : Extent → List ℕ → Type 0
+abbrev pub HoldsWhole : ReplyFraming → List ℕ → Type 0
 HoldsWhole (Counted count) behind = count ≤ length behind
 HoldsWhole Chunked behind = ⊥
 HoldsWhole ToTheEnd behind = length behind ≤ MAX_OPEN_BYTES
@@ -28,7 +28,7 @@ HoldsWhole ToTheEnd behind = length behind ≤ MAX_OPEN_BYTES
 abbrev pub LeadToContent : FetchOptions → ClientState → List (List ℕ) → Type 0
 LeadToContent manner state [] = ⊤
 LeadToContent manner state (text ∷ texts) =
-    Replied text (λ head behind. Serves (whole manner) head × HoldsWhole (extent_of head) behind)
+    Replied text (λ head behind. Serves (whole manner) head × HoldsWhole (framing_of head) behind)
     ⊎ ((next : ClientState) × Replied text (λ head behind. Redirects state head next) × LeadToContent manner next texts)
 
 -- nothing that came was refused

@@ -1,7 +1,7 @@
 -- How a client talks with servers: where each reply leads, and how it ends.
 use Rattle.std.specs.Prelude.{◌≡◌, ◌≢◌, ◌⊎◌, ℕ, ◌+◌, ◌-◌, ◌^◌, ◌<◌, min, Bool, Option, Some, None, option_to_list, List, [], ◌∷◌, ◌++◌, length}
 use Rattle.oc_fetch.specs.Redirecting.{IsLost, Points, Follows}
-use Rattle.oc_fetch.specs.Replies.{Says, IsHeadless, extent_of, IsWhole, Begins, IsBodiless}
+use Rattle.oc_fetch.specs.Replies.{Says, IsHeadless, framing_of, IsWhole, Begins, IsBodiless}
 use Rattle.oc_fetch.specs.Turns.{Turn, IsCut}
 use Rattle.oc_fetch.specs.Wishes.{Wish, Asks, Takes, keeps, dialled_at, request_of}
 use Rattle.oc_fetch.specs.declared.end.GetEnd.{GetEnd}
@@ -55,7 +55,7 @@ after_content head content state = record state {
 -- the reply is a whole content, after which the client is at this state
 pub record Brings (wish : Wish) (state : ClientState) (head : ReplyHead) (body : List ℕ) (over : Bool) (content : List ℕ) (next : ClientState) : Type 0 where
   pub serves : Serves wish head
-  pub whole : IsWhole (extent_of head) body content over
+  pub whole : IsWhole (framing_of head) body content over
   pub next_is : next ≡ after_content head content state
 
 -- a whole reply from which the client goes on at this state, and its content
@@ -67,13 +67,13 @@ LeadsOn wish state reply over content next =
 pub record Passes (wish : Wish) (head : ReplyHead) (body written : List ℕ) : Type 0 where
   pub content : List ℕ
   pub serves : Serves wish head
-  pub begins : Begins (extent_of head) body content
+  pub begins : Begins (framing_of head) body content
   pub front : IsFront written content
 
 -- the content is not whole and never will be
 pub record CutsOff (wish : Wish) (head : ReplyHead) (body : List ℕ) (over : Bool) (written : List ℕ) : Type 0 where
   pub passes : Passes wish head body written
-  pub bodiless : IsBodiless (extent_of head) body over
+  pub bodiless : IsBodiless (framing_of head) body over
 
 -- the reply brings a content that the client does not take
 pub record IsUntaken (wish : Wish) (head : ReplyHead) : Type 0 where

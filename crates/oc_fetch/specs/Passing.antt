@@ -3,7 +3,7 @@ use Rattle.std.specs.Prelude.{◌≡◌, ℕ, ◌≤◌, Bool, true, Option, Lis
 use Rattle.oc_fetch.specs.Replies.{IsWhole, Begins, IsBodiless}
 use Rattle.oc_fetch.specs.declared.end.GetEnd.{GetEnd}
 use Rattle.oc_fetch.specs.declared.end.GetEnd.TheVariants.{Reply, Link, Sink, Memory}
-use Rattle.oc_fetch.specs.declared.extent.Extent.{Extent}
+use Rattle.oc_fetch.specs.declared.reply_framing.ReplyFraming.{ReplyFraming}
 use Rattle.oc_fetch.specs.Turns.{Turn, Makes, MakesOnceHung, Speaks, MaySpeakLast}
 use Rattle.oc_link.specs.Calls.{IsFront, Told}
 use Rattle.oc_link.specs.Story.{Story}
@@ -42,26 +42,26 @@ pub record IsHalted {S K : Type 0} (gives fails : S → List ℕ → S → Type 
   pub cause : IsOfCall end
 
 -- a whole body came, and its content was taken
-pub record IsPassed {S K : Type 0} (gives : S → List ℕ → S → Type 0) (ended : S → Type 0) (takes : K → List ℕ → K → Type 0) (extent : Extent) (old new : S) (before after : K) (count : ℕ) : Type 0 where
+pub record IsPassed {S K : Type 0} (gives : S → List ℕ → S → Type 0) (ended : S → Type 0) (takes : K → List ℕ → K → Type 0) (framing : ReplyFraming) (old new : S) (before after : K) (count : ℕ) : Type 0 where
   pub body : List ℕ
   pub content : List ℕ
   pub over : Bool
   pub came : gives old body new
   pub sent : takes before content after
   pub is_over : over ≡ true → ended new
-  pub whole : IsWhole extent body content over
+  pub whole : IsWhole framing body content over
   pub count_is : length content ≡ count
 
 -- why a body was not passed on to its end
-abbrev pub StopsBody : Extent → List ℕ → Bool → GetEnd → Type 0
-StopsBody extent body over Reply = IsBodiless extent body over
-StopsBody extent body over Link = ⊤
-StopsBody extent body over Sink = ⊤
-StopsBody extent body over Memory = ⊤
-StopsBody extent body over end = ⊥
+abbrev pub StopsBody : ReplyFraming → List ℕ → Bool → GetEnd → Type 0
+StopsBody framing body over Reply = IsBodiless framing body over
+StopsBody framing body over Link = ⊤
+StopsBody framing body over Sink = ⊤
+StopsBody framing body over Memory = ⊤
+StopsBody framing body over end = ⊥
 
 -- a body began, a prefix of its content was taken, and then this ended it
-pub record StopsPassing {S K : Type 0} (gives fails : S → List ℕ → S → Type 0) (ended : S → Type 0) (takes breaks : K → List ℕ → K → Type 0) (extent : Extent) (old new : S) (before after : K) (end : GetEnd) : Type 0 where
+pub record StopsPassing {S K : Type 0} (gives fails : S → List ℕ → S → Type 0) (ended : S → Type 0) (takes breaks : K → List ℕ → K → Type 0) (framing : ReplyFraming) (old new : S) (before after : K) (end : GetEnd) : Type 0 where
   pub body : List ℕ
   pub content : List ℕ
   pub written : List ℕ
@@ -69,9 +69,9 @@ pub record StopsPassing {S K : Type 0} (gives fails : S → List ℕ → S → T
   pub came : Came gives fails old body new end
   pub sent : Sent takes breaks before written after end
   pub is_over : over ≡ true → ended new
-  pub begins : Begins extent body content
+  pub begins : Begins framing body content
   pub front : IsFront written content
-  pub cause : StopsBody extent body over end
+  pub cause : StopsBody framing body over end
 
 -- a whole reply came from which a client goes on
 pub record IsHeard {S K : Type 0} (gives : S → List ℕ → S → Type 0) (ended : S → Type 0) (takes : K → List ℕ → K → Type 0) (So : List ℕ → Bool → List ℕ → Type 0) (old new : S) (before after : K) : Type 0 where

@@ -1,8 +1,8 @@
 -- What the reply to a request says, and what of it is content.
 use Rattle.std.specs.Prelude.{◌≡◌, ℕ, ◌<◌, ◌≤◌, ◌⊎◌, Bool, true, false, Option, Some, None, List, [], ◌++◌, length}
-use Rattle.oc_fetch.specs.declared.extent.Extent.{Extent}
-use Rattle.oc_fetch.specs.declared.extent.Extent.TheVariants.{Counted, Chunked, ToTheEnd}
-use Rattle.oc_fetch.specs.declared.extent.TheConstants.{MAX_OPEN_BYTES}
+use Rattle.oc_fetch.specs.declared.reply_framing.ReplyFraming.{ReplyFraming}
+use Rattle.oc_fetch.specs.declared.reply_framing.ReplyFraming.TheVariants.{Counted, Chunked, ToTheEnd}
+use Rattle.oc_fetch.specs.declared.reply_framing.TheConstants.{MAX_OPEN_BYTES}
 use Rattle.oc_http.specs.Taking.{SaysReplyHead, RefusesReplyHead}
 use Rattle.oc_http.specs.declared.fault.HttpFault.{HttpFault}
 use Rattle.oc_http.specs.declared.fault.HttpFault.TheVariants.{Source, Memory}
@@ -30,23 +30,23 @@ pub record IsHeadless (reply : List ℕ) (over : Bool) : Type 0 where
   pub refused : RefusesReplyHead reply (over ≡ true) fault
 
 -- where the content ends, by what is said of chunks and of a length
-abbrev pub extent_by : Bool → Option ℕ → Extent
-extent_by true length = Chunked
-extent_by false (Some count) = Counted count
-extent_by false None = ToTheEnd
+abbrev pub framing_by : Bool → Option ℕ → ReplyFraming
+framing_by true length = Chunked
+framing_by false (Some count) = Counted count
+framing_by false None = ToTheEnd
 
 -- where the content of a reply ends
-abbrev pub extent_of : ReplyHead → Extent
-extent_of head = extent_by head.chunked head.length
+abbrev pub framing_of : ReplyHead → ReplyFraming
+framing_of head = framing_by head.chunked head.length
 
 -- bytes after a head are a whole body with this content; over says that the connection ended after them
-abbrev pub IsWhole : Extent → List ℕ → List ℕ → Bool → Type 0
+abbrev pub IsWhole : ReplyFraming → List ℕ → List ℕ → Bool → Type 0
 IsWhole (Counted count) body content over = (body ≡ content) × (length content ≡ count)
 IsWhole Chunked body content over = IsTaken body content ended × (length content ≤ MAX_OPEN_BYTES)
 IsWhole ToTheEnd body content over = (body ≡ content) × (length content ≤ MAX_OPEN_BYTES) × (over ≡ true)
 
 -- bytes after a head begin a body, and bring this content
-abbrev pub Begins : Extent → List ℕ → List ℕ → Type 0
+abbrev pub Begins : ReplyFraming → List ℕ → List ℕ → Type 0
 Begins (Counted count) body content = (body ≡ content) × (length content ≤ count)
 Begins Chunked body content =
     (content ≡ []) ⊎ ((front : List ℕ) × (rest : List ℕ) × (stage : DecoderState) × (body ≡ front ++ rest) × IsTaken front content stage)
@@ -60,7 +60,7 @@ BreaksOff stage content rest over =
     ⊎ (MAX_OPEN_BYTES < length content)
 
 -- bytes after a head are no whole body, and none that follow make them one
-abbrev pub IsBodiless : Extent → List ℕ → Bool → Type 0
+abbrev pub IsBodiless : ReplyFraming → List ℕ → Bool → Type 0
 IsBodiless (Counted count) body over = (length body < count) × (over ≡ true)
 IsBodiless Chunked body over =
     (front : List ℕ) × (rest : List ℕ) × (content : List ℕ) × (stage : DecoderState) × (body ≡ front ++ rest) × IsTaken front content stage × BreaksOff stage content rest over

@@ -3,12 +3,12 @@
 ghost use Rattle.std.specs.Prelude.{◌≡◌, ◌⊎◌, ◌++◌, ◌<◌, ◌≤◌, ℕ, List, [], length, take, IfOk, IfErr, OnOk, OnErr, IsErrOf};
 ghost use Rattle.oc_fetch.specs.Chunks.{EndsWritten, IsPut, StopsPiece, TakesPiece};
 ghost use Rattle.oc_fetch.specs.Passing.{IsPassed, StopsPassing};
-ghost use Rattle.oc_fetch.specs.declared.extent.Extent.TheVariants.{Chunked as ChunkedExtent};
+ghost use Rattle.oc_fetch.specs.declared.reply_framing.ReplyFraming.TheVariants.{Chunked as ChunkedFraming};
 ghost use Rattle.oc_io.specs.Faults.{NoFall, Rose};
 ghost use Rattle.oc_chunked.specs.Stages.{wanted_at};
 
 use crate::end::GetEnd;
-use crate::extent::MAX_OPEN_BYTES;
+use crate::reply_framing::MAX_OPEN_BYTES;
 use crate::room::PIECE_BYTES;
 use oc_chunked::{ChunkFault, Unchunker};
 use oc_io::{Sink, Source, write_all};
@@ -25,8 +25,8 @@ pub(crate) fn pass_chunked<S: Source, K: Sink>(
     content: &mut Vec<u8>,
 ) -> Result<u64, GetEnd>
     requires { length buffer.old ≡ PIECE_BYTES }
-    ensures passed { IfOk result (λ count. IsPassed S.gives S.ended K.takes ChunkedExtent source.old source.new sink.old sink.new count) }
-    ensures stopped { IfErr result (λ end. StopsPassing S.gives S.fails S.ended K.takes K.fails ChunkedExtent source.old source.new sink.old sink.new end) }
+    ensures passed { IfOk result (λ count. IsPassed S.gives S.ended K.takes ChunkedFraming source.old source.new sink.old sink.new count) }
+    ensures stopped { IfErr result (λ end. StopsPassing S.gives S.fails S.ended K.takes K.fails ChunkedFraming source.old source.new sink.old sink.new end) }
     ensures source_count { NoFall (S.faults source.old) (S.faults source.new) }
     ensures sink_count { NoFall (K.faults sink.old) (K.faults sink.new) }
     ensures source_cause { IsErrOf result GetEnd.Link → Rose (S.faults source.old) (S.faults source.new) }

@@ -2,43 +2,43 @@
 
 ghost use Rattle.std.specs.Prelude.{◌≡◌, ◌<◌, ◌≤◌, length, IfOk, IfErr, OnOk, IsErrOf};
 ghost use Rattle.oc_fetch.specs.Passing.{IsMoved, IsHalted, IsPassed, StopsPassing};
-ghost use Rattle.oc_fetch.specs.declared.extent.Extent.TheVariants.{Counted as CountedExtent, ToTheEnd as OpenExtent};
+ghost use Rattle.oc_fetch.specs.declared.reply_framing.ReplyFraming.TheVariants.{Counted as CountedFraming, ToTheEnd as OpenFraming};
 ghost use Rattle.oc_io.specs.Faults.{NoFall, Rose};
 
 use crate::chunks::pass_chunked;
 use crate::end::GetEnd;
-use crate::extent::{Extent, MAX_OPEN_BYTES};
+use crate::reply_framing::{MAX_OPEN_BYTES, ReplyFraming};
 use crate::room::Room;
 use oc_io::{Sink, Source, write_all};
 
 /// Passes the content of a reply on from a source to a sink, through a buffer. Gives its length in
 /// bytes.
 pub(crate) fn pass_content<S: Source, K: Sink>(
-    extent: Extent,
+    framing: ReplyFraming,
     source: &mut S,
     sink: &mut K,
     room: &mut Room,
 ) -> Result<u64, GetEnd>
-    ensures passed { IfOk result (λ count. IsPassed S.gives S.ended K.takes extent source.old source.new sink.old sink.new count) }
-    ensures stopped { IfErr result (λ end. StopsPassing S.gives S.fails S.ended K.takes K.fails extent source.old source.new sink.old sink.new end) }
+    ensures passed { IfOk result (λ count. IsPassed S.gives S.ended K.takes framing source.old source.new sink.old sink.new count) }
+    ensures stopped { IfErr result (λ end. StopsPassing S.gives S.fails S.ended K.takes K.fails framing source.old source.new sink.old sink.new end) }
     ensures source_count { NoFall (S.faults source.old) (S.faults source.new) }
     ensures sink_count { NoFall (K.faults sink.old) (K.faults sink.new) }
     ensures source_cause { IsErrOf result GetEnd.Link → Rose (S.faults source.old) (S.faults source.new) }
     ensures sink_cause { IsErrOf result GetEnd.Sink → Rose (K.faults sink.old) (K.faults sink.new) }
 {
-    match extent {
-        Extent::Counted(count) => {
+    match framing {
+        ReplyFraming::Counted(count) => {
             pass_counted(count, source, sink, &mut room.buffer)?;
             Ok(count)
         }
-        Extent::Chunked => pass_chunked(
+        ReplyFraming::Chunked => pass_chunked(
             room.alloc,
             source,
             sink,
             &mut room.buffer,
             &mut room.content,
         ),
-        Extent::ToTheEnd => pass_open(source, sink, &mut room.buffer),
+        ReplyFraming::ToTheEnd => pass_open(source, sink, &mut room.buffer),
     }
 }
 
@@ -50,8 +50,8 @@ fn pass_counted<S: Source, K: Sink>(
     buffer: &mut [u8],
 ) -> Result<(), GetEnd>
     requires { 0 < length buffer.old }
-    ensures passed { OnOk result (IsPassed S.gives S.ended K.takes (CountedExtent count) source.old source.new sink.old sink.new count) }
-    ensures stopped { IfErr result (λ end. StopsPassing S.gives S.fails S.ended K.takes K.fails (CountedExtent count) source.old source.new sink.old sink.new end) }
+    ensures passed { OnOk result (IsPassed S.gives S.ended K.takes (CountedFraming count) source.old source.new sink.old sink.new count) }
+    ensures stopped { IfErr result (λ end. StopsPassing S.gives S.fails S.ended K.takes K.fails (CountedFraming count) source.old source.new sink.old sink.new end) }
     ensures source_count { NoFall (S.faults source.old) (S.faults source.new) }
     ensures sink_count { NoFall (K.faults sink.old) (K.faults sink.new) }
     ensures source_cause { IsErrOf result GetEnd.Link → Rose (S.faults source.old) (S.faults source.new) }
@@ -76,8 +76,8 @@ fn pass_open<S: Source, K: Sink>(
     buffer: &mut [u8],
 ) -> Result<u64, GetEnd>
     requires { 0 < length buffer.old }
-    ensures passed { IfOk result (λ count. IsPassed S.gives S.ended K.takes OpenExtent source.old source.new sink.old sink.new count) }
-    ensures stopped { IfErr result (λ end. StopsPassing S.gives S.fails S.ended K.takes K.fails OpenExtent source.old source.new sink.old sink.new end) }
+    ensures passed { IfOk result (λ count. IsPassed S.gives S.ended K.takes OpenFraming source.old source.new sink.old sink.new count) }
+    ensures stopped { IfErr result (λ end. StopsPassing S.gives S.fails S.ended K.takes K.fails OpenFraming source.old source.new sink.old sink.new end) }
     ensures source_count { NoFall (S.faults source.old) (S.faults source.new) }
     ensures sink_count { NoFall (K.faults sink.old) (K.faults sink.new) }
     ensures source_cause { IsErrOf result GetEnd.Link → Rose (S.faults source.old) (S.faults source.new) }

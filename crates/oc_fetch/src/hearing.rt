@@ -4,14 +4,14 @@ ghost use Rattle.std.specs.Prelude.{◌≡◌, ◌↔◌, ℕ, List, length, IfE
 ghost use Rattle.oc_fetch.specs.Conversations.{LeadsOn, EndsWith, Brings, StopsContent, after_content, wanted_after};
 ghost use Rattle.oc_fetch.specs.Passing.{IsHeard, IsLastHeard};
 ghost use Rattle.oc_fetch.specs.Wishes.{wish_of, Takes, keeps};
-ghost use Rattle.oc_fetch.specs.Replies.{extent_of};
+ghost use Rattle.oc_fetch.specs.Replies.{framing_of};
 ghost use Rattle.oc_io.specs.Faults.{NoFall, Rose};
 
 use crate::client_state::ClientState;
 use crate::content::pass_content;
 use crate::end::GetEnd;
-use crate::extent::Extent;
 use crate::redirection::redirect;
+use crate::reply_framing::ReplyFraming;
 use crate::room::Room;
 use crate::wish::Wish;
 use oc_http::ReplyHead;
@@ -67,7 +67,7 @@ fn take_content<S: Source, K: Sink>(
     if !takes(wish, head) {
         return Err(GetEnd::Reply);
     }
-    let count = pass_content(extent_of(head), source, sink, room)?;
+    let count = pass_content(framing_of(head), source, sink, room)?;
     go_past_content(state, head, count);
     Ok(())
 }
@@ -92,15 +92,15 @@ fn takes(wish: &Wish<'_>, head: &ReplyHead) -> bool
 }
 
 /// Where the content of a reply ends.
-fn extent_of(head: &ReplyHead) -> Extent
-    ensures { result ≡ extent_of head.now }
+fn framing_of(head: &ReplyHead) -> ReplyFraming
+    ensures { result ≡ framing_of head.now }
 {
     if head.chunked {
-        return Extent::Chunked;
+        return ReplyFraming::Chunked;
     }
     match head.length {
-        Some(count) => Extent::Counted(count),
-        None => Extent::ToTheEnd,
+        Some(count) => ReplyFraming::Counted(count),
+        None => ReplyFraming::ToTheEnd,
     }
 }
 

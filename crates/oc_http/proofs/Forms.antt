@@ -10,17 +10,17 @@ use Rattle.httparse.specs.Grammar.{LineEnd, crlf, lf, print_end, Field, IsField,
 use Rattle.httparse.specs.Spans.{RequestExceeds, ResponseExceeds}
 use Rattle.httparse.proofs.GrammarLemmas.{request_unique, response_unique}
 use Rattle.oc_base.specs.declared.limits.TheConstants.{MAX_HEAD_BYTES}
-use Rattle.oc_http.specs.Taking.{CanBecome}
+use Rattle.oc_http.specs.Unfinished.{CanBecome}
 use Rattle.oc_http.specs.declared.taking.TheConstants.{FIELD_ROOM}
 use Rattle.oc_http.proofs.LineEnds.{ended, ends_high}
 use Rattle.oc_http.proofs.Heads.{IsForm}
 
 -- the end of a line without its line feed
-abbrev before_feed : LineEnd → List ℕ
+abbrev pub before_feed : LineEnd → List ℕ
 before_feed crlf = 13 ∷ []
 before_feed lf = []
 
-print_end-ended : (end : LineEnd) → print_end end ≡ ended (before_feed end)
+pub print_end-ended : (end : LineEnd) → print_end end ≡ ended (before_feed end)
 print_end-ended crlf = refl
 print_end-ended lf = refl
 
@@ -89,7 +89,7 @@ CanBecome-request line (inr cut) =
     absurd (ends_high (print_blank cut.0 ++ method) space target line high (sym cut.5))
 
 -- the end of a line is a byte at least
-long_end : (end : LineEnd) → 1 ≤ length (print_end end)
+pub long_end : (end : LineEnd) → 1 ≤ length (print_end end)
 long_end crlf = omega arith
 long_end lf = omega arith
 
@@ -99,7 +99,8 @@ long_field f field =
     let end = long_end f.end in
     omega (arith, field.name.0, length-append f.name (58 ∷ f.raw), length-append (f.name ++ 58 ∷ f.raw) (print_end f.end))
 
-long_fields : (fields : List Field) → AllByRecursion IsField fields → 3 * length fields ≤ length (flat_map print_field fields)
+-- and fields three times their number
+pub long_fields : (fields : List Field) → AllByRecursion IsField fields → 3 * length fields ≤ length (flat_map print_field fields)
 long_fields [] all = omega arith
 long_fields (f ∷ fields) all =
     let first = long_field f all.0 in
@@ -107,7 +108,7 @@ long_fields (f ∷ fields) all =
     omega (arith, length-append (print_field f) (flat_map print_field fields))
 
 -- the fields of a head are less than a third of its bytes
-few_fields : (front : List ℕ) (fields : List Field) (last : LineEnd) → All IsField fields → 3 * length fields < length (front ++ print_section fields last)
+pub few_fields : (front : List ℕ) (fields : List Field) (last : LineEnd) → All IsField fields → 3 * length fields < length (front ++ print_section fields last)
 few_fields front fields last all =
     let some = long_fields fields (recursion_from_All IsField fields all) in
     let end = long_end last in

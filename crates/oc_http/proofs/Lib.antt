@@ -1,5 +1,6 @@
 pub mod Faults
 pub mod LineEnds
+pub mod Fronts
 pub mod Heads
 pub mod Forms
 pub mod TakenRequests
@@ -14,4 +15,3 @@ pub mod OneReply
 pub mod BodyLengths
 pub mod Wholes
 pub mod Parts
-pub mod Numbers

@@ -5,30 +5,13 @@ use Rattle.std.proofs.lemmas.Bool.{cases_lt}
 use Rattle.httparse.specs.Ascii.{line_feed}
 use Rattle.oc_base.specs.declared.limits.TheConstants.{MAX_HEAD_BYTES}
 use Rattle.oc_http.specs.Answers.{IsDecided, AnswersHead}
-use Rattle.oc_http.specs.Taking.{IsUnfinished, IsHopeless, IsAnswered}
+use Rattle.oc_http.specs.Taking.{IsAnswered}
+use Rattle.oc_http.specs.Unfinished.{IsUnfinished, IsHopeless}
 use Rattle.oc_http.specs.declared.fault.HttpFault.{HttpFault}
 use Rattle.oc_http.specs.declared.fault.HttpFault.TheVariants.{Source, Ended, Head as NoHead, HeadLong, Fields, Host, Coding, Length, BodyLong, Memory}
+use Rattle.oc_http.proofs.Fronts.{shorter_front, same_front}
 use Rattle.oc_http.proofs.LineEnds.{ended, ends_or_whole}
 use Rattle.oc_http.proofs.Heads.{IsForm}
-
--- of two prefixes the shorter is a prefix of the other
-pub shorter_front : (x y r s : List ℕ) → x ++ r ≡ y ++ s → length x ≤ length y → (z : List ℕ) × (y ≡ x ++ z)
-shorter_front [] y r s e less = (y, refl)
-shorter_front (a ∷ x) [] r s e less = absurd (omega (arith, less))
-shorter_front (a ∷ x) (b ∷ y) r s e less =
-    let inner : x ++ r ≡ y ++ s = cc in
-    let found = shorter_front x y r s inner (omega (arith, less)) in
-    (found.0, cc (found.1))
-
--- two prefixes that are equally long are one, and so is what follows them
-pub same_front : (x y r s : List ℕ) → x ++ r ≡ y ++ s → length x ≡ length y → (x ≡ y) × (r ≡ s)
-same_front [] [] r s e long = (refl, e)
-same_front [] (b ∷ y) r s e long = absurd (omega (arith, long))
-same_front (a ∷ x) [] r s e long = absurd (omega (arith, long))
-same_front (a ∷ x) (b ∷ y) r s e long =
-    let inner : x ++ r ≡ y ++ s = cc in
-    let found = same_front x y r s inner (omega (arith, long)) in
-    (cc (found.0), found.1)
 
 -- how the reading of a head ends, apart from failures and want of memory
 record IsEnd {H A : Type 0} (Reads : List ℕ → H → List ℕ → Type 0) (bytes rest : List ℕ) (answer : Result A HttpFault) : Type 0 where
@@ -69,7 +52,7 @@ whole_not_unfinished : {H A : Type 0} {Reads : List ℕ → H → List ℕ → T
 whole_not_unfinished form bytes rest other behind answer same answered unfinished less =
     let found = shorter_front bytes other rest behind same less in
     let text : other ≡ ended (form.line answered.head) ++ found.0 = found.1 ∙ ap (λ (x : List ℕ). x ++ found.0) (form.front bytes answered.head [] answered.whole ∙ append-nil (ended (form.line answered.head))) in
-    unfinished.no_head answered.head found.0 (form.again bytes other answered.head [] found.0 answered.whole text)
+    unfinished.no_tree answered.head found.0 (form.again bytes other answered.head [] found.0 answered.whole text)
 
 -- where bytes are a whole head, it is at the front of all that begins with them
 reads_left : {H A : Type 0} {Reads : List ℕ → H → List ℕ → Type 0} {read : H → Result A HttpFault} → IsForm Reads → (bytes rest left : List ℕ) (answer : Result A HttpFault) → left ≡ bytes ++ rest → (answered : IsAnswered Reads read bytes answer) → Reads left answered.head rest
@@ -113,7 +96,7 @@ whole_first {H} {A} {Reads} read form left b r c s first second e f x (inl y) =
     record { answer = sym x.answer_is ∙ ap read same.0 ∙ y.answer_is; rest = same.1 }
 whole_first read form left b r c s first second e f x (inr (inl y)) =
     let all : left ≡ c = f ∙ ap (λ (z : List ℕ). c ++ z) y.none ∙ append-nil c in
-    absurd (y.unfinished.no_head x.head r (reads_left form b r c first (sym all ∙ e) x))
+    absurd (y.unfinished.no_tree x.head r (reads_left form b r c first (sym all ∙ e) x))
 whole_first {H} {A} {Reads} read form left b r c s first second e f x (inr (inr (inl y))) =
     absurd (y.hopeless.never s x.head r (reads_left form b r (c ++ s) first (sym f ∙ e) x))
 whole_first read form left b r c s first second e f x (inr (inr (inr y))) =

@@ -10,7 +10,8 @@ use Rattle.oc_http.specs.declared.fault.HttpFault.TheVariants.{Source, Ended, Bo
 use Rattle.oc_http.specs.declared.reply.Reply.{Reply}
 use Rattle.oc_http.specs.declared.reply.ReplyHead.{ReplyHead}
 use Rattle.oc_http.proofs.Forms.{response_form}
-use Rattle.oc_http.proofs.OneAnswer.{one_answer, same_front}
+use Rattle.oc_http.proofs.Fronts.{same_front}
+use Rattle.oc_http.proofs.OneAnswer.{one_answer}
 
 -- a body that is whole
 record IsBody (told : Option ℕ) (body rest : List ℕ) : Type 0 where

@@ -2,7 +2,8 @@
 use Rattle.std.proofs.Common.{ℕ, ◌<◌, List, ◌++◌, subst, sym, ◌∙◌, length-append}
 use Rattle.oc_base.specs.declared.limits.TheConstants.{MAX_HEAD_BYTES}
 use Rattle.oc_http.specs.Lines.{IsLineCut}
-use Rattle.oc_http.specs.Taking.{Took, IsUnfinished, StopsInHead}
+use Rattle.oc_http.specs.Taking.{Took, StopsInHead}
+use Rattle.oc_http.specs.Unfinished.{IsUnfinished}
 use Rattle.oc_http.specs.declared.fault.HttpFault.{HttpFault}
 use Rattle.oc_http.specs.declared.fault.HttpFault.TheVariants.{Source, Ended, HeadLong}
 use Rattle.oc_http.proofs.Heads.{IsForm, IsUnfinished-more}

@@ -10,7 +10,7 @@ use Rattle.httparse.specs.Grammar.{ReadsRequest, HasNoRequest, NeverHasRequest, 
 use Rattle.httparse.specs.Spans.{IsRequestWithin, IsRequestOf, RequestExceeds}
 use Rattle.oc_base.specs.declared.limits.TheConstants.{MAX_HEAD_BYTES}
 use Rattle.oc_http.specs.Lines.{HasNoLineEnd, IsRequestTaken}
-use Rattle.oc_http.specs.Taking.{CanBecome, IsUnfinished, IsHopeless}
+use Rattle.oc_http.specs.Unfinished.{CanBecome, IsUnfinished, IsHopeless}
 use Rattle.oc_http.specs.declared.taking.TheConstants.{FIELD_ROOM}
 use Rattle.oc_http.proofs.LineEnds.{ended}
 use Rattle.oc_http.proofs.Heads.{IsUnfinished-open, whole_at_end, IsHopeless-line}

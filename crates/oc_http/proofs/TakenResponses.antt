@@ -8,7 +8,7 @@ use Rattle.httparse.specs.Grammar.{ReadsResponse, HasNoResponse, NeverHasRespons
 use Rattle.httparse.specs.Spans.{IsResponseWithin, IsResponseOf, ResponseExceeds}
 use Rattle.oc_base.specs.declared.limits.TheConstants.{MAX_HEAD_BYTES}
 use Rattle.oc_http.specs.Lines.{HasNoLineEnd, IsResponseTaken}
-use Rattle.oc_http.specs.Taking.{IsUnfinished, IsHopeless}
+use Rattle.oc_http.specs.Unfinished.{IsUnfinished, IsHopeless}
 use Rattle.oc_http.specs.declared.taking.TheConstants.{FIELD_ROOM}
 use Rattle.oc_http.proofs.LineEnds.{ended}
 use Rattle.oc_http.proofs.Heads.{IsUnfinished-open, whole_at_end, IsHopeless-line}

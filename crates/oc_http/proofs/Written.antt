@@ -22,7 +22,7 @@ use Rattle.oc_http.specs.Writing.{IsHost, is_host_byte, IsMac, is_mac_digit, lin
 use Rattle.oc_http.specs.declared.fault.HttpFault.{HttpFault}
 use Rattle.oc_http.specs.declared.head.Head.{Head}
 use Rattle.oc_http.proofs.Forms.{request_form}
-use Rattle.oc_http.proofs.Numbers.{numerals}
+use Rattle.oc_base.proofs.Numerals.{numerals}
 use Rattle.oc_http.proofs.OneAnswer.{one_answer}
 use Rattle.oc_http.proofs.Tests.{list_all-weaker, AllPass-from_test, IsToken-from_test, trim_ows-visible}
 

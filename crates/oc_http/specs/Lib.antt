@@ -2,6 +2,7 @@ pub mod Writing
 pub mod Lengths
 pub mod Requests
 pub mod Responses
+pub mod Unfinished
 pub mod Taking
 pub mod Gives
 pub mod Lines

@@ -1,10 +1,10 @@
 -- Which bytes are taken from a source for a message, and what is then answered.
-use Rattle.std.specs.Prelude.{◌≡◌, ℕ, ◌<◌, ◌≤◌, ◌⊎◌, Option, Some, None, Result, Ok, Err, List, [], ◌∷◌, ◌++◌, length, ⊤}
-use Rattle.httparse.specs.Ascii.{line_feed}
+use Rattle.std.specs.Prelude.{◌≡◌, ℕ, ◌<◌, ◌≤◌, ◌⊎◌, Option, Some, None, Result, Ok, Err, List, [], ◌++◌, length, ⊤}
 use Rattle.httparse.specs.Grammar.{ReadsRequest, ReadsResponse}
 use Rattle.oc_base.specs.declared.limits.TheConstants.{MAX_HEAD_BYTES, MAX_BODY_BYTES}
 use Rattle.oc_http.specs.Requests.{read_request}
 use Rattle.oc_http.specs.Responses.{read_reply_head, read_reply_start, body_length, IsLong, reply_of}
+use Rattle.oc_http.specs.Unfinished.{IsUnfinished, IsHopeless}
 use Rattle.oc_http.specs.declared.fault.HttpFault.{HttpFault}
 use Rattle.oc_http.specs.declared.fault.HttpFault.TheVariants.{Source, Ended, Head as NoHead, HeadLong, BodyLong, Memory}
 use Rattle.oc_http.specs.declared.head.Head.{Head}
@@ -15,22 +15,6 @@ use Rattle.oc_http.specs.declared.reply.ReplyHead.{ReplyHead}
 abbrev pub Took : {S : Type 0} → (S → List ℕ → S → Type 0) → (S → List ℕ → S → Type 0) → S → List ℕ → S → HttpFault → Type 0
 Took gives fails old bytes new Source = fails old bytes new
 Took gives fails old bytes new fault = gives old bytes new
-
--- bytes can follow that make these a whole head
-abbrev pub CanBecome : {H : Type 0} → (List ℕ → H → List ℕ → Type 0) → List ℕ → Type 0
-CanBecome {H} Reads bytes = (more : List ℕ) × (head : H) × Reads (bytes ++ more) head []
-
--- the bytes hold no whole head, and at the end of each line they could still become one
-pub record IsUnfinished {H : Type 0} (Reads : List ℕ → H → List ℕ → Type 0) (bytes : List ℕ) : Type 0 where
-  pub no_head : (head : H) (rest : List ℕ) → ¬ (Reads bytes head rest)
-  pub goes_on : (line rest : List ℕ) → bytes ≡ line ++ line_feed ∷ rest → CanBecome Reads (line ++ line_feed ∷ [])
-
--- since the end of the last line no bytes can follow with which there is a head
-pub record IsHopeless {H : Type 0} (Reads : List ℕ → H → List ℕ → Type 0) (bytes : List ℕ) : Type 0 where
-  pub before : List ℕ
-  pub ends : bytes ≡ before ++ line_feed ∷ []
-  pub unfinished : IsUnfinished Reads before
-  pub never : (more : List ℕ) (head : H) (rest : List ℕ) → ¬ (Reads (bytes ++ more) head rest)
 
 -- the bytes are a whole head with nothing after it, to which this is the answer
 pub record IsAnswered {H A : Type 0} (Reads : List ℕ → H → List ℕ → Type 0) (read : H → Result A HttpFault) (bytes : List ℕ) (answer : Result A HttpFault) : Type 0 where

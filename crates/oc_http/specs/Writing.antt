@@ -1,5 +1,5 @@
 -- The texts of requests and replies.
-use Rattle.std.specs.Prelude.{◌≡◌, ℕ, ◌≤◌, nat_le, Bool, ◌&&◌, ◌||◌, ◌==◌, if◌then◌else◌, Option, Some, None, IsSome, List, [], ◌++◌, length, codes, decimal, IsTrue}
+use Rattle.std.specs.Prelude.{◌≡◌, ℕ, ◌≤◌, nat_le, Bool, ◌&&◌, ◌||◌, ◌==◌, if◌then◌else◌, Option, Some, None, IsSome, unwrap_or, List, [], ◌++◌, length, codes, decimal, IsTrue}
 use Rattle.std.specs.Char.{is_ascii_alphanumeric, is_ascii_digit}
 use Rattle.std.specs.List.{list_all}
 use Rattle.std.specs.Str.{byte}
@@ -123,18 +123,13 @@ phrase status =
 abbrev pub HasPhrase : ℕ → Type 0
 HasPhrase status = IsSome (phrase status)
 
--- the phrase of a status that has one
-abbrev pub phrase_or_none : Option (List ℕ) → List ℕ
-phrase_or_none None = []
-phrase_or_none (Some text) = text
-
 -- what a status is called, between the space before it and the end of its line
 abbrev pub phrase_text : ℕ → List ℕ
-phrase_text status = codes " " ++ phrase_or_none (phrase status) ++ line_end
+phrase_text status = codes " " ++ unwrap_or (phrase status) [] ++ line_end
 
 -- `HTTP/1.1 CODE PHRASE`
 abbrev pub status_line : ℕ → List ℕ
-status_line status = codes "HTTP/1.1 " ++ decimal status ++ codes " " ++ phrase_or_none (phrase status) ++ line_end
+status_line status = codes "HTTP/1.1 " ++ decimal status ++ codes " " ++ unwrap_or (phrase status) [] ++ line_end
 
 -- `Location`, of a 302
 abbrev pub location_line : ℕ → Option (List ℕ) → List ℕ

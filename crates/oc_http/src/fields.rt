@@ -7,7 +7,7 @@ ghost use Rattle.oc_base.specs.declared.limits.TheConstants.{MAX_FIELDS};
 ghost use Rattle.oc_http.specs.Fields.{values, closes, only_of, is_only, is_present, hosts, has_host_fault};
 ghost use Rattle.oc_http.specs.Found.{IsFound};
 
-use crate::found::Found;
+use crate::field_match::FieldMatch;
 use crate::text::{is_alike, lists_close};
 use httparse::spans::HeaderSpan;
 use oc_base::MAX_FIELDS;
@@ -67,14 +67,14 @@ impl<'a> Fields<'a> {
     }
 
     /// The fields of a name, in upper or lower case.
-    pub fn find(&self, name: &str) -> Found<'a>
+    pub fn find(&self, name: &str) -> FieldMatch<'a>
         ensures { IsFound result (values name.now self.now) }
     {
         match self.next(name) {
-            None => Found::Absent,
+            None => FieldMatch::Absent,
             Some((first, rest)) => match rest.next(name) {
-                None => Found::One(first),
-                Some(_) => Found::Several(first),
+                None => FieldMatch::One(first),
+                Some(_) => FieldMatch::Several(first),
             },
         }
     }
@@ -84,8 +84,8 @@ impl<'a> Fields<'a> {
         ensures { option_map (λ value. value.now) result ≡ only_of (values name.now self.now) }
     {
         match self.find(name) {
-            Found::One(value) => Some(value),
-            Found::Absent | Found::Several(_) => None,
+            FieldMatch::One(value) => Some(value),
+            FieldMatch::Absent | FieldMatch::Several(_) => None,
         }
     }
 
@@ -111,8 +111,8 @@ impl<'a> Fields<'a> {
         ensures { result ≡ is_only text.now (values name.now self.now) }
     {
         match self.find(name) {
-            Found::One(value) => is_alike(value, text),
-            Found::Absent | Found::Several(_) => false,
+            FieldMatch::One(value) => is_alike(value, text),
+            FieldMatch::Absent | FieldMatch::Several(_) => false,
         }
     }
 
@@ -120,7 +120,7 @@ impl<'a> Fields<'a> {
     pub fn is_present(&self, name: &str) -> bool
         ensures { result ≡ is_present (values name.now self.now) }
     {
-        !matches!(self.find(name), Found::Absent)
+        !matches!(self.find(name), FieldMatch::Absent)
     }
 
     /// Whether Host occurs more than once, or is missing in a request of version 1.1 (RFC 9112, section
@@ -129,9 +129,9 @@ impl<'a> Fields<'a> {
         ensures { result ≡ has_host_fault minor (hosts self.now) }
     {
         match self.find("host") {
-            Found::Absent => minor == 1,
-            Found::One(_) => false,
-            Found::Several(_) => true,
+            FieldMatch::Absent => minor == 1,
+            FieldMatch::One(_) => false,
+            FieldMatch::Several(_) => true,
         }
     }
 }

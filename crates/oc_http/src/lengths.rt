@@ -5,7 +5,7 @@ ghost use Rattle.oc_http.specs.Fields.{codings, lengths};
 ghost use Rattle.oc_http.specs.Lengths.{content_length, checked_length};
 
 use crate::fault::HttpFault;
-use crate::{Fields, Found, length_of};
+use crate::{FieldMatch, Fields, length_of};
 
 /// The number of Content-Length, `None` where there is none. A transfer coding is refused first, then
 /// a length that is not just one number.
@@ -25,11 +25,11 @@ pub(crate) fn content_length(fields: &Fields) -> Result<Option<u64>, HttpFault>
     ensures { result ≡ content_length (lengths fields.now) }
 {
     match fields.find("content-length") {
-        Found::Absent => Ok(None),
-        Found::One(value) => match length_of(value) {
+        FieldMatch::Absent => Ok(None),
+        FieldMatch::One(value) => match length_of(value) {
             Some(length) => Ok(Some(length)),
             None => Err(HttpFault::Length { missing: false }),
         },
-        Found::Several(_) => Err(HttpFault::Length { missing: false }),
+        FieldMatch::Several(_) => Err(HttpFault::Length { missing: false }),
     }
 }

@@ -12,7 +12,7 @@ use crate::fault::HttpFault;
 use crate::lengths::content_length;
 use crate::reply::ReplyHead;
 use crate::texts::{copy, copy_some};
-use crate::{Fields, Found, length_of};
+use crate::{FieldMatch, Fields, length_of};
 use httparse::spans::{HeaderSpan, ResponseSpans};
 use oc_base::{MAX_BODY_BYTES, Memory, Text};
 use std::alloc::Global;
@@ -106,8 +106,8 @@ fn group_length(fields: &Fields) -> Option<u64>
     ensures { result ≡ number_of (group_lengths fields.now) }
 {
     match fields.find("overcast-length") {
-        Found::One(value) => length_of(value),
-        Found::Absent | Found::Several(_) => None,
+        FieldMatch::One(value) => length_of(value),
+        FieldMatch::Absent | FieldMatch::Several(_) => None,
     }
 }
 
@@ -116,7 +116,7 @@ fn location(alloc: Global, fields: &Fields) -> Result<Option<Text>, Memory>
     ensures { IfOk result (λ location. location ≡ first_of (locations fields.now)) }
 {
     match fields.find("location") {
-        Found::Absent => Ok(None),
-        Found::One(first) | Found::Several(first) => Ok(Some(copy(alloc, first)?)),
+        FieldMatch::Absent => Ok(None),
+        FieldMatch::One(first) | FieldMatch::Several(first) => Ok(Some(copy(alloc, first)?)),
     }
 }

@@ -1,10 +1,9 @@
 //! The target of a request.
 
-ghost use Rattle.std.specs.Prelude.{◌≡◌, ◌==◌};
-ghost use Rattle.std.specs.List.{before_first, after_first};
+ghost use Rattle.std.specs.Prelude.{◌≡◌};
 ghost use Rattle.oc_http.specs.Targets.{is_absolute, from_slash, origin_form, path_of, query_of};
 
-use crate::text::is_alike;
+use crate::text::{cut_at_first, is_alike};
 use oc_base::place_of;
 
 /// How a target that has scheme and authority begins, in upper or lower case.
@@ -16,17 +15,6 @@ pub fn path_and_query(target: &[u8]) -> (&[u8], &[u8])
     ensures query { result.1.now ≡ query_of target.now }
 {
     cut_at_first(origin_form(target), b'?')
-}
-
-/// The bytes up to the first such byte, and what follows it.
-fn cut_at_first(bytes: &[u8], byte: u8) -> (&[u8], &[u8])
-    ensures before { result.0.now ≡ before_first (λ b. b == byte) bytes.now }
-    ensures after { result.1.now ≡ after_first (λ b. b == byte) bytes.now }
-{
-    match place_of(bytes, byte) {
-        Some(at) => (&bytes[..at], &bytes[at + 1..]),
-        None => (bytes, &[]),
-    }
 }
 
 /// The target without scheme and authority (RFC 9112, section 3.2).

@@ -17,8 +17,6 @@ mod key;
 mod law;
 mod mac;
 mod same;
-#[cfg(test)]
-mod tests;
 
 pub use hmac::hmac_sha256;
 pub use key::Key;

@@ -36,8 +36,8 @@ impl Model for Token {
     ghost inverse = { λ xs. record { bytes = xs ++ replicate (MAX_TOKEN_BYTES - length xs) 0; len = length xs } };
 
     ghost inverse_ok = { λ t h i. record {
-      bytes = padded_again t.len t.bytes h.0 h.1 h.2 i;
-      len = length_of_front t.len t.bytes h.0 h.1 i;
+      bytes = padded_again MAX_TOKEN_BYTES t.len t.bytes h.0 h.1 h.2 i;
+      len = length_of_front MAX_TOKEN_BYTES t.len t.bytes h.0 h.1 i;
     } };
 }
 

@@ -6,10 +6,10 @@ use Rattle.std.proofs.lemmas.List.{drop_at}
 use Rattle.oc_put.specs.Efforts.{may_try, LeadsTo, Onward, next_of, tried_again, behind_failure, end_of_failure, done, begun}
 use Rattle.oc_put.specs.Publishing.{Sends, IsDone, Seals, Begins, joined}
 use Rattle.oc_put.specs.Requests.{PutRequest, bytes, nothing, seal}
-use Rattle.oc_put.specs.Sources.{Group, Post, Source, may_take, taken, arrived, all_arrived, IsAmong, Arrive, Tells, Takes, Reacts, Serves, fresh, IsAdded, Adds}
+use Rattle.oc_put.specs.Sources.{SourceGroup, Post, SourceState, may_take, taken, arrived, all_arrived, IsAmong, Arrive, Tells, Takes, Reacts, Serves, fresh, IsAdded, Adds}
 use Rattle.oc_put.specs.Turns.{Turn}
-use Rattle.oc_put.specs.declared.answer.Answer.{Answer}
-use Rattle.oc_put.specs.declared.answer.Answer.TheVariants.{Taken, Length, Refused}
+use Rattle.oc_put.specs.declared.answer.PutAnswer.{PutAnswer}
+use Rattle.oc_put.specs.declared.answer.PutAnswer.TheVariants.{Taken, Length, Refused}
 use Rattle.oc_put.specs.declared.answer.Failure.{Failure}
 use Rattle.oc_put.specs.declared.effort.Doing.{Doing}
 use Rattle.oc_put.specs.declared.effort.Doing.TheVariants.{Finding, Posting, Checking}
@@ -42,7 +42,7 @@ abbrev IsOld : List ℕ → Load → Post → Type 0
 IsOld base load post = IsSpent base post ⊎ (post ≡ post_of base load)
 
 -- the source while a load is sent behind a base
-record Holds (base : List ℕ) (load : Load) (sealed : Bool) (source : Source) : Type 0 where
+record Holds (base : List ℕ) (load : Load) (sealed : Bool) (source : SourceState) : Type 0 where
   content : (source.group.content ≡ base) ⊎ (source.group.content ≡ base ++ load.piece)
   lost : AllByRecursion (IsOld base load) source.lost
   sealed_is : (source.group.sealed ≡ sealed) ⊎ ((load.seals ≡ true) × (source.group.sealed ≡ true))
@@ -53,7 +53,7 @@ no_longer base [] e = refl
 no_longer base (b ∷ piece) e = absurd (omega (arith, e, length-append base (b ∷ piece)))
 
 -- a test that a source makes
-may_be : (group : Group) (post : Post) → may_take group post ≡ true → post.at ≡ length group.content
+may_be : (group : SourceGroup) (post : Post) → may_take group post ≡ true → post.at ≡ length group.content
 may_be group post may =
     let both = and_parts (post.at == length group.content && (post.load.seals || not group.sealed)) (group.held || not post.load.seals) may in
     eqb-true post.at (length group.content) (and_parts (post.at == length group.content) (post.load.seals || not group.sealed) both.0).0
@@ -86,7 +86,7 @@ sealed_taken load before now (inl same) false e = inl (or_false now load.seals e
 sealed_taken load before now (inr set) false e = absurd (let no_seal : true ≡ false = sym set.0 ∙ e in cc)
 
 -- a source takes the load now
-takes_now : (base : List ℕ) (load : Load) (sealed : Bool) (source : Source) → Holds base load sealed source → may_take source.group (post_of base load) ≡ true → Holds base load sealed (record source { group = taken (post_of base load) source.group })
+takes_now : (base : List ℕ) (load : Load) (sealed : Bool) (source : SourceState) → Holds base load sealed source → may_take source.group (post_of base load) ≡ true → Holds base load sealed (record source { group = taken (post_of base load) source.group })
 takes_now base load sealed source holds may = record {
   content = inr (content_taken base load source.group.content holds.content (may_be source.group (post_of base load) may));
   lost = holds.lost;
@@ -94,7 +94,7 @@ takes_now base load sealed source holds may = record {
 }
 
 -- a source takes what was lost
-takes_old : (base : List ℕ) (load : Load) (sealed : Bool) (source : Source) (post : Post) → Holds base load sealed source → IsOld base load post → may_take source.group post ≡ true → Holds base load sealed (record source { group = taken post source.group })
+takes_old : (base : List ℕ) (load : Load) (sealed : Bool) (source : SourceState) (post : Post) → Holds base load sealed source → IsOld base load post → may_take source.group post ≡ true → Holds base load sealed (record source { group = taken post source.group })
 takes_old base load sealed source post holds (inl (inl less)) may =
     absurd (omega (arith, less, may_be source.group post may, at_least base load source.group.content holds.content))
 takes_old base load sealed source post holds (inl (inr idle)) may =
@@ -110,7 +110,7 @@ takes_old base load sealed source post holds (inr same) may =
     subst (λ (p : Post). Holds base load sealed (record source { group = taken p source.group })) (sym same) (takes_now base load sealed source holds may_now)
 
 -- where something lost arrives, that stays
-arrives_by : (base : List ℕ) (load : Load) (sealed : Bool) (source : Source) (post : Post) → Holds base load sealed source → IsOld base load post → (b : Bool) → may_take source.group post ≡ b → Holds base load sealed (record source { group = arrived post source.group })
+arrives_by : (base : List ℕ) (load : Load) (sealed : Bool) (source : SourceState) (post : Post) → Holds base load sealed source → IsOld base load post → (b : Bool) → may_take source.group post ≡ b → Holds base load sealed (record source { group = arrived post source.group })
 arrives_by base load sealed source post holds old true may =
     subst (λ (b : Bool). Holds base load sealed (record source { group = if b then taken post source.group else source.group })) (sym may) (takes_old base load sealed source post holds old may)
 arrives_by base load sealed source post holds old false may =
@@ -123,33 +123,33 @@ old_among base load (first ∷ posts) post all (inl same) = subst (IsOld base lo
 old_among base load (first ∷ posts) post all (inr among) = old_among base load posts post all.1 among
 
 -- where some arrive, too
-all_arrive : (base : List ℕ) (load : Load) (sealed : Bool) (group : Group) (lost posts : List Post) → Holds base load sealed (record { group = group; lost = lost }) → AllByRecursion (λ post. IsAmong post lost) posts → Holds base load sealed (record { group = all_arrived posts group; lost = lost })
+all_arrive : (base : List ℕ) (load : Load) (sealed : Bool) (group : SourceGroup) (lost posts : List Post) → Holds base load sealed (record { group = group; lost = lost }) → AllByRecursion (λ post. IsAmong post lost) posts → Holds base load sealed (record { group = all_arrived posts group; lost = lost })
 all_arrive base load sealed group lost [] holds among = holds
 all_arrive base load sealed group lost (post ∷ posts) holds among =
     let one = arrives_by base load sealed (record { group = group; lost = lost }) post holds (old_among base load lost post holds.lost among.0) (may_take group post) refl in
     all_arrive base load sealed (arrived post group) lost posts one among.1
 
-arrive_holds : (base : List ℕ) (load : Load) (sealed : Bool) (old new : Source) → Holds base load sealed old → Arrive old new → Holds base load sealed new
+arrive_holds : (base : List ℕ) (load : Load) (sealed : Bool) (old new : SourceState) → Holds base load sealed old → Arrive old new → Holds base load sealed new
 arrive_holds base load sealed old new holds arrive =
     subst (Holds base load sealed) (sym arrive.new_is) (all_arrive base load sealed old.group old.lost arrive.posts holds arrive.were_lost)
 
 -- Turns
 
 -- a source during turns, without what arrives behind them
-abbrev Through : Source → List Turn → Source → Type 0
+abbrev Through : SourceState → List Turn → SourceState → Type 0
 Through old [] new = new ≡ old
 Through old (turn ∷ turns) new =
-    (met : Source) × (next : Source) × Arrive old met × Reacts met turn.request turn.answer next × Through next turns new
+    (met : SourceState) × (next : SourceState) × Arrive old met × Reacts met turn.request turn.answer next × Through next turns new
 
 -- what arrives after all turns comes last
-serves_through : (turns : List Turn) (old new : Source) → Serves old turns new → (last : Source) × Through old turns last × Arrive last new
+serves_through : (turns : List Turn) (old new : SourceState) → Serves old turns new → (last : SourceState) × Through old turns last × Arrive last new
 serves_through [] old new serves = (old, refl, serves)
 serves_through (turn ∷ turns) old new (met, next, arrive, reacts, serves) =
     let rest = serves_through turns next new serves in
     (rest.0, (met, next, arrive, reacts, rest.1), rest.2)
 
 -- turns in two parts
-through_split : (first rest : List Turn) (old new : Source) → Through old (first ++ rest) new → (middle : Source) × Through old first middle × Through middle rest new
+through_split : (first rest : List Turn) (old new : SourceState) → Through old (first ++ rest) new → (middle : SourceState) × Through old first middle × Through middle rest new
 through_split [] rest old new through = (old, refl, through)
 through_split (turn ∷ turns) rest old new (met, next, arrive, reacts, through) =
     let parts = through_split turns rest next new through in
@@ -162,19 +162,19 @@ nothing_among : (posts : List Post) → AllByRecursion (λ post. IsAmong post []
 nothing_among [] among = refl
 nothing_among (post ∷ posts) among = absurd among.0
 
-arrive_fresh : (group : Group) (new : Source) → Arrive (fresh group) new → new ≡ fresh group
+arrive_fresh : (group : SourceGroup) (new : SourceState) → Arrive (fresh group) new → new ≡ fresh group
 arrive_fresh group new arrive =
-    arrive.new_is ∙ ap (λ (posts : List Post). let s : Source = record { group = all_arrived posts group; lost = [] } in s) (nothing_among arrive.posts arrive.were_lost)
+    arrive.new_is ∙ ap (λ (posts : List Post). let s : SourceState = record { group = all_arrived posts group; lost = [] } in s) (nothing_among arrive.posts arrive.were_lost)
 
 -- a question changes nothing
-tells_same : (old new : Source) (answer : Result Answer Failure) → Tells old answer new → new ≡ old
+tells_same : (old new : SourceState) (answer : Result PutAnswer Failure) → Tells old answer new → new ≡ old
 tells_same old new (Ok Taken) tells = absurd tells
 tells_same old new (Ok (Length told)) tells = tells.1
 tells_same old new (Ok (Refused status)) tells = tells
 tells_same old new (Err failure) tells = tells
 
 -- what a client has found who asked for the length
-record Finds (group : Group) (new : Source) (progress : Progress) : Type 0 where
+record Finds (group : SourceGroup) (new : SourceState) (progress : Progress) : Type 0 where
   same : new ≡ fresh group
   length_is : progress.length ≡ length group.content
 
@@ -192,7 +192,7 @@ same_progress : (p q : Progress) → Settled p ≡ Settled q → p ≡ q
 same_progress p q e = cc
 
 -- who asks for the length, and whom a source answers with the truth
-found_on : (turns : List Turn) (failures : ℕ) (group : Group) (new next : Source) (progress : Progress) (answer : Result Answer Failure) → ((more : ℕ) → LeadsTo nothing (record { doing = Finding; failures = more }) turns (Settled progress) → Finds group new progress) → Onward (λ further. LeadsTo nothing further turns (Settled progress)) (next_of (record { doing = Finding; failures = failures }) answer) turns (Settled progress) → Through (fresh group) turns new → Tells (fresh group) answer next → Finds group new progress
+found_on : (turns : List Turn) (failures : ℕ) (group : SourceGroup) (new next : SourceState) (progress : Progress) (answer : Result PutAnswer Failure) → ((more : ℕ) → LeadsTo nothing (record { doing = Finding; failures = more }) turns (Settled progress) → Finds group new progress) → Onward (λ further. LeadsTo nothing further turns (Settled progress)) (next_of (record { doing = Finding; failures = failures }) answer) turns (Settled progress) → Through (fresh group) turns new → Tells (fresh group) answer next → Finds group new progress
 found_on turns failures group new next progress (Ok Taken) later onward through truth = absurd truth
 found_on turns failures group new next progress (Ok (Length told)) later onward through truth = record {
   same = subst (λ (ts : List Turn). Through (fresh group) ts new) onward.0 through;
@@ -202,13 +202,13 @@ found_on turns failures group new next progress (Ok (Refused status)) later onwa
 found_on turns failures group new next progress (Err failure) later onward through truth =
     later (failures + 1) (after_failure (λ further. LeadsTo nothing further turns (Settled progress)) (record { doing = Finding; failures = failures }) failure turns progress onward)
 
-found_by : (turns : List Turn) (failures : ℕ) (group : Group) (new : Source) (progress : Progress) → LeadsTo nothing (record { doing = Finding; failures = failures }) turns (Settled progress) → Through (fresh group) turns new → Finds group new progress
+found_by : (turns : List Turn) (failures : ℕ) (group : SourceGroup) (new : SourceState) (progress : Progress) → LeadsTo nothing (record { doing = Finding; failures = failures }) turns (Settled progress) → Through (fresh group) turns new → Finds group new progress
 found_by [] failures group new progress leads through = absurd (let e : Settled progress ≡ Again (record { doing = Finding; failures = failures }) = leads in cc)
 found_by (turn ∷ turns) failures group new progress leads (met, next, arrive, reacts, through) =
     let is_met = arrive_fresh group met arrive in
     let tells : Tells met turn.answer next = subst (λ (r : PutRequest). Reacts met r turn.answer next) leads.0.request reacts in
-    let rest : Through (fresh group) turns new = subst (λ (s : Source). Through s turns new) (tells_same met next turn.answer tells ∙ is_met) through in
-    found_on turns failures group new next progress turn.answer (λ more on. found_by turns more group new progress on rest) leads.1 rest (subst (λ (s : Source). Tells s turn.answer next) is_met tells)
+    let rest : Through (fresh group) turns new = subst (λ (s : SourceState). Through s turns new) (tells_same met next turn.answer tells ∙ is_met) through in
+    found_on turns failures group new next progress turn.answer (λ more on. found_by turns more group new progress on rest) leads.1 rest (subst (λ (s : SourceState). Tells s turn.answer next) is_met tells)
 
 -- A load is taken
 
@@ -219,7 +219,7 @@ IsFor base load (Posting at behind tried) = (at ≡ length base) × (behind ≡ 
 IsFor base load (Checking at behind) = (at ≡ length base) × (behind ≡ length base + length load.piece)
 
 -- the load is taken
-record IsTaken (base : List ℕ) (load : Load) (sealed : Bool) (new : Source) (progress : Progress) : Type 0 where
+record IsTaken (base : List ℕ) (load : Load) (sealed : Bool) (new : SourceState) (progress : Progress) : Type 0 where
   holds : Holds base load sealed new
   content : new.group.content ≡ base ++ load.piece
   length_is : progress.length ≡ length base + length load.piece
@@ -230,7 +230,7 @@ abbrev IsSound : Load → Type 0
 IsSound load = load.seals ≡ true → load.piece ≡ []
 
 -- a length other than that of the base tells that the load is there
-told_there : (base : List ℕ) (load : Load) (sealed : Bool) (source : Source) (told at behind : ℕ) (progress : Progress) → IsSound load → Holds base load sealed source → at ≡ length base → behind ≡ length base + length load.piece → told ≡ length source.group.content → told ≢ at → told ≡ behind → progress.length ≡ told → IsTaken base load sealed source progress
+told_there : (base : List ℕ) (load : Load) (sealed : Bool) (source : SourceState) (told at behind : ℕ) (progress : Progress) → IsSound load → Holds base load sealed source → at ≡ length base → behind ≡ length base + length load.piece → told ≡ length source.group.content → told ≢ at → told ≡ behind → progress.length ≡ told → IsTaken base load sealed source progress
 told_there base load sealed source told at behind progress sound holds is_at is_behind truth differs same length_is = record {
   holds = holds;
   content = elim holds.content [
@@ -246,34 +246,34 @@ differ_by : (m n : ℕ) → (m == n) ≡ false → m ≢ n
 differ_by m n e same = absurd (let t : (m == n) ≡ true = eq-eqb m n same in let f : true ≡ false = sym t ∙ e in cc)
 
 -- a conflict that settles it
-conflict : (base : List ℕ) (load : Load) (sealed : Bool) (turns : List Turn) (at behind told : ℕ) (met new : Source) (progress : Progress) (On : Effort → Type 0) (b c : Bool) → (told == behind) ≡ c → IsSound load → (at ≡ length base) × (behind ≡ length base + length load.piece) → Holds base load sealed met → Onward On (if b && c then done told else Ended (ends.Length told)) turns (Settled progress) → told ≡ length met.group.content → told ≢ at → Through met turns new → IsTaken base load sealed new progress
+conflict : (base : List ℕ) (load : Load) (sealed : Bool) (turns : List Turn) (at behind told : ℕ) (met new : SourceState) (progress : Progress) (On : Effort → Type 0) (b c : Bool) → (told == behind) ≡ c → IsSound load → (at ≡ length base) × (behind ≡ length base + length load.piece) → Holds base load sealed met → Onward On (if b && c then done told else Ended (ends.Length told)) turns (Settled progress) → told ≡ length met.group.content → told ≢ at → Through met turns new → IsTaken base load sealed new progress
 conflict base load sealed turns at behind told met new progress On true true e sound for holds onward truth differs through =
     let same : new ≡ met = subst (λ (ts : List Turn). Through met ts new) onward.0 through in
     let is_told = ap (λ (p : Progress). p.length) (same_progress progress (record { length = told; failures = 0 }) onward.1) in
-    subst (λ (s : Source). IsTaken base load sealed s progress) (sym same) (told_there base load sealed met told at behind progress sound holds for.0 for.1 truth differs (eqb-true told behind e) is_told)
+    subst (λ (s : SourceState). IsTaken base load sealed s progress) (sym same) (told_there base load sealed met told at behind progress sound holds for.0 for.1 truth differs (eqb-true told behind e) is_told)
 conflict base load sealed turns at behind told met new progress On true false e sound for holds onward truth differs through = absurd (let e : Settled progress ≡ Ended (ends.Length told) = onward.1 in cc)
 conflict base load sealed turns at behind told met new progress On false c e sound for holds onward truth differs through = absurd (let e : Settled progress ≡ Ended (ends.Length told) = onward.1 in cc)
 
 -- what is known of the turns behind one
-abbrev Later : List ℕ → Load → Bool → List Turn → Source → Progress → Type 0
+abbrev Later : List ℕ → Load → Bool → List Turn → SourceState → Progress → Type 0
 Later base load sealed turns new progress =
-    (doing : Doing) (failures : ℕ) (old : Source) → IsFor base load doing → Holds base load sealed old → LeadsTo load (record { doing = doing; failures = failures }) turns (Settled progress) → Through old turns new → IsTaken base load sealed new progress
+    (doing : Doing) (failures : ℕ) (old : SourceState) → IsFor base load doing → Holds base load sealed old → LeadsTo load (record { doing = doing; failures = failures }) turns (Settled progress) → Through old turns new → IsTaken base load sealed new progress
 
 -- an answer to what was sent
-posted : (base : List ℕ) (load : Load) (sealed : Bool) (turns : List Turn) (at behind : ℕ) (tried : Bool) (failures : ℕ) (met next new : Source) (progress : Progress) (answer : Result Answer Failure) → Later base load sealed turns new progress → IsSound load → (at ≡ length base) × (behind ≡ length base + length load.piece) → Holds base load sealed met → Onward (λ further. LeadsTo load further turns (Settled progress)) (next_of (record { doing = Posting at behind tried; failures = failures }) answer) turns (Settled progress) → Takes met (record { at = at; load = load }) answer next → Through next turns new → IsTaken base load sealed new progress
+posted : (base : List ℕ) (load : Load) (sealed : Bool) (turns : List Turn) (at behind : ℕ) (tried : Bool) (failures : ℕ) (met next new : SourceState) (progress : Progress) (answer : Result PutAnswer Failure) → Later base load sealed turns new progress → IsSound load → (at ≡ length base) × (behind ≡ length base + length load.piece) → Holds base load sealed met → Onward (λ further. LeadsTo load further turns (Settled progress)) (next_of (record { doing = Posting at behind tried; failures = failures }) answer) turns (Settled progress) → Takes met (record { at = at; load = load }) answer next → Through next turns new → IsTaken base load sealed new progress
 posted base load sealed turns at behind tried failures met next new progress (Ok Taken) later sound for holds onward takes through =
     let same : new ≡ next = subst (λ (ts : List Turn). Through next ts new) onward.0 through in
     let is_post : post_at at load ≡ post_of base load = ap (λ (n : ℕ). post_at n load) for.0 in
     let may : may_take met.group (post_of base load) ≡ true = subst (λ (p : Post). may_take met.group p ≡ true) is_post takes.0 in
     let is_new : new ≡ record met { group = taken (post_of base load) met.group } = same ∙ takes.1 ∙ ap (λ (p : Post). record met { group = taken p met.group }) is_post in
-    subst (λ (s : Source). IsTaken base load sealed s progress) (sym is_new) (record {
+    subst (λ (s : SourceState). IsTaken base load sealed s progress) (sym is_new) (record {
       holds = takes_now base load sealed met holds may;
       content = content_taken base load met.group.content holds.content (may_be met.group (post_of base load) may);
       length_is = ap (λ (p : Progress). p.length) (same_progress progress (record { length = behind; failures = 0 }) onward.1) ∙ for.1;
       closed = λ set. or_true met.group.sealed load.seals set;
     })
 posted base load sealed turns at behind tried failures met next new progress (Ok (Length told)) later sound for holds onward takes through =
-    conflict base load sealed turns at behind told met new progress (λ further. LeadsTo load further turns (Settled progress)) tried (told == behind) refl sound for holds onward takes.0 takes.1 (subst (λ (s : Source). Through s turns new) takes.2 through)
+    conflict base load sealed turns at behind told met new progress (λ further. LeadsTo load further turns (Settled progress)) tried (told == behind) refl sound for holds onward takes.0 takes.1 (subst (λ (s : SourceState). Through s turns new) takes.2 through)
 posted base load sealed turns at behind tried failures met next new progress (Ok (Refused status)) later sound for holds onward takes through = absurd (let e : Settled progress ≡ Ended (ends.Refused status) = onward.1 in cc)
 posted base load sealed turns at behind tried failures met next new progress (Err failure) later sound for holds onward takes through =
     let lost : Holds base load sealed (record met { lost = post_at at load ∷ met.lost }) = record {
@@ -284,17 +284,17 @@ posted base load sealed turns at behind tried failures met next new progress (Er
     later (Checking at behind) (failures + 1) next for (subst (Holds base load sealed) (sym takes) lost) (after_failure (λ further. LeadsTo load further turns (Settled progress)) (record { doing = Posting at behind tried; failures = failures }) failure turns progress onward) through
 
 -- the length, told to a question after a failure
-told_by : (base : List ℕ) (load : Load) (sealed : Bool) (turns : List Turn) (at behind failures told : ℕ) (met new : Source) (progress : Progress) → Later base load sealed turns new progress → (b : Bool) → (told == at) ≡ b → (c : Bool) → (told == behind) ≡ c → IsSound load → (at ≡ length base) × (behind ≡ length base + length load.piece) → Holds base load sealed met → Onward (λ further. LeadsTo load further turns (Settled progress)) (if b then Again (record { doing = Posting at behind true; failures = failures }) else if c then done told else Ended (ends.Length told)) turns (Settled progress) → told ≡ length met.group.content → Through met turns new → IsTaken base load sealed new progress
+told_by : (base : List ℕ) (load : Load) (sealed : Bool) (turns : List Turn) (at behind failures told : ℕ) (met new : SourceState) (progress : Progress) → Later base load sealed turns new progress → (b : Bool) → (told == at) ≡ b → (c : Bool) → (told == behind) ≡ c → IsSound load → (at ≡ length base) × (behind ≡ length base + length load.piece) → Holds base load sealed met → Onward (λ further. LeadsTo load further turns (Settled progress)) (if b then Again (record { doing = Posting at behind true; failures = failures }) else if c then done told else Ended (ends.Length told)) turns (Settled progress) → told ≡ length met.group.content → Through met turns new → IsTaken base load sealed new progress
 told_by base load sealed turns at behind failures told met new progress later true e c f sound for holds onward truth through =
     later (Posting at behind true) failures met for holds onward through
 told_by base load sealed turns at behind failures told met new progress later false e true f sound for holds onward truth through =
     let same : new ≡ met = subst (λ (ts : List Turn). Through met ts new) onward.0 through in
     let is_told = ap (λ (p : Progress). p.length) (same_progress progress (record { length = told; failures = 0 }) onward.1) in
-    subst (λ (s : Source). IsTaken base load sealed s progress) (sym same) (told_there base load sealed met told at behind progress sound holds for.0 for.1 truth (differ_by told at e) (eqb-true told behind f) is_told)
+    subst (λ (s : SourceState). IsTaken base load sealed s progress) (sym same) (told_there base load sealed met told at behind progress sound holds for.0 for.1 truth (differ_by told at e) (eqb-true told behind f) is_told)
 told_by base load sealed turns at behind failures told met new progress later false e false f sound for holds onward truth through = absurd (let x : Settled progress ≡ Ended (ends.Length told) = onward.1 in cc)
 
 -- an answer to a question after a failure
-checked : (base : List ℕ) (load : Load) (sealed : Bool) (turns : List Turn) (at behind failures : ℕ) (met next new : Source) (progress : Progress) (answer : Result Answer Failure) → Later base load sealed turns new progress → IsSound load → (at ≡ length base) × (behind ≡ length base + length load.piece) → Holds base load sealed met → Onward (λ further. LeadsTo load further turns (Settled progress)) (next_of (record { doing = Checking at behind; failures = failures }) answer) turns (Settled progress) → Tells met answer next → Through met turns new → IsTaken base load sealed new progress
+checked : (base : List ℕ) (load : Load) (sealed : Bool) (turns : List Turn) (at behind failures : ℕ) (met next new : SourceState) (progress : Progress) (answer : Result PutAnswer Failure) → Later base load sealed turns new progress → IsSound load → (at ≡ length base) × (behind ≡ length base + length load.piece) → Holds base load sealed met → Onward (λ further. LeadsTo load further turns (Settled progress)) (next_of (record { doing = Checking at behind; failures = failures }) answer) turns (Settled progress) → Tells met answer next → Through met turns new → IsTaken base load sealed new progress
 checked base load sealed turns at behind failures met next new progress (Ok Taken) later sound for holds onward tells through = absurd tells
 checked base load sealed turns at behind failures met next new progress (Ok (Length told)) later sound for holds onward tells through =
     told_by base load sealed turns at behind failures told met new progress later (told == at) refl (told == behind) refl sound for holds onward tells.0 through
@@ -302,7 +302,7 @@ checked base load sealed turns at behind failures met next new progress (Ok (Ref
 checked base load sealed turns at behind failures met next new progress (Err failure) later sound for holds onward tells through =
     later (Checking at behind) (failures + 1) met for holds (after_failure (λ further. LeadsTo load further turns (Settled progress)) (record { doing = Checking at behind; failures = failures }) failure turns progress onward) through
 
-taken_by : (base : List ℕ) (load : Load) (sealed : Bool) (turns : List Turn) (doing : Doing) (failures : ℕ) (old new : Source) (progress : Progress) → IsSound load → IsFor base load doing → Holds base load sealed old → LeadsTo load (record { doing = doing; failures = failures }) turns (Settled progress) → Through old turns new → IsTaken base load sealed new progress
+taken_by : (base : List ℕ) (load : Load) (sealed : Bool) (turns : List Turn) (doing : Doing) (failures : ℕ) (old new : SourceState) (progress : Progress) → IsSound load → IsFor base load doing → Holds base load sealed old → LeadsTo load (record { doing = doing; failures = failures }) turns (Settled progress) → Through old turns new → IsTaken base load sealed new progress
 taken_by base load sealed [] doing failures old new progress sound for holds leads through = absurd (let e : Settled progress ≡ Again (record { doing = doing; failures = failures }) = leads in cc)
 taken_by base load sealed (turn ∷ turns) Finding failures old new progress sound for holds leads through = absurd for
 taken_by base load sealed (turn ∷ turns) (Posting at behind tried) failures old new progress sound for holds leads (met, next, arrive, reacts, through) =
@@ -310,13 +310,13 @@ taken_by base load sealed (turn ∷ turns) (Posting at behind tried) failures ol
     posted base load sealed turns at behind tried failures met next new progress turn.answer (λ d f o for2 h2 l2 t2. taken_by base load sealed turns d f o new progress sound for2 h2 l2 t2) sound for (arrive_holds base load sealed old met holds arrive) leads.1 takes through
 taken_by base load sealed (turn ∷ turns) (Checking at behind) failures old new progress sound for holds leads (met, next, arrive, reacts, through) =
     let tells : Tells met turn.answer next = subst (λ (r : PutRequest). Reacts met r turn.answer next) leads.0.request reacts in
-    let rest : Through met turns new = subst (λ (s : Source). Through s turns new) (tells_same met next turn.answer tells) through in
+    let rest : Through met turns new = subst (λ (s : SourceState). Through s turns new) (tells_same met next turn.answer tells) through in
     checked base load sealed turns at behind failures met next new progress turn.answer (λ d f o for2 h2 l2 t2. taken_by base load sealed turns d f o new progress sound for2 h2 l2 t2) sound for (arrive_holds base load sealed old met holds arrive) leads.1 tells rest
 
 -- Pieces one after another
 
 -- the source between two loads
-record Stands (base : List ℕ) (sealed : Bool) (source : Source) : Type 0 where
+record Stands (base : List ℕ) (sealed : Bool) (source : SourceState) : Type 0 where
   content : source.group.content ≡ base
   lost : AllByRecursion (IsSpent base) source.lost
   sealed_is : source.group.sealed ≡ sealed
@@ -325,7 +325,7 @@ still_old : (base : List ℕ) (load : Load) (lost : List Post) → AllByRecursio
 still_old base load [] all = tt
 still_old base load (post ∷ posts) all = (inl all.0, still_old base load posts all.1)
 
-begins_load : (base : List ℕ) (load : Load) (sealed : Bool) (source : Source) → Stands base sealed source → Holds base load sealed source
+begins_load : (base : List ℕ) (load : Load) (sealed : Bool) (source : SourceState) → Stands base sealed source → Holds base load sealed source
 begins_load base load sealed source stands = record {
   content = inl stands.content;
   lost = still_old base load source.lost stands.lost;
@@ -348,7 +348,7 @@ seal_stays : (piece : List ℕ) (sealed now : Bool) → (now ≡ sealed) ⊎ (((
 seal_stays piece sealed now (inl same) = same
 seal_stays piece sealed now (inr set) = absurd (let no_seal : false ≡ true = set.0 in cc)
 
-behind_piece : (base piece : List ℕ) (sealed : Bool) (new : Source) (progress : Progress) → IsTaken base (bytes piece) sealed new progress → Stands (base ++ piece) sealed new
+behind_piece : (base piece : List ℕ) (sealed : Bool) (new : SourceState) (progress : Progress) → IsTaken base (bytes piece) sealed new progress → Stands (base ++ piece) sealed new
 behind_piece base piece sealed new progress is = record {
   content = is.content;
   lost = all_spent base piece new.lost is.holds.lost;
@@ -356,19 +356,19 @@ behind_piece base piece sealed new progress is = record {
 }
 
 -- what is known behind some pieces
-record IsThere (base : List ℕ) (sealed : Bool) (new : Source) (progress : Progress) : Type 0 where
+record IsThere (base : List ℕ) (sealed : Bool) (new : SourceState) (progress : Progress) : Type 0 where
   stands : Stands base sealed new
   length_is : progress.length ≡ length base
 
 -- one load is sent
-one_taken : (base : List ℕ) (load : Load) (sealed : Bool) (progress next : Progress) (turns : List Turn) (old new : Source) → IsSound load → progress.length ≡ length base → Holds base load sealed old → LeadsTo load (begun progress load) turns (Settled next) → Through old turns new → IsTaken base load sealed new next
+one_taken : (base : List ℕ) (load : Load) (sealed : Bool) (progress next : Progress) (turns : List Turn) (old new : SourceState) → IsSound load → progress.length ≡ length base → Holds base load sealed old → LeadsTo load (begun progress load) turns (Settled next) → Through old turns new → IsTaken base load sealed new next
 one_taken base load sealed progress next turns old new sound long holds leads through =
     taken_by base load sealed turns (Posting progress.length (progress.length + length load.piece) false) progress.failures old new next sound (long, ap (λ n. n + length load.piece) long) holds leads through
 
-pieces_taken : (pieces : List (List ℕ)) (base : List ℕ) (sealed : Bool) (progress reached : Progress) (turns : List Turn) (old new : Source) → progress.length ≡ length base → Stands base sealed old → Sends progress (map bytes pieces) turns reached → Through old turns new → IsThere (base ++ joined pieces) sealed new reached
+pieces_taken : (pieces : List (List ℕ)) (base : List ℕ) (sealed : Bool) (progress reached : Progress) (turns : List Turn) (old new : SourceState) → progress.length ≡ length base → Stands base sealed old → Sends progress (map bytes pieces) turns reached → Through old turns new → IsThere (base ++ joined pieces) sealed new reached
 pieces_taken [] base sealed progress reached turns old new long stands sends through =
     let same : new ≡ old = subst (λ (ts : List Turn). Through old ts new) sends.0 through in
-    subst (λ (x : List ℕ). IsThere x sealed new reached) (sym (append-nil base)) (subst (λ (x : Source). IsThere base sealed x reached) (sym same) (subst (λ (x : Progress). IsThere base sealed old x) (sym sends.1) (record { stands = stands; length_is = long })))
+    subst (λ (x : List ℕ). IsThere x sealed new reached) (sym (append-nil base)) (subst (λ (x : SourceState). IsThere base sealed x reached) (sym same) (subst (λ (x : Progress). IsThere base sealed old x) (sym sends.1) (record { stands = stands; length_is = long })))
 pieces_taken (piece ∷ pieces) base sealed progress reached turns old new long stands (may, (first, rest, next, split, leads, sends)) through =
     let parts = through_split first rest old new (subst (λ (ts : List Turn). Through old ts new) split through) in
     let one = one_taken base (bytes piece) sealed progress next first old parts.0 (λ set. absurd (let no_seal : false ≡ true = set in cc)) long (begins_load base (bytes piece) sealed old stands) leads parts.1 in
@@ -387,13 +387,13 @@ is_set now (inl e) = e
 is_set now (inr e) = e.1
 
 -- between two loads what arrives changes nothing
-arrive_stands : (base : List ℕ) (sealed : Bool) (old new : Source) → Stands base sealed old → Arrive old new → (new.group.content ≡ base) × (new.group.sealed ≡ sealed)
+arrive_stands : (base : List ℕ) (sealed : Bool) (old new : SourceState) → Stands base sealed old → Arrive old new → (new.group.content ≡ base) × (new.group.sealed ≡ sealed)
 arrive_stands base sealed old new stands arrive =
     let holds = arrive_holds base nothing sealed old new (begins_load base nothing sealed old stands) arrive in
     (no_more base new.group.content holds.content, seal_stays [] sealed new.group.sealed holds.sealed_is)
 
 -- with a seal and without
-sealed_or_not : (wanted : Bool) (base : List ℕ) (sealed : Bool) (progress : Progress) (turns : List Turn) (old last new : Source) → progress.length ≡ length base → Stands base sealed old → Seals wanted progress turns → Through old turns last → Arrive last new → (new.group.content ≡ base) × (new.group.sealed ≡ (sealed || wanted))
+sealed_or_not : (wanted : Bool) (base : List ℕ) (sealed : Bool) (progress : Progress) (turns : List Turn) (old last new : SourceState) → progress.length ≡ length base → Stands base sealed old → Seals wanted progress turns → Through old turns last → Arrive last new → (new.group.content ≡ base) × (new.group.sealed ≡ (sealed || wanted))
 sealed_or_not false base sealed progress turns old last new long stands seals through arrive =
     let same : last ≡ old = subst (λ (ts : List Turn). Through old ts last) seals through in
     let end = arrive_stands base sealed last new (subst (Stands base sealed) (sym same) stands) arrive in
@@ -407,7 +407,7 @@ sealed_or_not true base sealed progress turns old last new long stands (reached,
     (no_more base new.group.content end.content, is_set new.group.sealed end.sealed_is ∙ sym (or_true sealed true refl))
 
 -- nothing was lost at the beginning
-stands_fresh : (group : Group) → Stands group.content group.sealed (fresh group)
+stands_fresh : (group : SourceGroup) → Stands group.content group.sealed (fresh group)
 stands_fresh group = record { content = refl; lost = tt; sealed_is = refl }
 
 -- what was passed over was there
@@ -418,14 +418,14 @@ added_at Append found before rest input content begins long is = ap (λ (r : Lis
 added_at Resume found before rest input content begins long is =
     ap (λ (r : List ℕ). content ++ r) (sym (ap (λ (x : List ℕ). drop (length content) x) is ∙ drop_at before rest (length content) (begins ∙ long)))
 
-pub added : (plan : Publication) (turns : List Turn) (input : List ℕ) (group : Group) (after : Source) → IsDone plan turns input → Serves (fresh group) turns after → Adds plan input group after.group
+pub added : (plan : Publication) (turns : List Turn) (input : List ℕ) (group : SourceGroup) (after : SourceState) → IsDone plan turns input → Serves (fresh group) turns after → Adds plan input group after.group
 added plan turns input group after is serves =
     let s = is.sent in
     let whole = serves_through turns (fresh group) after serves in
     let two = through_split is.through is.last (fresh group) whole.0 (subst (λ (ts : List Turn). Through (fresh group) ts whole.0) is.turns_are whole.1) in
     let three = through_split s.asked s.sent (fresh group) two.0 (subst (λ (ts : List Turn). Through (fresh group) ts two.0) s.turns_are two.1) in
     let finds = found_by s.asked 0 group three.0 s.found s.finds three.1 in
-    let there = pieces_taken is.pieces group.content group.sealed s.found is.reached s.sent (fresh group) two.0 finds.length_is (stands_fresh group) s.sends (subst (λ (x : Source). Through x s.sent two.0) finds.same three.2) in
+    let there = pieces_taken is.pieces group.content group.sealed s.found is.reached s.sent (fresh group) two.0 finds.length_is (stands_fresh group) s.sends (subst (λ (x : SourceState). Through x s.sent two.0) finds.same three.2) in
     let end = sealed_or_not plan.seal (group.content ++ joined is.pieces) group.sealed is.reached is.last two.0 whole.0 after there.length_is there.stands is.seals two.2 whole.2 in
     record {
       content = subst (IsAdded plan.place input group.content) (sym end.0) (added_at plan.place s.found.length s.before (joined is.pieces) input group.content s.begins finds.length_is s.input_is);

@@ -7,8 +7,8 @@ use Rattle.oc_put.specs.Publishing.{joined, IsFull, AreSome, AreCut, Sends, Ends
 use Rattle.oc_put.specs.Places.{sends_empty}
 use Rattle.oc_put.specs.Requests.{bytes, nothing}
 use Rattle.oc_put.specs.Turns.{Turn}
-use Rattle.oc_put.specs.declared.answer.Answer.{Answer}
-use Rattle.oc_put.specs.declared.answer.Answer.TheVariants.{Taken, Length, Refused}
+use Rattle.oc_put.specs.declared.answer.PutAnswer.{PutAnswer}
+use Rattle.oc_put.specs.declared.answer.PutAnswer.TheVariants.{Taken, Length, Refused}
 use Rattle.oc_put.specs.declared.answer.Failure.{Failure}
 use Rattle.oc_put.specs.declared.answer.Failure.TheVariants as failures
 use Rattle.oc_put.specs.declared.effort.Doing.{Doing}
@@ -106,7 +106,7 @@ weighed_of_turns (Posting at behind tried) failures told = by_test (tried && tol
 weighed_of_turns (Checking at behind) failures told =
     by_test (told == at) (Again (record { doing = Posting at behind true; failures = failures })) (if told == behind then done told else Ended (ends.Length told)) tt (by_test (told == behind) (done told) (Ended (ends.Length told)) tt tt)
 
-next_of_turns : (effort : Effort) (answer : Result Answer Failure) → IsNextOfTurns (next_of effort answer)
+next_of_turns : (effort : Effort) (answer : Result PutAnswer Failure) → IsNextOfTurns (next_of effort answer)
 next_of_turns effort (Ok Taken) = tt
 next_of_turns effort (Ok (Length told)) = weighed_of_turns effort.doing effort.failures told
 next_of_turns effort (Ok (Refused status)) = tt

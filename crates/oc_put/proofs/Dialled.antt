@@ -5,16 +5,14 @@ use Rattle.oc_link.specs.Exchange.{ReadsFront, Hears, HearsThenBreaks}
 use Rattle.oc_link.specs.Borrow.{BorrowView, ChangesOutgoing}
 use Rattle.oc_link.specs.Calls.{Told, IfTold, OnOutgoing, DialsTo, DialFails, IsFront, connection_of, address_of}
 use Rattle.oc_link.specs.Story.{Connection, Dial, Story, dials, unused, wrote, broken, hung_up, IsHeardOut}
+use Rattle.oc_fetch.proofs.Exchanged.{told_at}
+use Rattle.oc_fetch.proofs.Spoken.{some_is}
 use Rattle.oc_put.specs.Hearing.{Came, Hears as HearsReply}
 use Rattle.oc_put.specs.Replies.{Answers}
 use Rattle.oc_put.specs.Turns.{IsWhole, IsCut, DialsOnce, IsDialled}
-use Rattle.oc_put.specs.declared.answer.Answer.{Answer}
+use Rattle.oc_put.specs.declared.answer.PutAnswer.{PutAnswer}
 use Rattle.oc_put.specs.declared.answer.Failure.{Failure}
 use Rattle.oc_put.specs.declared.answer.Failure.TheVariants.{Link, Reply, Memory}
-
--- the value in a `Some`
-some_is : {A : Type 0} (a b : A) → Some a ≡ Some b → a ≡ b
-some_is a b e = cc
 
 -- all of a list is a front of it
 whole_front : (whole : List ℕ) → IsFront whole whole
@@ -82,7 +80,7 @@ broken_dial address text reply a b c (Some last) is (given, dialled) heard =
 
 -- Over links that may not tell their story
 
-told_dials : (address text reply : List ℕ) (over : Bool) (answer : Result Answer Failure) (a b c : Option Story) → Told (DialsTo address text) a b → Came (λ o bytes n. Told (OnOutgoing (Hears bytes)) o n) (λ o bytes n. Told (OnOutgoing (HearsThenBreaks bytes)) o n) b reply c answer → (over ≡ true → IfTold c IsHeardOut) → Told (DialsOnce address text reply over answer) a (option_map hung_up c)
+told_dials : (address text reply : List ℕ) (over : Bool) (answer : Result PutAnswer Failure) (a b c : Option Story) → Told (DialsTo address text) a b → Came (λ o bytes n. Told (OnOutgoing (Hears bytes)) o n) (λ o bytes n. Told (OnOutgoing (HearsThenBreaks bytes)) o n) b reply c answer → (over ≡ true → IfTold c IsHeardOut) → Told (DialsOnce address text reply over answer) a (option_map hung_up c)
 told_dials address text reply over answer a b None dialled came end = tt
 told_dials address text reply over (Ok value) a None (Some c) dialled came end = absurd came
 told_dials address text reply over (Err Reply) a None (Some c) dialled came end = absurd came
@@ -112,14 +110,14 @@ told_fails address text (Some a) (Some b) (dial, cut, e) = record {
 }
 
 -- what came on a link, of its story
-came_story : {L : Type 0} (story : L → Option Story) (b c : L) (reply : List ℕ) (answer : Result Answer Failure) → Came (λ o bytes n. Told (OnOutgoing (Hears bytes)) (story o) (story n)) (λ o bytes n. Told (OnOutgoing (HearsThenBreaks bytes)) (story o) (story n)) b reply c answer → Came (λ o bytes n. Told (OnOutgoing (Hears bytes)) o n) (λ o bytes n. Told (OnOutgoing (HearsThenBreaks bytes)) o n) (story b) reply (story c) answer
+came_story : {L : Type 0} (story : L → Option Story) (b c : L) (reply : List ℕ) (answer : Result PutAnswer Failure) → Came (λ o bytes n. Told (OnOutgoing (Hears bytes)) (story o) (story n)) (λ o bytes n. Told (OnOutgoing (HearsThenBreaks bytes)) (story o) (story n)) b reply c answer → Came (λ o bytes n. Told (OnOutgoing (Hears bytes)) o n) (λ o bytes n. Told (OnOutgoing (HearsThenBreaks bytes)) o n) (story b) reply (story c) answer
 came_story story b c reply (Ok value) came = came
 came_story story b c reply (Err Reply) came = came
 came_story story b c reply (Err Memory) came = came
 came_story story b c reply (Err Link) came = came
 
 -- a reply on a new dial
-pub exchanged : {L : Type 0} (story : L → Option Story) (address text : List ℕ) (asks : Bool) (answer : Result Answer Failure) (a : Option Story) (b c : L) (d : Option Story) → Told (DialsTo address text) a (story b) → HearsReply (λ o bytes n. Told (OnOutgoing (Hears bytes)) (story o) (story n)) (λ o bytes n. Told (OnOutgoing (HearsThenBreaks bytes)) (story o) (story n)) (λ l. IfTold (story l) IsHeardOut) (λ reply over. Answers asks reply over answer) b c answer → d ≡ option_map hung_up (story c) → IsDialled address text asks a d answer
+pub exchanged : {L : Type 0} (story : L → Option Story) (address text : List ℕ) (asks : Bool) (answer : Result PutAnswer Failure) (a : Option Story) (b c : L) (d : Option Story) → Told (DialsTo address text) a (story b) → HearsReply (λ o bytes n. Told (OnOutgoing (Hears bytes)) (story o) (story n)) (λ o bytes n. Told (OnOutgoing (HearsThenBreaks bytes)) (story o) (story n)) (λ l. IfTold (story l) IsHeardOut) (λ reply over. Answers asks reply over answer) b c answer → d ≡ option_map hung_up (story c) → IsDialled address text asks a d answer
 exchanged story address text asks answer a b c d dialled heard is = record {
   reply = heard.reply;
   over = heard.over;
@@ -138,16 +136,13 @@ unexchanged address text asks a b d fails is = record {
 
 -- What a loan of the outgoing connection says of the link
 
-told_at : (R : Story → Story → Type 0) (a b x y : Option Story) → a ≡ x → b ≡ y → Told R x y → Told R a b
-told_at R a b x y p q t = subst (λ (o : Option Story). Told R o b) (sym p) (subst (λ (o : Option Story). Told R x o) (sym q) t)
-
-came_at : {S L : Type 0} (view : S → BorrowView) (story : L → Option Story) (old new : S) (a b : L) (bytes : List ℕ) (answer : Result Answer Failure) → story a ≡ (view old).story → story b ≡ (view new).story → Came (λ o given n. ChangesOutgoing (Hears given) (view o) (view n)) (λ o given n. ChangesOutgoing (HearsThenBreaks given) (view o) (view n)) old bytes new answer → Came (λ o given n. Told (OnOutgoing (Hears given)) (story o) (story n)) (λ o given n. Told (OnOutgoing (HearsThenBreaks given)) (story o) (story n)) a bytes b answer
+came_at : {S L : Type 0} (view : S → BorrowView) (story : L → Option Story) (old new : S) (a b : L) (bytes : List ℕ) (answer : Result PutAnswer Failure) → story a ≡ (view old).story → story b ≡ (view new).story → Came (λ o given n. ChangesOutgoing (Hears given) (view o) (view n)) (λ o given n. ChangesOutgoing (HearsThenBreaks given) (view o) (view n)) old bytes new answer → Came (λ o given n. Told (OnOutgoing (Hears given)) (story o) (story n)) (λ o given n. Told (OnOutgoing (HearsThenBreaks given)) (story o) (story n)) a bytes b answer
 came_at view story old new a b bytes (Ok value) first last came = told_at (OnOutgoing (Hears bytes)) (story a) (story b) (view old).story (view new).story first last came.story
 came_at view story old new a b bytes (Err Reply) first last came = told_at (OnOutgoing (Hears bytes)) (story a) (story b) (view old).story (view new).story first last came.story
 came_at view story old new a b bytes (Err Memory) first last came = told_at (OnOutgoing (Hears bytes)) (story a) (story b) (view old).story (view new).story first last came.story
 came_at view story old new a b bytes (Err Link) first last came = told_at (OnOutgoing (HearsThenBreaks bytes)) (story a) (story b) (view old).story (view new).story first last came.story
 
-pub outgoing_heard : {S L : Type 0} (view : S → BorrowView) (story : L → Option Story) (So : List ℕ → Bool → Type 0) (old new : S) (a b : L) (answer : Result Answer Failure) → story a ≡ (view old).story → story b ≡ (view new).story → HearsReply (λ o given n. ChangesOutgoing (Hears given) (view o) (view n)) (λ o given n. ChangesOutgoing (HearsThenBreaks given) (view o) (view n)) (λ o. IfTold (view o).story IsHeardOut) So old new answer → HearsReply (λ o given n. Told (OnOutgoing (Hears given)) (story o) (story n)) (λ o given n. Told (OnOutgoing (HearsThenBreaks given)) (story o) (story n)) (λ l. IfTold (story l) IsHeardOut) So a b answer
+pub outgoing_heard : {S L : Type 0} (view : S → BorrowView) (story : L → Option Story) (So : List ℕ → Bool → Type 0) (old new : S) (a b : L) (answer : Result PutAnswer Failure) → story a ≡ (view old).story → story b ≡ (view new).story → HearsReply (λ o given n. ChangesOutgoing (Hears given) (view o) (view n)) (λ o given n. ChangesOutgoing (HearsThenBreaks given) (view o) (view n)) (λ o. IfTold (view o).story IsHeardOut) So old new answer → HearsReply (λ o given n. Told (OnOutgoing (Hears given)) (story o) (story n)) (λ o given n. Told (OnOutgoing (HearsThenBreaks given)) (story o) (story n)) (λ l. IfTold (story l) IsHeardOut) So a b answer
 outgoing_heard view story So old new a b answer first last h = record {
   reply = h.reply;
   over = h.over;

@@ -9,8 +9,8 @@ use Rattle.oc_http.specs.declared.reply.Reply.{Reply}
 use Rattle.oc_http.specs.declared.reply.ReplyHead.{ReplyHead}
 use Rattle.oc_put.specs.Hearing.{Hears}
 use Rattle.oc_put.specs.Replies.{Answers, Replies, as_length, answer_to_ask, answer_to_publish, failure_of}
-use Rattle.oc_put.specs.declared.answer.Answer.{Answer}
-use Rattle.oc_put.specs.declared.answer.Answer.TheVariants.{Taken, Length, Refused}
+use Rattle.oc_put.specs.declared.answer.PutAnswer.{PutAnswer}
+use Rattle.oc_put.specs.declared.answer.PutAnswer.TheVariants.{Taken, Length, Refused}
 use Rattle.oc_put.specs.declared.answer.Failure.{Failure}
 use Rattle.oc_put.specs.declared.answer.Failure.TheVariants as failures
 
@@ -21,13 +21,13 @@ unseen e = cc
 -- What a reply answers
 
 -- an answer that a reply can have
-abbrev IsOfReply : Result Answer Failure → Type 0
+abbrev IsOfReply : Result PutAnswer Failure → Type 0
 IsOfReply (Ok answer) = ⊤
 IsOfReply (Err failures.Reply) = ⊤
 IsOfReply (Err failures.Link) = ⊥
 IsOfReply (Err failures.Memory) = ⊥
 
-of_test : (b : Bool) (x y : Result Answer Failure) → IsOfReply x → IsOfReply y → IsOfReply (if b then x else y)
+of_test : (b : Bool) (x y : Result PutAnswer Failure) → IsOfReply x → IsOfReply y → IsOfReply (if b then x else y)
 of_test true x y p q = p
 of_test false x y p q = q
 
@@ -37,17 +37,17 @@ of_length (Some length) = tt
 
 of_ask : (head : ReplyHead) → IsOfReply (answer_to_ask head)
 of_ask head =
-    let other : Result Answer Failure = if head.status == 404 then Ok (Length 0) else Ok (Refused head.status) in
+    let other : Result PutAnswer Failure = if head.status == 404 then Ok (Length 0) else Ok (Refused head.status) in
     of_test head.chunked (Err failures.Reply) (if head.status == 200 then as_length head.length else other) tt
     (of_test (head.status == 200) (as_length head.length) other (of_length head.length) (of_test (head.status == 404) (Ok (Length 0)) (Ok (Refused head.status)) tt tt))
 
 of_publish : (reply : Reply) → IsOfReply (answer_to_publish reply)
 of_publish reply =
-    let other : Result Answer Failure = if reply.status == 409 then as_length reply.group_length else Ok (Refused reply.status) in
+    let other : Result PutAnswer Failure = if reply.status == 409 then as_length reply.group_length else Ok (Refused reply.status) in
     of_test (reply.status == 200) (Ok Taken) other tt (of_test (reply.status == 409) (as_length reply.group_length) (Ok (Refused reply.status)) (of_length reply.group_length) tt)
 
 -- such an answer of a reply that came
-by_answer : {S : Type 0} (gives fails : S → List ℕ → S → Type 0) (ended : S → Type 0) (asks : Bool) (reply : List ℕ) (over : Bool) (a c : S) (answer : Result Answer Failure) → IsOfReply answer → gives a reply c → (over ≡ true → ended c) → Replies asks reply over answer → Hears gives fails ended (λ r o. Answers asks r o answer) a c answer
+by_answer : {S : Type 0} (gives fails : S → List ℕ → S → Type 0) (ended : S → Type 0) (asks : Bool) (reply : List ℕ) (over : Bool) (a c : S) (answer : Result PutAnswer Failure) → IsOfReply answer → gives a reply c → (over ≡ true → ended c) → Replies asks reply over answer → Hears gives fails ended (λ r o. Answers asks r o answer) a c answer
 by_answer gives fails ended asks reply over a c (Ok answer) of came is_over replies = record { reply = reply; over = over; came = came; is_over = is_over; so = replies }
 by_answer gives fails ended asks reply over a c (Err failures.Reply) of came is_over replies = record { reply = reply; over = over; came = came; is_over = is_over; so = inr replies }
 by_answer gives fails ended asks reply over a c (Err failures.Link) of came is_over replies = absurd of
@@ -55,11 +55,11 @@ by_answer gives fails ended asks reply over a c (Err failures.Memory) of came is
 
 -- To a question
 
-pub heard_head : {S : Type 0} (gives fails : S → List ℕ → S → Type 0) (ended : S → Type 0) (head : ReplyHead) (bytes : List ℕ) (a c : S) (answer : Result Answer Failure) → gives a bytes c → SaysReplyHead bytes head → answer ≡ answer_to_ask head → Hears gives fails ended (λ r o. Answers true r o answer) a c answer
+pub heard_head : {S : Type 0} (gives fails : S → List ℕ → S → Type 0) (ended : S → Type 0) (head : ReplyHead) (bytes : List ℕ) (a c : S) (answer : Result PutAnswer Failure) → gives a bytes c → SaysReplyHead bytes head → answer ≡ answer_to_ask head → Hears gives fails ended (λ r o. Answers true r o answer) a c answer
 heard_head gives fails ended head bytes a c answer came says is =
     by_answer gives fails ended true bytes false a c answer (subst IsOfReply (sym is) (of_ask head)) came unseen (record { head = head; says = says; answer_is = is })
 
-pub no_head : {S : Type 0} (gives fails : S → List ℕ → S → Type 0) (ended : S → Type 0) (bytes : List ℕ) (a c : S) (fault : HttpFault) → Took gives fails a bytes c fault → RefusesReplyHead bytes (ended c) fault → Hears {A = Answer} gives fails ended (λ r o. Answers true r o (Err (failure_of fault))) a c (Err (failure_of fault))
+pub no_head : {S : Type 0} (gives fails : S → List ℕ → S → Type 0) (ended : S → Type 0) (bytes : List ℕ) (a c : S) (fault : HttpFault) → Took gives fails a bytes c fault → RefusesReplyHead bytes (ended c) fault → Hears {A = PutAnswer} gives fails ended (λ r o. Answers true r o (Err (failure_of fault))) a c (Err (failure_of fault))
 no_head gives fails ended bytes a c faults.Source came refused = record { reply = bytes; over = false; came = came; is_over = unseen; so = tt }
 no_head gives fails ended bytes a c faults.Memory came refused = record { reply = bytes; over = false; came = came; is_over = unseen; so = tt }
 no_head gives fails ended bytes a c faults.Ended came refused = record { reply = bytes; over = true; came = came; is_over = λ _. refused.2; so = inl (record { fault = faults.Ended; of_bytes = tt; refused = (refused.0, refused.1, refl) }) }
@@ -86,7 +86,7 @@ none_over : (length : Option ℕ) → length ≡ None → over_of length ≡ tru
 none_over None e = refl
 none_over (Some count) e = cc
 
-pub heard_whole : {S : Type 0} (gives fails : S → List ℕ → S → Type 0) (ended : S → Type 0) (reply : Reply) (head body : List ℕ) (a c : S) (answer : Result Answer Failure) → gives a (head ++ body) c → SaysReply head body (ended c) reply → answer ≡ answer_to_publish reply → Hears gives fails ended (λ r o. Answers false r o answer) a c answer
+pub heard_whole : {S : Type 0} (gives fails : S → List ℕ → S → Type 0) (ended : S → Type 0) (reply : Reply) (head body : List ℕ) (a c : S) (answer : Result PutAnswer Failure) → gives a (head ++ body) c → SaysReply head body (ended c) reply → answer ≡ answer_to_publish reply → Hears gives fails ended (λ r o. Answers false r o answer) a c answer
 heard_whole gives fails ended reply head body a c answer came says is =
     let length = body_length says.head in
     by_answer gives fails ended false (head ++ body) (over_of length) a c answer (subst IsOfReply (sym is) (of_publish reply)) came (reached length says.whole) (record {
@@ -158,7 +158,7 @@ reply_other : {P Q : Type 0} (bytes : List ℕ) (fault : HttpFault) → IsOther 
 reply_other bytes fault other (inl refused) = inl (start_other _ _ bytes fault other refused)
 reply_other bytes fault other (inr (head, body, split, stops)) = inr (head, body, split, record { head = stops.head; says = stops.says; stops = content_other _ _ (body_length stops.head) body fault other stops.stops })
 
-pub no_whole : {S : Type 0} (gives fails : S → List ℕ → S → Type 0) (ended : S → Type 0) (bytes : List ℕ) (a c : S) (fault : HttpFault) → Took gives fails a bytes c fault → RefusesReply bytes (ended c) fault → Hears {A = Answer} gives fails ended (λ r o. Answers false r o (Err (failure_of fault))) a c (Err (failure_of fault))
+pub no_whole : {S : Type 0} (gives fails : S → List ℕ → S → Type 0) (ended : S → Type 0) (bytes : List ℕ) (a c : S) (fault : HttpFault) → Took gives fails a bytes c fault → RefusesReply bytes (ended c) fault → Hears {A = PutAnswer} gives fails ended (λ r o. Answers false r o (Err (failure_of fault))) a c (Err (failure_of fault))
 no_whole gives fails ended bytes a c faults.Source came refused = record { reply = bytes; over = false; came = came; is_over = unseen; so = tt }
 no_whole gives fails ended bytes a c faults.Memory came refused = record { reply = bytes; over = false; came = came; is_over = unseen; so = tt }
 no_whole gives fails ended bytes a c faults.Ended came refused = record { reply = bytes; over = true; came = came; is_over = λ _. reply_ended bytes refused; so = inl (record { fault = faults.Ended; of_bytes = tt; refused = reply_over bytes refused }) }

@@ -8,8 +8,8 @@ use Rattle.oc_link.specs.Story.{Story}
 use Rattle.oc_put.specs.Efforts.{may_try, asks, behind_of, request_of, behind_failure, end_of_failure, done, next_of, weighed_doing, IsTurnOf, Onward, LeadsTo, IsLed}
 use Rattle.oc_put.specs.Requests.{Goal, request_text}
 use Rattle.oc_put.specs.Turns.{Turn, DialsOnce, IsDialled}
-use Rattle.oc_put.specs.declared.answer.Answer.{Answer}
-use Rattle.oc_put.specs.declared.answer.Answer.TheVariants.{Taken, Length, Refused}
+use Rattle.oc_put.specs.declared.answer.PutAnswer.{PutAnswer}
+use Rattle.oc_put.specs.declared.answer.PutAnswer.TheVariants.{Taken, Length, Refused}
 use Rattle.oc_put.specs.declared.answer.Failure.{Failure}
 use Rattle.oc_put.specs.declared.answer.Failure.TheVariants as failures
 use Rattle.oc_put.specs.declared.effort.Doing.{Doing}
@@ -53,7 +53,7 @@ pub led_none : (goal : Goal) (load : Load) (effort : Effort) (o : Option Story) 
 led_none goal load effort o = record { turns = []; leads = refl; made = made_none goal o }
 
 -- one request more, and its answer
-pub led_more : (goal : Goal) (load : Load) (effort further : Effort) (a b c : Option Story) (address text : List ℕ) (answer : Result Answer Failure) → IsLed goal load effort a b (Again further) → IsDialled address text (asks further.doing) b c answer → address ≡ dial_address goal.url → text ≡ request_text goal (request_of load further.doing) → IsLed goal load effort a c (next_of further answer)
+pub led_more : (goal : Goal) (load : Load) (effort further : Effort) (a b c : Option Story) (address text : List ℕ) (answer : Result PutAnswer Failure) → IsLed goal load effort a b (Again further) → IsDialled address text (asks further.doing) b c answer → address ≡ dial_address goal.url → text ≡ request_text goal (request_of load further.doing) → IsLed goal load effort a c (next_of further answer)
 led_more goal load effort further a b c address text answer led one is_address is_text =
     let turn : Turn = record { request = request_of load further.doing; reply = one.reply; over = one.over; answer = answer } in
     let told : Told (DialsOnce (dial_address goal.url) (request_text goal turn.request) turn.reply turn.over turn.answer) b c =
@@ -65,7 +65,7 @@ led_more goal load effort further a b c address text answer led one is_address i
     }
 
 -- the same by what the calls of a turn give
-pub led_turn : (goal : Goal) (load : Load) (effort further : Effort) (a b c : Option Story) (address text : List ℕ) (asked : Bool) (answer : Result Answer Failure) (next : Next) → IsLed goal load effort a b (Again further) → IsDialled address text asked b c answer → address ≡ dial_address goal.url → text ≡ request_text goal (request_of load further.doing) → asked ≡ asks further.doing → next ≡ next_of further answer → IsLed goal load effort a c next
+pub led_turn : (goal : Goal) (load : Load) (effort further : Effort) (a b c : Option Story) (address text : List ℕ) (asked : Bool) (answer : Result PutAnswer Failure) (next : Next) → IsLed goal load effort a b (Again further) → IsDialled address text asked b c answer → address ≡ dial_address goal.url → text ≡ request_text goal (request_of load further.doing) → asked ≡ asks further.doing → next ≡ next_of further answer → IsLed goal load effort a c next
 led_turn goal load effort further a b c address text asked answer next led one is_address is_text is_asked is_next =
     let dialled : IsDialled address text (asks further.doing) b c answer = subst (λ (x : Bool). IsDialled address text x b c answer) is_asked one in
     subst (λ (x : Next). IsLed goal load effort a c x) (sym is_next) (led_more goal load effort further a b c address text answer led dialled is_address is_text)
@@ -88,7 +88,7 @@ weighed_no_link (Posting at behind tried) failures told = link_test (tried && to
 weighed_no_link (Checking at behind) failures told =
     link_test (told == at) (Again (record { doing = Posting at behind true; failures = failures })) (if told == behind then done told else Ended (ends.Length told)) tt (link_test (told == behind) (done told) (Ended (ends.Length told)) tt tt)
 
-pub link_end : (effort : Effort) (answer : Result Answer Failure) → next_of effort answer ≡ Ended ends.Link → answer ≡ Err failures.Link
+pub link_end : (effort : Effort) (answer : Result PutAnswer Failure) → next_of effort answer ≡ Ended ends.Link → answer ≡ Err failures.Link
 link_end effort (Ok Taken) e = absurd (subst IsNoLink e tt)
 link_end effort (Ok (Length told)) e = absurd (subst IsNoLink e (weighed_no_link effort.doing effort.failures told))
 link_end effort (Ok (Refused status)) e = absurd (subst IsNoLink e tt)
@@ -137,7 +137,7 @@ weighed_less (Posting at behind tried) failures further told same = absurd (post
 weighed_less (Checking at behind) failures further told same = checking_less at behind failures further told (told == at) (told == behind) same
 
 -- each other try leaves less
-pub again_less : (effort further : Effort) (answer : Result Answer Failure) → next_of effort answer ≡ Again further → left_of further < left_of effort
+pub again_less : (effort further : Effort) (answer : Result PutAnswer Failure) → next_of effort answer ≡ Again further → left_of further < left_of effort
 again_less effort further (Ok Taken) same = absurd (let x : done (behind_of effort.doing) ≡ Again further = same in cc)
 again_less effort further (Ok (Length told)) same = weighed_less effort.doing effort.failures further told same
 again_less effort further (Ok (Refused status)) same = absurd (let x : Ended (ends.Refused status) ≡ Again further = same in cc)

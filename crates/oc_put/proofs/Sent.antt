@@ -8,8 +8,8 @@ use Rattle.oc_put.specs.Requests.{Goal}
 use Rattle.oc_put.specs.Carrying.{IsSent, IsRefused}
 use Rattle.oc_put.specs.Efforts.{may_try, behind_failure, end_of_failure, done, next_of, Onward, LeadsTo, IsLed, IsStopped, begun}
 use Rattle.oc_put.specs.Turns.{Turn}
-use Rattle.oc_put.specs.declared.answer.Answer.{Answer}
-use Rattle.oc_put.specs.declared.answer.Answer.TheVariants.{Taken, Length, Refused}
+use Rattle.oc_put.specs.declared.answer.PutAnswer.{PutAnswer}
+use Rattle.oc_put.specs.declared.answer.PutAnswer.TheVariants.{Taken, Length, Refused}
 use Rattle.oc_put.specs.declared.answer.Failure.{Failure}
 use Rattle.oc_put.specs.declared.effort.Doing.{Doing}
 use Rattle.oc_put.specs.declared.effort.Doing.TheVariants.{Finding, Posting, Checking}
@@ -52,7 +52,7 @@ failed_about behind (Posting at end tried) failures failure false is = tt
 failed_about behind (Checking at end) failures failure true is = is
 failed_about behind (Checking at end) failures failure false is = tt
 
-next_about : (behind : ℕ) (doing : Doing) (failures : ℕ) (answer : Result Answer Failure) → IsAbout behind doing → IsNextAbout behind (next_of (record { doing = doing; failures = failures }) answer)
+next_about : (behind : ℕ) (doing : Doing) (failures : ℕ) (answer : Result PutAnswer Failure) → IsAbout behind doing → IsNextAbout behind (next_of (record { doing = doing; failures = failures }) answer)
 next_about behind doing failures (Err failure) is = failed_about behind doing failures failure (may_try failure failures) is
 next_about behind doing failures (Ok (Refused status)) is = tt
 next_about behind Finding failures (Ok Taken) is = absurd is

@@ -5,8 +5,8 @@ use Rattle.oc_link.specs.Story.{Story}
 use Rattle.oc_put.specs.Replies.{Answers}
 use Rattle.oc_put.specs.Requests.{Goal, PutRequest, ask, publish}
 use Rattle.oc_put.specs.Turns.{Turn, Makes}
-use Rattle.oc_put.specs.declared.answer.Answer.{Answer}
-use Rattle.oc_put.specs.declared.answer.Answer.TheVariants.{Taken, Length, Refused}
+use Rattle.oc_put.specs.declared.answer.PutAnswer.{PutAnswer}
+use Rattle.oc_put.specs.declared.answer.PutAnswer.TheVariants.{Taken, Length, Refused}
 use Rattle.oc_put.specs.declared.answer.Failure.{Failure}
 use Rattle.oc_put.specs.declared.answer.Failure.TheVariants as failures
 use Rattle.oc_put.specs.declared.effort.Doing.{Doing}
@@ -79,7 +79,7 @@ abbrev pub weighed : Effort → ℕ → Next
 weighed effort length = weighed_doing effort.doing effort.failures length
 
 -- what follows an answer
-abbrev pub next_of : Effort → Result Answer Failure → Next
+abbrev pub next_of : Effort → Result PutAnswer Failure → Next
 next_of effort (Err failure) = tried_again effort failure
 next_of effort (Ok Taken) = done (behind_of effort.doing)
 next_of effort (Ok (Length length)) = weighed effort length

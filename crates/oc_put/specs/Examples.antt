@@ -3,8 +3,8 @@ use Rattle.std.specs.Prelude.{◌≡◌, ℕ, true, false, Some, None, Ok, Err, 
 use Rattle.oc_put.specs.Efforts.{next_of, begun, done}
 use Rattle.oc_put.specs.Replies.{answer_in, as_length}
 use Rattle.oc_put.specs.Requests.{ask_lines, publish_lines, bytes, seal}
-use Rattle.oc_put.specs.Sources.{Group, Post, all_arrived, may_take}
-use Rattle.oc_put.specs.declared.answer.Answer.TheVariants.{Taken, Length, Refused}
+use Rattle.oc_put.specs.Sources.{SourceGroup, Post, all_arrived, may_take}
+use Rattle.oc_put.specs.declared.answer.PutAnswer.TheVariants.{Taken, Length, Refused}
 use Rattle.oc_put.specs.declared.answer.Failure.TheVariants.{Link, Reply}
 use Rattle.oc_put.specs.declared.effort.Doing.TheVariants.{Posting, Checking}
 use Rattle.oc_put.specs.declared.effort.Effort.{Effort}
@@ -56,7 +56,7 @@ pub record AreSteps : Type 0 where
   pub fifth : next_of (checking 4) (Err Reply) ≡ Ended ends.Reply
   pub refused : next_of (sending 0) (Ok (Refused 403)) ≡ Ended (ends.Refused 403)
 
-abbrev group : List ℕ → Group
+abbrev group : List ℕ → SourceGroup
 group content = record { held = true; content = content; sealed = false }
 
 abbrev piece : ℕ → List ℕ → Post

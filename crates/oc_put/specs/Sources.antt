@@ -3,8 +3,8 @@ use Rattle.std.specs.Prelude.{◌≡◌, ◌≢◌, ◌⊎◌, ℕ, Bool, true, 
 use Rattle.std.specs.List.{AllByRecursion}
 use Rattle.oc_put.specs.Requests.{PutRequest, ask, publish}
 use Rattle.oc_put.specs.Turns.{Turn}
-use Rattle.oc_put.specs.declared.answer.Answer.{Answer}
-use Rattle.oc_put.specs.declared.answer.Answer.TheVariants.{Taken, Length, Refused}
+use Rattle.oc_put.specs.declared.answer.PutAnswer.{PutAnswer}
+use Rattle.oc_put.specs.declared.answer.PutAnswer.TheVariants.{Taken, Length, Refused}
 use Rattle.oc_put.specs.declared.answer.Failure.{Failure}
 use Rattle.oc_put.specs.declared.load.Load.{Load}
 use Rattle.oc_put.specs.declared.publication.WriteMode.{WriteMode}
@@ -12,7 +12,7 @@ use Rattle.oc_put.specs.declared.publication.WriteMode.TheVariants.{New, Append,
 use Rattle.oc_put.specs.declared.publication.Publication.{Publication}
 
 -- a group of a source; one that is not held has no bytes
-pub record Group : Type 0 where
+pub record SourceGroup : Type 0 where
   pub held : Bool
   pub content : List ℕ
   pub sealed : Bool
@@ -23,12 +23,12 @@ pub record Post : Type 0 where
   pub load : Load
 
 -- a source may take it only where the group has that length; bytes only into an open group, a seal only on one that is held
-abbrev pub may_take : Group → Post → Bool
+abbrev pub may_take : SourceGroup → Post → Bool
 may_take group post =
     post.at == length group.content && (post.load.seals || not group.sealed) && (group.held || not post.load.seals)
 
 -- the group behind it
-abbrev pub taken : Post → Group → Group
+abbrev pub taken : Post → SourceGroup → SourceGroup
 taken post group = record {
   held = true;
   content = group.content ++ post.load.piece;
@@ -36,16 +36,16 @@ taken post group = record {
 }
 
 -- a POST arrives of which nobody hears anything any more
-abbrev pub arrived : Post → Group → Group
+abbrev pub arrived : Post → SourceGroup → SourceGroup
 arrived post group = if may_take group post then taken post group else group
 
-abbrev pub all_arrived : List Post → Group → Group
+abbrev pub all_arrived : List Post → SourceGroup → SourceGroup
 all_arrived [] group = group
 all_arrived (post ∷ posts) group = all_arrived posts (arrived post group)
 
 -- a group, and the POSTs that had no answer: each may arrive later, at any time, and more than once
-pub record Source : Type 0 where
-  pub group : Group
+pub record SourceState : Type 0 where
+  pub group : SourceGroup
   pub lost : List Post
 
 -- it is one of these
@@ -54,36 +54,36 @@ IsAmong post [] = ⊥
 IsAmong post (first ∷ posts) = (post ≡ first) ⊎ IsAmong post posts
 
 -- some of those arrive, in some order
-pub record Arrive (old new : Source) : Type 0 where
+pub record Arrive (old new : SourceState) : Type 0 where
   pub posts : List Post
   pub were_lost : AllByRecursion (λ post. IsAmong post old.lost) posts
   pub new_is : new ≡ record old { group = all_arrived posts old.group }
 
 -- what a source answers to a question: nothing changes, and a length is the truth; no reply to a question says that something is taken
-abbrev pub Tells : Source → Result Answer Failure → Source → Type 0
+abbrev pub Tells : SourceState → Result PutAnswer Failure → SourceState → Type 0
 Tells old (Ok Taken) new = ⊥
 Tells old (Ok (Length told)) new = (told ≡ length old.group.content) × (new ≡ old)
 Tells old answer new = new ≡ old
 
 -- and to a POST: 200 only where it is taken, now; 409 only where it does not belong there, with the length; without an answer it is lost
-abbrev pub Takes : Source → Post → Result Answer Failure → Source → Type 0
+abbrev pub Takes : SourceState → Post → Result PutAnswer Failure → SourceState → Type 0
 Takes old post (Ok Taken) new = (may_take old.group post ≡ true) × (new ≡ record old { group = taken post old.group })
 Takes old post (Ok (Length told)) new = (told ≡ length old.group.content) × (told ≢ post.at) × (new ≡ old)
 Takes old post (Ok (Refused status)) new = new ≡ old
 Takes old post (Err failure) new = new ≡ record old { lost = post ∷ old.lost }
 
-abbrev pub Reacts : Source → PutRequest → Result Answer Failure → Source → Type 0
+abbrev pub Reacts : SourceState → PutRequest → Result PutAnswer Failure → SourceState → Type 0
 Reacts old ask answer new = Tells old answer new
 Reacts old (publish at load) answer new = Takes old (record { at = at; load = load }) answer new
 
 -- a source during some turns of the one client that publishes into the group
-abbrev pub Serves : Source → List Turn → Source → Type 0
+abbrev pub Serves : SourceState → List Turn → SourceState → Type 0
 Serves old [] new = Arrive old new
 Serves old (turn ∷ turns) new =
-    (met : Source) × (next : Source) × Arrive old met × Reacts met turn.request turn.answer next × Serves next turns new
+    (met : SourceState) × (next : SourceState) × Arrive old met × Reacts met turn.request turn.answer next × Serves next turns new
 
 -- nothing was lost before
-abbrev pub fresh : Group → Source
+abbrev pub fresh : SourceGroup → SourceState
 fresh group = record { group = group; lost = [] }
 
 -- what is in a group behind an input, and what was before
@@ -93,6 +93,6 @@ IsAdded Append input before after = after ≡ before ++ input
 IsAdded Resume input before after = after ≡ before ++ drop (length before) input
 
 -- the input was added, once, and the group is closed where that was wanted
-pub record Adds (plan : Publication) (input : List ℕ) (old new : Group) : Type 0 where
+pub record Adds (plan : Publication) (input : List ℕ) (old new : SourceGroup) : Type 0 where
   pub content : IsAdded plan.place input old.content new.content
   pub sealed : new.sealed ≡ (old.sealed || plan.seal)

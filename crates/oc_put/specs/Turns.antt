@@ -5,7 +5,7 @@ use Rattle.oc_link.specs.Calls.{IsFront, Told}
 use Rattle.oc_link.specs.Story.{Dial, Story, dials, hung_up}
 use Rattle.oc_put.specs.Replies.{Answers}
 use Rattle.oc_put.specs.Requests.{Goal, PutRequest, request_text}
-use Rattle.oc_put.specs.declared.answer.Answer.{Answer}
+use Rattle.oc_put.specs.declared.answer.PutAnswer.{PutAnswer}
 use Rattle.oc_put.specs.declared.answer.Failure.{Failure}
 use Rattle.oc_put.specs.declared.answer.Failure.TheVariants.{Link}
 
@@ -15,7 +15,7 @@ pub record Turn : Type 0 where
   pub reply : List ℕ
   -- whether the connection was seen to end after it
   pub over : Bool
-  pub answer : Result Answer Failure
+  pub answer : Result PutAnswer Failure
 
 -- a dial on which all of a request was written, and this was read
 pub record IsWhole (address text reply : List ℕ) (over : Bool) (dial : Dial) : Type 0 where
@@ -30,18 +30,18 @@ pub record IsCut (address text : List ℕ) (dial : Dial) : Type 0 where
   pub written_front : IsFront dial.connection.written text
 
 -- what a dial tells of a request and its answer
-abbrev pub Tells : List ℕ → List ℕ → List ℕ → Bool → Result Answer Failure → Dial → Type 0
+abbrev pub Tells : List ℕ → List ℕ → List ℕ → Bool → Result PutAnswer Failure → Dial → Type 0
 Tells address text reply over (Err Link) dial = IsCut address text dial
 Tells address text reply over answer dial = IsWhole address text reply over dial
 
 -- one dial was made and ended, and nothing else happened
-pub record DialsOnce (address text reply : List ℕ) (over : Bool) (answer : Result Answer Failure) (old new : Story) : Type 0 where
+pub record DialsOnce (address text reply : List ℕ) (over : Bool) (answer : Result PutAnswer Failure) (old new : Story) : Type 0 where
   pub dial : Dial
   pub tells : Tells address text reply over answer dial
   pub new_is : new ≡ record (hung_up old) { ended = dials old ++ dial ∷ [] }
 
 -- one dial was made, and this was made of what came
-pub record IsDialled (address text : List ℕ) (asks : Bool) (old new : Option Story) (answer : Result Answer Failure) : Type 0 where
+pub record IsDialled (address text : List ℕ) (asks : Bool) (old new : Option Story) (answer : Result PutAnswer Failure) : Type 0 where
   pub reply : List ℕ
   pub over : Bool
   pub answers : Answers asks reply over answer

@@ -7,7 +7,7 @@ use oc_http::{HttpFault, Reply, ReplyHead};
 
 /// What a reply answers.
 #[derive(Clone, Copy)]
-pub(crate) enum Answer {
+pub(crate) enum PutAnswer {
     /// What was sent is taken.
     Taken,
     /// The group has this many bytes.
@@ -41,34 +41,34 @@ impl From<HttpFault> for Failure {
 
 /// What the head of a reply to a question answers. Its body does not come; in chunks it could not (RFC 9110, section
 /// 9.3.2).
-pub(crate) fn answer_to_ask(head: &ReplyHead) -> Result<Answer, Failure>
+pub(crate) fn answer_to_ask(head: &ReplyHead) -> Result<PutAnswer, Failure>
     ensures { result ≡ answer_to_ask head.now }
 {
     match head.status {
         _ if head.chunked => Err(Failure::Reply),
         200 => as_length(head.length),
-        404 => Ok(Answer::Length(0)),
-        status => Ok(Answer::Refused(status)),
+        404 => Ok(PutAnswer::Length(0)),
+        status => Ok(PutAnswer::Refused(status)),
     }
 }
 
 /// What the reply to what was sent answers.
-pub(crate) fn answer_to_publish(reply: &Reply) -> Result<Answer, Failure>
+pub(crate) fn answer_to_publish(reply: &Reply) -> Result<PutAnswer, Failure>
     ensures { result ≡ answer_to_publish reply.now }
 {
     match reply.status {
-        200 => Ok(Answer::Taken),
+        200 => Ok(PutAnswer::Taken),
         409 => as_length(reply.group_length),
-        status => Ok(Answer::Refused(status)),
+        status => Ok(PutAnswer::Refused(status)),
     }
 }
 
 /// A reply that has to tell a length.
-fn as_length(length: Option<u64>) -> Result<Answer, Failure>
+fn as_length(length: Option<u64>) -> Result<PutAnswer, Failure>
     ensures { result ≡ as_length length }
 {
     match length {
-        Some(length) => Ok(Answer::Length(length)),
+        Some(length) => Ok(PutAnswer::Length(length)),
         None => Err(Failure::Reply),
     }
 }

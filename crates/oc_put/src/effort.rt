@@ -3,7 +3,7 @@
 ghost use Rattle.std.specs.Prelude.{◌≡◌};
 ghost use Rattle.oc_put.specs.Efforts.{asks, behind_of, next_of, tried_again, may_try, end_of_failure, weighed, behind_failure};
 
-use crate::answer::{Answer, Failure};
+use crate::answer::{Failure, PutAnswer};
 use crate::end::PutEnd;
 
 /// How many failures one after another end a publishing.
@@ -89,17 +89,17 @@ pub(crate) enum Next {
 }
 
 /// What follows an answer.
-pub(crate) fn react(effort: Effort, answer: Result<Answer, Failure>) -> Next
+pub(crate) fn react(effort: Effort, answer: Result<PutAnswer, Failure>) -> Next
     ensures { result ≡ next_of effort answer }
 {
     match answer {
         Err(failure) => try_again(effort, failure),
-        Ok(Answer::Taken) => Next::Settled(Progress {
+        Ok(PutAnswer::Taken) => Next::Settled(Progress {
             length: effort.doing.behind(),
             failures: 0,
         }),
-        Ok(Answer::Length(length)) => weigh(effort, length),
-        Ok(Answer::Refused(status)) => Next::Ended(PutEnd::Refused(status)),
+        Ok(PutAnswer::Length(length)) => weigh(effort, length),
+        Ok(PutAnswer::Refused(status)) => Next::Ended(PutEnd::Refused(status)),
     }
 }
 

@@ -9,7 +9,7 @@ ghost use Rattle.oc_put.specs.Hearing.{Hears as HearsReply};
 ghost use Rattle.oc_put.specs.Replies.{Answers};
 ghost use Rattle.oc_put.specs.Turns.{IsDialled};
 
-use crate::answer::{Answer, Failure};
+use crate::answer::{Failure, PutAnswer};
 use crate::hearing::hear;
 use oc_http::HeadReader;
 use oc_link::{Dialler, Outgoing};
@@ -21,7 +21,7 @@ pub(crate) fn exchange<L: Dialler>(
     asks: bool,
     heads: &mut HeadReader,
     link: &mut L,
-) -> Result<Answer, Failure>
+) -> Result<PutAnswer, Failure>
     ensures dialled { IsDialled address.now request.now asks (L.story link.old) (L.story link.new) result }
     ensures count { NoFall (L.faults link.old) (L.faults link.new) }
     ensures cause { IsErrOf result Failure.Link → Rose (L.faults link.old) (L.faults link.new) }
@@ -44,7 +44,7 @@ fn hear_outgoing<L: Dialler>(
     asks: bool,
     heads: &mut HeadReader,
     link: &mut L,
-) -> Result<Answer, Failure>
+) -> Result<PutAnswer, Failure>
     ensures heard { HearsReply
         (λ old bytes new. Told (OnOutgoing (Hears bytes)) (L.story old) (L.story new))
         (λ old bytes new. Told (OnOutgoing (HearsThenBreaks bytes)) (L.story old) (L.story new))

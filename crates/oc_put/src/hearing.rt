@@ -5,7 +5,7 @@ ghost use Rattle.oc_io.specs.Faults.{NoFall, Rose};
 ghost use Rattle.oc_put.specs.Hearing.{Hears};
 ghost use Rattle.oc_put.specs.Replies.{Answers};
 
-use crate::answer::{Answer, Failure, answer_to_ask, answer_to_publish};
+use crate::answer::{Failure, PutAnswer, answer_to_ask, answer_to_publish};
 use oc_http::HeadReader;
 use oc_io::Source;
 
@@ -14,7 +14,7 @@ pub(crate) fn hear<S: Source>(
     asks: bool,
     heads: &mut HeadReader,
     source: &mut S,
-) -> Result<Answer, Failure>
+) -> Result<PutAnswer, Failure>
     ensures heard { Hears S.gives S.fails S.ended (λ reply over. Answers asks reply over result) source.old source.new result }
     ensures count { NoFall (S.faults source.old) (S.faults source.new) }
     ensures cause { IsErrOf result Failure.Link → Rose (S.faults source.old) (S.faults source.new) }
@@ -27,7 +27,7 @@ pub(crate) fn hear<S: Source>(
 }
 
 /// Takes the reply to a question.
-fn hear_head<S: Source>(heads: &mut HeadReader, source: &mut S) -> Result<Answer, Failure>
+fn hear_head<S: Source>(heads: &mut HeadReader, source: &mut S) -> Result<PutAnswer, Failure>
     ensures heard { Hears S.gives S.fails S.ended (λ reply over. Answers true reply over result) source.old source.new result }
     ensures count { NoFall (S.faults source.old) (S.faults source.new) }
     ensures cause { IsErrOf result Failure.Link → Rose (S.faults source.old) (S.faults source.new) }
@@ -37,7 +37,7 @@ fn hear_head<S: Source>(heads: &mut HeadReader, source: &mut S) -> Result<Answer
 }
 
 /// Takes the reply to what was sent.
-fn hear_whole<S: Source>(heads: &mut HeadReader, source: &mut S) -> Result<Answer, Failure>
+fn hear_whole<S: Source>(heads: &mut HeadReader, source: &mut S) -> Result<PutAnswer, Failure>
     ensures heard { Hears S.gives S.fails S.ended (λ reply over. Answers false reply over result) source.old source.new result }
     ensures count { NoFall (S.faults source.old) (S.faults source.new) }
     ensures cause { IsErrOf result Failure.Link → Rose (S.faults source.old) (S.faults source.new) }

@@ -2,7 +2,7 @@
 
 ghost use Rattle.std.specs.Prelude.{List, ℕ};
 ghost use Rattle.oc_put.specs.Publishing.{IsDone};
-ghost use Rattle.oc_put.specs.Sources.{Group, Source, Serves, fresh, Adds};
+ghost use Rattle.oc_put.specs.Sources.{SourceGroup, SourceState, Serves, fresh, Adds};
 ghost use Rattle.oc_put.specs.Turns.{Turn};
 ghost use Rattle.oc_put.specs.Examples.{AreTexts, AreAnswers, AreSteps, AreArrivals};
 ghost use Rattle.oc_put.specs.declared.publication.Publication.{Publication};
@@ -10,7 +10,7 @@ ghost use Rattle.oc_put.specs.declared.publication.Publication.{Publication};
 /// Over a source that answers by the rules, into whose group nobody else publishes, a publishing that is done
 /// has added its input once, whichever dials failed and whenever what they sent arrived.
 pub fn the_input_is_added_once()
-    ensures { (plan : Publication) (turns : List Turn) (input : List ℕ) (group : Group) (after : Source)
+    ensures { (plan : Publication) (turns : List Turn) (input : List ℕ) (group : SourceGroup) (after : SourceState)
         → IsDone plan turns input → Serves (fresh group) turns after → Adds plan input group after.group }
 {}
 

@@ -8,7 +8,7 @@ ghost use Rattle.oc_put.specs.Efforts.{IsLed, IsStopped, finding};
 ghost use Rattle.oc_put.specs.Requests.{nothing};
 ghost use Rattle.oc_put.specs.declared.effort.Next.TheVariants.{Settled};
 
-use crate::answer::{Answer, Failure};
+use crate::answer::{Failure, PutAnswer};
 use crate::effort::{Doing, Effort, Next, Progress, react};
 use crate::end::PutEnd;
 use crate::exchange::exchange;
@@ -104,7 +104,7 @@ fn settle<L: Dialler, P: Pause>(
 }
 
 /// Pauses after a failure.
-fn pause_behind<P: Pause>(answer: Result<Answer, Failure>, pause: &mut P) {
+fn pause_behind<P: Pause>(answer: Result<PutAnswer, Failure>, pause: &mut P) {
     if answer.is_err() {
         pause.pause();
     }

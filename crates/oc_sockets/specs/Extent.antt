@@ -5,8 +5,8 @@ use Rattle.httparse.specs.Grammar.{RequestHead, ReadsRequest, HasNoRequest, Neve
 use Rattle.httparse.specs.Spans.{RequestExceeds, ResponseExceeds}
 use Rattle.oc_http.specs.Fields.{named, codings, is_length, is_present, lengths}
 use Rattle.oc_http.specs.Requests.{expects}
-use Rattle.oc_sockets.specs.declared.extent.Extent.{Extent}
-use Rattle.oc_sockets.specs.declared.extent.Extent.TheVariants as extents
+use Rattle.oc_sockets.specs.declared.extent.HeadProgress.{HeadProgress}
+use Rattle.oc_sockets.specs.declared.extent.HeadProgress.TheVariants as progress
 use Rattle.oc_sockets.specs.declared.extent.Outline.{Outline}
 
 -- the number of the first Content-Length, if there is one; 0 where it is no number
@@ -27,10 +27,10 @@ pub record OutlinesRequest (bytes : List ℕ) (outline : Outline) : Type 0 where
   pub coded : outline.coded ≡ is_present (codings (named head.fields))
 
 -- how far a request has come of which there are these bytes; room is that for fields
-abbrev pub IsRequestExtent : ℕ → List ℕ → Extent → Type 0
-IsRequestExtent room bytes extents.Open = HasNoRequest bytes
-IsRequestExtent room bytes extents.Never = NeverHasRequest bytes ⊎ RequestExceeds room bytes
-IsRequestExtent room bytes (extents.Begun outline) = OutlinesRequest bytes outline
+abbrev pub IsRequestExtent : ℕ → List ℕ → HeadProgress → Type 0
+IsRequestExtent room bytes progress.Open = HasNoRequest bytes
+IsRequestExtent room bytes progress.Never = NeverHasRequest bytes ⊎ RequestExceeds room bytes
+IsRequestExtent room bytes (progress.Begun outline) = OutlinesRequest bytes outline
 
 -- the outline is that of a response whose head these bytes begin with
 pub record OutlinesResponse (bytes : List ℕ) (outline : Outline) : Type 0 where
@@ -39,7 +39,7 @@ pub record OutlinesResponse (bytes : List ℕ) (outline : Outline) : Type 0 wher
   pub body : outline.body ≡ response_length (status_code head) (lengths (named head.fields))
 
 -- how far a response has come of which there are these bytes; room is that for fields
-abbrev pub IsResponseExtent : ℕ → List ℕ → Extent → Type 0
-IsResponseExtent room bytes extents.Open = HasNoResponse bytes
-IsResponseExtent room bytes extents.Never = NeverHasResponse bytes ⊎ ResponseExceeds room bytes
-IsResponseExtent room bytes (extents.Begun outline) = OutlinesResponse bytes outline
+abbrev pub IsResponseExtent : ℕ → List ℕ → HeadProgress → Type 0
+IsResponseExtent room bytes progress.Open = HasNoResponse bytes
+IsResponseExtent room bytes progress.Never = NeverHasResponse bytes ⊎ ResponseExceeds room bytes
+IsResponseExtent room bytes (progress.Begun outline) = OutlinesResponse bytes outline

@@ -1,4 +1,4 @@
-use crate::extent::{Extent, Outline, response_extent};
+use crate::extent::{HeadProgress, Outline, response_extent};
 use crate::limits::{
     BEGIN_MILLIS, CONNECT_MILLIS, DIAL_MILLIS, DIAL_PAUSE_MILLIS, MOST_MESSAGE, MOST_READS,
 };
@@ -226,7 +226,7 @@ impl Dial {
         if self.outline.is_none() {
             let end = self.bytes.len().min(MAX_HEAD_BYTES);
             let head = self.bytes.get(..end).unwrap_or(&[]);
-            if let Extent::Begun(outline) = response_extent(head, &mut tools.spans) {
+            if let HeadProgress::Begun(outline) = response_extent(head, &mut tools.spans) {
                 self.outline = Some(outline);
                 return self.make_room();
             }

@@ -7,7 +7,7 @@ ghost use Rattle.oc_sockets.specs.Extent.{IsRequestExtent, IsResponseExtent, bod
 
 use httparse::spans::{HeaderSpan, parse_request, parse_response};
 use httparse::{Error, Status};
-use oc_http::{Fields, Found, length_of};
+use oc_http::{FieldMatch, Fields, length_of};
 
 /// What the head of a message tells of its extent.
 #[derive(Clone, Copy)]
@@ -24,7 +24,7 @@ pub(crate) struct Outline {
 
 /// How far a message has come.
 #[derive(Clone, Copy)]
-pub(crate) enum Extent {
+pub(crate) enum HeadProgress {
     /// Its head has not come whole.
     Open,
     /// Whatever follows, it is no head.
@@ -35,43 +35,43 @@ pub(crate) enum Extent {
 
 /// How far a request has come (RFC 9112, sections 2 to 6). The spans are room for its fields; more fields than that
 /// are no head.
-pub(crate) fn request_extent(bytes: &[u8], spans: &mut [HeaderSpan]) -> Extent
+pub(crate) fn request_extent(bytes: &[u8], spans: &mut [HeaderSpan]) -> HeadProgress
     ensures { IsRequestExtent (length spans.old) bytes.now result }
 {
     match parse_request(bytes, spans) {
         Ok(Status::Complete(parts)) => {
             let fields = Fields::of(bytes, &spans[..parts.headers]);
             let expects = parts.version == 1 && fields.has_only("expect", "100-continue");
-            Extent::Begun(Outline {
+            HeadProgress::Begun(Outline {
                 head: parts.len,
                 body: told_length(&fields),
                 expects,
                 coded: fields.is_present("transfer-encoding"),
             })
         }
-        Ok(Status::Partial) => Extent::Open,
-        Err(Error::TooManyHeaders) => Extent::Never,
-        Err(_) => Extent::Never,
+        Ok(Status::Partial) => HeadProgress::Open,
+        Err(Error::TooManyHeaders) => HeadProgress::Never,
+        Err(_) => HeadProgress::Never,
     }
 }
 
 /// How far a response has come (RFC 9112, sections 2 to 6), in the same way.
-pub(crate) fn response_extent(bytes: &[u8], spans: &mut [HeaderSpan]) -> Extent
+pub(crate) fn response_extent(bytes: &[u8], spans: &mut [HeaderSpan]) -> HeadProgress
     ensures { IsResponseExtent (length spans.old) bytes.now result }
 {
     match parse_response(bytes, spans) {
         Ok(Status::Complete(parts)) => {
             let fields = Fields::of(bytes, &spans[..parts.headers]);
-            Extent::Begun(Outline {
+            HeadProgress::Begun(Outline {
                 head: parts.len,
                 body: response_length(parts.code, &fields),
                 expects: false,
                 coded: fields.is_present("transfer-encoding"),
             })
         }
-        Ok(Status::Partial) => Extent::Open,
-        Err(Error::TooManyHeaders) => Extent::Never,
-        Err(_) => Extent::Never,
+        Ok(Status::Partial) => HeadProgress::Open,
+        Err(Error::TooManyHeaders) => HeadProgress::Never,
+        Err(_) => HeadProgress::Never,
     }
 }
 
@@ -91,7 +91,7 @@ fn told_length(fields: &Fields) -> Option<u64>
     ensures { result ≡ body_length (lengths fields.now) }
 {
     match fields.find("content-length") {
-        Found::Absent => None,
-        Found::One(first) | Found::Several(first) => Some(length_of(first).unwrap_or(0)),
+        FieldMatch::Absent => None,
+        FieldMatch::One(first) | FieldMatch::Several(first) => Some(length_of(first).unwrap_or(0)),
     }
 }

@@ -1,4 +1,4 @@
-use crate::extent::{Extent, Outline, request_extent};
+use crate::extent::{HeadProgress, Outline, request_extent};
 use crate::limits::{MOST_MESSAGE, MOST_READS};
 use crate::socket::{Moved, read_some};
 use crate::tools::Tools;
@@ -108,9 +108,9 @@ impl Incoming {
         let end = self.bytes.len().min(MAX_HEAD_BYTES);
         let head = self.bytes.get(..end).unwrap_or(&[]);
         match request_extent(head, &mut tools.spans) {
-            Extent::Begun(outline) => self.outline = Some(outline),
-            Extent::Never => self.is_hopeless = true,
-            Extent::Open => self.is_hopeless = end >= MAX_HEAD_BYTES,
+            HeadProgress::Begun(outline) => self.outline = Some(outline),
+            HeadProgress::Never => self.is_hopeless = true,
+            HeadProgress::Open => self.is_hopeless = end >= MAX_HEAD_BYTES,
         }
     }
 

@@ -18,13 +18,13 @@ mod limits;
 mod link;
 mod names;
 mod places;
-mod ready;
+mod poller;
 mod send_buffer;
 mod socket;
 mod sockets;
 mod times;
 mod tools;
-mod turns;
+mod turn_queue;
 mod unsent;
 
 pub use link::SocketLink;

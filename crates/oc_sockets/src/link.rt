@@ -3,7 +3,7 @@ ghost use Rattle.oc_link.specs.Counts.{no_counts};
 
 use crate::limits::FINISH_MILLIS;
 use crate::names::addresses_of;
-use crate::sockets::{Happened, Sockets};
+use crate::sockets::{SocketEvent, Sockets};
 use crate::times::Watch;
 use oc_io::Failed;
 use oc_link::{Coming, ConnectionId, DialId, Ending, Link, LinkCounts, LinkEvent};
@@ -82,9 +82,9 @@ impl<'a, R: Net<Stream = TcpStream> + Clock + Eprint> SocketLink<'a, R> {
     }
 
     /// One thing that happened. Without sockets there is nothing to wait for but the time.
-    fn happened(&mut self, wait: u64) -> io::Result<Happened> {
+    fn happened(&mut self, wait: u64) -> io::Result<SocketEvent> {
         if let Some(dial) = self.stray.pop_front() {
-            return Ok(Happened {
+            return Ok(SocketEvent {
                 event: LinkEvent::Reply(dial, Coming::Failed),
                 bytes: Vec::new(self.alloc),
             });
@@ -93,7 +93,7 @@ impl<'a, R: Net<Stream = TcpStream> + Clock + Eprint> SocketLink<'a, R> {
             Some(sockets) => sockets.next(self.rt, &mut self.watch, wait),
             None => {
                 self.rt.sleep(Duration::from_millis(wait));
-                Ok(Happened {
+                Ok(SocketEvent {
                     event: LinkEvent::Quiet,
                     bytes: Vec::new(self.alloc),
                 })

@@ -5,16 +5,16 @@ use std::alloc::{AllocError, Global};
 /// The connections, each at a place of its own: so one that is ready is found at once, however many others there
 /// are. The number of a connection names its place, and is never used again.
 #[derive(Drop)]
-pub(crate) struct Places {
+pub(crate) struct ConnectionPlaces {
     slots: Vec<Option<Connection>>,
     /// The places that are free.
     free: Vec<usize>,
     last_round: u64,
 }
 
-impl Places {
+impl ConnectionPlaces {
     /// All places free.
-    pub(crate) fn new(alloc: Global) -> Result<Places, AllocError> {
+    pub(crate) fn new(alloc: Global) -> Result<ConnectionPlaces, AllocError> {
         let mut slots = Vec::with_capacity(alloc, PLACES)?;
         let mut free = Vec::with_capacity(alloc, PLACES)?;
         for place in 0..PLACES {
@@ -22,7 +22,7 @@ impl Places {
             let _kept = slots.push(None).is_ok();
             let _noted = free.push(place).is_ok();
         }
-        Ok(Places {
+        Ok(ConnectionPlaces {
             slots,
             free,
             last_round: 0,

@@ -8,12 +8,12 @@ use crate::dial::Dial;
 use crate::limits::{
     DIALS, MOST_IN_A_ROW, MOST_LARGE, MOST_TRIES, PLACES, SHUT_MILLIS, SWEEP_MILLIS,
 };
-use crate::places::Places;
-use crate::ready::Ready;
+use crate::places::ConnectionPlaces;
+use crate::poller::Poller;
 use crate::send_buffer::shorten_send_buffers;
 use crate::times::Watch;
 use crate::tools::Tools;
-use crate::turns::Turns;
+use crate::turn_queue::TurnQueue;
 use mio::net::TcpListener;
 use mio::{Interest, Registry, Token};
 use oc_link::{ConnectionId, LinkEvent, Loss};
@@ -28,7 +28,7 @@ const LISTENER: usize = PLACES + DIALS;
 
 /// One thing that happened, and what it lends.
 #[derive(Drop)]
-pub(crate) struct Happened {
+pub(crate) struct SocketEvent {
     pub(crate) event: LinkEvent,
     pub(crate) bytes: Vec<u8>,
 }
@@ -47,18 +47,18 @@ struct Lost {
 /// done is done, and where something is to be told, it is. So no connection is served twice while another waits.
 #[derive(Drop)]
 pub(crate) struct Sockets {
-    ready: Ready,
+    poller: Poller,
     listener: TcpListener,
     /// Whether a connection may wait to be taken, and until when none is.
     knocks: bool,
     shut_until: u64,
     /// A descriptor that is given up where the system has no more of them.
     spare: Option<Registry>,
-    places: Places,
+    places: ConnectionPlaces,
     dials: Vec<Option<Dial>>,
-    turns: Turns,
+    turns: TurnQueue,
     /// The places of those that wait for one of the places for large requests, and how many of these are taken.
-    held: Turns,
+    held: TurnQueue,
     large: usize,
     gone: VecDeque<Lost>,
     tools: Tools,
@@ -75,27 +75,27 @@ impl Sockets {
         alloc: Global,
         address: &str,
     ) -> io::Result<Sockets> {
-        let ready = Ready::new(rt, alloc)?;
+        let poller = Poller::new(rt, alloc)?;
         let mut listener = bound(rt, address)?;
         shorten_send_buffers(&listener);
-        ready
+        poller
             .registry()
             .register(&mut listener, Token(LISTENER), Interest::READABLE)?;
-        let spare = ready.registry().try_clone()?;
+        let spare = poller.registry().try_clone()?;
         let mut dials = Vec::with_capacity(alloc, DIALS)?;
         for _ in 0..DIALS {
             dials.push(None)?;
         }
         Ok(Sockets {
-            ready,
+            poller,
             listener,
             knocks: true,
             shut_until: 0,
             spare: Some(spare),
-            places: Places::new(alloc)?,
+            places: ConnectionPlaces::new(alloc)?,
             dials,
-            turns: Turns::new(alloc, PLACES + DIALS)?,
-            held: Turns::new(alloc, PLACES)?,
+            turns: TurnQueue::new(alloc, PLACES + DIALS)?,
+            held: TurnQueue::new(alloc, PLACES)?,
             large: 0,
             gone: VecDeque::with_capacity(alloc, PLACES)?,
             tools: Tools::new(alloc)?,
@@ -110,7 +110,7 @@ impl Sockets {
         rt: &R,
         watch: &mut Watch,
         wait: u64,
-    ) -> io::Result<Happened> {
+    ) -> io::Result<SocketEvent> {
         let mut now = watch.millis(rt);
         let until = now.saturating_add(wait);
         let mut looked = 0usize;
@@ -130,8 +130,8 @@ impl Sockets {
     }
 
     /// An event that lends nothing.
-    fn with_nothing(&self, event: LinkEvent) -> Happened {
-        Happened {
+    fn with_nothing(&self, event: LinkEvent) -> SocketEvent {
+        SocketEvent {
             event,
             bytes: Vec::new(self.tools.alloc),
         }
@@ -142,7 +142,7 @@ impl Sockets {
     fn pump<R: Clock>(&mut self, rt: &R, watch: &mut Watch, longest: u64) -> io::Result<u64> {
         self.in_a_row = 0;
         let patience = self.patience(longest);
-        self.ready.wait(patience)?;
+        self.poller.wait(patience)?;
         let now = watch.millis(rt);
         self.note_woken();
         self.accept(now);
@@ -171,8 +171,8 @@ impl Sockets {
 
     /// Notes what the last wait found ready.
     fn note_woken(&mut self) {
-        for at in 0..self.ready.len() {
-            let Some(woken) = self.ready.woken(at) else {
+        for at in 0..self.poller.len() {
+            let Some(woken) = self.poller.woken(at) else {
                 return;
             };
             if woken.token == LISTENER {

@@ -1,6 +1,6 @@
 ghost use Rattle.std.specs.Prelude.{◌≡◌, ◌≤◌, length, IfOk};
 
-use crate::outgoing::Outgoing;
+use crate::timed_stream::TimedStream;
 use std::alloc::Global;
 use std::io::{self, ErrorKind};
 use std::mem;
@@ -12,7 +12,7 @@ use std::rt::Clock;
 pub(crate) struct ClientConnection<'a, R> {
     rt: &'a R,
     alloc: Global,
-    outgoing: Option<Outgoing>,
+    outgoing: Option<TimedStream>,
     /// Where the outgoing connection leads, if it may be kept for further requests; and the further request
     /// on it, if no byte of its reply has come.
     address: String,
@@ -48,7 +48,7 @@ impl<'a, R: Net<Stream = TcpStream> + Clock> ClientConnection<'a, R> {
     /// Makes the outgoing connection, in the place of the one before.
     fn connect(&mut self) -> io::Result<()> {
         self.outgoing = None;
-        let made = Outgoing::reach(self.rt, self.alloc, self.address.as_str())?;
+        let made = TimedStream::reach(self.rt, self.alloc, self.address.as_str())?;
         self.outgoing = Some(made);
         Ok(())
     }

@@ -7,10 +7,11 @@
 #![tactic(auto)]
 
 mod client_connection;
+mod failures;
 mod file_disk;
 mod input;
-mod outgoing;
 mod socket_dialler;
+mod timed_stream;
 mod trouble;
 
 pub use file_disk::{FileDisk, FilePlace};

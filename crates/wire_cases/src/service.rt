@@ -6,6 +6,7 @@ mod configurations;
 mod judged;
 mod lines;
 mod locations;
+mod macs;
 mod measure_lines;
 mod replies;
 mod requests;
@@ -19,7 +20,7 @@ use std::io;
 use test_tools::{Cases, Fault};
 
 /// The tables, in their order.
-const TABLES: [&str; 10] = [
+const TABLES: [&str; 11] = [
     "configurations",
     "verdicts",
     "chunked",
@@ -30,6 +31,7 @@ const TABLES: [&str; 10] = [
     "responses",
     "replies",
     "lines",
+    "macs",
 ];
 
 /// The words of the rows, by table.
@@ -48,6 +50,7 @@ impl Cases for ServiceTables {
             "responses" => responses::put_words(alloc, given, said),
             "replies" => replies::put_words(alloc, given, said),
             "lines" => lines::put_words(alloc, given, said),
+            "macs" => macs::put_words(alloc, given, said),
             _ => Err(Fault::Field),
         }
     }

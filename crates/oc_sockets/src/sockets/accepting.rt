@@ -65,9 +65,9 @@ impl Sockets {
         if self.spare.is_some() {
             return;
         }
-        self.spare = self.ready.registry().try_clone().ok();
+        self.spare = self.poller.registry().try_clone().ok();
         if self.spare.is_none() && self.give_way() {
-            self.spare = self.ready.registry().try_clone().ok();
+            self.spare = self.poller.registry().try_clone().ok();
         }
     }
 

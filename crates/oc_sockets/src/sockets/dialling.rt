@@ -1,7 +1,7 @@
 //! The dials of a node.
 
 use super::accepting::is_out_of_files;
-use super::{Happened, Sockets, dial_at};
+use super::{SocketEvent, Sockets, dial_at};
 use crate::dial::{Dial, DialStage};
 use crate::limits::PLACES;
 use mio::net::TcpStream as Stream;
@@ -81,7 +81,7 @@ impl Sockets {
         let both = Interest::READABLE | Interest::WRITABLE;
         let is_watched = match dial.stream_mut() {
             Some(stream) => self
-                .ready
+                .poller
                 .registry()
                 .register(stream, Token(place), both)
                 .is_ok(),
@@ -98,7 +98,7 @@ impl Sockets {
         rt: &R,
         place: usize,
         now: u64,
-    ) -> Option<Happened> {
+    ) -> Option<SocketEvent> {
         let dial = dial_at(&mut self.dials, place)?;
         dial.advance(&mut self.tools, now);
         if dial.stage == DialStage::Refused {
@@ -117,6 +117,6 @@ impl Sockets {
         if let Some(slot) = self.dials.get_mut(place.saturating_sub(PLACES)) {
             *slot = None;
         }
-        Some(Happened { event, bytes })
+        Some(SocketEvent { event, bytes })
     }
 }

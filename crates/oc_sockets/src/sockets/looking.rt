@@ -1,6 +1,6 @@
 //! What is done at one place, in its turn.
 
-use super::{Happened, Sockets};
+use super::{SocketEvent, Sockets};
 use crate::connection::Fate;
 use crate::limits::{LARGE_BYTES, MOST_LARGE, MOST_MESSAGE, PLACES};
 use oc_link::{LinkEvent, Loss};
@@ -13,7 +13,7 @@ impl Sockets {
         &mut self,
         rt: &R,
         now: u64,
-    ) -> Option<Happened> {
+    ) -> Option<SocketEvent> {
         if let Some(lost) = self.gone.pop_front() {
             return Some(self.with_nothing(LinkEvent::Gone(lost.connection, lost.loss)));
         }
@@ -27,7 +27,7 @@ impl Sockets {
     }
 
     /// Does what can be done on the connection at this place, and tells what happened on it, if anything did.
-    fn look_at(&mut self, place: usize, now: u64) -> Option<Happened> {
+    fn look_at(&mut self, place: usize, now: u64) -> Option<SocketEvent> {
         let connection = self.places.get_mut(place)?;
         let most = if connection.is_large || self.large < MOST_LARGE {
             MOST_MESSAGE
@@ -52,7 +52,7 @@ impl Sockets {
                 connection.note_told();
                 if let LinkEvent::Request(_) = event {
                     let bytes = connection.incoming.lend(&self.tools);
-                    return Some(Happened { event, bytes });
+                    return Some(SocketEvent { event, bytes });
                 }
                 return Some(self.with_nothing(event));
             }
@@ -69,7 +69,7 @@ impl Sockets {
         if connection.is_held() {
             self.held.push(place);
         }
-        connection.register(self.ready.registry(), place);
+        connection.register(self.poller.registry(), place);
         if connection.is_busy(most) || connection.incoming.has_failed {
             self.turns.push(place);
         }

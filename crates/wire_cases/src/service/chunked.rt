@@ -1,5 +1,6 @@
 //! Chunked texts, written, and read however they are cut.
 
+use crate::service::texts::bytes_in;
 use oc_chunked::{ChunkFault, Unchunker, chunk_text};
 use std::alloc::Global;
 use test_tools::{Fault, RowFields, put_hex};
@@ -29,24 +30,6 @@ fn put_result(alloc: Global, said: &mut String, kind: &str, text: &[u8]) -> Resu
 fn put_back(said: &mut String, alloc: Global, text: &[u8]) -> Result<(), Fault> {
     let written = chunk_text(alloc, text)?;
     put_fed(said, &result_of(alloc, &written, 7, 7)?)
-}
-
-/// The bytes of the fields, each in hexadecimal, with `N*` before it where it occurs N times.
-fn bytes_in(alloc: Global, mut fields: RowFields<'_>) -> Result<Vec<u8>, Fault> {
-    let mut bytes = Vec::new(alloc);
-    for _ in 0..100u8 {
-        if fields.is_empty() {
-            break;
-        }
-        let field = fields.text();
-        let (times, part) = field.split_once('*').unwrap_or(("1", field));
-        let times = RowFields::of(times, ' ').small()?;
-        let part = RowFields::of(part, ' ').bytes(alloc)?;
-        for _ in 0..times {
-            bytes.extend_from_slice(&part)?;
-        }
-    }
-    Ok(bytes)
 }
 
 /// The result of a text: how many bytes were taken, their content, and whether the text ended, or the fault.

@@ -1,14 +1,15 @@
 -- At each byte of a size line.
-use Rattle.std.proofs.Common.{ℕ, List, drop, subst}
+use Rattle.std.proofs.Common.{ℕ, List, [], ◌∷◌, drop, subst}
 use Rattle.httparse.specs.Grammar.{ReadsChunkLine}
-use Rattle.oc_chunked.proofs.Forms.{size_form, IsUnfinished-more}
+use Rattle.oc_http.proofs.Heads.{IsUnfinished-more}
+use Rattle.oc_chunked.proofs.Forms.{size_form}
 use Rattle.oc_chunked.proofs.SizeSteps.{size_found}
 use Rattle.oc_chunked.proofs.LineAnswers.{size_goes, open_size}
 use Rattle.oc_chunked.proofs.lines.behind_size.Goals as goal
 
 pub returns-then-byte-ne10 : goal.returns-then-byte-ne10
 returns-then-byte-ne10 c before is =
-    rw c.state_within.ensures (size_goes c.args.line.now before c.args.byte is (IsUnfinished-more size_form before c.args.byte c.if-byte-ne10.true))
+    rw c.state_within.ensures (size_goes c.args.line.now before c.args.byte is (λ unfinished. IsUnfinished-more size_form before (c.args.byte ∷ []) unfinished (c.if-byte-ne10.true, tt)))
 
 pub returns-in-Ok-Complete : goal.returns-in-Ok-Complete
 returns-in-Ok-Complete c before is =

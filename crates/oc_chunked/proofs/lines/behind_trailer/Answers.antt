@@ -1,14 +1,15 @@
 -- At each byte of the trailer fields.
-use Rattle.std.proofs.Common.{ℕ, length, ap, Result, Err}
+use Rattle.std.proofs.Common.{ℕ, [], ◌∷◌, length, ap, Result, Err}
 use Rattle.httparse.specs.declared.Error.{Error}
 use Rattle.httparse.specs.declared.Status.{Status}
-use Rattle.oc_chunked.proofs.Forms.{fields_form, IsUnfinished-more}
+use Rattle.oc_http.proofs.Heads.{IsUnfinished-more}
+use Rattle.oc_chunked.proofs.Forms.{fields_form}
 use Rattle.oc_chunked.proofs.LineAnswers.{trailer_goes, open_trailer, refused_trailer, found_trailer}
 use Rattle.oc_chunked.proofs.lines.behind_trailer.Goals as goal
 
 pub returns-then-byte-ne10 : goal.returns-then-byte-ne10
 returns-then-byte-ne10 c before is =
-    rw c.state_within.ensures (trailer_goes c.args.line.now before c.args.byte is (IsUnfinished-more fields_form before c.args.byte c.if-byte-ne10.true))
+    rw c.state_within.ensures (trailer_goes c.args.line.now before c.args.byte is (λ unfinished. IsUnfinished-more fields_form before (c.args.byte ∷ []) unfinished (c.if-byte-ne10.true, tt)))
 
 pub returns-in-Ok-Complete : goal.returns-in-Ok-Complete
 returns-in-Ok-Complete c before is =

@@ -1,7 +1,7 @@
 use Rattle.std.proofs.Common.{◌+◌, ◌<◌, ◌≤◌, ℕ, List, [], length, take, sym, ap, ◌∙◌, subst, arith, length-append}
 use Rattle.std.proofs.lemmas.Result.{err_from_is_err_and}
 use Rattle.oc_fetch.specs.Chunks.{EndsWritten, IsPut}
-use Rattle.oc_fetch.specs.declared.extent.TheConstants.{MAX_OPEN_BYTES}
+use Rattle.oc_fetch.specs.declared.reply_framing.TheConstants.{MAX_OPEN_BYTES}
 use Rattle.oc_fetch.proofs.ChunkSteps.{passed_then, passed_put, passed_whole, passed_ends, passed_starved, passed_too_long, passed_unsent, still, wanted_none, wanted_some}
 use Rattle.oc_io.proofs.Counts.{Rose-after}
 use Rattle.oc_fetch.proofs.chunks.pass_chunked.Goals as goal

@@ -1,6 +1,6 @@
 -- What came led to the stage of the reader; its content was passed on, except what is gathered.
 use Rattle.std.proofs.Common.{◌+◌, ◌<◌, ◌≤◌, length}
-use Rattle.oc_fetch.specs.declared.extent.TheConstants.{MAX_OPEN_BYTES}
+use Rattle.oc_fetch.specs.declared.reply_framing.TheConstants.{MAX_OPEN_BYTES}
 use Rattle.oc_fetch.specs.declared.room.TheConstants.{PIECE_BYTES}
 use Rattle.oc_fetch.proofs.ChunkSteps.{HasPassed}
 use Rattle.oc_io.specs.Faults.{NoFall}

@@ -1,7 +1,7 @@
 -- This many bytes were moved.
 use Rattle.std.proofs.Common.{◌≤◌, ◌-◌}
 use Rattle.oc_fetch.specs.Passing.{IsMoved}
-use Rattle.oc_fetch.specs.declared.extent.TheConstants.{MAX_OPEN_BYTES}
+use Rattle.oc_fetch.specs.declared.reply_framing.TheConstants.{MAX_OPEN_BYTES}
 use Rattle.oc_io.specs.Faults.{NoFall}
 use Rattle.oc_fetch.proofs.content.pass_open.Given as goal
 

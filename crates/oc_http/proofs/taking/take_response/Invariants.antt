@@ -3,7 +3,7 @@ use Rattle.std.proofs.Common.{◌≤◌, ◌-◌, suc, length, vec_len, vec_capa
 use Rattle.httparse.specs.Grammar.{ReadsResponse}
 use Rattle.oc_base.specs.declared.limits.TheConstants.{MAX_HEAD_BYTES}
 use Rattle.oc_io.specs.Faults.{NoFall}
-use Rattle.oc_http.specs.Taking.{IsUnfinished}
+use Rattle.oc_http.specs.Unfinished.{IsUnfinished}
 use Rattle.oc_http.specs.declared.taking.TheConstants.{FIELD_ROOM}
 use Rattle.oc_http.proofs.taking.take_response.Given as goal
 

@@ -29,16 +29,16 @@ impl Woken {
 
 /// What tells which sockets are ready. The system tells of each once, as it becomes so.
 #[derive(Drop)]
-pub(crate) struct Ready {
+pub(crate) struct Poller {
     poll: Poll,
     events: Events,
     woken: Vec<Woken>,
 }
 
-impl Ready {
+impl Poller {
     /// No socket is looked at so far.
-    pub(crate) fn new<R: Net<Stream = TcpStream>>(rt: &R, alloc: Global) -> io::Result<Ready> {
-        Ok(Ready {
+    pub(crate) fn new<R: Net<Stream = TcpStream>>(rt: &R, alloc: Global) -> io::Result<Poller> {
+        Ok(Poller {
             poll: Poll::new(rt)?,
             events: Events::with_capacity(alloc, EVENTS)?,
             woken: Vec::with_capacity(alloc, EVENTS)?,

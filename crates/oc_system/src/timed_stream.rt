@@ -21,7 +21,7 @@ const PIECE: usize = 65_536;
 /// A connection that was made, whose calls wait for no longer than they may. What it reads comes in large
 /// pieces, however small those are that are asked for.
 #[derive(Drop)]
-pub(crate) struct Outgoing {
+pub(crate) struct TimedStream {
     stream: TcpStream,
     piece: Vec<u8>,
     /// The bytes of the piece that came and were not given yet are those from `given` to `came`.
@@ -29,16 +29,16 @@ pub(crate) struct Outgoing {
     came: usize,
 }
 
-impl Outgoing {
+impl TimedStream {
     /// Connects to the address, a host or an IP address and a port. Each of its addresses is tried in turn.
     pub(crate) fn reach<R: Net<Stream = TcpStream> + Clock>(
         rt: &R,
         alloc: Global,
         address: &str,
-    ) -> io::Result<Outgoing> {
+    ) -> io::Result<TimedStream> {
         let stream = connected(rt, address)?;
         stream.set_nodelay(true)?;
-        Ok(Outgoing {
+        Ok(TimedStream {
             stream,
             piece: Vec::from_elem(alloc, 0u8, PIECE)?,
             given: 0,

@@ -1,6 +1,6 @@
 /// Where the content of a reply ends (RFC 9112, section 6.3).
 #[derive(Clone, Copy, Debug, PartialEq, Eq)]
-pub(crate) enum Extent {
+pub(crate) enum ReplyFraming {
     /// After this many bytes.
     Counted(u64),
     /// With the last chunk (RFC 9112, section 7.1).

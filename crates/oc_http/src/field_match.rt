@@ -1,6 +1,6 @@
 /// The fields of one name.
 #[derive(Clone, Copy)]
-pub enum Found<'a> {
+pub enum FieldMatch<'a> {
     Absent,
     /// One field, and its value.
     One(&'a [u8]),

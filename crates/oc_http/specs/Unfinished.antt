@@ -1,7 +1,6 @@
--- Bytes of which something is still to be read, and bytes of which it cannot be read.
+-- Bytes that come line by line, of which a whole is to be read: what is still unfinished, and what has become hopeless.
 use Rattle.std.specs.Prelude.{◌≡◌, ℕ, List, [], ◌∷◌, ◌++◌}
 use Rattle.httparse.specs.Ascii.{line_feed}
-use Rattle.httparse.specs.Grammar.{Field, LineEnd, ReadsSection}
 
 -- bytes can follow that make these a whole one
 abbrev pub CanBecome : {T : Type 0} → (List ℕ → T → List ℕ → Type 0) → List ℕ → Type 0
@@ -18,7 +17,3 @@ pub record IsHopeless {T : Type 0} (Reads : List ℕ → T → List ℕ → Type
   pub ends : bytes ≡ before ++ line_feed ∷ []
   pub unfinished : IsUnfinished Reads before
   pub never : (more : List ℕ) (tree : T) (rest : List ℕ) → ¬ (Reads (bytes ++ more) tree rest)
-
--- the bytes are fields with their empty line, and then the rest
-abbrev pub ReadsFields : List ℕ → List Field × LineEnd → List ℕ → Type 0
-ReadsFields bytes fields rest = ReadsSection bytes fields.0 fields.1 rest

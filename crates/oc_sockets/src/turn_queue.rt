@@ -5,7 +5,7 @@ use std::collections::VecDeque;
 /// own, each in the order in which they came, and one of each is looked at by turns: so a crowd that reads delays no
 /// request, and a crowd that asks no reply.
 #[derive(Drop)]
-pub(crate) struct Turns {
+pub(crate) struct TurnQueue {
     asking: VecDeque<usize>,
     answered: VecDeque<usize>,
     /// Whether one of those who ask is to be looked at next, if there is one.
@@ -14,10 +14,10 @@ pub(crate) struct Turns {
     queued: Vec<bool>,
 }
 
-impl Turns {
+impl TurnQueue {
     /// No place is to be looked at. The memory for all of them is taken.
-    pub(crate) fn new(alloc: Global, places: usize) -> Result<Turns, AllocError> {
-        Ok(Turns {
+    pub(crate) fn new(alloc: Global, places: usize) -> Result<TurnQueue, AllocError> {
+        Ok(TurnQueue {
             asking: VecDeque::with_capacity(alloc, places)?,
             answered: VecDeque::with_capacity(alloc, places)?,
             asking_is_next: true,

@@ -1,0 +1,55 @@
+ghost use Rattle.std.specs.Prelude.{◌≡◌};
+ghost use Rattle.oc_io.specs.Faults.{NoFall, Rose};
+
+use crate::trouble::Trouble;
+use oc_io::Failed;
+use std::alloc::Global;
+use std::io;
+
+/// The calls that failed.
+#[derive(Drop)]
+pub(crate) struct Failures {
+    /// How many.
+    pub(crate) count: u64,
+    /// Where the last of them did, and why, if there was the memory to keep it.
+    place: String,
+    error: Option<io::Error>,
+}
+
+impl Failures {
+    /// None so far.
+    pub(crate) fn new(alloc: Global) -> Failures
+        ensures { result.count ≡ 0 }
+    {
+        Failures {
+            count: 0,
+            place: String::new(alloc),
+            error: None,
+        }
+    }
+
+    /// Counts a call that failed, and keeps where it did, and why.
+    pub(crate) fn keep(&mut self, address: &str, error: io::Error) -> Failed
+        ensures count { NoFall self.old.count self.new.count }
+        ensures cause { Rose self.old.count self.new.count }
+    {
+        self.place.clear();
+        self.error = match self.place.push_str(address) {
+            Ok(()) => Some(error),
+            Err(_) => None,
+        };
+        self.count = self.count.saturating_add(1);
+        Failed
+    }
+
+    /// Why the last call that failed did, if it was kept.
+    pub(crate) fn trouble(&self) -> Option<Trouble<'_>> {
+        match self.error {
+            Some(error) => Some(Trouble {
+                place: self.place.as_str(),
+                error,
+            }),
+            None => None,
+        }
+    }
+}

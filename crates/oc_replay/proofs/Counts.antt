@@ -1,5 +1,6 @@
 -- Sums over the nodes of a world, node by node, and how large they are.
 use Rattle.std.proofs.Common.{◌≡◌, ℕ, zero, suc, ◌+◌, ◌-◌, ◌*◌, ◌≤◌, Bool, true, false, ◌==◌, List, [], ◌∷◌, length, sym, ap, ◌∙◌, arith}
+use Rattle.std.specs.Int.{from_bool}
 use Rattle.std.specs.List.{range_with_len, sum_by, AllByRecursion}
 use Rattle.std.proofs.lemmas.Bool.{cond_both}
 use Rattle.std.proofs.lemmas.List.Sums.{sum_by-cons}
@@ -10,7 +11,7 @@ use Rattle.oc_base.specs.declared.shelf.Shelf.{Shelf}
 use Rattle.oc_model.specs.World.{World, Process, node, process_in}
 use Rattle.oc_model.specs.WorldBounds.{AreWithinLimits, IsShort, IsWithinLimits}
 use Rattle.oc_base.specs.Shelves.{held_in_all}
-use Rattle.oc_replay.specs.Summary.{FitsWith, one_if, plus, tally_at, tally_over}
+use Rattle.oc_replay.specs.Summary.{FitsWith, plus, tally_at, tally_over}
 use Rattle.oc_replay.specs.declared.summing.Tally.{Tally}
 
 -- the numbers from i to n, the first of them apart
@@ -30,7 +31,7 @@ sum_at_most f b each i zero = omega arith
 sum_at_most f b each i (suc n) = omega (arith, sum_by-cons f i (range_with_len (i + 1) n), each i, sum_at_most f b each (i + 1) n)
 
 -- one node counts once at most
-pub one_at_most : (b : Bool) → one_if b ≤ 1
+pub one_at_most : (b : Bool) → from_bool b ≤ 1
 one_at_most true = omega arith
 one_at_most false = omega arith
 

@@ -10,6 +10,8 @@ use Rattle.oc_model.specs.World.{World, Process, down, ids, new_world}
 use Rattle.oc_model.specs.WorldBounds.{AreBefore, AreWithinLimits}
 use Rattle.oc_model.proofs.GoesOn.{ids-always}
 use Rattle.oc_model.proofs.Processes.{process_in-new}
+use Rattle.oc_schedule.specs.declared.scale.Scale.{Scale}
+use Rattle.oc_schedule.specs.declared.scale.Scale.TheVariants.{Usual, Large}
 use Rattle.oc_schedule.specs.Schedule.{IsSchedule}
 use Rattle.oc_schedule.specs.Script.{Script}
 use Rattle.oc_replay.specs.Opening.{IsOpening}
@@ -30,7 +32,7 @@ pub opened-nodes : (h : Header) (w : World) → w ≡ new_world h → length (id
 opened-nodes h w opened = ap (λ (v : World). length (ids v)) opened ∙ ap length (ids-always h []) ∙ length-range_with_len 1 h.nodes
 
 -- and the events of the schedule can begin with it
-pub opened-opening : (s : Script) (h : Header) (w : World) (es : List Event) → h ≡ s.header → es ≡ s.events → w ≡ new_world h → IsSchedule s → IsOpening w es
+pub opened-opening : (s : Script) (h : Header) (w : World) (es : List Event) → h ≡ s.header → es ≡ s.events → w ≡ new_world h → IsSchedule Large s → IsOpening w es
 opened-opening s h w es header events opened schedule =
     let count : length (ids w) ≡ h.nodes = opened-nodes h w opened in
     record {
@@ -41,3 +43,8 @@ opened-opening s h w es header events opened schedule =
       lawful = rw (count, events) (subst (λ (k : Header). AllByRecursion (IsEvent k.nodes) s.events) (sym header) schedule.events);
       few = rw events schedule.few;
     }
+
+-- a schedule of any scale is within the limits of a large one
+pub as_large : (scale : Scale) (s : Script) → IsSchedule scale s → IsSchedule Large s
+as_large Usual s is = record { header = is.header; events = is.events; few = omega (arith, is.few); published = omega (arith, is.published); settles = is.settles }
+as_large Large s is = is

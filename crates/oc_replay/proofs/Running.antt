@@ -4,7 +4,7 @@ use Rattle.std.specs.List.{AllByRecursion}
 use Rattle.std.proofs.lemmas.List.{drop_more, take_all}
 use Rattle.std.proofs.lemmas.Option.{get_or_from_slice_get, slice_get-get_or}
 use Rattle.std.proofs.lemmas.List.Sums.{fold_more}
-use Rattle.oc_base.specs.declared.limits.TheConstants.{MAX_SCHEDULE_LINES, MAX_TIME}
+use Rattle.oc_base.specs.declared.limits.TheConstants.{MAX_TIME}
 use Rattle.oc_model.specs.declared.event.Event.{Event}
 use Rattle.oc_model.specs.declared.event.Event.TheVariants as events
 use Rattle.oc_model.specs.Lawful.{IsEvent}
@@ -13,6 +13,7 @@ use Rattle.oc_model.specs.World.{World, ids}
 use Rattle.oc_model.specs.WorldBounds.{IsDistinct, AreBefore, IsWithinLimits}
 use Rattle.oc_model.proofs.Clocks.{clocks-next_world, range_distinct}
 use Rattle.oc_model.proofs.GoesOn.{ids-next_world, limits-next_world}
+use Rattle.oc_schedule.specs.declared.scale.TheConstants.{MAX_LARGE_LINES}
 use Rattle.oc_replay.specs.Stage.{HasTimeFor}
 use Rattle.oc_replay.specs.Opening.{IsOpening}
 
@@ -66,7 +67,7 @@ pub record MayBeGiven (w : World) (e : Event) : Type 0 where
   pub time : HasTimeFor w e
 
 -- clocks that are so early leave every event its time
-early_enough : (w : World) (e : Event) (i : ℕ) → i < MAX_SCHEDULE_LINES → AreBefore (MAX_TIME + 60 * i) w → HasTimeFor w e
+early_enough : (w : World) (e : Event) (i : ℕ) → i < MAX_LARGE_LINES → AreBefore (MAX_TIME + 60 * i) w → HasTimeFor w e
 early_enough w events.Settle i few before = λ x up. omega (arith, few, before x)
 early_enough w events.Heal i few before = λ x up. omega (arith, few, before x)
 early_enough w e i few before = tt

@@ -1,6 +1,7 @@
 use Rattle.std.specs.Prelude.{◌≡◌, ℕ, Result, Ok, List, codes}
 use Rattle.oc_schedule.specs.declared.fault.ScheduleFault.{ScheduleFault}
 use Rattle.oc_base.specs.Steps.{◌>>=◌}
+use Rattle.oc_schedule.specs.declared.scale.Scale.TheVariants.{Usual}
 use Rattle.oc_schedule.specs.Schedule.{schedule_of}
 use Rattle.oc_replay.specs.Replay.{report_of, summary_of}
 
@@ -8,11 +9,11 @@ use Rattle.oc_replay.specs.Replay.{report_of, summary_of}
 
 -- what the model reports of the schedule that a text is
 abbrev told : List ℕ → Result (List ℕ) ScheduleFault
-told text = schedule_of text >>= λ s. Ok (report_of s)
+told text = schedule_of Usual text >>= λ s. Ok (report_of s)
 
 -- and what it sums up of it
 abbrev summed : List ℕ → Result (List ℕ) ScheduleFault
-summed text = schedule_of text >>= λ s. Ok (summary_of s)
+summed text = schedule_of Usual text >>= λ s. Ok (summary_of s)
 
 pub record AreTold : Type 0 where
   pub empty_schedule : told (codes "overcast 1 nodes 2 chain 1\n") ≡ Ok (codes "end 0 0\n")

@@ -6,7 +6,8 @@ use Rattle.oc_schedule.specs.declared.fault.ScheduleFault.{ScheduleFault}
 use Rattle.oc_schedule.specs.declared.fault.ScheduleFault.TheVariants.{Limit}
 use Rattle.oc_schedule.specs.declared.fault.What.{What}
 use Rattle.oc_schedule.specs.declared.fault.What.TheVariants.{Bytes}
-use Rattle.oc_base.specs.declared.limits.TheConstants.{MAX_SCHEDULE_BYTES}
+use Rattle.oc_schedule.specs.declared.scale.Scale.{Scale}
+use Rattle.oc_schedule.specs.Limits.{most_of}
 use Rattle.oc_schedule.specs.Schedule.{schedule_of}
 use Rattle.oc_schedule.specs.Script.{Script}
 use Rattle.oc_replay.specs.Report.{run_text}
@@ -14,17 +15,17 @@ use Rattle.oc_replay.specs.Summary.{run_summary}
 
 -- What a replay does with its input.
 
--- these bytes came up to the end, and this is what they say as a schedule
-pub record IsInput {S : Type 0} (gives : S → List ℕ → S → Type 0) (ended : S → Type 0) (old new : S) (says : Result Script ScheduleFault) : Type 0 where
+-- these bytes came up to the end, and this is what they say as a schedule of this scale
+pub record IsInput {S : Type 0} (scale : Scale) (gives : S → List ℕ → S → Type 0) (ended : S → Type 0) (old new : S) (says : Result Script ScheduleFault) : Type 0 where
   pub bytes : List ℕ
   pub came : gives old bytes new
   pub whole : ended new
-  pub read : schedule_of bytes ≡ says
+  pub read : schedule_of scale bytes ≡ says
 
 -- more bytes came than a schedule may have, or all bytes came and pass another limit
-abbrev pub PassesLimit : {S : Type 0} → (S → List ℕ → S → Type 0) → (S → Type 0) → S → S → What → Type 0
-PassesLimit gives ended old new Bytes = (bytes : List ℕ) × gives old bytes new × (MAX_SCHEDULE_BYTES < length bytes)
-PassesLimit gives ended old new what = IsInput gives ended old new (Err (Limit what))
+abbrev pub PassesLimit : {S : Type 0} → Scale → (S → List ℕ → S → Type 0) → (S → Type 0) → S → S → What → Type 0
+PassesLimit scale gives ended old new Bytes = (bytes : List ℕ) × gives old bytes new × (most_of scale Bytes < length bytes)
+PassesLimit scale gives ended old new what = IsInput scale gives ended old new (Err (Limit what))
 
 -- what is written of a run: its summary where that is asked for, and else its report
 abbrev pub run_output : Bool → World → List Event → List ℕ

@@ -1,4 +1,5 @@
-use Rattle.std.specs.Prelude.{ℕ, ◌+◌, ◌^◌, ◌<◌, Bool, ◌&&◌, if◌then◌else◌, List, ◌++◌, length, codes, decimal}
+use Rattle.std.specs.Prelude.{ℕ, ◌+◌, ◌^◌, ◌<◌, ◌&&◌, List, ◌++◌, length, codes, decimal}
+use Rattle.std.specs.Int.{from_bool}
 use Rattle.std.specs.List.{sum_by}
 use Rattle.oc_base.specs.Groups.{shelf}
 use Rattle.oc_base.specs.Shelves.{held_in_all}
@@ -11,15 +12,12 @@ use Rattle.oc_replay.specs.declared.summing.Tally.{Tally}
 
 -- What a summary says of a world.
 
-abbrev pub one_if : Bool → ℕ
-one_if is_so = if is_so then 1 else 0
-
 -- what is counted of one node: whether it is up, and then joined, or acting as root, and the bytes that it holds
 abbrev pub tally_at : World → ℕ → Tally
 tally_at w x = record {
-  up = one_if (is_up w x);
-  joined = one_if (is_up w x && is_joined (mode_of w x));
-  acting = one_if (is_up w x && is_acting (mode_of w x));
+  up = from_bool (is_up w x);
+  joined = from_bool (is_up w x && is_joined (mode_of w x));
+  acting = from_bool (is_up w x && is_acting (mode_of w x));
   bytes = held_in_all (shelf (node w x).groups);
 }
 

@@ -8,7 +8,7 @@ use crate::texts::put_mark;
 use oc_base::{Cert, Child, Line, Memory, NodeId, Shelf, put, put_number, put_with_number};
 
 /// What a list contains.
-pub(crate) trait Item {
+pub(crate) trait ListItem {
     /// Its text.
     ghost text: { Self → List ℕ };
 
@@ -18,7 +18,7 @@ pub(crate) trait Item {
 }
 
 /// Puts a list in brackets, with a space between each two items.
-pub(crate) fn put_list<I: Item>(out: &mut Vec<u8>, items: &[I]) -> Result<(), Memory>
+pub(crate) fn put_list<I: ListItem>(out: &mut Vec<u8>, items: &[I]) -> Result<(), Memory>
     ensures { OnOk result (out.new.items ≡ out.old.items ++ list_text I.text items.now) }
 {
     put(out, b"[")?;
@@ -27,7 +27,7 @@ pub(crate) fn put_list<I: Item>(out: &mut Vec<u8>, items: &[I]) -> Result<(), Me
 }
 
 /// Puts the items, with a space between each two.
-fn put_spaced<I: Item>(out: &mut Vec<u8>, items: &[I]) -> Result<(), Memory>
+fn put_spaced<I: ListItem>(out: &mut Vec<u8>, items: &[I]) -> Result<(), Memory>
     ensures { OnOk result (out.new.items ≡ out.old.items ++ spaced I.text items.now) }
 {
     let Some((first, rest)) = items.split_first() else {
@@ -41,7 +41,7 @@ fn put_spaced<I: Item>(out: &mut Vec<u8>, items: &[I]) -> Result<(), Memory>
     Ok(())
 }
 
-impl Item for NodeId {
+impl ListItem for NodeId {
     ghost text = { decimal };
 
     fn put(&self, out: &mut Vec<u8>) -> Result<(), Memory> {
@@ -49,7 +49,7 @@ impl Item for NodeId {
     }
 }
 
-impl Item for Shelf {
+impl ListItem for Shelf {
     ghost text = { pair_text };
 
     fn put(&self, out: &mut Vec<u8>) -> Result<(), Memory> {
@@ -59,7 +59,7 @@ impl Item for Shelf {
     }
 }
 
-impl Item for Child {
+impl ListItem for Child {
     ghost text = { child_text };
 
     fn put(&self, out: &mut Vec<u8>) -> Result<(), Memory> {
@@ -68,7 +68,7 @@ impl Item for Child {
     }
 }
 
-impl Item for Cert {
+impl ListItem for Cert {
     ghost text = { cert_text };
 
     fn put(&self, out: &mut Vec<u8>) -> Result<(), Memory> {
@@ -80,7 +80,7 @@ impl Item for Cert {
     }
 }
 
-impl Item for Line {
+impl ListItem for Line {
     ghost text = { listed_text };
 
     fn put(&self, out: &mut Vec<u8>) -> Result<(), Memory> {

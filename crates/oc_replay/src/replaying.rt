@@ -8,6 +8,7 @@ ghost use Rattle.oc_io.specs.Faults.{NoFall, Rose};
 ghost use Rattle.oc_schedule.specs.Schedule.{IsSchedule};
 ghost use Rattle.oc_schedule.specs.Script.{Script};
 ghost use Rattle.oc_schedule.specs.declared.fault.ScheduleFault.TheVariants.{Line};
+ghost use Rattle.oc_schedule.specs.declared.scale.Scale.TheVariants.{Large};
 ghost use Rattle.oc_replay.specs.Ends.{OnDone, IfText, IfLimit, OnSource, OnSink, OnMemory, OnRefusal};
 ghost use Rattle.oc_replay.specs.Opening.{IsOpening};
 ghost use Rattle.oc_replay.specs.Replay.{IsInput, PassesLimit, output_text, run_output, world_at};
@@ -18,30 +19,31 @@ use crate::reporting::report;
 use crate::summing::summarize;
 use crate::{ReplayEnd, Stage};
 use oc_io::{Sink, Source, read_all};
-use oc_schedule::{EventList, Schedule, What, read};
+use oc_schedule::{EventList, Scale, Schedule, What, read};
 use std::alloc::Global;
 
-/// Reads a schedule from the source, plays it on the stage, and writes its report to the sink, or with
-/// `summary` its summary.
+/// Reads a schedule of this scale from the source, plays it on the stage, and writes its report to the
+/// sink, or with `summary` its summary.
 pub fn replay<S: Source, K: Sink, T: Stage>(
     alloc: Global,
     source: &mut S,
     sink: &mut K,
     stage: &mut T,
+    scale: Scale,
     summary: bool,
 ) -> ReplayEnd
     // All input came and is a schedule within the limits, its whole text was taken, and the stage is at its last world.
     ensures done { OnDone result ((s : Script)
-        × IsInput S.gives S.ended source.old source.new (Ok s)
-        × IsSchedule s
+        × IsInput scale S.gives S.ended source.old source.new (Ok s)
+        × IsSchedule scale s
         × K.takes sink.old (output_text summary s) sink.new
         × (T.world stage.new ≡ world_at s s.events)) }
 
     // All input came, and this is its first fault.
     ensures text { IfText result (λ line why.
-        IsInput S.gives S.ended source.old source.new (Err (Line line why))) }
+        IsInput scale S.gives S.ended source.old source.new (Err (Line line why))) }
     ensures limit { IfLimit result (λ what.
-        PassesLimit S.gives S.ended source.old source.new what) }
+        PassesLimit scale S.gives S.ended source.old source.new what) }
 
     // Some input came, and then a call on the source failed.
     ensures source { OnSource result (((bytes : List ℕ) × S.fails source.old bytes source.new)
@@ -53,7 +55,7 @@ pub fn replay<S: Source, K: Sink, T: Stage>(
     // All input came and is a schedule, a prefix of its text had been taken when a call on the sink
     // failed, and the stage is at a world on the way.
     ensures sink { OnSink result ((s : Script)
-        × IsInput S.gives S.ended source.old source.new (Ok s)
+        × IsInput scale S.gives S.ended source.old source.new (Ok s)
         × SomeFront (output_text summary s) (λ front. K.fails sink.old front sink.new)
         × SomeFront s.events (λ played. T.world stage.new ≡ world_at s played)
         × Rose (K.faults sink.old) (K.faults sink.new)) }
@@ -63,13 +65,13 @@ pub fn replay<S: Source, K: Sink, T: Stage>(
     ensures memory { OnMemory result (
         (((bytes : List ℕ) × S.gives source.old bytes source.new) × K.takes sink.old [] sink.new × (stage.new ≡ stage.old))
         ⊎ ((s : Script)
-        × IsInput S.gives S.ended source.old source.new (Ok s)
+        × IsInput scale S.gives S.ended source.old source.new (Ok s)
         × SomeFront (output_text summary s) (λ front. K.takes sink.old front sink.new))) }
 
     ensures source_count { NoFall (S.faults source.old) (S.faults source.new) }
     ensures sink_count { NoFall (K.faults sink.old) (K.faults sink.new) }
 {
-    let schedule = match schedule_in(alloc, source) {
+    let schedule = match schedule_in(alloc, source, scale) {
         Ok(schedule) => schedule,
         Err(end) => return end,
     };
@@ -79,15 +81,19 @@ pub fn replay<S: Source, K: Sink, T: Stage>(
     }
 }
 
-/// The schedule that the source gives, up to its end. The error is the end of the replay where there
-/// is none, and so neither `Done` nor `Sink`.
-fn schedule_in<S: Source>(alloc: Global, source: &mut S) -> Result<Schedule, ReplayEnd>
-    ensures input { IfOk result (λ s. IsInput S.gives S.ended source.old source.new (Ok s)) }
-    ensures lawful { IfOk result IsSchedule }
+/// The schedule of this scale that the source gives, up to its end. The error is the end of the replay
+/// where there is none, and so neither `Done` nor `Sink`.
+fn schedule_in<S: Source>(
+    alloc: Global,
+    source: &mut S,
+    scale: Scale,
+) -> Result<Schedule, ReplayEnd>
+    ensures input { IfOk result (λ s. IsInput scale S.gives S.ended source.old source.new (Ok s)) }
+    ensures lawful { IfOk result (IsSchedule scale) }
     ensures text { IfErr result (λ end. IfText end (λ line why.
-        IsInput S.gives S.ended source.old source.new (Err (Line line why)))) }
+        IsInput scale S.gives S.ended source.old source.new (Err (Line line why)))) }
     ensures limit { IfErr result (λ end. IfLimit end (λ what.
-        PassesLimit S.gives S.ended source.old source.new what)) }
+        PassesLimit scale S.gives S.ended source.old source.new what)) }
     ensures source { IfErr result (λ end. OnSource end (((bytes : List ℕ) × S.fails source.old bytes source.new)
         × Rose (S.faults source.old) (S.faults source.new))) }
     ensures memory { IfErr result (λ end. OnMemory end ((bytes : List ℕ) × S.gives source.old bytes source.new)) }
@@ -95,8 +101,8 @@ fn schedule_in<S: Source>(alloc: Global, source: &mut S) -> Result<Schedule, Rep
     ensures not_sink { IfErr result (λ end. OnSink end ⊥) }
     ensures count { NoFall (S.faults source.old) (S.faults source.new) }
 {
-    let bytes = read_all(alloc, source, What::Bytes.most())?;
-    let schedule = read(alloc, &bytes)?;
+    let bytes = read_all(alloc, source, scale.most(What::Bytes))?;
+    let schedule = read(alloc, scale, &bytes)?;
     Ok(schedule)
 }
 
@@ -108,7 +114,7 @@ fn play<K: Sink, T: Stage>(
     stage: &mut T,
     summary: bool,
 ) -> Result<(), ReportFault>
-    requires { IsSchedule schedule.now }
+    requires { IsSchedule Large schedule.now }
     ensures told { OnOk result
         (K.takes sink.old (output_text summary schedule.now) sink.new) }
     ensures played { OnOk result

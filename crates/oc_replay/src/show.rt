@@ -4,7 +4,7 @@ ghost use Rattle.std.specs.Prelude.{◌≡◌, ◌++◌, OnOk, IfOk};
 ghost use Rattle.oc_replay.specs.Shows.{list_line, mode_text, node_line, show_text, state_text};
 
 use crate::bodies::put_rank_or_dash;
-use crate::items::{Item, put_list};
+use crate::items::{ListItem, put_list};
 use oc_base::{Memory, NodeId, put, put_with_number};
 use oc_model::{Mode, NodeStatus};
 use std::alloc::Global;
@@ -30,7 +30,7 @@ pub fn put_show(out: &mut Vec<u8>, node: NodeId, status: &NodeStatus) -> Result<
 }
 
 /// Puts `  WORD [..]`.
-fn put_list_line<I: Item>(out: &mut Vec<u8>, word: &str, items: &[I]) -> Result<(), Memory>
+fn put_list_line<I: ListItem>(out: &mut Vec<u8>, word: &str, items: &[I]) -> Result<(), Memory>
     ensures { OnOk result (out.new.items ≡ out.old.items ++ list_line word.now I.text items.now) }
 {
     put(out, b"  ")?;

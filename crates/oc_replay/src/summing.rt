@@ -10,7 +10,7 @@ ghost use Rattle.oc_model.specs.WorldBounds.{IsWithinLimits};
 ghost use Rattle.oc_io.specs.Faults.{NoFall, Rose};
 ghost use Rattle.oc_replay.specs.Opening.{IsOpening};
 ghost use Rattle.oc_replay.specs.Pieces.{SomeFront};
-ghost use Rattle.oc_replay.specs.Summary.{FitsWith, count_line, one_if, plus, run_summary, summary_of_tally, summary_text, tally_at, tally_over};
+ghost use Rattle.oc_replay.specs.Summary.{FitsWith, count_line, plus, run_summary, summary_of_tally, summary_text, tally_at, tally_over};
 
 use crate::Stage;
 use crate::fault::ReportFault;
@@ -131,18 +131,11 @@ fn tally_at<T: Stage>(stage: &T, node: NodeId) -> Result<Tally, Memory>
     let status = stage.status(node)?;
     let held = stage.held(node)?;
     Ok(Tally {
-        up: one_if(status.up),
-        joined: one_if(status.up && status.mode.is_joined()),
-        acting: one_if(status.up && status.mode.is_acting()),
+        up: u64::from(status.up),
+        joined: u64::from(status.up && status.mode.is_joined()),
+        acting: u64::from(status.up && status.mode.is_acting()),
         bytes: held_in_all(&held),
     })
-}
-
-/// One where it is so, and else nothing.
-fn one_if(is_so: bool) -> u64
-    ensures { result ≡ one_if is_so }
-{
-    if is_so { 1 } else { 0 }
 }
 
 /// Puts the six lines.

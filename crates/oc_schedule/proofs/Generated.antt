@@ -13,6 +13,7 @@ use Rattle.oc_model.specs.declared.input.Input.TheVariants.{Tick, Publish}
 use Rattle.oc_model.specs.Lawful.{IsEvent}
 use Rattle.oc_schedule.specs.declared.generating.TheConstants.{MAX_GENERATED_EVENTS}
 use Rattle.oc_schedule.specs.Generator.{draw_at, draws_of, events_from, generated, made}
+use Rattle.oc_schedule.specs.declared.scale.Scale.TheVariants.{Usual}
 use Rattle.oc_schedule.specs.Schedule.{IsSchedule}
 use Rattle.oc_schedule.specs.Script.{published_by, published_in, settles_by, settles_in}
 use Rattle.oc_schedule.proofs.Ranges.{zeros_are_areas}
@@ -75,7 +76,7 @@ all_append : (P : Event → Type 0) (a c : List Event) → AllByRecursion P a �
 all_append P [] c pa pc = pc
 all_append P (x ∷ a) c pa pc = (pa.0, all_append P a c pa.1 pc)
 
-pub generated_is_schedule : (seed nodes more : ℕ) → 1 ≤ nodes → nodes ≤ MAX_NODES → nodes + more ≤ MAX_GENERATED_EVENTS → IsSchedule (generated seed nodes more)
+pub generated_is_schedule : (seed nodes more : ℕ) → 1 ≤ nodes → nodes ≤ MAX_NODES → nodes + more ≤ MAX_GENERATED_EVENTS → IsSchedule Usual (generated seed nodes more)
 generated_is_schedule seed nodes more some few last =
     let starts = map (λ y. Up y) (range_with_len 1 nodes) in
     let drawn = events_from seed nodes (nodes + 1) 0 more in

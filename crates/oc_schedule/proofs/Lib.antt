@@ -11,3 +11,4 @@ pub mod FieldsBack
 pub mod ActsBack
 pub mod ActRanges
 pub mod Listed
+mod WithinLimits

@@ -6,6 +6,7 @@ use Rattle.oc_model.specs.declared.event.Event.{Event}
 use Rattle.oc_model.specs.declared.event.Event.TheVariants.{Up, Do, Held}
 use Rattle.oc_model.specs.declared.input.Input.TheVariants.{Pull, Publish, Seal}
 use Rattle.oc_schedule.specs.declared.fault.ScheduleFault.TheVariants.{Line}
+use Rattle.oc_schedule.specs.declared.scale.Scale.TheVariants.{Usual}
 use Rattle.oc_schedule.specs.Schedule.{schedule_of}
 
 -- Worked examples: what these texts say.
@@ -15,10 +16,10 @@ two_nodes = codes "overcast 1 nodes 2 chain 1\n"
 
 -- two nodes in the area 0, and these events
 abbrev says : List ℕ → List Event → Type 0
-says text events = schedule_of text ≡ Ok (record { header = record { nodes = 2; chain = 1; chunk = 4096; areas = 0 ∷ 0 ∷ [] }; events = events })
+says text events = schedule_of Usual text ≡ Ok (record { header = record { nodes = 2; chain = 1; chunk = 4096; areas = 0 ∷ 0 ∷ [] }; events = events })
 
 abbrev refuses : List ℕ → ℕ → Why → Type 0
-refuses text line why = schedule_of text ≡ Err (Line line why)
+refuses text line why = schedule_of Usual text ≡ Err (Line line why)
 
 abbrev hello : Event
 hello = Do (At 1 (Publish (codes "/a") (codes "hello")))
@@ -36,9 +37,9 @@ pub record AreRead : Type 0 where
       ∷ Do (At 2 (Pull 1)) ∷ Do (Deliver 1) ∷ Do (Deliver 2) ∷ Held 2 ∷ Do (At 2 (Pull 1)) ∷ Do (Deliver 3) ∷ [])
   pub skipped_lines : says (codes "\n  # a comment\n" ++ two_nodes ++ codes "# another\n\nup 1") (Up 1 ∷ [])
   pub spaces_and_returns : says (codes "  overcast 1  nodes 2 chain 1 \r\nup 1\r\n") (Up 1 ∷ [])
-  pub areas : schedule_of (two_nodes ++ codes "area 2 7\narea 1 9\narea 2 255\n")
+  pub areas : schedule_of Usual (two_nodes ++ codes "area 2 7\narea 1 9\narea 2 255\n")
       ≡ Ok (record { header = record { nodes = 2; chain = 1; chunk = 4096; areas = 9 ∷ 255 ∷ [] }; events = [] })
-  pub chunk : schedule_of (codes "overcast 1 nodes 1 chain 1 chunk 524288\n")
+  pub chunk : schedule_of Usual (codes "overcast 1 nodes 1 chain 1 chunk 524288\n")
       ≡ Ok (record { header = record { nodes = 1; chain = 1; chunk = 524288; areas = 0 ∷ [] }; events = [] })
   pub empty : refuses [] 1 causes.Header
   pub no_header : refuses (codes "# nothing\n\n") 3 causes.Header

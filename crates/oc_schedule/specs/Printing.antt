@@ -1,12 +1,14 @@
 -- The text of a schedule: a line of words for the header, for each area that is not 0, and for each event.
 use Rattle.std.specs.Prelude.{ℕ, ◌+◌, ◌==◌, ◌≤◌, if◌then◌else◌, List, [], ◌∷◌, ◌++◌, length}
 use Rattle.std.specs.List.{AllByRecursion}
-use Rattle.oc_base.specs.declared.limits.TheConstants.{MAX_SCHEDULE_LINES, MAX_SCHEDULE_BYTES}
 use Rattle.oc_model.specs.declared.event.Event.{Event}
 use Rattle.oc_model.specs.declared.event.Event.TheVariants.{Do, Stop}
+use Rattle.oc_schedule.specs.declared.fault.What.TheVariants.{Lines, Bytes}
+use Rattle.oc_schedule.specs.declared.scale.Scale.{Scale}
 use Rattle.oc_schedule.specs.Acts.{PublishesBytes}
 use Rattle.oc_schedule.specs.Texts.{line_text}
 use Rattle.oc_schedule.specs.Lines.{header_words, area_words, event_words}
+use Rattle.oc_schedule.specs.Limits.{most_of}
 use Rattle.oc_schedule.specs.Schedule.{IsSchedule}
 use Rattle.oc_schedule.specs.Script.{Script}
 
@@ -39,8 +41,8 @@ IsOfBytes (Stop calls image act) = PublishesBytes act
 IsOfBytes event = Unit {0}
 
 -- a schedule within its ranges whose text is within the limits
-pub record IsPrintable (s : Script) : Type 0 where
-  pub lawful : IsSchedule s
+pub record IsPrintable (scale : Scale) (s : Script) : Type 0 where
+  pub lawful : IsSchedule scale s
   pub bytes : AllByRecursion IsOfBytes s.events
-  pub lines : 1 + area_lines s.header.areas + length s.events ≤ MAX_SCHEDULE_LINES
-  pub short : length (script_text s) ≤ MAX_SCHEDULE_BYTES
+  pub lines : 1 + area_lines s.header.areas + length s.events ≤ most_of scale Lines
+  pub short : length (script_text s) ≤ most_of scale Bytes

@@ -6,16 +6,18 @@ use Rattle.std.specs.Str.Lines.{lines}
 use Rattle.oc_base.specs.declared.why.Why.{Why}
 use Rattle.oc_base.specs.declared.why.Why.TheVariants as causes
 use Rattle.oc_model.specs.declared.event.Event.{Event}
-use Rattle.oc_base.specs.declared.limits.TheConstants.{MAX_SCHEDULE_LINES, MAX_SCHEDULE_BYTES, MAX_SCHEDULE_PUBLISHED, MAX_SCHEDULE_SETTLES}
+use Rattle.oc_base.specs.declared.limits.TheConstants.{MAX_PUBLISH_BYTES, MAX_SCHEDULE_SETTLES}
 use Rattle.oc_model.specs.Lawful.{IsHeader, IsEvent}
 use Rattle.oc_schedule.specs.declared.fault.ScheduleFault.{ScheduleFault}
 use Rattle.oc_schedule.specs.declared.fault.ScheduleFault.TheVariants.{Line, Limit}
 use Rattle.oc_schedule.specs.declared.fault.What.TheVariants as limits
+use Rattle.oc_schedule.specs.declared.scale.Scale.{Scale}
+use Rattle.oc_schedule.specs.Limits.{is_large, most_of}
 use Rattle.oc_base.specs.Words.{words}
 use Rattle.oc_schedule.specs.Lines.{header_in, area_in, event_in}
 use Rattle.oc_base.specs.Steps.{◌>>=◌}
 use Rattle.oc_schedule.specs.Reading.{at_line}
-use Rattle.oc_schedule.specs.Script.{Script, published_in, settles_in}
+use Rattle.oc_schedule.specs.Script.{Script, published_by, published_in, settles_in}
 
 -- the script after the header
 abbrev pub first_script : List (List ℕ) → Result Script Why
@@ -37,51 +39,59 @@ after_area s fields = do
   area ← area_in s.header.nodes fields
   Ok (with_area s area)
 
+-- the script with one more event, which in a large schedule may publish no more than one publish has; where all of them together
+-- may have fewer bytes, the limit on these comes first
+abbrev pub event_in_range : Scale → Script → Event → Result Script Why
+event_in_range scale s event =
+    if is_large scale && nat_lt MAX_PUBLISH_BYTES (published_by event) then Err causes.Range else Ok (with_event s event)
+
 -- the script after an event line
-abbrev pub after_event : Script → List ℕ → List (List ℕ) → Result Script Why
-after_event s word fields = do
+abbrev pub after_event : Scale → Script → List ℕ → List (List ℕ) → Result Script Why
+after_event scale s word fields = do
   event ← event_in s.header.nodes word fields
-  Ok (with_event s event)
+  event_in_range scale s event
 
 -- the script after a line that follows the header: an area, as long as there is no event, or an event
-abbrev pub after_line : Script → List ℕ → List (List ℕ) → Result Script Why
-after_line s word fields =
-    if bytes_eq word (codes "area") && length s.events == 0 then after_area s fields else after_event s word fields
+abbrev pub after_line : Scale → Script → List ℕ → List (List ℕ) → Result Script Why
+after_line scale s word fields =
+    if bytes_eq word (codes "area") && length s.events == 0 then after_area s fields else after_event scale s word fields
 
 -- the script after a line; before the header there is none
-abbrev pub script_after : Option Script → List ℕ → List (List ℕ) → Result Script Why
-script_after None word fields = first_script (word ∷ fields)
-script_after (Some s) word fields = after_line s word fields
+abbrev pub script_after : Scale → Option Script → List ℕ → List (List ℕ) → Result Script Why
+script_after scale None word fields = first_script (word ∷ fields)
+script_after scale (Some s) word fields = after_line scale s word fields
 
 -- the limits on what the events have together: the bytes that they publish, and then how often they settle or heal
-abbrev pub within_limits : Script → Result Script ScheduleFault
-within_limits s =
-    if nat_lt MAX_SCHEDULE_PUBLISHED (published_in s.events) then Err (Limit limits.Published)
+abbrev pub within_limits : Scale → Script → Result Script ScheduleFault
+within_limits scale s =
+    if nat_lt (most_of scale limits.Published) (published_in s.events) then Err (Limit limits.Published)
     else if nat_lt MAX_SCHEDULE_SETTLES (settles_in s.events) then Err (Limit limits.Settles)
     else Ok s
 
+-- a script, where there is one, within these limits
+abbrev pub limited : Scale → Result Script ScheduleFault → Result Script ScheduleFault
+limited scale r = r >>= λ s. within_limits scale s
+
 -- a line that is not skipped: its cause, and after it these limits
-abbrev pub read_statement : ℕ → Option Script → List ℕ → List (List ℕ) → Result Script ScheduleFault
-read_statement i so_far word fields = do
-  s ← at_line i (script_after so_far word fields)
-  within_limits s
+abbrev pub read_statement : Scale → ℕ → Option Script → List ℕ → List (List ℕ) → Result Script ScheduleFault
+read_statement scale i so_far word fields = limited scale (at_line i (script_after scale so_far word fields))
 
 -- whether a line that begins with this word is a comment
 abbrev pub is_comment : List ℕ → Bool
 is_comment word = slice_index word 0 == byte "#"
 
 -- a line of these words; an empty line and a comment are skipped
-abbrev pub read_words : ℕ → Option Script → List (List ℕ) → Result (Option Script) ScheduleFault
-read_words i so_far [] = Ok so_far
-read_words i so_far (word ∷ fields) =
+abbrev pub read_words : Scale → ℕ → Option Script → List (List ℕ) → Result (Option Script) ScheduleFault
+read_words scale i so_far [] = Ok so_far
+read_words scale i so_far (word ∷ fields) =
     if is_comment word then Ok so_far
     else do
-      s ← read_statement i so_far word fields
+      s ← read_statement scale i so_far word fields
       Ok (Some s)
 
 -- the line of this number: the limit on lines before all
-abbrev pub read_line : ℕ → Option Script → List ℕ → Result (Option Script) ScheduleFault
-read_line i so_far line = if nat_lt MAX_SCHEDULE_LINES i then Err (Limit limits.Lines) else read_words i so_far (words line)
+abbrev pub read_line : Scale → ℕ → Option Script → List ℕ → Result (Option Script) ScheduleFault
+read_line scale i so_far line = if nat_lt (most_of scale limits.Lines) i then Err (Limit limits.Lines) else read_words scale i so_far (words line)
 
 -- the end of the text; without a header the line after the last is refused
 abbrev pub script_at_end : ℕ → Option Script → Result Script ScheduleFault
@@ -89,20 +99,20 @@ script_at_end i None = Err (Line i causes.Header)
 script_at_end i (Some s) = Ok s
 
 -- the lines from this number on, after the script of the lines before them
-abbrev pub read_lines : ℕ → Option Script → List (List ℕ) → Result Script ScheduleFault
-read_lines i so_far [] = script_at_end i so_far
-read_lines i so_far (line ∷ rest) = do
-  next ← read_line i so_far line
-  read_lines (i + 1) next rest
+abbrev pub read_lines : Scale → ℕ → Option Script → List (List ℕ) → Result Script ScheduleFault
+read_lines scale i so_far [] = script_at_end i so_far
+read_lines scale i so_far (line ∷ rest) = do
+  next ← read_line scale i so_far line
+  read_lines scale (i + 1) next rest
 
--- the schedule that a text is, or its first fault
-abbrev pub schedule_of : List ℕ → Result Script ScheduleFault
-schedule_of bytes = if nat_lt MAX_SCHEDULE_BYTES (length bytes) then Err (Limit limits.Bytes) else read_lines 1 None (lines bytes)
+-- the schedule that a text of this scale is, or its first fault
+abbrev pub schedule_of : Scale → List ℕ → Result Script ScheduleFault
+schedule_of scale bytes = if nat_lt (most_of scale limits.Bytes) (length bytes) then Err (Limit limits.Bytes) else read_lines scale 1 None (lines bytes)
 
 -- a schedule within the ranges and the limits: each line except the header gives one event at most
-pub record IsSchedule (s : Script) : Type 0 where
+pub record IsSchedule (scale : Scale) (s : Script) : Type 0 where
   pub header : IsHeader s.header
   pub events : AllByRecursion (IsEvent s.header.nodes) s.events
-  pub few : length s.events < MAX_SCHEDULE_LINES
-  pub published : published_in s.events ≤ MAX_SCHEDULE_PUBLISHED
+  pub few : length s.events < most_of scale limits.Lines
+  pub published : published_in s.events ≤ most_of scale limits.Published
   pub settles : settles_in s.events ≤ MAX_SCHEDULE_SETTLES

@@ -155,7 +155,7 @@ pub(crate) fn deliver(fields: &[u8]) -> Result<u64, Why>
 
 /// The act that a line of this word and these fields says, in a run of `nodes` nodes, or the first
 /// cause for which it says none.
-pub(crate) fn act(alloc: Global, nodes: u32, word: &[u8], fields: &[u8]) -> Result<Act, LineFault>
+pub fn act(alloc: Global, nodes: u32, word: &[u8], fields: &[u8]) -> Result<Act, LineFault>
     ensures { GivesLine result (act_in nodes word.now (words fields.now)) }
 {
     if is(word, "tick") {

@@ -1,9 +1,9 @@
 ghost use Rattle.std.specs.Prelude.{◌≡◌, ◌≤◌, length, Some};
 ghost use Rattle.oc_base.specs.Lawful.{IsNode};
 ghost use Rattle.oc_base.specs.Words.{words};
-ghost use Rattle.oc_base.specs.declared.limits.TheConstants.{MAX_SCHEDULE_PUBLISHED, MAX_SCHEDULE_SETTLES};
-ghost use Rattle.oc_schedule.specs.Reading.{GivesBy, GivesLineBy};
-ghost use Rattle.oc_schedule.specs.Schedule.{first_script, read_statement, with_area, with_event, within_limits};
+ghost use Rattle.oc_base.specs.declared.limits.TheConstants.{MAX_SCHEDULE_SETTLES};
+ghost use Rattle.oc_schedule.specs.Reading.{GivesBy, GivesLineBy, at_line};
+ghost use Rattle.oc_schedule.specs.Schedule.{event_in_range, first_script, limited, read_statement, with_area, with_event, within_limits};
 ghost use Rattle.oc_schedule.specs.Events.{event_of};
 ghost use Rattle.oc_schedule.specs.Script.{published_in, settles_in};
 
@@ -11,8 +11,8 @@ use crate::fault::LineFault;
 use crate::fields::is;
 use crate::kept_event::KeptEvent;
 use crate::lines::{area, event, opening};
-use crate::{EventList, Schedule, ScheduleFault, What};
-use oc_base::{MAX_SCHEDULE_PUBLISHED, MAX_SCHEDULE_SETTLES, NodeId, Why};
+use crate::{EventList, Scale, Schedule, ScheduleFault, What};
+use oc_base::{MAX_PUBLISH_BYTES, MAX_SCHEDULE_SETTLES, NodeId, Why};
 use std::alloc::Global;
 
 /// The schedule of the lines so far, from the header on.
@@ -24,7 +24,6 @@ pub(crate) struct ScheduleBuilder {
     /// How often they settle or heal.
     settles: u32,
     ghost counted: { published ≡ published_in schedule.events },
-    ghost within: { published ≤ MAX_SCHEDULE_PUBLISHED },
     ghost counted_settles: { settles ≡ settles_in schedule.events },
     ghost within_settles: { settles ≤ MAX_SCHEDULE_SETTLES },
     ghost areas: { length schedule.header.areas ≡ schedule.header.nodes },
@@ -57,12 +56,13 @@ impl ScheduleBuilder {
     pub fn with_line(
         self,
         alloc: Global,
+        scale: Scale,
         number: u32,
         word: &[u8],
         fields: &[u8],
     ) -> Result<ScheduleBuilder, ScheduleFault>
         ensures { GivesBy (λ d. d.schedule) result
-            (read_statement number (Some self.schedule) word.now (words fields.now)) }
+            (read_statement scale number (Some self.schedule) word.now (words fields.now)) }
     {
         let nodes = self.schedule.nodes;
         if is(word, "area") && self.schedule.events.is_empty() {
@@ -72,7 +72,7 @@ impl ScheduleBuilder {
             }
         } else {
             match event(alloc, nodes, word, fields) {
-                Ok(event) => self.with_event(event),
+                Ok(event) => self.with_event_at(scale, number, event),
                 Err(fault) => Err(fault.at(number)),
             }
         }
@@ -104,18 +104,38 @@ impl ScheduleBuilder {
         }
     }
 
-    /// The builder with one more event, where it passes no limit.
-    fn with_event(self, event: KeptEvent) -> Result<ScheduleBuilder, ScheduleFault>
+    /// The builder with the event of the line of this number, where it publishes no more than one publish
+    /// has, and passes no limit.
+    fn with_event_at(
+        self,
+        scale: Scale,
+        number: u32,
+        event: KeptEvent,
+    ) -> Result<ScheduleBuilder, ScheduleFault>
         ensures { GivesBy (λ d. d.schedule) result
-            (within_limits (with_event self.schedule (event_of event))) }
+            (limited scale (at_line number (event_in_range scale self.schedule (event_of event)))) }
+    {
+        if scale.is_large() && event.published() > MAX_PUBLISH_BYTES {
+            return Err(ScheduleFault::Line {
+                line: number,
+                why: Why::Range,
+            });
+        }
+        self.with_event(scale, event)
+    }
+
+    /// The builder with one more event, where it passes no limit.
+    fn with_event(self, scale: Scale, event: KeptEvent) -> Result<ScheduleBuilder, ScheduleFault>
+        ensures { GivesBy (λ d. d.schedule) result
+            (within_limits scale (with_event self.schedule (event_of event))) }
     {
         let ScheduleBuilder {
             mut schedule,
             published,
             settles,
         } = self;
-        let more = event.published();
-        if more > MAX_SCHEDULE_PUBLISHED - published {
+        let published = published.saturating_add(event.published());
+        if published > scale.published() {
             return Err(ScheduleFault::Limit(What::Published));
         }
         let once = event.settles();
@@ -125,7 +145,7 @@ impl ScheduleBuilder {
         schedule.events.push(event)?;
         Ok(ScheduleBuilder {
             schedule,
-            published: published + more,
+            published,
             settles: settles + once,
         })
     }

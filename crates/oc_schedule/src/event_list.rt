@@ -57,7 +57,7 @@ impl EventList {
     }
 
     /// Puts one at the end.
-    pub(crate) fn push(&mut self, event: KeptEvent) -> Result<(), AllocError>
+    pub fn push(&mut self, event: KeptEvent) -> Result<(), AllocError>
         ensures { OnOk result (self.new ≡ self.old ++ event_of event ∷ []) }
     {
         self.kept.push(event)?;

@@ -1,10 +1,8 @@
 ghost use Rattle.std.specs.Prelude.{◌≡◌};
-ghost use Rattle.oc_schedule.specs.Limits.{most_of, what_text};
+ghost use Rattle.oc_schedule.specs.Limits.{what_text};
 ghost use Rattle.oc_schedule.specs.Reading.{fault_at};
 
-use oc_base::{
-    MAX_SCHEDULE_BYTES, MAX_SCHEDULE_LINES, MAX_SCHEDULE_PUBLISHED, MAX_SCHEDULE_SETTLES, Why,
-};
+use oc_base::Why;
 use std::alloc::{AllocError, AllocFailed};
 use std::error::Error;
 use std::fmt;
@@ -14,7 +12,7 @@ use std::fmt;
 pub enum ScheduleFault {
     /// This line, counted from 1, is refused for this cause.
     Line { line: u32, why: Why },
-    /// The text passes a limit.
+    /// The text has more of these than its scale allows.
     Limit(What),
     /// Memory ran out.
     Memory,
@@ -45,25 +43,11 @@ impl What {
             What::Settles => "settles",
         }
     }
-
-    /// How many there may be.
-    pub fn most(self) -> usize
-        ensures { result ≡ most_of self }
-    {
-        match self {
-            What::Lines => MAX_SCHEDULE_LINES as usize,
-            What::Bytes => MAX_SCHEDULE_BYTES,
-            What::Published => MAX_SCHEDULE_PUBLISHED,
-            What::Settles => MAX_SCHEDULE_SETTLES as usize,
-        }
-    }
 }
 
 impl fmt::Display for What {
     fn fmt<W: fmt::Write>(&self, f: &mut fmt::Formatter<W>) -> fmt::Result {
-        let word = self.word();
-        let most = self.most();
-        write!(f, "{word} {most}")
+        write!(f, "{}", self.word())
     }
 }
 
@@ -71,7 +55,7 @@ impl fmt::Display for ScheduleFault {
     fn fmt<W: fmt::Write>(&self, f: &mut fmt::Formatter<W>) -> fmt::Result {
         match self {
             ScheduleFault::Line { line, why } => write!(f, "line {line}: {why}"),
-            ScheduleFault::Limit(what) => write!(f, "limit {what}"),
+            ScheduleFault::Limit(what) => write!(f, "past the limit on {what}"),
             ScheduleFault::Memory => write!(f, "out of memory"),
         }
     }

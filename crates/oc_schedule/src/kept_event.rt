@@ -26,7 +26,7 @@ pub enum KeptEvent {
 
 impl KeptEvent {
     /// Any event, in memory of its own.
-    pub(crate) fn other(alloc: Global, event: Event) -> Result<KeptEvent, AllocError>
+    pub fn other(alloc: Global, event: Event) -> Result<KeptEvent, AllocError>
         ensures { IfOk result (λ kept. event_of kept ≡ event) }
     {
         Ok(KeptEvent::Other(Box::new(alloc, event)?))

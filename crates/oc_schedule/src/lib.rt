@@ -3,11 +3,11 @@
 //! A schedule is text, one line for each thing: a header `overcast 1 nodes N chain C`, areas, and then
 //! events. [`read`] is what the layer above uses. It gives exactly what `schedule_of` makes of any bytes, the
 //! [`Schedule`] or its first fault, unless memory runs out. What is read is within the ranges and the limits
-//! (`IsSchedule`), so each event may be given to a stage. [`print`] writes a schedule, which reads back as the
+//! of its [`Scale`] (`IsSchedule`), so each event may be given to a stage. [`print`] writes a schedule, which reads back as the
 //! same, and [`generate`] makes the one of a seed.
 //!
 //! A running node prints each input that it takes in the words of a schedule, by [`put_act_line`] and
-//! [`put_recv_line`].
+//! [`put_recv_line`]. Records of running nodes are read by [`opening`], [`area`], [`node_alone`] and [`act`].
 //!
 //! `specs/Schedule` says how the lines follow one another and where the limits come, `specs/Lines` and
 //! `specs/Acts` what each kind of line says, `specs/Fields` what one word says that is no number, and
@@ -28,17 +28,22 @@ mod law;
 mod lines;
 mod listed_event;
 mod printing;
+mod scale;
 mod schedule;
 mod schedule_text;
 mod texts;
 
 pub use act_lines::{put_act_line, put_recv_line};
+pub use acts::act;
 pub use event_list::EventList;
-pub use fault::{ScheduleFault, What};
+pub use fault::{LineFault, ScheduleFault, What};
 pub use generating::{MAX_GENERATED_EVENTS, generate};
+pub use kept_event::KeptEvent;
 pub use law::{examples_are_read, generated_schedules_are_lawful};
+pub use lines::{Sizes, area, node_alone, opening};
 pub use listed_event::ListedEvent;
 pub use printing::print;
+pub use scale::{MAX_LARGE_BYTES, MAX_LARGE_LINES, MAX_LARGE_PUBLISHED, Scale};
 pub use schedule::Schedule;
 pub use schedule_text::read;
 pub use texts::put_bytes;

@@ -29,7 +29,7 @@ const MAX_CALLS: u64 = 4;
 
 /// The numbers of a network.
 #[derive(Clone, Copy)]
-pub(crate) struct Sizes {
+pub struct Sizes {
     pub nodes: u32,
     /// The length of the chain.
     pub chain: u32,
@@ -38,7 +38,7 @@ pub(crate) struct Sizes {
 }
 
 /// `overcast 1 nodes N chain C`, and behind it perhaps `chunk B`: the numbers of the network.
-pub(crate) fn opening(line: &[u8]) -> Result<Sizes, Why>
+pub fn opening(line: &[u8]) -> Result<Sizes, Why>
     ensures { result ≡ opening_in (words line.now) }
 {
     let (version, rest) = named(line, "overcast")?;
@@ -99,7 +99,7 @@ fn sizes_of(n: &[u8], c: &[u8], chunk: u32) -> Result<Sizes, Why>
 }
 
 /// `area N A`
-pub(crate) fn area(nodes: u32, fields: &[u8]) -> Result<(NodeId, u8), Why>
+pub fn area(nodes: u32, fields: &[u8]) -> Result<(NodeId, u8), Why>
     ensures said { result ≡ area_in nodes (words fields.now) }
     ensures range { IfOk result (λ area. IsNode nodes area.0) }
 {
@@ -118,7 +118,7 @@ fn byte(field: &[u8]) -> Result<u64, Why>
 }
 
 /// `N`: a node.
-fn node_alone(nodes: u32, fields: &[u8]) -> Result<NodeId, Why>
+pub fn node_alone(nodes: u32, fields: &[u8]) -> Result<NodeId, Why>
     ensures { result ≡ node_alone_in nodes (words fields.now) }
 {
     let n = one_field(fields)?;

@@ -6,6 +6,7 @@ ghost use Rattle.oc_schedule.specs.Lines.{area_words, event_words, header_with, 
 ghost use Rattle.oc_schedule.specs.Texts.{line_text, spaced};
 ghost use Rattle.oc_schedule.specs.Printing.{IsPrintable, area_text, areas_text, events_text, script_text};
 ghost use Rattle.oc_schedule.specs.Schedule.{schedule_of};
+ghost use Rattle.oc_schedule.specs.declared.scale.Scale.{Scale as ScaleValue};
 
 use crate::lines::put_event;
 use crate::texts::put_number_field;
@@ -15,10 +16,10 @@ use oc_model::Event;
 use std::alloc::Global;
 
 /// Writes the text of a schedule: the header, a line for each area that is not 0, ascending, and a
-/// line for each event. Reading it gives the same schedule, where the text is within the limits.
+/// line for each event. Reading it gives the same schedule, at each scale whose limits the text is within.
 pub fn print(alloc: Global, schedule: &Schedule) -> Result<Vec<u8>, Memory>
     ensures text { IfOk result (λ text. text.items ≡ script_text schedule.now) }
-    ensures read_back { IsPrintable schedule.now → IfOk result (λ text. schedule_of text.items ≡ Ok schedule.now) }
+    ensures read_back { (scale : ScaleValue) → IsPrintable scale schedule.now → IfOk result (λ text. schedule_of scale text.items ≡ Ok schedule.now) }
 {
     let mut out = Vec::new(alloc);
     put_schedule(&mut out, schedule)?;

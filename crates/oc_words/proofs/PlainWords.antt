@@ -20,10 +20,10 @@ use Rattle.oc_base.specs.declared.why.Why.TheVariants.{Number, Range, Word}
 use Rattle.oc_words.specs.Arguments.{IsNoFlag}
 use Rattle.oc_words.specs.Command.{bare_command, check_shape, command, gen_shape, get_shape, node_shape, put_shape, replay_shape, rules_shape}
 use Rattle.oc_words.specs.Requests.{download_in, id_in, log_by, member_in, sample_in, service_in, start_in, times_in, turns_in}
-use Rattle.oc_words.specs.Words.{IsPlain, plain_replay, plain_summary, plain_file, plain_gen, plain_endless, plain_placed, plain_node, plain_probing, plain_logging, plain_check, plain_configured, plain_configured_there, plain_checked, plain_get, plain_follow, plain_from, plain_get_as, plain_get_told, plain_put, plain_append, plain_resume, plain_seal, plain_append_seal, plain_resume_seal, plain_put_as, plain_put_told, plain_rules, plain_listed, plain_version}
+use Rattle.oc_words.specs.Words.{IsPlain, plain_replay, plain_summary, plain_large, plain_large_file, plain_file, plain_gen, plain_endless, plain_placed, plain_node, plain_probing, plain_logging, plain_check, plain_configured, plain_configured_there, plain_checked, plain_get, plain_follow, plain_from, plain_get_as, plain_get_told, plain_put, plain_append, plain_resume, plain_seal, plain_append_seal, plain_resume_seal, plain_put_as, plain_put_told, plain_rules, plain_listed, plain_version}
 use Rattle.oc_words.specs.Words.{asked, asked_by, asking, check_at, check_in, node_at, put_at, request_by, verdict_among, verdict_of}
 use Rattle.oc_words.specs.declared.request.Download.{Download}
-use Rattle.oc_words.specs.declared.request.LogWord.TheVariants.{Inputs, Brief}
+use Rattle.oc_words.specs.declared.request.LogWord.TheVariants.{Inputs, Record, Brief}
 use Rattle.oc_words.specs.declared.request.Member.{Member}
 use Rattle.oc_words.specs.declared.request.Onto.TheVariants.{New, Append, Resume}
 use Rattle.oc_words.specs.declared.request.Invocation.{Invocation}
@@ -172,11 +172,12 @@ no_service : (id : Result ℕ Why) (log : Text) → log_by log ≡ Err Word
 no_service (Err why) log is = refl
 no_service (Ok x) log is = ap (λ said. result_ok (asking (node_at None None) (said >>= λ word. Ok (record { id = x; turns = ENDLESS; probes = false; log = word })))) is
 
-pub asked_unknown_log : (id log : Text) → IsNoFlag id → IsNoFlag log → log ≢ codes "inputs" → log ≢ codes "brief"
+pub asked_unknown_log : (id log : Text) → IsNoFlag id → IsNoFlag log → log ≢ codes "inputs" → log ≢ codes "record" → log ≢ codes "brief"
     → asked (codes "node" ∷ id ∷ codes "--log" ∷ log ∷ []) ≡ None
-asked_unknown_log id log i l inputs brief =
+asked_unknown_log id log i l inputs record_word brief =
     let neither : log_by log ≡ Err Word =
-    ap (λ b. cond b (Ok Inputs) (cond (bytes_eq log (codes "brief")) (Ok Brief) (Err Word))) (bytes_differ log (codes "inputs") inputs)
+    ap (λ b. cond b (Ok Inputs) (cond (bytes_eq log (codes "record")) (Ok Record) (cond (bytes_eq log (codes "brief")) (Ok Brief) (Err Word)))) (bytes_differ log (codes "inputs") inputs)
+    ∙ ap (λ b. cond b (Ok Record) (cond (bytes_eq log (codes "brief")) (Ok Brief) (Err Word))) (bytes_differ log (codes "record") record_word)
     ∙ ap (λ b. cond b (Ok Brief) (Err Word)) (bytes_differ log (codes "brief") brief) in
     asked_by_log id log i l ∙ no_service (id_in id) log neither
 
@@ -227,7 +228,7 @@ pub asked_by_version : asked (codes "--version" ∷ []) ≡ Some Version
 unfolding asked verdict_of command clap_on_literals
 asked_by_version = refl
 
-pub asked_by_file : (file : Text) → IsNoFlag file → asked (codes "replay" ∷ file ∷ []) ≡ Some (Replay false (Some file))
+pub asked_by_file : (file : Text) → IsNoFlag file → asked (codes "replay" ∷ file ∷ []) ≡ Some (Replay false false (Some file))
 unfolding command clap_on_literals
 asked_by_file file f = row_asks (codes "replay") (built_of replay_shape) (free file ∷ []) (f, tt) refl refl refl
 
@@ -235,13 +236,27 @@ pub asked_by_listed : (config : Text) → IsNoFlag config → asked (codes "rule
 unfolding command clap_on_literals
 asked_by_listed config c = row_asks (codes "rules") (built_of rules_shape) (fixed (codes "--config") ∷ free config ∷ []) (tt, (c, tt)) refl refl refl
 
-pub asked_by_replay : asked (codes "replay" ∷ []) ≡ Some (Replay false None)
+pub asked_by_replay : asked (codes "replay" ∷ []) ≡ Some (Replay false false None)
 unfolding asked verdict_of command clap_on_literals
 asked_by_replay = refl
 
-pub asked_by_summary : asked (codes "replay" ∷ codes "--summary" ∷ []) ≡ Some (Replay true None)
+pub asked_by_summary : asked (codes "replay" ∷ codes "--summary" ∷ []) ≡ Some (Replay false true None)
 unfolding asked verdict_of command clap_on_literals
 asked_by_summary = refl
+
+pub asked_by_large : asked (codes "replay" ∷ codes "--large" ∷ codes "--summary" ∷ []) ≡ Some (Replay true true None)
+unfolding asked verdict_of command clap_on_literals
+asked_by_large = refl
+
+pub asked_by_large_file : (file : Text) → IsNoFlag file
+    → asked (codes "replay" ∷ codes "--large" ∷ codes "--summary" ∷ file ∷ []) ≡ Some (Replay true true (Some file))
+unfolding command clap_on_literals
+asked_by_large_file file f =
+    row_asks (codes "replay") (built_of replay_shape) (fixed (codes "--large") ∷ fixed (codes "--summary") ∷ free file ∷ []) (tt, (tt, (f, tt))) refl refl refl
+
+pub asked_unsummed : asked (codes "replay" ∷ codes "--large" ∷ []) ≡ None
+unfolding asked verdict_of command clap_on_literals
+asked_unsummed = refl
 
 pub asked_by_rules : asked (codes "rules" ∷ []) ≡ Some (Rules None)
 unfolding asked verdict_of command clap_on_literals
@@ -317,6 +332,8 @@ something words row request is asks = λ none. let asks_too : asked words ≡ So
 pub plain_asks : (words : List Text) → IsPlain words → asked words ≢ None
 plain_asks words (plain_replay is) = something words _ _ is asked_by_replay
 plain_asks words (plain_summary is) = something words _ _ is asked_by_summary
+plain_asks words (plain_large is) = something words _ _ is asked_by_large
+plain_asks words (plain_large_file file is f) = something words _ _ is (asked_by_large_file file f)
 plain_asks words (plain_file file is f) = something words _ _ is (asked_by_file file f)
 plain_asks words (plain_rules is) = something words _ _ is asked_by_rules
 plain_asks words (plain_listed config is c) = something words _ _ is (asked_by_listed config c)

@@ -6,12 +6,11 @@ use Rattle.clap.specs.Words.{Row, Text, first_of}
 use Rattle.oc_base.specs.Steps.{◌>>=◌}
 use Rattle.oc_base.specs.declared.why.Why.{Why}
 use Rattle.oc_base.specs.declared.why.Why.TheVariants.{Count}
-use Rattle.oc_words.specs.Requests.{download_in, member_without, onto_in, sample_in, service_in}
+use Rattle.oc_words.specs.Requests.{download_in, member_without, onto_in, replay_in, sample_in, service_in}
 use Rattle.oc_words.specs.declared.request.Download.{Download}
 use Rattle.oc_words.specs.declared.request.Member.{Member}
 use Rattle.oc_words.specs.declared.request.Paths.{Paths}
 use Rattle.oc_words.specs.declared.request.Invocation.{Invocation}
-use Rattle.oc_words.specs.declared.request.Invocation.TheVariants.{Replay}
 use Rattle.oc_words.specs.declared.request.Sample.{Sample}
 use Rattle.oc_words.specs.declared.request.Service.{Service}
 use Rattle.oc_words.specs.declared.request.Upload.{Upload}
@@ -37,8 +36,8 @@ sample_of rows = do
   sample_in seed_word nodes_word events_word
 
 -- what the arguments of `replay` ask for
-abbrev pub replay_of : List Row → Invocation
-replay_of rows = Replay (is_flagged (codes "summary") rows) (first_of (codes "FILE") rows)
+abbrev pub replay_of : List Row → Result Invocation Why
+replay_of rows = replay_in (is_flagged (codes "large") rows) (is_flagged (codes "summary") rows) (first_of (codes "FILE") rows)
 
 -- what the arguments of `node` ask for
 abbrev pub service_of : List Row → Result Service Why

@@ -37,9 +37,9 @@ optional_rule id = new_rule id
 abbrev pub with_argument : Shape → Rule → Shape
 with_argument shape rule = record shape { rules = shape.rules ++ rule ∷ [] }
 
--- `replay` and `replay FILE`, with the flag `--summary`
+-- `replay` and `replay FILE`, with the flags `--summary` and `--large`
 abbrev pub replay_shape : Shape
-replay_shape = record (new_shape (codes "replay")) { rules = flag_rule (codes "summary") ∷ optional_rule (codes "FILE") ∷ [] }
+replay_shape = record (new_shape (codes "replay")) { rules = flag_rule (codes "summary") ∷ flag_rule (codes "large") ∷ optional_rule (codes "FILE") ∷ [] }
 
 -- `gen SEED NODES EVENTS`
 abbrev pub gen_shape : Shape

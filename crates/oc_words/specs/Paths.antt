@@ -11,7 +11,7 @@ node_of request = None
 
 -- the file that takes the place of the input
 abbrev pub file_of : Invocation → Option Text
-file_of (Replay summary file) = file
+file_of (Replay large summary file) = file
 file_of (Node service paths) = paths.config
 file_of (CheckConfigured id paths) = paths.config
 file_of (Rules config) = config

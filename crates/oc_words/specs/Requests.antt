@@ -1,5 +1,5 @@
 -- What the words of each command ask for.
-use Rattle.std.specs.Prelude.{◌≡◌, ℕ, ◌-◌, ◌^◌, ◌≤◌, ◌⊎◌, min, Bool, true, false, if◌then◌else◌, Option, Some, None, Result, Ok, Err, List, codes}
+use Rattle.std.specs.Prelude.{◌≡◌, ℕ, ◌-◌, ◌^◌, ◌≤◌, ◌⊎◌, min, Bool, true, false, not, ◌&&◌, if◌then◌else◌, Option, Some, None, Result, Ok, Err, List, codes}
 use Rattle.std.specs.Option.{ForSome}
 use Rattle.std.specs.Str.{bytes_eq}
 use Rattle.oc_base.specs.Steps.{◌>>=◌}
@@ -8,14 +8,22 @@ use Rattle.oc_base.specs.declared.limits.TheConstants.{MAX_CHAIN, MAX_NODES, MAX
 use Rattle.oc_base.specs.declared.why.Why.{Why}
 use Rattle.oc_base.specs.declared.why.Why.TheVariants.{Count, Word}
 use Rattle.oc_words.specs.declared.request.Download.{Download}
+use Rattle.oc_words.specs.declared.request.Invocation.{Invocation}
+use Rattle.oc_words.specs.declared.request.Invocation.TheVariants.{Replay}
 use Rattle.oc_words.specs.declared.request.LogWord.{LogWord}
-use Rattle.oc_words.specs.declared.request.LogWord.TheVariants.{Inputs, Brief}
+use Rattle.oc_words.specs.declared.request.LogWord.TheVariants.{Inputs, Record, Brief}
 use Rattle.oc_words.specs.declared.request.Member.{Member}
 use Rattle.oc_words.specs.declared.request.Onto.{Onto}
 use Rattle.oc_words.specs.declared.request.Onto.TheVariants.{New, Append, Resume}
 use Rattle.oc_words.specs.declared.request.Sample.{Sample}
 use Rattle.oc_words.specs.declared.request.Service.{Service}
 use Rattle.oc_words.specs.declared.request.TheConstants.{ENDLESS, MAX_EVENTS, MAX_FOLLOWED, MAX_TURNS}
+
+-- ---- `replay`
+
+-- a large schedule is summed up
+abbrev pub replay_in : Bool → Bool → Option (List ℕ) → Result Invocation Why
+replay_in large summary file = if large && not summary then Err Count else Ok (Replay large summary file)
 
 -- ---- `gen SEED NODES EVENTS`
 
@@ -45,9 +53,13 @@ turns_in (Some word) = number_in 0 MAX_TURNS word
 abbrev pub id_in : List ℕ → Result ℕ Why
 id_in word = number_in 0 (2 ^ 64 - 1) word
 
--- what is written of inputs, by one of two words
+-- what is written of inputs, by one of three words
 abbrev pub log_by : List ℕ → Result LogWord Why
-log_by word = if bytes_eq word (codes "inputs") then Ok Inputs else if bytes_eq word (codes "brief") then Ok Brief else Err Word
+log_by word =
+    if bytes_eq word (codes "inputs") then Ok Inputs
+    else if bytes_eq word (codes "record") then Ok Record
+    else if bytes_eq word (codes "brief") then Ok Brief
+    else Err Word
 
 abbrev pub log_in : Option (List ℕ) → Result LogWord Why
 log_in None = Ok Inputs

@@ -16,7 +16,7 @@ use Rattle.oc_words.specs.declared.request.Download.{Download}
 use Rattle.oc_words.specs.declared.request.Member.{Member}
 use Rattle.oc_words.specs.declared.request.Onto.{Onto}
 use Rattle.oc_words.specs.declared.request.Invocation.{Invocation}
-use Rattle.oc_words.specs.declared.request.Invocation.TheVariants.{Gen, Node, Check, CheckConfigured, Get, Put, Rules, Help, Version}
+use Rattle.oc_words.specs.declared.request.Invocation.TheVariants.{Replay, Gen, Node, Check, CheckConfigured, Get, Put, Rules, Help, Version}
 use Rattle.oc_words.specs.declared.request.Sample.{Sample}
 use Rattle.oc_words.specs.declared.request.Service.{Service}
 use Rattle.oc_words.specs.declared.words.WordsFault.{WordsFault}
@@ -104,7 +104,7 @@ put_of rows = asking Put (upload_of rows)
 -- what a subcommand that is no client's asks for
 abbrev pub other_by : Text → List Row → Result Invocation Why
 other_by name rows =
-    if bytes_eq name (codes "replay") then Ok (replay_of rows)
+    if bytes_eq name (codes "replay") then replay_of rows
     else if bytes_eq name (codes "gen") then asking Gen (sample_of rows)
     else if bytes_eq name (codes "node") then node_of rows
     else if bytes_eq name (codes "check") then check_of rows
@@ -139,6 +139,8 @@ asked words = asked_by (verdict_of words) (subcommand_of command words)
 pub data IsPlain (words : List Text) : Type 0 where
   plain_replay : words ≡ codes "replay" ∷ [] → IsPlain words
   plain_summary : words ≡ codes "replay" ∷ codes "--summary" ∷ [] → IsPlain words
+  plain_large : words ≡ codes "replay" ∷ codes "--large" ∷ codes "--summary" ∷ [] → IsPlain words
+  plain_large_file : (file : Text) → words ≡ codes "replay" ∷ codes "--large" ∷ codes "--summary" ∷ file ∷ [] → IsNoFlag file → IsPlain words
   plain_file : (file : Text) → words ≡ codes "replay" ∷ file ∷ [] → IsNoFlag file → IsPlain words
   plain_gen : (seed nodes events : Text) (sample : Sample) → words ≡ codes "gen" ∷ seed ∷ nodes ∷ events ∷ []
       → sample_in seed nodes events ≡ Ok sample → IsPlain words
@@ -195,8 +197,9 @@ module _ {Z : Type 0} where
 abbrev pub Answers : {A : Type 0} → Option A → Result A WordsFault → Type 0
 Answers asked result = (result ≡ ok_or asked Usage) ⊎ (result ≡ Err Memory)
 
--- the numbers of a request are within their ranges
+-- the numbers of a request are within their ranges, and a large schedule is summed up
 abbrev pub IsRequest : Invocation → Type 0
+IsRequest (Replay large summary file) = large ≡ true → summary ≡ true
 IsRequest (Gen sample) = IsSample sample
 IsRequest (Node service paths) = IsService service
 IsRequest (Check member folder) = IsMember member

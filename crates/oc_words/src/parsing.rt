@@ -69,6 +69,8 @@ fn log_by(word: &str) -> Result<LogWord, Why>
 {
     if word == "inputs" {
         Ok(LogWord::Inputs)
+    } else if word == "record" {
+        Ok(LogWord::Record)
     } else if word == "brief" {
         Ok(LogWord::Brief)
     } else {

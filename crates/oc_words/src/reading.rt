@@ -4,7 +4,7 @@ ghost use Rattle.std.specs.Result.{result_ok};
 ghost use Rattle.clap.specs.Words.{found_of, rows_of};
 ghost use Rattle.oc_words.specs.Requests.{IsDownload, IsMember, IsSample, IsService};
 ghost use Rattle.oc_words.specs.Arguments.{download_of, member_of, paths_of, replay_of, sample_of, service_of, upload_of};
-ghost use Rattle.oc_words.specs.Words.{Answers};
+ghost use Rattle.oc_words.specs.Words.{Answers, IsRequest};
 
 use crate::arguments::{copied, given, is_flagged, word};
 use crate::parsing::{member_without, onto_in, sample_in, service_in, start_in, times_in};
@@ -47,11 +47,18 @@ pub(crate) fn paths_of(alloc: Global, matches: &ArgMatches<'_>) -> Result<Paths,
 }
 
 /// What the arguments of `replay` ask for.
-pub(crate) fn replay_of(alloc: Global, matches: &ArgMatches<'_>) -> Result<Invocation, AllocError>
-    ensures { IfOk result (λ request. request ≡ replay_of (rows_of (found_of matches.now))) }
+pub(crate) fn replay_of(alloc: Global, matches: &ArgMatches<'_>) -> Result<Invocation, WordsFault>
+    ensures answers { Answers (result_ok (replay_of (rows_of (found_of matches.now)))) result }
+    ensures range { IfOk result IsRequest }
 {
+    let large = is_flagged(matches, "large");
+    let summary = is_flagged(matches, "summary");
+    if large && !summary {
+        return Err(WordsFault::Usage);
+    }
     Ok(Invocation::Replay {
-        summary: is_flagged(matches, "summary"),
+        large,
+        summary,
         file: copied(alloc, matches, "FILE")?,
     })
 }

@@ -18,8 +18,13 @@ pub const MAX_FOLLOWED: u64 = 1_000_000;
 /// What the words ask for.
 #[derive(Debug, Drop)]
 pub enum Invocation {
-    /// To play the schedule in this file, or on the input, and write its report or its summary.
-    Replay { summary: bool, file: Option<Name> },
+    /// To play the schedule in this file, or on the input, and write its report or its summary. Of a large
+    /// schedule it is the summary.
+    Replay {
+        large: bool,
+        summary: bool,
+        file: Option<Name>,
+    },
     /// To write the schedule that follows from a seed.
     Gen(Sample),
     /// To run a node.
@@ -164,6 +169,8 @@ pub struct Service {
 pub enum LogWord {
     /// `inputs`: a line for each.
     Inputs,
+    /// `record`: a line for each, before its frame.
+    Record,
     /// `brief`: what people and log collectors are told.
     Brief,
 }

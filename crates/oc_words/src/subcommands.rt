@@ -8,12 +8,13 @@ use crate::arguments::{flag, option, optional, required};
 use clap::{Arg, Command};
 use std::alloc::{AllocError, Global};
 
-/// `replay` and `replay FILE`, with the flag `--summary`.
+/// `replay` and `replay FILE`, with the flags `--summary` and `--large`.
 pub(crate) fn replay_command<'a>(alloc: Global) -> Result<Command<'a>, AllocError>
     ensures { IfOk result (IsSubcommand replay_shape) }
 {
     let one = with(named(alloc, "replay"), flag(alloc, "summary"));
-    with(one, optional(alloc, "FILE"))
+    let two = with(one, flag(alloc, "large"));
+    with(two, optional(alloc, "FILE"))
 }
 
 /// `gen SEED NODES EVENTS`.

@@ -125,7 +125,7 @@ fn other_by(alloc: Global, name: &str, arguments: &ArgMatches<'_>) -> Result<Inv
     ensures range { IfOk result IsRequest }
 {
     if name == "replay" {
-        Ok(replay_of(alloc, arguments)?)
+        replay_of(alloc, arguments)
     } else if name == "gen" {
         Ok(Invocation::Gen(sample_of(arguments)?))
     } else if name == "node" {
@@ -204,8 +204,8 @@ fn answer_to(kind: ErrorKind) -> Result<Invocation, WordsFault>
 /// What the words of each row of the table of commands ask for. Words that do not begin with `-` go to the
 /// arguments in their order, and ask for what these say.
 pub fn rows_ask()
-    ensures replaying { asked (codes "replay" ∷ []) ≡ Some (Invocation.Replay false None) }
-    ensures summing { asked (codes "replay" ∷ codes "--summary" ∷ []) ≡ Some (Invocation.Replay true None) }
+    ensures replaying { asked (codes "replay" ∷ []) ≡ Some (Invocation.Replay false false None) }
+    ensures summing { asked (codes "replay" ∷ codes "--summary" ∷ []) ≡ Some (Invocation.Replay false true None) }
     ensures listing { asked (codes "rules" ∷ []) ≡ Some (Invocation.Rules None) }
     ensures generating { (seed nodes events : Text) → IsNoFlag seed → IsNoFlag nodes → IsNoFlag events
         → asked (codes "gen" ∷ seed ∷ nodes ∷ events ∷ [])
@@ -233,7 +233,7 @@ pub fn rows_ask()
 pub fn places_ask()
     ensures versioned { asked (codes "--version" ∷ []) ≡ Some Invocation.Version }
     ensures replaying { (file : Text) → IsNoFlag file
-        → asked (codes "replay" ∷ file ∷ []) ≡ Some (Invocation.Replay false (Some file)) }
+        → asked (codes "replay" ∷ file ∷ []) ≡ Some (Invocation.Replay false false (Some file)) }
     ensures listing { (config : Text) → IsNoFlag config
         → asked (codes "rules" ∷ codes "--config" ∷ config ∷ []) ≡ Some (Invocation.Rules (Some config)) }
     ensures serving { (id : Text) → IsNoFlag id
@@ -286,13 +286,21 @@ pub fn clients_ask()
         ≡ result_ok (asking Invocation.Get (download_in url None None None true)) }
 {}
 
-/// What words ask for that say what a node writes of its inputs: one of two words, once.
+/// What words ask for that say what a node writes of its inputs: one of three words, once.
 pub fn logs_ask()
     ensures logging { (id log : Text) → IsNoFlag id → IsNoFlag log
         → asked (codes "node" ∷ id ∷ codes "--log" ∷ log ∷ [])
         ≡ result_ok (asking (node_at None None) (service_in id None false (Some log))) }
-    ensures unknown { (id log : Text) → IsNoFlag id → IsNoFlag log → log ≢ codes "inputs" → log ≢ codes "brief"
+    ensures unknown { (id log : Text) → IsNoFlag id → IsNoFlag log → log ≢ codes "inputs" → log ≢ codes "record" → log ≢ codes "brief"
         → asked (codes "node" ∷ id ∷ codes "--log" ∷ log ∷ []) ≡ None }
     ensures said_twice { (id one other : Text) → IsNoFlag id → IsNoFlag one → IsNoFlag other
         → asked (codes "node" ∷ id ∷ codes "--log" ∷ one ∷ codes "--log" ∷ other ∷ []) ≡ None }
+{}
+
+/// What words ask for that play a large schedule: it is summed up.
+pub fn large_ask()
+    ensures large { asked (codes "replay" ∷ codes "--large" ∷ codes "--summary" ∷ []) ≡ Some (Invocation.Replay true true None) }
+    ensures large_file { (file : Text) → IsNoFlag file
+        → asked (codes "replay" ∷ codes "--large" ∷ codes "--summary" ∷ file ∷ []) ≡ Some (Invocation.Replay true true (Some file)) }
+    ensures unsummed { asked (codes "replay" ∷ codes "--large" ∷ []) ≡ None }
 {}

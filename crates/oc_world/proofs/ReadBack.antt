@@ -9,7 +9,7 @@ use Rattle.std.proofs.lemmas.Fmt.{digits_decimal, length-decimal-le}
 use Rattle.std.proofs.lemmas.List.{append_assoc}
 use Rattle.oc_base.specs.declared.limits.TheConstants.{MAX_NODES}
 use Rattle.oc_http.specs.Writing.{IsHost, is_host_byte, line_end, type_line, request_text}
-use Rattle.oc_http.proofs.Numbers.{numerals}
+use Rattle.oc_base.proofs.Numerals.{numerals}
 use Rattle.oc_http.proofs.Tests.{list_all-weaker}
 use Rattle.oc_model.specs.declared.message.Message.{Message}
 use Rattle.oc_model.specs.Lawful.{IsMessage}

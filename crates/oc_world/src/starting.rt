@@ -2,6 +2,7 @@
 
 ghost use Rattle.std.specs.Prelude.{◌≡◌, IfOk};
 ghost use Rattle.oc_base.specs.Lawful.{IsNode};
+ghost use Rattle.oc_keep.specs.Errors.{IsOutOfMemory};
 ghost use Rattle.oc_keep.specs.Files.{AreHonest, AreReliable, disks_in};
 ghost use Rattle.oc_keep.specs.KeptView.{header, node_of};
 ghost use Rattle.oc_keep.specs.Promises.{HoldFiles};
@@ -12,7 +13,7 @@ ghost use Rattle.oc_world.specs.ProcessState.{IsRunning};
 use crate::network::Network;
 use oc_base::{Memory, NodeId};
 use oc_io::Disk;
-use oc_keep::{Files, KeepLoad, Kept, Seat};
+use oc_keep::{FileError, Files, KeepLoad, Kept, Seat};
 use std::alloc::Global;
 
 /// The node that these files recover. Files of a node on disks that do not fail are refused only where memory
@@ -55,10 +56,10 @@ fn copy_of(alloc: Global, areas: &[u8]) -> Result<Vec<u8>, Memory>
 
 /// The one refusal of files of a node on disks that do not fail.
 fn wanting(error: KeepLoad) -> Memory
-    requires { error ≡ KeepLoad.Memory }
+    requires { IsOutOfMemory error }
 {
-    match error {
-        KeepLoad::Memory => Memory,
-        KeepLoad::Disk | KeepLoad::NotJournal(_) | KeepLoad::BadFrame(_, _) => unreachable!(),
+    match error.cause() {
+        FileError::Memory => Memory,
+        FileError::Disk | FileError::NotJournal | FileError::BadFrame(_) => unreachable!(),
     }
 }

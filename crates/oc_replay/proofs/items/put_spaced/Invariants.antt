@@ -6,4 +6,4 @@ use Rattle.oc_replay.proofs.items.put_spaced.Given as goal
 
 abbrev pub invariant-loop-item : goal.invariant-loop-item
 invariant-loop-item g l =
-    l.out.items ++ flat_map (λ y. codes " " ++ g.I.Item.text y) (drop l.item-index l.rest) ≡ l.fn.out.items ++ spaced g.I.Item.text l.items
+    l.out.items ++ flat_map (λ y. codes " " ++ g.I.ListItem.text y) (drop l.item-index l.rest) ≡ l.fn.out.items ++ spaced g.I.ListItem.text l.items

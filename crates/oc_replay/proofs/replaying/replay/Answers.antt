@@ -5,6 +5,7 @@ use Rattle.oc_replay.specs.Ends.{IfLimit, IfText, OnDone, OnMemory, OnRefusal, O
 use Rattle.oc_replay.specs.declared.end.ReplayEnd.{ReplayEnd}
 use Rattle.oc_replay.specs.declared.fault.ReportFault.{ReportFault}
 use Rattle.oc_replay.specs.declared.fault.ReportFault.TheVariants.{Sink, Memory}
+use Rattle.oc_replay.proofs.Opened.{as_large}
 use Rattle.oc_replay.proofs.replaying.replay.Goals as goal
 
 -- a report that failed is no end but at the sink, or for want of memory
@@ -63,3 +64,7 @@ pub returns-clause-memory : goal.returns-clause-memory
 returns-clause-memory g c =
     on_memory c.in-Err-play.fault c.from.result c.from.ensures
     (λ is. inr (_, c.in-Ok.ensures.input, c.play.ensures.memory (c.in-Err-play.is ∙ ap (λ (fault : ReportFault). Err fault) is)))
+
+-- what was read may be played, whatever its scale
+pub play-requires : goal.play-requires
+play-requires g c = as_large c.args.scale _ c.in-Ok.ensures.lawful

@@ -6,7 +6,7 @@ use Rattle.oc_schedule.proofs.schedule_text.read_lines.Given as goal
 
 -- what is left of the text gives what the whole of it gives
 abbrev pub invariant-lines : goal.invariant-lines
-invariant-lines l = read_lines l.number (script_of l.builder) (lines l.rest) ≡ read_lines 1 None (lines l.bytes)
+invariant-lines l = read_lines l.scale l.number (script_of l.builder) (lines l.rest) ≡ read_lines l.scale 1 None (lines l.bytes)
 
 abbrev pub decreases-lines : goal.decreases-lines
 decreases-lines l = length l.rest

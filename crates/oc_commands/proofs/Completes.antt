@@ -18,7 +18,7 @@ use Rattle.oc_commands.specs.AtGet.{Downloaded}
 use Rattle.oc_commands.specs.declared.network.Network.{Network}
 use Rattle.oc_commands.specs.AtCheck.{HappenedAtCheck, network_of}
 use Rattle.oc_commands.specs.Complete.{IsDoneOrMemory, IsServed, once, plainly}
-use Rattle.oc_commands.specs.Ends.{status_of, status_of_check, status_of_get, status_of_load}
+use Rattle.oc_commands.specs.Ends.{status_of, status_of_cause, status_of_check, status_of_get}
 use Rattle.oc_commands.specs.Outside.{Input, OnError, OnFiles, OnLink, OnNode, OnStage, Output, at_files, at_link}
 use Rattle.oc_commands.specs.Run.{Happened}
 use Rattle.oc_words.specs.Status.{number_of}
@@ -44,7 +44,7 @@ module _ {D : Type 0} (view : D → DiskView) (old new : Disks D) (output : Outp
   check_done n id checks.Done files h = inl refl
   check_done n id checks.Sink files h = let (text, shows, cut) = h.0 in absurd (sound _ cut.1)
   check_done n id (checks.Load error) files h =
-      inr (ap (λ e. number_of (status_of_load e)) (only_memory view n.nodes old new honest files unfailed error h.0.0))
+      inr (ap (λ e. number_of (status_of_cause e)) (only_memory view n.nodes old new honest files unfailed error h.0.0))
 
   pub checked : (input : Input) (error : OnError) (stage : OnStage) (link : OnLink) (token : Input) (node : OnNode) (asked : Option Invocation) (m : Member) (f : Option (List ℕ)) (end : End) → asked ≡ Some (Check m f) → HoldFiles view m.nodes old
       → Happened (record { asked = asked; input = input; output = output; error = error; stage = stage; files = at_files view old new; link = link; token = token; node = node }) end
@@ -55,7 +55,7 @@ module _ {D : Type 0} (view : D → DiskView) (old new : Disks D) (output : Outp
   checked input error stage link token node asked m f VersionFailed is files h = let also = h.0 in cc
   checked input error stage link token node asked m f Misused is files h = let also = h.0 in cc
   checked input error stage link token node asked m f NoMemory is files h = inr refl
-  checked input error stage link token node asked m f (Replayed end) is files h = let also = h.0.2 in cc
+  checked input error stage link token node asked m f (Replayed large end) is files h = let also = h.0.2 in cc
   checked input error stage link token node asked m f (Generated end) is files h = let also = h.0.1 in cc
   checked input error stage link token node asked m f (Listed end) is files h = let also = h.0.1 in cc
   checked input error stage link token node asked m f (Checked end) is files h =
@@ -92,7 +92,7 @@ module _ {L : Type 0} (story : L → Option Story) (faults : L → ℕ) (old new
   fetched input error stage files token node asked address start progress VersionFailed is s h = let also = h.0 in cc
   fetched input error stage files token node asked address start progress Misused is s h = let also = h.0 in cc
   fetched input error stage files token node asked address start progress NoMemory is s h = inr refl
-  fetched input error stage files token node asked address start progress (Replayed end) is s h = let also = h.0.2 in cc
+  fetched input error stage files token node asked address start progress (Replayed large end) is s h = let also = h.0.2 in cc
   fetched input error stage files token node asked address start progress (Generated end) is s h = let also = h.0.1 in cc
   fetched input error stage files token node asked address start progress (Listed end) is s h = let also = h.0.1 in cc
   fetched input error stage files token node asked address start progress (Checked end) is s h = let also = h.0.2 in cc

@@ -1,5 +1,5 @@
 -- What had happened leaves `check` of a node of a configuration the status of that, where nothing fails.
-use Rattle.std.proofs.Common.{◌≡◌, ℕ, ◌⊎◌, inl, inr, refl, sym, subst, List, length, Option, Some, Err, Ok, Result}
+use Rattle.std.proofs.Common.{◌≡◌, ◌∙◌, ℕ, ◌⊎◌, inl, inr, refl, sym, subst, List, length, Option, Some, Err, Ok, Result}
 use Rattle.oc_base.specs.Lawful.{IsNode}
 use Rattle.oc_keep.proofs.Complete.{only_memory}
 use Rattle.oc_config.specs.Reading.{settings_of}
@@ -9,13 +9,17 @@ use Rattle.oc_config.specs.declared.fault.ConfigFault.TheVariants as faults
 use Rattle.oc_io.specs.DiskView.{DiskView}
 use Rattle.oc_io.specs.Faults.{Rose}
 use Rattle.oc_keep.specs.Files.{Disks, AreHonest, OneRose}
-use Rattle.oc_keep.specs.declared.errors.KeepLoad.TheVariants as loads
+use Rattle.oc_keep.specs.FileError.{FileError}
+use Rattle.oc_keep.specs.FileError.TheVariants as causes
+use Rattle.oc_keep.specs.Errors.{cause_of}
+use Rattle.oc_keep.specs.Promises.{RefusesNode}
+use Rattle.oc_keep.specs.declared.errors.KeepLoad.{KeepLoad}
 use Rattle.oc_words.specs.declared.request.Paths.{Paths}
 use Rattle.oc_words.specs.declared.request.Invocation.{Invocation}
 use Rattle.oc_words.specs.declared.request.Invocation.TheVariants.{CheckConfigured as CheckRequest}
 use Rattle.oc_commands.specs.AtCheck.{HappenedAtCheck, network_in}
 use Rattle.oc_commands.specs.AtConfigured.{HappenedAtConfigured, HasShownStatus, IsShownOf, IsShownOver}
-use Rattle.oc_commands.specs.Ends.{status_of, status_of_check, status_of_configured}
+use Rattle.oc_commands.specs.Ends.{status_of, status_of_cause, status_of_check, status_of_configured}
 use Rattle.oc_commands.specs.Outside.{Input, OnError, OnLink, OnNode, OnStage, Output, at_files, at_source}
 use Rattle.oc_commands.specs.Run.{Happened}
 use Rattle.oc_words.specs.Status.{number_of}
@@ -36,18 +40,22 @@ same_id asked m n p q is also = cc
 
 module _ {S D : Type 0} (gives fails : S → List ℕ → S → Type 0) (ended : S → Type 0) (faulty : S → ℕ) (old new : S) (view : D → DiskView) (d e : Disks D) (output : Output)
     (honest : AreHonest view d) (unfailed : OneRose view d e → ⊥) (sourced : Rose (faulty old) (faulty new) → ⊥) (sound : IsSound output) where
+  -- where it was not loaded, by its cause
+  load_has : (s : Settings) (id : ℕ) (error : KeepLoad) (cause : FileError) → cause_of error ≡ cause → IsNode (length s.addresses) id → RefusesNode view (length s.addresses) d e error → IsShownOver view d s id (number_of (status_of_cause cause)) ⊎ (number_of (status_of_cause cause) ≡ 4)
+  load_has s id error causes.Disk is node h =
+      inl (inr (node, λ files. let also : causes.Disk ≡ causes.Memory = sym is ∙ only_memory view (length s.addresses) d e honest files unfailed error h in absurd cc))
+  load_has s id error causes.NotJournal is node h =
+      inl (inr (node, λ files. let also : causes.NotJournal ≡ causes.Memory = sym is ∙ only_memory view (length s.addresses) d e honest files unfailed error h in absurd cc))
+  load_has s id error (causes.BadFrame i) is node h =
+      inl (inr (node, λ files. let also : causes.BadFrame i ≡ causes.Memory = sym is ∙ only_memory view (length s.addresses) d e honest files unfailed error h in absurd cc))
+  load_has s id error causes.Memory is node h = inr refl
+
   -- over the files of a node
   check_has : (s : Settings) (id : ℕ) (end : CheckEnd) → IsNode (length s.addresses) id → HappenedAtCheck (at_files view d e) output (network_in s) id end
       → IsShownOver view d s id (number_of (status_of_check end)) ⊎ (number_of (status_of_check end) ≡ 4)
   check_has s id checks.Done node h = inl (inr (node, λ files. refl))
   check_has s id checks.Sink node h = let (text, shows, cut) = h.0 in absurd (sound _ cut.1)
-  check_has s id (checks.Load loads.Memory) node h = inr refl
-  check_has s id (checks.Load loads.Disk) node h =
-      inl (inr (node, λ files. let is : loads.Disk ≡ loads.Memory = only_memory view (length s.addresses) d e honest files unfailed loads.Disk h.0.0 in absurd cc))
-  check_has s id (checks.Load (loads.NotJournal which)) node h =
-      inl (inr (node, λ files. let is : loads.NotJournal which ≡ loads.Memory = only_memory view (length s.addresses) d e honest files unfailed (loads.NotJournal which) h.0.0 in absurd cc))
-  check_has s id (checks.Load (loads.BadFrame which i)) node h =
-      inl (inr (node, λ files. let is : loads.BadFrame which i ≡ loads.Memory = only_memory view (length s.addresses) d e honest files unfailed (loads.BadFrame which i) h.0.0 in absurd cc))
+  check_has s id (checks.Load error) node h = load_has s id error (cause_of error) refl node h.0.0
 
   -- by what all bytes of the input say
   told : (id : ℕ) (said : Result Settings ConfigFault) (status : ℕ) (bytes : List ℕ) → gives old bytes new → ended new → (line : ℕ) → settings_of line bytes ≡ said → IsShownOf view d id said status ⊎ (status ≡ 4)
@@ -81,7 +89,7 @@ module _ {S D : Type 0} (gives fails : S → List ℕ → S → Type 0) (ended :
   shown error stage link token node asked id p VersionFailed is h = let also = h.0 in cc
   shown error stage link token node asked id p Misused is h = let also = h.0 in cc
   shown error stage link token node asked id p NoMemory is h = inr refl
-  shown error stage link token node asked id p (Replayed end) is h = let also = h.0.2 in cc
+  shown error stage link token node asked id p (Replayed large end) is h = let also = h.0.2 in cc
   shown error stage link token node asked id p (Generated end) is h = let also = h.0.1 in cc
   shown error stage link token node asked id p (Listed end) is h = let also = h.0.1 in cc
   shown error stage link token node asked id p (Checked end) is h = let also = h.0.2 in cc

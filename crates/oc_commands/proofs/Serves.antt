@@ -1,5 +1,5 @@
 -- What had happened leaves `node` the status of its configuration, where nothing fails.
-use Rattle.std.proofs.Common.{◌≡◌, ℕ, ◌⊎◌, inl, inr, refl, sym, subst, List, length, Option, Some, Err, Ok, Result}
+use Rattle.std.proofs.Common.{◌≡◌, ◌∙◌, ℕ, ◌⊎◌, inl, inr, refl, sym, subst, List, length, Option, Some, Err, Ok, Result}
 use Rattle.oc_keep.proofs.Complete.{only_memory}
 use Rattle.oc_config.specs.Reading.{settings_of}
 use Rattle.oc_config.specs.Settings.{Settings}
@@ -10,7 +10,11 @@ use Rattle.oc_link.specs.declared.counts.LinkCounts.{LinkCounts}
 use Rattle.oc_io.specs.DiskView.{DiskView}
 use Rattle.oc_io.specs.Faults.{Rose}
 use Rattle.oc_keep.specs.Files.{Disks, AreHonest, OneRose}
-use Rattle.oc_keep.specs.declared.errors.KeepLoad.TheVariants as loads
+use Rattle.oc_keep.specs.FileError.{FileError}
+use Rattle.oc_keep.specs.FileError.TheVariants as causes
+use Rattle.oc_keep.specs.Errors.{cause_of}
+use Rattle.oc_keep.specs.Promises.{RefusesNode}
+use Rattle.oc_keep.specs.declared.errors.KeepLoad.{KeepLoad}
 use Rattle.oc_service.specs.OnSite.{NodeEnds, at_run, setting_of}
 use Rattle.oc_service.specs.declared.running.NodeEnd.{NodeEnd}
 use Rattle.oc_service.specs.declared.running.NodeEnd.TheVariants as nodes
@@ -20,7 +24,7 @@ use Rattle.oc_words.specs.declared.request.Invocation.{Invocation}
 use Rattle.oc_words.specs.declared.request.Invocation.TheVariants.{Node}
 use Rattle.oc_words.specs.declared.request.Service.{Service}
 use Rattle.oc_commands.specs.AtNode.{HappenedAtNode, HasNode, HasServiceStatus, IsStatusOf, IsStatusOver, task_of}
-use Rattle.oc_commands.specs.Ends.{status_of, status_of_run, status_of_service}
+use Rattle.oc_commands.specs.Ends.{status_of, status_of_cause, status_of_run, status_of_service}
 use Rattle.oc_commands.specs.Outside.{Input, OnError, OnLink, OnStage, Output, at_files, at_node, at_source}
 use Rattle.oc_commands.specs.Run.{Happened}
 use Rattle.oc_words.specs.Status.{number_of}
@@ -43,16 +47,20 @@ module _ {S D N : Type 0} (gives fails : S → List ℕ → S → Type 0) (ended
   abbrev OrMemory : (ℕ → Type 0) → ℕ → Type 0
   OrMemory P status = P status ⊎ (status ≡ 4)
 
+  -- where it was not loaded, by its cause
+  load_has : (s : Settings) (v : Service) (error : KeepLoad) (cause : FileError) → cause_of error ≡ cause → HasNode s v → RefusesNode view (length s.addresses) d e error → OrMemory (IsStatusOver view d s v) (number_of (status_of_cause cause))
+  load_has s v error causes.Disk is node h =
+      inl (inr (node, λ files. let also : causes.Disk ≡ causes.Memory = sym is ∙ only_memory view (length s.addresses) d e honest files unfailed error h in absurd cc))
+  load_has s v error causes.NotJournal is node h =
+      inl (inr (node, λ files. let also : causes.NotJournal ≡ causes.Memory = sym is ∙ only_memory view (length s.addresses) d e honest files unfailed error h in absurd cc))
+  load_has s v error (causes.BadFrame i) is node h =
+      inl (inr (node, λ files. let also : causes.BadFrame i ≡ causes.Memory = sym is ∙ only_memory view (length s.addresses) d e honest files unfailed error h in absurd cc))
+  load_has s v error causes.Memory is node h = inr refl
+
   -- over the files of a node
   run_has : (s : Settings) (v : Service) (end : NodeEnd) → HasNode s v → NodeEnds (at_run view story counts s (task_of v) d e link after) output.written output.cut_off (setting_of s (task_of v)) end
       → OrMemory (IsStatusOver view d s v) (number_of (status_of_run end))
-  run_has s v (nodes.Load loads.Memory) node h = inr refl
-  run_has s v (nodes.Load loads.Disk) node h =
-      inl (inr (node, λ files. let is : loads.Disk ≡ loads.Memory = only_memory view (length s.addresses) d e honest files unfailed loads.Disk h.0.0 in absurd cc))
-  run_has s v (nodes.Load (loads.NotJournal which)) node h =
-      inl (inr (node, λ files. let is : loads.NotJournal which ≡ loads.Memory = only_memory view (length s.addresses) d e honest files unfailed (loads.NotJournal which) h.0.0 in absurd cc))
-  run_has s v (nodes.Load (loads.BadFrame which i)) node h =
-      inl (inr (node, λ files. let is : loads.BadFrame which i ≡ loads.Memory = only_memory view (length s.addresses) d e honest files unfailed (loads.BadFrame which i) h.0.0 in absurd cc))
+  run_has s v (nodes.Load error) node h = load_has s v error (cause_of error) refl node h.0.0
   run_has s v (nodes.Turned turns.Served) node h = inl (inr (node, λ files. inl refl))
   run_has s v (nodes.Turned turns.Quiet) node h = absurd h
   run_has s v (nodes.Turned turns.Link) node (inl h) = absurd (waiting h.1.counted.listening)
@@ -94,7 +102,7 @@ module _ {S D N : Type 0} (gives fails : S → List ℕ → S → Type 0) (ended
   served error stage dialler token asked v p VersionFailed is h = let also = h.0 in cc
   served error stage dialler token asked v p Misused is h = let also = h.0 in cc
   served error stage dialler token asked v p NoMemory is h = inr refl
-  served error stage dialler token asked v p (Replayed end) is h = let also = h.0.2 in cc
+  served error stage dialler token asked v p (Replayed large end) is h = let also = h.0.2 in cc
   served error stage dialler token asked v p (Generated end) is h = let also = h.0.1 in cc
   served error stage dialler token asked v p (Listed end) is h = let also = h.0.1 in cc
   served error stage dialler token asked v p (Checked end) is h = let also = h.0.2 in cc

@@ -5,10 +5,12 @@ use Rattle.oc_replay.specs.declared.end.ReplayEnd.TheVariants as replays
 use Rattle.oc_config.specs.declared.fault.ConfigFault.TheVariants as faults
 use Rattle.oc_fetch.specs.declared.end.GetEnd.{GetEnd}
 use Rattle.oc_fetch.specs.declared.end.GetEnd.TheVariants as gets
-use Rattle.oc_keep.specs.declared.errors.KeepLoad.TheVariants as loads
+use Rattle.oc_keep.specs.FileError.{FileError}
+use Rattle.oc_keep.specs.FileError.TheVariants as causes
+use Rattle.oc_keep.specs.Errors.{cause_of}
 use Rattle.oc_put.specs.declared.end.PutEnd.{PutEnd}
 use Rattle.oc_put.specs.declared.end.PutEnd.TheVariants as puts
-use Rattle.oc_commands.specs.Ends.{status_of, status_of_check, status_of_configured, status_of_gen, status_of_get, status_of_put, status_of_replay, status_of_rules, status_of_service, status_of_token, status_of_turns}
+use Rattle.oc_commands.specs.Ends.{status_of, status_of_cause, status_of_check, status_of_configured, status_of_gen, status_of_get, status_of_put, status_of_replay, status_of_rules, status_of_service, status_of_token, status_of_turns}
 use Rattle.oc_commands.specs.Outside.{Outside}
 use Rattle.oc_commands.specs.Run.{Happened}
 use Rattle.oc_words.specs.Status.{number_of}
@@ -61,13 +63,17 @@ rules_are_other (lists.Config (configs.Fault faults.Memory)) is = absurd (omega 
 rules_are_other lists.Sink is = absurd (omega (arith, is))
 rules_are_other lists.Memory is = absurd (omega (arith, is))
 
+-- why a file was not loaded
+cause_is_other : (cause : FileError) → number_of (status_of_cause cause) ≡ 2 → ⊥
+cause_is_other causes.Disk is = absurd (omega (arith, is))
+cause_is_other causes.NotJournal is = absurd (omega (arith, is))
+cause_is_other (causes.BadFrame number) is = absurd (omega (arith, is))
+cause_is_other causes.Memory is = absurd (omega (arith, is))
+
 -- `check`
 check_is_other : (end : CheckEnd) → number_of (status_of_check end) ≡ 2 → ⊥
 check_is_other checks.Done is = absurd (omega (arith, is))
-check_is_other (checks.Load loads.Disk) is = absurd (omega (arith, is))
-check_is_other (checks.Load (loads.NotJournal which)) is = absurd (omega (arith, is))
-check_is_other (checks.Load (loads.BadFrame which number)) is = absurd (omega (arith, is))
-check_is_other (checks.Load loads.Memory) is = absurd (omega (arith, is))
+check_is_other (checks.Load error) is = cause_is_other (cause_of error) is
 check_is_other checks.Sink is = absurd (omega (arith, is))
 
 configured_is_other : (end : ConfiguredEnd) → number_of (status_of_configured end) ≡ 2 → ⊥
@@ -130,7 +136,7 @@ module _ (o : Outside) where
   only_misused VersionFailed is h = absurd (omega (arith, is))
   only_misused Misused is h = h.0
   only_misused NoMemory is h = absurd (omega (arith, is))
-  only_misused (Replayed end) is h = absurd (replay_is_other end is)
+  only_misused (Replayed large end) is h = absurd (replay_is_other end is)
   only_misused (Generated end) is h = absurd (gen_is_other end is)
   only_misused (Listed end) is h = absurd (rules_are_other end is)
   only_misused (Checked end) is h = absurd (check_is_other end is)

@@ -12,6 +12,7 @@ use Rattle.oc_replay.specs.declared.end.ReplayEnd.TheVariants as replays
 use Rattle.oc_schedule.specs.Script.{Script}
 use Rattle.oc_schedule.specs.declared.fault.ScheduleFault.{ScheduleFault}
 use Rattle.oc_schedule.specs.declared.fault.What.{What}
+use Rattle.oc_schedule.specs.declared.scale.Scale.{Scale}
 use Rattle.oc_words.specs.declared.request.Download.{Download}
 use Rattle.oc_commands.specs.declared.network.Network.{Network}
 use Rattle.oc_words.specs.declared.request.Invocation.{Invocation}
@@ -25,7 +26,7 @@ use Rattle.oc_commands.specs.AtGen.{HappenedAtGen}
 use Rattle.oc_commands.specs.AtGet.{Downloaded, HappenedAtGet, Tells as GetTells, Wrote, is_done as is_got}
 use Rattle.oc_commands.specs.AtNode.{HappenedAtNode, task_of}
 use Rattle.oc_commands.specs.AtPut.{Came, CameSo, HappenedAtPut, Published as Posted, Tells as PutTells, is_done as is_put, plan_of}
-use Rattle.oc_commands.specs.AtReplay.{HappenedAtReplay}
+use Rattle.oc_commands.specs.AtReplay.{HappenedAtReplay, scale_of}
 use Rattle.oc_commands.specs.AtRules.{HappenedAtRules}
 use Rattle.oc_commands.specs.AtToken.{ReadsToken, TakesToken}
 use Rattle.oc_commands.specs.Lines.{version_line}
@@ -56,8 +57,8 @@ use Rattle.oc_server.specs.declared.ends.TurnEnd.TheVariants as turns
 
 -- all that the first says of an input the second says too
 pub record TellsInput (i j : Input) : Type 0 where
-  pub says : (r : Result Script ScheduleFault) → i.says r → j.says r
-  pub passes : (what : What) → i.passes what → j.passes what
+  pub says : (scale : Scale) (r : Result Script ScheduleFault) → i.says scale r → j.says scale r
+  pub passes : (scale : Scale) (what : What) → i.passes scale what → j.passes scale what
   pub whole : (bytes : List ℕ) → i.whole bytes → j.whole bytes
   pub long : i.long → j.long
   pub failed : i.failed → j.failed
@@ -78,14 +79,14 @@ pub record TellsError (d e : OnError) : Type 0 where
 
 module _ (i j : Input) (o p : Output) (d e : OnError) (stage : OnStage) (input : TellsInput i j) (output : TellsOutput o p) (error : TellsError d e) where
   -- at the end of a replay
-  replay_told : (summary : Bool) (end : ReplayEnd) → HappenedAtReplay i o stage summary end → HappenedAtReplay j p stage summary end
-  replay_told summary replays.Done h = let (s, says, lawful, written, played, holds) = h in (s, input.says _ says, lawful, output.written _ written, played, holds)
-  replay_told summary (replays.Text line why) h = (input.says _ h.0, output.written _ h.1, h.2)
-  replay_told summary (replays.Limit what) h = (input.passes _ h.0, output.written _ h.1, h.2)
-  replay_told summary replays.Source h = (input.failed h.0, output.written _ h.1, h.2)
-  replay_told summary replays.Sink h = let (s, says, lawful, cut, played, holds) = h in (s, input.says _ says, lawful, (cut.0, output.cut_off _ cut.1), played, holds)
-  replay_told summary replays.Memory (inl h) = inl (input.came h.0, output.written _ h.1, h.2)
-  replay_told summary replays.Memory (inr h) = let (s, says, lawful, front, holds) = h in inr (s, input.says _ says, lawful, (front.0, output.written _ front.1), holds)
+  replay_told : (scale : Scale) (summary : Bool) (end : ReplayEnd) → HappenedAtReplay i o stage scale summary end → HappenedAtReplay j p stage scale summary end
+  replay_told scale summary replays.Done h = let (s, says, lawful, written, played, holds) = h in (s, input.says scale _ says, lawful, output.written _ written, played, holds)
+  replay_told scale summary (replays.Text line why) h = (input.says scale _ h.0, output.written _ h.1, h.2)
+  replay_told scale summary (replays.Limit what) h = (input.passes scale _ h.0, output.written _ h.1, h.2)
+  replay_told scale summary replays.Source h = (input.failed h.0, output.written _ h.1, h.2)
+  replay_told scale summary replays.Sink h = let (s, says, lawful, cut, played, holds) = h in (s, input.says scale _ says, lawful, (cut.0, output.cut_off _ cut.1), played, holds)
+  replay_told scale summary replays.Memory (inl h) = inl (input.came h.0, output.written _ h.1, h.2)
+  replay_told scale summary replays.Memory (inr h) = let (s, says, lawful, front, holds) = h in inr (s, input.says scale _ says, lawful, (front.0, output.written _ front.1), holds)
 
   -- at the end of `gen`
   gen_told : (sample : Sample) (end : GenEnd) → HappenedAtGen o sample end → HappenedAtGen p sample end
@@ -269,7 +270,7 @@ module _ (i j : Input) (o p : Output) (d e : OnError) (stage : OnStage) (input :
     happened_told VersionFailed h = let (a, cut, x, n) = h in (a, (cut.0, output.cut_off (take cut.0 version_line) cut.1), unplayed_told x, alone_told n)
     happened_told Misused h = let (a, written, x, n) = h in (a, output.written _ written, unplayed_told x, alone_told n)
     happened_told NoMemory h = let (written, x, n) = h in (output.written _ written, unplayed_told x, alone_told n)
-    happened_told (Replayed end) h = let ((summary, file, a, at), n) = h in ((summary, file, a, replay_told summary end at), alone_told n)
+    happened_told (Replayed large end) h = let ((summary, file, a, at), n) = h in ((summary, file, a, replay_told (scale_of large) summary end at), alone_told n)
     happened_told (Generated end) h = let ((sample, a, at), x, n) = h in ((sample, a, gen_told sample end at), unplayed_told x, alone_told n)
     happened_told (Listed end) h = let (a, at, unplayed, n) = h in (a, rules_told end at, unplayed, alone_told n)
     happened_told (Checked end) h = let ((member, folder, a, at), x, n) = h in ((member, folder, a, check_told files (network_of member) member.id end at), unplayed_told x, offline_told n)

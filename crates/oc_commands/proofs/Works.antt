@@ -1,21 +1,21 @@
 -- What had happened leaves no other end to `--help`, to `--version`, to `gen`, to `replay` and to `rules` than their work, or want of memory.
-use Rattle.std.proofs.Common.{◌≡◌, ℕ, ◌≤◌, ◌<◌, ◌⊎◌, Bool, true, false, cond, List, length, Option, Some, None, Err, inl, inr, refl, sym, ap, arith}
-use Rattle.std.specs.Prelude.{nat_lt}
+use Rattle.std.proofs.Common.{◌≡◌, ℕ, ◌≤◌, ◌<◌, ◌⊎◌, Bool, cond, List, length, Option, Some, None, Result, Ok, Err, inl, inr, refl, sym, subst, ap}
 use Rattle.std.specs.Str.Lines.{lines}
-use Rattle.std.proofs.lemmas.Bool.{ltb-false}
-use Rattle.oc_base.specs.declared.limits.TheConstants.{MAX_SCHEDULE_BYTES}
+use Rattle.std.proofs.lemmas.Bool.{lt-ltb}
 use Rattle.oc_config.specs.declared.fault.ConfigFault.TheVariants as config_faults
 use Rattle.oc_io.specs.Faults.{Rose}
 use Rattle.oc_replay.specs.declared.end.ReplayEnd.{ReplayEnd}
 use Rattle.oc_replay.specs.declared.end.ReplayEnd.TheVariants as replays
 use Rattle.oc_schedule.specs.Schedule.{read_lines, schedule_of}
+use Rattle.oc_schedule.specs.Limits.{most_of}
 use Rattle.oc_schedule.specs.declared.fault.ScheduleFault.TheVariants as faults
 use Rattle.oc_schedule.specs.declared.fault.What.TheVariants as limits
+use Rattle.oc_schedule.specs.declared.scale.Scale.{Scale}
 use Rattle.oc_words.specs.declared.request.Invocation.{Invocation}
 use Rattle.oc_words.specs.declared.request.Invocation.TheVariants.{Help, Version, Gen, Replay, Rules}
 use Rattle.oc_words.specs.declared.request.Sample.{Sample}
 use Rattle.oc_commands.specs.AtGen.{HappenedAtGen}
-use Rattle.oc_commands.specs.AtReplay.{HappenedAtReplay, HasStatus, status_for}
+use Rattle.oc_commands.specs.AtReplay.{HappenedAtReplay, HasStatus, scale_of, status_for}
 use Rattle.oc_commands.specs.AtRules.{HappenedAtRules, HasConfigStatus}
 use Rattle.oc_commands.specs.Complete.{IsDoneOrMemory}
 use Rattle.oc_commands.specs.Ends.{status_of, status_of_gen, status_of_replay, status_of_rules}
@@ -34,11 +34,14 @@ use Rattle.oc_commands.proofs.Completes.{IsSound}
 use Rattle.oc_commands.proofs.Tokens.{untokened}
 
 -- a text that is too long has the status of a limit
-long_status : (bytes : List ℕ) → MAX_SCHEDULE_BYTES < length bytes → status_for (schedule_of bytes) ≡ 5
-long_status bytes long = by_test (nat_lt MAX_SCHEDULE_BYTES (length bytes)) refl where
-  by_test : (b : Bool) → nat_lt MAX_SCHEDULE_BYTES (length bytes) ≡ b → status_for (schedule_of bytes) ≡ 5
-  by_test true is = ap (λ b. status_for (cond b (Err (faults.Limit limits.Bytes)) (read_lines 1 None (lines bytes)))) is
-  by_test false is = let few : length bytes ≤ MAX_SCHEDULE_BYTES = ltb-false _ _ is in absurd (omega (arith, few, long))
+long_status : (scale : Scale) (bytes : List ℕ) → most_of scale limits.Bytes < length bytes → status_for (schedule_of scale bytes) ≡ 5
+long_status scale bytes long =
+    ap (λ b. status_for (cond b (Err (faults.Limit limits.Bytes)) (read_lines scale 1 None (lines bytes)))) (lt-ltb (most_of scale limits.Bytes) (length bytes) long)
+
+-- words that ask for two replays ask for one of one scale
+pub same_scale : (asked : Option Invocation) (large summary : Bool) (file : Option (List ℕ)) (big short : Bool) (name : Option (List ℕ))
+    → asked ≡ Some (Replay large summary file) → asked ≡ Some (Replay big short name) → big ≡ large
+same_scale asked large summary file big short name is also = cc
 
 -- where the output is sound, help was written
 pub helped : (o : Outside) → IsSound o.output → (end : End) → o.asked ≡ Some Help → Happened o end → IsDoneOrMemory (number_of (status_of end))
@@ -48,7 +51,7 @@ helped o sound Versioned is h = let also = h.0 in cc
 helped o sound VersionFailed is h = let also = h.0 in cc
 helped o sound Misused is h = let also = h.0 in cc
 helped o sound NoMemory is h = inr refl
-helped o sound (Replayed end) is h = let also = h.0.2 in cc
+helped o sound (Replayed large end) is h = let also = h.0.2 in cc
 helped o sound (Generated end) is h = let also = h.0.1 in cc
 helped o sound (Listed end) is h = let also = h.0.1 in cc
 helped o sound (Checked end) is h = let also = h.0.2 in cc
@@ -66,7 +69,7 @@ versioned o sound Versioned is h = inl refl
 versioned o sound VersionFailed is h = let (a, (n, cut), u, m) = h in absurd (sound _ cut)
 versioned o sound Misused is h = let also = h.0 in cc
 versioned o sound NoMemory is h = inr refl
-versioned o sound (Replayed end) is h = let also = h.0.2 in cc
+versioned o sound (Replayed large end) is h = let also = h.0.2 in cc
 versioned o sound (Generated end) is h = let also = h.0.1 in cc
 versioned o sound (Listed end) is h = let also = h.0.1 in cc
 versioned o sound (Checked end) is h = let also = h.0.2 in cc
@@ -89,7 +92,7 @@ generated o sound sample Versioned is h = let also = h.0 in cc
 generated o sound sample VersionFailed is h = let also = h.0 in cc
 generated o sound sample Misused is h = let also = h.0 in cc
 generated o sound sample NoMemory is h = inr refl
-generated o sound sample (Replayed end) is h = let also = h.0.2 in cc
+generated o sound sample (Replayed large end) is h = let also = h.0.2 in cc
 generated o sound sample (Generated end) is h = gen_done o.output sound h.0.0 end h.0.2
 generated o sound sample (Listed end) is h = let also = h.0.1 in cc
 generated o sound sample (Checked end) is h = let also = h.0.2 in cc
@@ -102,17 +105,17 @@ generated o sound sample (Served end) is h = let also = h.0.2 in cc
 module _ {S : Type 0} (gives fails : S → List ℕ → S → Type 0) (ended : S → Type 0) (faulty : S → ℕ) (old new : S) (output : Output) (stage : OnStage)
     (unfailed : Rose (faulty old) (faulty new) → ⊥) (sound : IsSound output) where
   -- the status of a replay is that of its input
-  replay_has : (summary : Bool) (end : ReplayEnd) → HappenedAtReplay (at_source gives fails ended faulty old new) output stage summary end
-      → HasStatus gives ended old new (number_of (status_of_replay end)) ⊎ (number_of (status_of_replay end) ≡ 4)
-  replay_has summary replays.Done h = let (s, says, is, written, played, holds) = h in inl (record { bytes = says.bytes; came = says.came; whole = inl says.whole; status_is = sym (ap status_for says.read) })
-  replay_has summary (replays.Text line why) h = let says = h.0 in inl (record { bytes = says.bytes; came = says.came; whole = inl says.whole; status_is = sym (ap status_for says.read) })
-  replay_has summary (replays.Limit limits.Bytes) h = let (bytes, came, long) = h.0 in inl (record { bytes = bytes; came = came; whole = inr long; status_is = sym (long_status bytes long) })
-  replay_has summary (replays.Limit limits.Lines) h = let says = h.0 in inl (record { bytes = says.bytes; came = says.came; whole = inl says.whole; status_is = sym (ap status_for says.read) })
-  replay_has summary (replays.Limit limits.Published) h = let says = h.0 in inl (record { bytes = says.bytes; came = says.came; whole = inl says.whole; status_is = sym (ap status_for says.read) })
-  replay_has summary (replays.Limit limits.Settles) h = let says = h.0 in inl (record { bytes = says.bytes; came = says.came; whole = inl says.whole; status_is = sym (ap status_for says.read) })
-  replay_has summary replays.Source h = absurd (unfailed h.0.1)
-  replay_has summary replays.Sink h = let (s, says, is, cut, played, holds) = h in absurd (sound _ cut.1)
-  replay_has summary replays.Memory h = inr refl
+  replay_has : (scale : Scale) (summary : Bool) (end : ReplayEnd) → HappenedAtReplay (at_source gives fails ended faulty old new) output stage scale summary end
+      → HasStatus scale gives ended old new (number_of (status_of_replay end)) ⊎ (number_of (status_of_replay end) ≡ 4)
+  replay_has scale summary replays.Done h = let (s, says, is, written, played, holds) = h in inl (record { bytes = says.bytes; came = says.came; whole = inl says.whole; status_is = sym (ap status_for says.read) })
+  replay_has scale summary (replays.Text line why) h = let says = h.0 in inl (record { bytes = says.bytes; came = says.came; whole = inl says.whole; status_is = sym (ap status_for says.read) })
+  replay_has scale summary (replays.Limit limits.Bytes) h = let (bytes, came, long) = h.0 in inl (record { bytes = bytes; came = came; whole = inr long; status_is = sym (long_status scale bytes long) })
+  replay_has scale summary (replays.Limit limits.Lines) h = let says = h.0 in inl (record { bytes = says.bytes; came = says.came; whole = inl says.whole; status_is = sym (ap status_for says.read) })
+  replay_has scale summary (replays.Limit limits.Published) h = let says = h.0 in inl (record { bytes = says.bytes; came = says.came; whole = inl says.whole; status_is = sym (ap status_for says.read) })
+  replay_has scale summary (replays.Limit limits.Settles) h = let says = h.0 in inl (record { bytes = says.bytes; came = says.came; whole = inl says.whole; status_is = sym (ap status_for says.read) })
+  replay_has scale summary replays.Source h = absurd (unfailed h.0.1)
+  replay_has scale summary replays.Sink h = let (s, says, is, cut, played, holds) = h in absurd (sound _ cut.1)
+  replay_has scale summary replays.Memory h = inr refl
 
   -- and that of `rules`
   rules_have : (end : RulesEnd) → HappenedAtRules (at_source gives fails ended faulty old new) output end
@@ -134,23 +137,25 @@ module _ {S : Type 0} (gives fails : S → List ℕ → S → Type 0) (ended : S
     abbrev outside : Outside
     outside = record { asked = asked; input = at_source gives fails ended faulty old new; output = output; error = error; stage = stage; files = files; link = link; token = token; node = node }
 
-    pub replayed : (summary : Bool) (file : Option (List ℕ)) (end : End) → asked ≡ Some (Replay summary file) → Happened outside end
-        → HasStatus gives ended old new (number_of (status_of end)) ⊎ (number_of (status_of end) ≡ 4)
-    replayed summary file Helped is h = let also = h.0 in cc
-    replayed summary file HelpFailed is h = let also = h.0 in cc
-    replayed summary file Versioned is h = let also = h.0 in cc
-    replayed summary file VersionFailed is h = let also = h.0 in cc
-    replayed summary file Misused is h = let also = h.0 in cc
-    replayed summary file NoMemory is h = inr refl
-    replayed summary file (Replayed end) is h = replay_has h.0.0 end h.0.3
-    replayed summary file (Generated end) is h = let also = h.0.1 in cc
-    replayed summary file (Listed end) is h = let also = h.0.1 in cc
-    replayed summary file (Checked end) is h = let also = h.0.2 in cc
-    replayed summary file (CheckedConfigured end) is h = let also = h.0.2 in cc
-    replayed summary file (NoToken end) is h = absurd (untokened asked (Replay summary file) h.0.0 is refl h.0.1)
-    replayed summary file (Got end) is h = let also = h.0.1 in cc
-    replayed summary file (Published end) is h = let also = h.0.1 in cc
-    replayed summary file (Served end) is h = let also = h.0.2 in cc
+    pub replayed : (large summary : Bool) (file : Option (List ℕ)) (end : End) → asked ≡ Some (Replay large summary file) → Happened outside end
+        → HasStatus (scale_of large) gives ended old new (number_of (status_of end)) ⊎ (number_of (status_of end) ≡ 4)
+    replayed large summary file Helped is h = let also = h.0 in cc
+    replayed large summary file HelpFailed is h = let also = h.0 in cc
+    replayed large summary file Versioned is h = let also = h.0 in cc
+    replayed large summary file VersionFailed is h = let also = h.0 in cc
+    replayed large summary file Misused is h = let also = h.0 in cc
+    replayed large summary file NoMemory is h = inr refl
+    replayed large summary file (Replayed big end) is h =
+        subst (λ (b : Bool). HasStatus (scale_of b) gives ended old new (number_of (status_of_replay end)) ⊎ (number_of (status_of_replay end) ≡ 4))
+        (same_scale asked large summary file big h.0.0 h.0.1 is h.0.2) (replay_has (scale_of big) h.0.0 end h.0.3)
+    replayed large summary file (Generated end) is h = let also = h.0.1 in cc
+    replayed large summary file (Listed end) is h = let also = h.0.1 in cc
+    replayed large summary file (Checked end) is h = let also = h.0.2 in cc
+    replayed large summary file (CheckedConfigured end) is h = let also = h.0.2 in cc
+    replayed large summary file (NoToken end) is h = absurd (untokened asked (Replay large summary file) h.0.0 is refl h.0.1)
+    replayed large summary file (Got end) is h = let also = h.0.1 in cc
+    replayed large summary file (Published end) is h = let also = h.0.1 in cc
+    replayed large summary file (Served end) is h = let also = h.0.2 in cc
 
     pub listed : (file : Option (List ℕ)) (end : End) → asked ≡ Some (Rules file) → Happened outside end
         → HasConfigStatus gives ended old new (number_of (status_of end)) ⊎ (number_of (status_of end) ≡ 4)
@@ -160,7 +165,7 @@ module _ {S : Type 0} (gives fails : S → List ℕ → S → Type 0) (ended : S
     listed file VersionFailed is h = let also = h.0 in cc
     listed file Misused is h = let also = h.0 in cc
     listed file NoMemory is h = inr refl
-    listed file (Replayed end) is h = let also = h.0.2 in cc
+    listed file (Replayed large end) is h = let also = h.0.2 in cc
     listed file (Generated end) is h = let also = h.0.1 in cc
     listed file (Listed end) is h = rules_have end h.1
     listed file (Checked end) is h = let also = h.0.2 in cc

@@ -13,7 +13,7 @@ use Rattle.oc_server.specs.declared.log.Log.TheVariants as logs
 use Rattle.oc_service.specs.OnSite.{NodeEnds, setting_of}
 use Rattle.oc_service.specs.declared.running.Task.{Task}
 use Rattle.oc_words.specs.declared.request.LogWord.{LogWord}
-use Rattle.oc_words.specs.declared.request.LogWord.TheVariants.{Brief, Inputs}
+use Rattle.oc_words.specs.declared.request.LogWord.TheVariants.{Brief, Inputs, Record}
 use Rattle.oc_words.specs.declared.request.Service.{Service}
 use Rattle.oc_commands.specs.AtConfig.{ReadsConfig}
 use Rattle.oc_commands.specs.AtRules.{status_of_settings}
@@ -28,6 +28,7 @@ HasNode s v = IsNode (length s.addresses) v.id
 -- what it writes of its inputs
 abbrev pub log_of : LogWord → Log
 log_of Inputs = logs.Inputs
+log_of Record = logs.Record
 log_of Brief = logs.Brief
 
 -- what that node is asked to do

@@ -4,8 +4,10 @@ use Rattle.oc_config.specs.declared.fault.ConfigFault.{ConfigFault}
 use Rattle.oc_config.specs.declared.fault.ConfigFault.TheVariants as faults
 use Rattle.oc_fetch.specs.declared.end.GetEnd.{GetEnd}
 use Rattle.oc_fetch.specs.declared.end.GetEnd.TheVariants as gets
+use Rattle.oc_keep.specs.FileError.{FileError}
+use Rattle.oc_keep.specs.FileError.TheVariants as causes
+use Rattle.oc_keep.specs.Errors.{cause_of}
 use Rattle.oc_keep.specs.declared.errors.KeepLoad.{KeepLoad}
-use Rattle.oc_keep.specs.declared.errors.KeepLoad.TheVariants as loads
 use Rattle.oc_put.specs.declared.end.PutEnd.{PutEnd}
 use Rattle.oc_put.specs.declared.end.PutEnd.TheVariants as puts
 use Rattle.oc_replay.specs.declared.end.ReplayEnd.{ReplayEnd}
@@ -61,11 +63,14 @@ status_of_rules (lists.Config end) = status_of_config end
 status_of_rules lists.Sink = statuses.Failed
 status_of_rules lists.Memory = statuses.Memory
 
+abbrev pub status_of_cause : FileError → Status
+status_of_cause causes.Disk = statuses.Failed
+status_of_cause causes.NotJournal = statuses.BadText
+status_of_cause (causes.BadFrame number) = statuses.BadText
+status_of_cause causes.Memory = statuses.Memory
+
 abbrev pub status_of_load : KeepLoad → Status
-status_of_load loads.Disk = statuses.Failed
-status_of_load (loads.NotJournal which) = statuses.BadText
-status_of_load (loads.BadFrame which number) = statuses.BadText
-status_of_load loads.Memory = statuses.Memory
+status_of_load error = status_of_cause (cause_of error)
 
 abbrev pub status_of_check : CheckEnd → Status
 status_of_check checks.Done = statuses.Done
@@ -130,7 +135,7 @@ status_of Versioned = statuses.Done
 status_of VersionFailed = statuses.Failed
 status_of Misused = statuses.Usage
 status_of NoMemory = statuses.Memory
-status_of (Replayed end) = status_of_replay end
+status_of (Replayed large end) = status_of_replay end
 status_of (Generated end) = status_of_gen end
 status_of (Listed end) = status_of_rules end
 status_of (Checked end) = status_of_check end

@@ -10,15 +10,20 @@ use Rattle.oc_config.specs.declared.fault.ConfigFault.{ConfigFault}
 use Rattle.oc_config.specs.declared.fault.ConfigFault.TheVariants as faults
 use Rattle.oc_fetch.specs.declared.end.GetEnd.{GetEnd}
 use Rattle.oc_fetch.specs.declared.end.GetEnd.TheVariants as gets
+use Rattle.oc_keep.specs.Errors.{cause_of}
+use Rattle.oc_keep.specs.FileError.{FileError}
+use Rattle.oc_keep.specs.FileError.TheVariants as causes
 use Rattle.oc_keep.specs.declared.errors.KeepLoad.{KeepLoad}
 use Rattle.oc_keep.specs.declared.errors.KeepLoad.TheVariants as loads
-use Rattle.oc_keep.specs.declared.errors.Which.{Which}
-use Rattle.oc_keep.specs.declared.errors.Which.TheVariants as files
+use Rattle.oc_keep.specs.Side.{Side}
+use Rattle.oc_keep.specs.Side.TheVariants as sides
 use Rattle.oc_put.specs.declared.end.PutEnd.{PutEnd}
 use Rattle.oc_put.specs.declared.end.PutEnd.TheVariants as puts
 use Rattle.oc_replay.specs.declared.end.ReplayEnd.{ReplayEnd}
 use Rattle.oc_replay.specs.declared.end.ReplayEnd.TheVariants as replays
 use Rattle.oc_schedule.specs.Limits.{most_of, what_text}
+use Rattle.oc_schedule.specs.declared.scale.Scale.{Scale}
+use Rattle.oc_schedule.specs.declared.scale.Scale.TheVariants.{Usual}
 use Rattle.oc_schedule.specs.declared.fault.What.{What}
 use Rattle.oc_schedule.specs.declared.fault.What.TheVariants.{Bytes}
 use Rattle.oc_service.specs.declared.running.NodeEnd.{NodeEnd}
@@ -43,6 +48,7 @@ use Rattle.oc_commands.specs.declared.serving.ServiceEnd.{ServiceEnd}
 use Rattle.oc_commands.specs.declared.serving.ServiceEnd.TheVariants as services
 use Rattle.oc_commands.specs.declared.token.TokenEnd.{TokenEnd}
 use Rattle.oc_commands.specs.declared.token.TokenEnd.TheVariants as tokens
+use Rattle.oc_commands.specs.AtReplay.{scale_of}
 use Rattle.oc_commands.specs.Ends.{lacks_token}
 use Rattle.oc_words.specs.Paths.{file_asked, token_file_asked}
 use Rattle.oc_words.specs.declared.request.Invocation.{Invocation}
@@ -85,16 +91,16 @@ abbrev pub out_of_memory : List ℕ
 out_of_memory = short_line (codes "overcast: out of memory")
 
 -- the limit that was passed
-abbrev pub limit_line : What → List ℕ
-limit_line what = line (codes "overcast: limit ") (what_text what) (codes " ") (decimal (most_of what))
+abbrev pub limit_line : Scale → What → List ℕ
+limit_line scale what = line (codes "overcast: limit ") (what_text what) (codes " ") (decimal (most_of scale what))
 
-abbrev pub line_of_replay : Option (List ℕ) → ReplayEnd → List ℕ
-line_of_replay file replays.Done = []
-line_of_replay file (replays.Text number why) = line (codes "overcast: line ") (decimal number) (codes ": ") (why_text why)
-line_of_replay file (replays.Limit what) = limit_line what
-line_of_replay file replays.Source = input_failed file
-line_of_replay file replays.Sink = output_failed
-line_of_replay file replays.Memory = out_of_memory
+abbrev pub line_of_replay : Option (List ℕ) → Scale → ReplayEnd → List ℕ
+line_of_replay file scale replays.Done = []
+line_of_replay file scale (replays.Text number why) = line (codes "overcast: line ") (decimal number) (codes ": ") (why_text why)
+line_of_replay file scale (replays.Limit what) = limit_line scale what
+line_of_replay file scale replays.Source = input_failed file
+line_of_replay file scale replays.Sink = output_failed
+line_of_replay file scale replays.Memory = out_of_memory
 
 abbrev pub line_of_gen : GenEnd → List ℕ
 line_of_gen gens.Done = []
@@ -119,7 +125,7 @@ line_of_fault faults.Memory = out_of_memory
 
 abbrev pub line_of_config : Option (List ℕ) → ConfigEnd → List ℕ
 line_of_config file configs.Source = input_failed file
-line_of_config file configs.Long = limit_line Bytes
+line_of_config file configs.Long = limit_line Usual Bytes
 line_of_config file (configs.Fault fault) = line_of_fault fault
 
 abbrev pub line_of_rules : Option (List ℕ) → RulesEnd → List ℕ
@@ -128,18 +134,27 @@ line_of_rules file (lists.Config end) = line_of_config file end
 line_of_rules file lists.Sink = output_failed
 line_of_rules file lists.Memory = out_of_memory
 
--- the word of a file
-abbrev pub file_text : Which → List ℕ
-file_text files.Control = codes "control"
-file_text files.Alternate = codes "alternate"
-file_text files.Content = codes "content"
+-- the word of a control file
+abbrev pub side_text : Side → List ℕ
+side_text sides.First = codes "control"
+side_text sides.Second = codes "alternate"
+
+-- why the file of this word was not loaded
+abbrev pub line_of_file : List ℕ → FileError → List ℕ
+line_of_file word causes.Disk = disk_failed
+line_of_file word causes.NotJournal = line (codes "overcast: ") word (codes ": not a journal") []
+line_of_file word (causes.BadFrame number) = line (codes "overcast: ") word (codes ": frame ") (decimal number)
+line_of_file word causes.Memory = out_of_memory
+
+-- the word of the file of a node that was not loaded
+abbrev pub file_text : KeepLoad → List ℕ
+file_text (loads.Store error) = side_text error.side
+file_text (loads.Content cause) = codes "content"
+file_text loads.Memory = []
 
 -- why a node was not loaded
 abbrev pub line_of_load : KeepLoad → List ℕ
-line_of_load loads.Disk = disk_failed
-line_of_load (loads.NotJournal which) = line (codes "overcast: ") (file_text which) (codes ": not a journal") []
-line_of_load (loads.BadFrame which number) = line (codes "overcast: ") (file_text which) (codes ": frame ") (decimal number)
-line_of_load loads.Memory = out_of_memory
+line_of_load error = line_of_file (file_text error) (cause_of error)
 
 abbrev pub line_of_check : CheckEnd → List ℕ
 line_of_check checks.Done = []
@@ -158,7 +173,7 @@ line_of_configured file (configured.Checked end) = line_of_check end
 -- why a client has no token
 abbrev pub line_of_token : Option (List ℕ) → TokenEnd → List ℕ
 line_of_token file tokens.Source = input_failed file
-line_of_token file tokens.Long = limit_line Bytes
+line_of_token file tokens.Long = limit_line Usual Bytes
 line_of_token file tokens.Fault = short_line (codes "overcast: token")
 line_of_token file tokens.Memory = out_of_memory
 
@@ -228,7 +243,7 @@ line_of Versioned file usage = []
 line_of VersionFailed file usage = output_failed
 line_of Misused file usage = codes "overcast: usage\n" ++ usage
 line_of NoMemory file usage = out_of_memory
-line_of (Replayed end) file usage = line_of_replay file end
+line_of (Replayed large end) file usage = line_of_replay file (scale_of large) end
 line_of (Generated end) file usage = line_of_gen end
 line_of (Listed end) file usage = line_of_rules file end
 line_of (Checked end) file usage = line_of_check end

@@ -32,6 +32,7 @@ use Rattle.oc_replay.specs.Replay.{IsInput, PassesLimit, world_at}
 use Rattle.oc_schedule.specs.Script.{Script}
 use Rattle.oc_schedule.specs.declared.fault.ScheduleFault.{ScheduleFault}
 use Rattle.oc_schedule.specs.declared.fault.What.{What}
+use Rattle.oc_schedule.specs.declared.scale.Scale.{Scale}
 use Rattle.oc_service.specs.OnSite.{OnRun, at_run}
 use Rattle.oc_service.specs.declared.running.Task.{Task}
 use Rattle.oc_words.specs.declared.request.Invocation.{Invocation}
@@ -39,10 +40,10 @@ use Rattle.url.specs.Parts.{Parts}
 
 -- of the input
 pub record Input : Type 1 where
-  -- all input came, and this is what it says as a schedule
-  pub says : Result Script ScheduleFault → Type 0
-  -- the input passes this limit
-  pub passes : What → Type 0
+  -- all input came, and this is what it says as a schedule of this scale
+  pub says : Scale → Result Script ScheduleFault → Type 0
+  -- the input passes this limit on one
+  pub passes : Scale → What → Type 0
   -- all input came: these bytes
   pub whole : List ℕ → Type 0
   -- more bytes came than a text may have
@@ -130,8 +131,8 @@ pub record Outside : Type 1 where
 module _ {S : Type 0} (gives fails : S → List ℕ → S → Type 0) (ended : S → Type 0) (faults : S → ℕ) where
   abbrev pub at_source : S → S → Input
   at_source old new = record {
-    says = λ says. IsInput gives ended old new says;
-    passes = λ what. PassesLimit gives ended old new what;
+    says = λ scale says. IsInput scale gives ended old new says;
+    passes = λ scale what. PassesLimit scale gives ended old new what;
     whole = λ bytes. gives old bytes new × ended new;
     long = (bytes : List ℕ) × gives old bytes new × (MAX_SCHEDULE_BYTES < length bytes);
     failed = ((bytes : List ℕ) × fails old bytes new) × Rose (faults old) (faults new);

@@ -17,7 +17,7 @@ use Rattle.oc_commands.specs.AtGen.{HappenedAtGen}
 use Rattle.oc_commands.specs.AtGet.{HappenedAtGet}
 use Rattle.oc_commands.specs.AtNode.{HappenedAtNode, UnlessRan}
 use Rattle.oc_commands.specs.AtPut.{HappenedAtPut}
-use Rattle.oc_commands.specs.AtReplay.{HappenedAtReplay}
+use Rattle.oc_commands.specs.AtReplay.{HappenedAtReplay, scale_of}
 use Rattle.oc_commands.specs.AtRules.{HappenedAtRules}
 use Rattle.oc_commands.specs.AtToken.{LacksToken, TakesToken}
 use Rattle.oc_commands.specs.Lines.{version_line}
@@ -67,7 +67,7 @@ Happened o Versioned = (o.asked ≡ Some Version) × o.output.written version_li
 Happened o VersionFailed = (o.asked ≡ Some Version) × SomeFront version_line o.output.cut_off × IsUnplayed o × IsAlone o
 Happened o Misused = (o.asked ≡ None) × o.output.written [] × IsUnplayed o × IsAlone o
 Happened o NoMemory = o.output.written [] × IsUnplayed o × IsAlone o
-Happened o (Replayed end) = ((summary : Bool) × (file : Option (List ℕ)) × (o.asked ≡ Some (Replay summary file)) × HappenedAtReplay o.input o.output o.stage summary end) × IsAlone o
+Happened o (Replayed large end) = ((summary : Bool) × (file : Option (List ℕ)) × (o.asked ≡ Some (Replay large summary file)) × HappenedAtReplay o.input o.output o.stage (scale_of large) summary end) × IsAlone o
 Happened o (Generated end) = ((sample : Sample) × (o.asked ≡ Some (Gen sample)) × HappenedAtGen o.output sample end) × IsUnplayed o × IsAlone o
 Happened o (Listed end) = ((file : Option (List ℕ)) × (o.asked ≡ Some (Rules file))) × HappenedAtRules o.input o.output end × o.stage.unplayed × IsAlone o
 Happened o (Checked end) = ((member : Member) × (folder : Option (List ℕ)) × (o.asked ≡ Some (Check member folder)) × HappenedAtCheck o.files o.output (network_of member) member.id end) × IsUnplayed o × IsOffline o

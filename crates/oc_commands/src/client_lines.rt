@@ -7,7 +7,7 @@ use crate::lines::{Digits, ErrorLine, input_failed, limit_line, no_line, short_l
 use crate::token::TokenEnd;
 use oc_fetch::GetEnd;
 use oc_put::PutEnd;
-use oc_schedule::What;
+use oc_schedule::{Scale, What};
 
 /// The line where a client has no token.
 pub(crate) fn line_of_token<'a>(
@@ -19,7 +19,7 @@ pub(crate) fn line_of_token<'a>(
 {
     match end {
         TokenEnd::Source => input_failed(file),
-        TokenEnd::Long => limit_line(What::Bytes, digits),
+        TokenEnd::Long => limit_line(Scale::Usual, What::Bytes, digits),
         TokenEnd::Fault => short_line("overcast: token"),
         TokenEnd::Memory => short_line("overcast: out of memory"),
     }

@@ -8,7 +8,7 @@ pub(crate) fn replay_help() -> &'static str
     "\
 overcast replay: plays a schedule over nodes and a network in memory
 
-Usage: overcast replay [FILE] [--summary] > REPORT
+Usage: overcast replay [FILE] [--summary [--large]] > REPORT
 
 Reads a schedule to its end, plays its events one by one, and writes the report on
 standard output: what came of each event, and each message sent. It writes no file
@@ -18,6 +18,9 @@ and touches no network.
   --summary  writes six lines on the last world in place of the report: the
              events, the messages, the nodes that are up, those of them that are
              joined, those that act as root, and the bytes that all nodes hold
+  --large    takes a schedule of up to 10000000 lines and 4294967296 bytes, of
+             which its publish lines may bring as many; else it has 100000 lines,
+             67108864 bytes and 262144 published bytes at most
 
 A schedule is text, with one event on a line. Its first line is
 `overcast 1 nodes N chain C`: N nodes, of which nodes 1 to C can act as root. With
@@ -99,7 +102,7 @@ pub(crate) fn node_help() -> &'static str
     "\
 overcast node: runs a node of a network
 
-Usage: overcast node ID [--turns N] [--probe] [--log inputs|brief]
+Usage: overcast node ID [--turns N] [--probe] [--log inputs|record|brief]
                      [--config FILE] [--dir FOLDER]
 
 Reads the configuration, loads the node with this id from its three files, waits
@@ -112,7 +115,8 @@ says on standard error.
   ID        the node, one of the configuration
   --turns   ends it after this number of turns, 0 to 1000000000
   --probe   measures the rate to a peer in each turn in which nobody came
-  --log     the lines on standard output: `inputs`, as without it, or `brief`
+  --log     the lines on standard output: `inputs`, as without it, `record` or
+            `brief`
   --config  the file of the configuration; standard input where none is named
   --dir     the folder of the three files; the present one where none is named
 
@@ -122,11 +126,14 @@ acknowledged is in them, also after a crash. One program at a time uses them.
 
 Each input that the node takes is written as a line, once it is in the files and
 before it is answered. A line that begins with `!` says which request was
-refused, and why. With `--log brief` there is instead a line only for what is
-published, sealed or told of a failure, with the answer where that is not `ok`;
-`lost P` for each child whose lease ended; and `is idle`, `is asking P`,
-`is joined P rank E.D` or `is acting rank E.D` at the start and where that is
-another: a node in which nothing changes writes nothing.
+refused, and why. With `--log record` the line of an input is written before the
+input is in the files, ticks are whole seconds apart, and the header of the
+network and a digest of the files as the node found them come first. These lines
+hold all content that comes, past every access rule. With `--log brief` there is
+instead a line only for what is published, sealed or told of a failure, with the
+answer where that is not `ok`; `lost P` for each child whose lease ended; and
+`is idle`, `is asking P`, `is joined P rank E.D` or `is acting rank E.D` at the
+start and where that is another: a node in which nothing changes writes nothing.
 
 Example: the first of three nodes (examples/three_nodes.toml), which then answers
 requests at 127.0.0.1:7001. A POST to the source publishes bytes in a group.

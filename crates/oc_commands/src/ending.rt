@@ -12,7 +12,7 @@ use crate::serving::ServiceEnd;
 use crate::token::TokenEnd;
 use oc_config::ConfigFault;
 use oc_fetch::GetEnd;
-use oc_keep::KeepLoad;
+use oc_keep::{FileError, KeepLoad};
 use oc_put::PutEnd;
 use oc_replay::ReplayEnd;
 use oc_service::{NodeEnd, TurnEnd};
@@ -33,8 +33,8 @@ pub enum End {
     Misused,
     /// Memory ran out before the words were read.
     NoMemory,
-    /// A replay ended in this way.
-    Replayed(ReplayEnd),
+    /// A replay, of a large schedule or of another one, ended in this way.
+    Replayed { large: bool, end: ReplayEnd },
     /// The command `gen` ended in this way.
     Generated(GenEnd),
     /// The command `rules` ended in this way.
@@ -72,7 +72,7 @@ impl End {
             End::VersionFailed => Status::Failed,
             End::Misused => Status::Usage,
             End::NoMemory => Status::Memory,
-            End::Replayed(end) => replay_status(end),
+            End::Replayed { end, .. } => replay_status(end),
             End::Generated(end) => gen_status(end),
             End::Listed(end) => rules_status(end),
             End::Checked(end) => check_status(end),
@@ -160,10 +160,10 @@ fn configured_status(end: ConfiguredEnd) -> Status
 fn load_status(error: KeepLoad) -> Status
     ensures { result ≡ status_of_load error }
 {
-    match error {
-        KeepLoad::Disk => Status::Failed,
-        KeepLoad::NotJournal(_) | KeepLoad::BadFrame(..) => Status::BadText,
-        KeepLoad::Memory => Status::Memory,
+    match error.cause() {
+        FileError::Disk => Status::Failed,
+        FileError::NotJournal | FileError::BadFrame(_) => Status::BadText,
+        FileError::Memory => Status::Memory,
     }
 }
 

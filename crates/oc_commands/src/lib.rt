@@ -52,7 +52,7 @@ pub use network::Network;
 pub use oc_words::Status;
 pub use progress::{Counting, error_of, progress_computes, progress_on};
 pub use putting::publish;
-pub use replaying::replay_input;
+pub use replaying::{replay_input, scale_of};
 pub use serving::{Served, ServiceEnd, run_service};
 pub use telling::tell;
 pub use texts::{help, usage};

@@ -4,7 +4,7 @@
 ghost use Rattle.std.specs.Prelude.{◌≡◌, [], option_map};
 ghost use Rattle.oc_config.specs.Keys.{key_text};
 ghost use Rattle.oc_commands.specs.Lines.{file_text, input_failed, limit_line, line, line_in, line_of_check, line_of_config, line_of_configured, line_of_fault, line_of_gen};
-ghost use Rattle.oc_commands.specs.Lines.{line_of_load, line_of_replay, line_of_rules, line_of_run};
+ghost use Rattle.oc_commands.specs.Lines.{line_of_load, line_of_replay, line_of_rules, line_of_run, side_text};
 ghost use Rattle.oc_commands.specs.Lines.{line_of_service, line_of_turns, long_line, short_line, stranger_line, text_of};
 
 use crate::checking::{CheckEnd, ConfiguredEnd};
@@ -15,9 +15,9 @@ use crate::serving::ServiceEnd;
 use itoa::Buffer;
 use oc_base::Why;
 use oc_config::{ConfigFault, ConfigKey, SectionName};
-use oc_keep::{KeepLoad, Which};
+use oc_keep::{FileError, KeepLoad, Side};
 use oc_replay::ReplayEnd;
-use oc_schedule::What;
+use oc_schedule::{Scale, What};
 use oc_service::{NodeEnd, TurnEnd};
 
 /// The digits of the numbers of a line.
@@ -71,11 +71,12 @@ pub(crate) fn short_line(text: &str) -> ErrorLine<'_>
 
 /// The line of an end of a replay.
 pub(crate) fn line_of_replay<'a>(
+    scale: Scale,
     end: ReplayEnd,
     file: Option<&'a str>,
     digits: &'a mut Digits,
 ) -> ErrorLine<'a>
-    ensures { text_of result ≡ line_of_replay (option_map (λ name. name.now) file.entry) end }
+    ensures { text_of result ≡ line_of_replay (option_map (λ name. name.now) file.entry) scale end }
 {
     match end {
         ReplayEnd::Done => no_line(),
@@ -87,7 +88,7 @@ pub(crate) fn line_of_replay<'a>(
             fifth: &[],
             end: "\n",
         },
-        ReplayEnd::Limit(what) => limit_line(what, digits),
+        ReplayEnd::Limit(what) => limit_line(scale, what, digits),
         ReplayEnd::Source => input_failed(file),
         ReplayEnd::Sink => short_line("overcast: output failed"),
         ReplayEnd::Memory => short_line("overcast: out of memory"),
@@ -105,14 +106,14 @@ pub(crate) fn input_failed(file: Option<&str>) -> ErrorLine<'_>
 }
 
 /// The line of a limit that was passed.
-pub(crate) fn limit_line(what: What, digits: &mut Digits) -> ErrorLine<'_>
-    ensures { text_of result ≡ limit_line what }
+pub(crate) fn limit_line(scale: Scale, what: What, digits: &mut Digits) -> ErrorLine<'_>
+    ensures { text_of result ≡ limit_line scale what }
 {
     ErrorLine {
         first: "overcast: limit ",
         second: what.word(),
         third: " ",
-        fourth: digits.first.format(what.most()),
+        fourth: digits.first.format(scale.most(what)),
         fifth: &[],
         end: "\n",
     }
@@ -155,7 +156,7 @@ pub(crate) fn line_of_config<'a>(
 {
     match end {
         ConfigEnd::Source => input_failed(file),
-        ConfigEnd::Long => limit_line(What::Bytes, digits),
+        ConfigEnd::Long => limit_line(Scale::Usual, What::Bytes, digits),
         ConfigEnd::Fault(fault) => line_of_fault(fault, digits),
     }
 }
@@ -331,36 +332,47 @@ fn stranger_line<'a>() -> ErrorLine<'a>
 pub(crate) fn line_of_load(error: KeepLoad, digits: &mut Digits) -> ErrorLine<'_>
     ensures { text_of result ≡ line_of_load error }
 {
-    match error {
-        KeepLoad::Disk => short_line("overcast: disk failed"),
-        KeepLoad::NotJournal(which) => ErrorLine {
+    let word = file_word(error);
+    match error.cause() {
+        FileError::Disk => short_line("overcast: disk failed"),
+        FileError::NotJournal => ErrorLine {
             first: "overcast: ",
-            second: file_word(which),
+            second: word,
             third: ": not a journal",
             fourth: "",
             fifth: &[],
             end: "\n",
         },
-        KeepLoad::BadFrame(which, number) => ErrorLine {
+        FileError::BadFrame(number) => ErrorLine {
             first: "overcast: ",
-            second: file_word(which),
+            second: word,
             third: ": frame ",
             fourth: digits.first.format(number),
             fifth: &[],
             end: "\n",
         },
-        KeepLoad::Memory => short_line("overcast: out of memory"),
+        FileError::Memory => short_line("overcast: out of memory"),
     }
 }
 
-/// The word of a file of a node.
-fn file_word(which: Which) -> &'static str
-    ensures { result.now ≡ file_text which }
+/// The word of the file of a node that was not loaded; none where memory ran out beside them.
+fn file_word(error: KeepLoad) -> &'static str
+    ensures { result.now ≡ file_text error }
 {
-    match which {
-        Which::Control => "control",
-        Which::Alternate => "alternate",
-        Which::Content => "content",
+    match error {
+        KeepLoad::Store(error) => side_word(error.side),
+        KeepLoad::Content(_) => "content",
+        KeepLoad::Memory => "",
+    }
+}
+
+/// The word of a control file.
+fn side_word(side: Side) -> &'static str
+    ensures { result.now ≡ side_text side }
+{
+    match side {
+        Side::First => "control",
+        Side::Second => "alternate",
     }
 }
 

@@ -3,6 +3,7 @@
 ghost use Rattle.std.specs.Prelude.{◌≡◌, ◌++◌, false, IfErr, IfOk, replicate};
 ghost use Rattle.oc_base.specs.Lawful.{IsNode};
 ghost use Rattle.oc_commands.specs.Checks.{IsNetwork, Shows, header_without_areas};
+ghost use Rattle.oc_keep.specs.Errors.{IsOutOfMemory};
 ghost use Rattle.oc_keep.specs.Files.{AreHonest, OneRose, disks_in};
 ghost use Rattle.oc_base.specs.Groups.{shelf};
 ghost use Rattle.oc_keep.specs.KeptView.{IsHonest, node_of};
@@ -50,7 +51,7 @@ pub fn recovered_text<D: Disk>(
     ensures complete { IfErr result.text (λ error. AreHonest D.view (disks_in files)
         → HoldFiles D.view network.nodes (disks_in files)
         → (OneRose D.view (disks_in files) (disks_in result.files) → ⊥)
-        → error ≡ KeepLoad.Memory) }
+        → IsOutOfMemory error) }
 {
     let areas = match no_areas(alloc, network.nodes) {
         Ok(areas) => areas,

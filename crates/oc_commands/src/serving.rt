@@ -102,6 +102,7 @@ fn log_of(word: LogWord) -> Log
 {
     match word {
         LogWord::Inputs => Log::Inputs,
+        LogWord::Record => Log::Record,
         LogWord::Brief => Log::Brief,
     }
 }

@@ -13,6 +13,7 @@ use crate::lines::{
     Digits, ErrorLine, line_of_check, line_of_configured, line_of_gen, line_of_replay,
     line_of_rules, line_of_service, no_line, short_line,
 };
+use crate::replaying::scale_of;
 use crate::texts::usage;
 use oc_io::{Failed, Sink, write_all};
 
@@ -78,7 +79,7 @@ fn line_of<'a>(end: &'a End, file: Option<&'a str>, digits: &'a mut Digits) -> E
             end: "",
         },
         End::NoMemory => short_line("overcast: out of memory"),
-        End::Replayed(end) => line_of_replay(*end, file, digits),
+        End::Replayed { large, end } => line_of_replay(scale_of(*large), *end, file, digits),
         End::Generated(end) => line_of_gen(*end),
         End::Listed(end) => line_of_rules(end, file, digits),
         End::Checked(end) => line_of_check(*end, digits),

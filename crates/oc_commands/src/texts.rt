@@ -42,7 +42,7 @@ overcast: multicast from one source over nodes that keep what they get
 Node 1 is the source, and publishes bytes in groups. The other nodes form a tree
 beneath it, and each passes on what it gets. Clients read groups over HTTP.
 
-Usage: overcast node ID [--turns N] [--probe] [--log inputs|brief]
+Usage: overcast node ID [--turns N] [--probe] [--log inputs|record|brief]
                      [--config FILE] [--dir FOLDER]
        overcast check ID [--config FILE] [--dir FOLDER]
        overcast check ID NODES CHAIN [--dir FOLDER]
@@ -51,7 +51,7 @@ Usage: overcast node ID [--turns N] [--probe] [--log inputs|brief]
        overcast put URL [--append | --resume] [--seal] [--token-file FILE]
                     [--progress] < CONTENT
        overcast rules [--config FILE]
-       overcast replay [FILE] [--summary] > REPORT
+       overcast replay [FILE] [--summary [--large]] > REPORT
        overcast gen SEED NODES EVENTS > SCHEDULE
        overcast [COMMAND] --help
        overcast --version
@@ -73,8 +73,8 @@ Exit status:
   0  the work was done
   1  the input, the output, a disk or the link failed
   2  the words are not as under Usage, or a number is not in its range
-  3  what was read has a fault: a line of a schedule, a key of a configuration,
-     a file that is no journal, a frame of one, or a token
+  3  what was read has a fault: a line of a schedule or of a record, a key of a
+     configuration, a file that is no journal, a frame of one, or a token
   4  out of memory
   5  a limit was passed
   6  nothing was got, or not all was published: a bad URL, a status, too many
@@ -87,7 +87,7 @@ With each status but 0, one line on standard error says why.
 /// The text after the line `overcast: usage`, which says what the words may be.
 pub fn usage() -> &'static str {
     "\
-Usage: overcast node ID [--turns N] [--probe] [--log inputs|brief]
+Usage: overcast node ID [--turns N] [--probe] [--log inputs|record|brief]
                      [--config FILE] [--dir FOLDER]
        overcast check ID [--config FILE] [--dir FOLDER]
        overcast check ID NODES CHAIN [--dir FOLDER]
@@ -96,7 +96,7 @@ Usage: overcast node ID [--turns N] [--probe] [--log inputs|brief]
        overcast put URL [--append | --resume] [--seal] [--token-file FILE]
                     [--progress] < CONTENT
        overcast rules [--config FILE]
-       overcast replay [FILE] [--summary] > REPORT
+       overcast replay [FILE] [--summary [--large]] > REPORT
        overcast gen SEED NODES EVENTS > SCHEDULE
        overcast [COMMAND] --help
        overcast --version

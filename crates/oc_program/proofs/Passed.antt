@@ -8,11 +8,12 @@ use Rattle.oc_io.specs.Writers as writers
 use Rattle.oc_io.specs.declared.reader_source.ReaderSource.{ReaderSource}
 use Rattle.oc_io.specs.declared.traffic.Traffic.{Traffic}
 use Rattle.oc_io.specs.declared.writer_sink.WriterSink.{WriterSink}
-use Rattle.oc_base.specs.declared.limits.TheConstants.{MAX_SCHEDULE_BYTES}
 use Rattle.oc_io.specs.Faults.{Rose}
 use Rattle.oc_replay.specs.Replay.{IsInput, PassesLimit}
 use Rattle.oc_schedule.specs.Schedule.{read_lines, schedule_of}
+use Rattle.oc_schedule.specs.Limits.{most_of}
 use Rattle.oc_schedule.specs.Script.{Script}
+use Rattle.oc_schedule.specs.declared.scale.Scale.{Scale}
 use Rattle.oc_schedule.specs.declared.fault.ScheduleFault.{ScheduleFault}
 use Rattle.oc_schedule.specs.declared.fault.ScheduleFault.TheVariants.{Limit}
 use Rattle.oc_schedule.specs.declared.fault.What.{What}
@@ -43,16 +44,16 @@ failed_since a b (inl more) = omega (arith, more)
 failed_since a b (inr last) = omega (arith, last)
 
 -- a text of too many bytes is refused for them
-pub long_refused : (bytes : List ℕ) → MAX_SCHEDULE_BYTES < length bytes → schedule_of bytes ≡ Err (Limit limits.Bytes)
-long_refused bytes more = ap (λ b. cond b (Err (Limit limits.Bytes)) (read_lines 1 None (lines bytes))) (lt-ltb MAX_SCHEDULE_BYTES (length bytes) more)
+pub long_refused : (scale : Scale) (bytes : List ℕ) → most_of scale limits.Bytes < length bytes → schedule_of scale bytes ≡ Err (Limit limits.Bytes)
+long_refused scale bytes more = ap (λ b. cond b (Err (Limit limits.Bytes)) (read_lines scale 1 None (lines bytes))) (lt-ltb (most_of scale limits.Bytes) (length bytes) more)
 
 -- what passes a limit says so
-passing : {S : Type 0} (gives : S → List ℕ → S → Type 0) (ended : S → Type 0) (old new : S) (what : What) → PassesLimit gives ended old new what
-    → (bytes : List ℕ) × gives old bytes new × (schedule_of bytes ≡ Err (Limit what))
-passing gives ended old new limits.Bytes h = let (bytes, came, more) = h in (bytes, came, long_refused bytes more)
-passing gives ended old new limits.Lines h = (h.bytes, h.came, h.read)
-passing gives ended old new limits.Published h = (h.bytes, h.came, h.read)
-passing gives ended old new limits.Settles h = (h.bytes, h.came, h.read)
+passing : {S : Type 0} (scale : Scale) (gives : S → List ℕ → S → Type 0) (ended : S → Type 0) (old new : S) (what : What) → PassesLimit scale gives ended old new what
+    → (bytes : List ℕ) × gives old bytes new × (schedule_of scale bytes ≡ Err (Limit what))
+passing scale gives ended old new limits.Bytes h = let (bytes, came, more) = h in (bytes, came, long_refused scale bytes more)
+passing scale gives ended old new limits.Lines h = (h.bytes, h.came, h.read)
+passing scale gives ended old new limits.Published h = (h.bytes, h.came, h.read)
+passing scale gives ended old new limits.Settles h = (h.bytes, h.came, h.read)
 
 -- ---- from bytes in memory
 
@@ -81,19 +82,19 @@ module _ {R : Type 0} (old new : ReaderSource R) (left : R → List ℕ) (began 
   is_whole : (front : List ℕ) → readers.Passed left_of old front new → ended new → bytes ≡ front
   is_whole front p end = sym bytes_are ∙ (p.known ∙ (ap (λ rest. front ++ rest) end.known ∙ append-nil front))
 
-  says_it : (r : Result Script ScheduleFault) → IsInput gives ended old new r → (schedule_of bytes ≡ r) × (read ≡ length bytes)
-  says_it r h =
+  says_it : (scale : Scale) (r : Result Script ScheduleFault) → IsInput scale gives ended old new r → (schedule_of scale bytes ≡ r) × (read ≡ length bytes)
+  says_it scale r h =
       let whole = is_whole h.bytes h.came.passed h.whole in
-      (ap schedule_of whole ∙ h.read, (is_counted h.bytes h.came.passed).0 ∙ ap length (sym whole))
+      (ap (schedule_of scale) whole ∙ h.read, (is_counted h.bytes h.came.passed).0 ∙ ap length (sym whole))
 
-  passes_it : (what : What) → PassesLimit gives ended old new what → (schedule_of bytes ≡ Err (Limit what)) × (read ≤ length bytes)
-  passes_it limits.Bytes h =
+  passes_it : (scale : Scale) (what : What) → PassesLimit scale gives ended old new what → (schedule_of scale bytes ≡ Err (Limit what)) × (read ≤ length bytes)
+  passes_it scale limits.Bytes h =
       let (front, came, more) = h in
       let counted = is_counted front came.passed in
-      (long_refused bytes (omega (arith, more, counted.1)), omega (arith, counted.0, counted.1))
-  passes_it limits.Lines h = let (refused, all) = says_it _ h in (refused, omega (arith, all))
-  passes_it limits.Published h = let (refused, all) = says_it _ h in (refused, omega (arith, all))
-  passes_it limits.Settles h = let (refused, all) = says_it _ h in (refused, omega (arith, all))
+      (long_refused scale bytes (omega (arith, more, counted.1)), omega (arith, counted.0, counted.1))
+  passes_it scale limits.Lines h = let (refused, all) = says_it scale _ h in (refused, omega (arith, all))
+  passes_it scale limits.Published h = let (refused, all) = says_it scale _ h in (refused, omega (arith, all))
+  passes_it scale limits.Settles h = let (refused, all) = says_it scale _ h in (refused, omega (arith, all))
 
   -- what came is no more than there was
   came_it : (front : List ℕ) → readers.Passed left_of old front new → read ≤ length bytes
@@ -163,8 +164,8 @@ module _ {R : Type 0} (old new : ReaderSource R) (remaining : R → Option (List
 
   pub input_told : TellsInput (at_source (readers.Came remaining) (readers.CameAndFailed remaining) (readers.HasEnded remaining) (λ s. s.faults) old new) (at_input traffic)
   input_told = record {
-    says = λ r h. (h.bytes, all_came h.bytes h.came, h.read);
-    passes = λ what h. let (bytes, came, refused) = passing _ _ old new what h in (bytes, all_came bytes came, refused);
+    says = λ scale r h. (h.bytes, all_came h.bytes h.came, h.read);
+    passes = λ scale what h. let (bytes, came, refused) = passing scale _ _ old new what h in (bytes, all_came bytes came, refused);
     whole = λ bytes h. all_came bytes h.0;
     long = λ h. let (bytes, came, more) = h in (bytes, all_came bytes came, more);
     failed = λ h. subst (λ n. 0 < n) (sym faults_are) (failed_since old.faults new.faults h.1);

@@ -84,9 +84,9 @@ module _ {S K E T D L N P : Type 0} (gives gives_less : S → List ℕ → S →
   status_for (Some Help) end h misused = λ held. helped (o (Some Help)) (sound_of held) end refl h
   status_for (Some Version) end h misused = λ held. versioned (o (Some Version)) (sound_of held) end refl h
   status_for (Some (Gen sample)) end h misused = λ held. generated (o (Some (Gen sample))) (sound_of held) sample end refl h
-  status_for (Some (Replay summary file)) end h misused = λ came held.
+  status_for (Some (Replay large summary file)) end h misused = λ came held.
       replayed gives gives_less ended input_faults old.input new.input output stage came (sound_of held)
-      (Some (Replay summary file)) error files link token node summary file end refl h
+      (Some (Replay large summary file)) error files link token node large summary file end refl h
   status_for (Some (Rules file)) end h misused = λ came held.
       listed gives gives_less ended input_faults old.input new.input output stage came (sound_of held)
       (Some (Rules file)) error files link token node file end refl h

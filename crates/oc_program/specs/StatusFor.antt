@@ -2,7 +2,7 @@
 use Rattle.std.specs.Prelude.{◌≡◌, ◌⊎◌, ℕ, List, Option, Some, None}
 use Rattle.oc_commands.specs.AtConfigured.{HasShownStatus}
 use Rattle.oc_commands.specs.AtNode.{HasServiceStatus}
-use Rattle.oc_commands.specs.AtReplay.{HasStatus}
+use Rattle.oc_commands.specs.AtReplay.{HasStatus, scale_of}
 use Rattle.oc_commands.specs.AtRules.{HasConfigStatus}
 use Rattle.oc_commands.specs.Complete.{IsDoneOrMemory, IsServed}
 use Rattle.oc_link.specs.declared.counts.LinkCounts.{LinkCounts}
@@ -47,7 +47,7 @@ module _ {S K E T D L N P : Type 0} (gives : S → List ℕ → S → Type 0) (e
   StatusFor (Some Help) status = OutputHeld → IsDoneOrMemory status
   StatusFor (Some Version) status = OutputHeld → IsDoneOrMemory status
   StatusFor (Some (Gen sample)) status = OutputHeld → IsDoneOrMemory status
-  StatusFor (Some (Replay summary file)) status = InputHeld → OutputHeld → HasStatus gives ended old.input new.input status ⊎ (status ≡ 4)
+  StatusFor (Some (Replay large summary file)) status = InputHeld → OutputHeld → HasStatus (scale_of large) gives ended old.input new.input status ⊎ (status ≡ 4)
   StatusFor (Some (Rules file)) status = InputHeld → OutputHeld → HasConfigStatus gives ended old.input new.input status ⊎ (status ≡ 4)
   StatusFor (Some (Check member folder)) status = DisksHeld → OutputHeld → HoldFiles view member.nodes (disks_in old.files) → IsDoneOrMemory status
   StatusFor (Some (CheckConfigured id paths)) status =

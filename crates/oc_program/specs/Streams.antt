@@ -17,8 +17,8 @@ IsFrontRead bytes read front = ((rest : List ℕ) × (bytes ≡ front ++ rest)) 
 -- this many of the bytes of the input were read
 abbrev pub at_bytes : List ℕ → ℕ → Input
 at_bytes bytes read = record {
-  says = λ says. (schedule_of bytes ≡ says) × (read ≡ length bytes);
-  passes = λ what. (schedule_of bytes ≡ Err (Limit what)) × (read ≤ length bytes);
+  says = λ scale says. (schedule_of scale bytes ≡ says) × (read ≡ length bytes);
+  passes = λ scale what. (schedule_of scale bytes ≡ Err (Limit what)) × (read ≤ length bytes);
   whole = λ all. (all ≡ bytes) × (read ≡ length bytes);
   long = (MAX_SCHEDULE_BYTES < length bytes) × (read ≤ length bytes);
   failed = read ≤ length bytes;
@@ -60,8 +60,8 @@ IsSoundCountOf traffic bytes = IsCountOf traffic bytes × (traffic.faults ≡ 0)
 -- as many bytes were read as some text has that says this, and no call failed; or one did
 abbrev pub at_input : Traffic → Input
 at_input traffic = record {
-  says = λ says. (bytes : List ℕ) × IsSoundCountOf traffic bytes × (schedule_of bytes ≡ says);
-  passes = λ what. (bytes : List ℕ) × IsSoundCountOf traffic bytes × (schedule_of bytes ≡ Err (Limit what));
+  says = λ scale says. (bytes : List ℕ) × IsSoundCountOf traffic bytes × (schedule_of scale bytes ≡ says);
+  passes = λ scale what. (bytes : List ℕ) × IsSoundCountOf traffic bytes × (schedule_of scale bytes ≡ Err (Limit what));
   whole = λ bytes. IsSoundCountOf traffic bytes;
   long = (bytes : List ℕ) × IsSoundCountOf traffic bytes × (MAX_SCHEDULE_BYTES < length bytes);
   failed = HasFailed traffic;

@@ -22,8 +22,8 @@ ghost use Rattle.oc_words.specs.Words.{Answers, IsPlain, IsRequest, asked, texts
 use crate::outside::{Ended, Outside};
 use oc_commands::{
     CheckEnd, ConfiguredEnd, End, Served, ServiceEnd, check_configured, check_files, download,
-    error_of, list_rules, progress_on, publish, replay_input, run_service, take_token, tell,
-    write_help, write_sample, write_version,
+    error_of, list_rules, progress_on, publish, replay_input, run_service, scale_of, take_token,
+    tell, write_help, write_sample, write_version,
 };
 use oc_fetch::{GetEnd, Metered};
 use oc_io::{Disk, Sink, Source};
@@ -132,15 +132,16 @@ fn perform<S: Source, K: Sink, E: Sink, T: Stage, D: Disk, L: Dialler, N: Link, 
             let (end, outside) = check_one_of(alloc, *id, outside);
             (End::CheckedConfigured(end), outside)
         }
-        Ok(Invocation::Replay { summary, .. }) => {
+        Ok(Invocation::Replay { large, summary, .. }) => {
             let end = replay_input(
                 alloc,
                 &mut outside.input,
                 &mut outside.output,
                 &mut outside.stage,
+                scale_of(*large),
                 *summary,
             );
-            (End::Replayed(end), outside)
+            (End::Replayed { large: *large, end }, outside)
         }
         Ok(Invocation::Gen(sample)) => {
             let end = write_sample(alloc, *sample, &mut outside.output);

@@ -2,7 +2,7 @@
 //! and over streams.
 
 ghost use Rattle.std.specs.Prelude.{◌≡◌, ℕ, Bool, ◌⊎◌, List, Option, Some};
-ghost use Rattle.oc_commands.specs.AtReplay.{status_for};
+ghost use Rattle.oc_commands.specs.AtReplay.{scale_of, status_for};
 ghost use Rattle.oc_keep.specs.Files.{disks_in};
 ghost use Rattle.oc_commands.specs.Ends.{status_of};
 ghost use Rattle.oc_commands.specs.Lines.{file_told, line_of};
@@ -86,8 +86,8 @@ pub fn run_in_memory<T: Stage, D: Disk, L: Dialler, N: Link, P: Pause>(
         }) end }
 
     // The status of a replay is that of what these bytes say, or the output failed, or memory runs out.
-    ensures replayed { (summary : Bool) (file : Option (List ℕ)) → asked (texts_of words.now) ≡ Some (Invocation.Replay summary file)
-        → (result.status ≡ status_for (schedule_of input.now)) ⊎ (result.status ≡ 1) ⊎ (result.status ≡ 4) }
+    ensures replayed { (large summary : Bool) (file : Option (List ℕ)) → asked (texts_of words.now) ≡ Some (Invocation.Replay large summary file)
+        → (result.status ≡ status_for (schedule_of (scale_of large) input.now)) ⊎ (result.status ≡ 1) ⊎ (result.status ≡ 4) }
 {
     let source = ReaderSource::new(input);
     let token_source = ReaderSource::new(token);

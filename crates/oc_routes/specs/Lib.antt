@@ -7,6 +7,7 @@ pub mod Examples
 pub mod Connections
 pub mod Lawful
 pub mod Queries
+pub mod Elements
 pub mod Replies
 pub mod Routes
 pub mod Asks

@@ -1,5 +1,5 @@
 -- What a request is answered for the answer of its step.
-use Rattle.std.specs.Prelude.{ℕ, ◌-◌, Bool, true, false, not, Option, Some, None, List, [], ◌++◌, length, replicate, slice_get, unwrap_or}
+use Rattle.std.specs.Prelude.{ℕ, ◌-◌, Bool, true, false, not, Option, Some, None, List, [], ◌++◌, length, replicate, slice_index_or}
 use Rattle.std.specs.Str.{byte}
 use Rattle.oc_http.specs.Writing.{head_text, response_text}
 use Rattle.oc_http.specs.declared.framing.Persistence.{Persistence}
@@ -84,7 +84,7 @@ served manner sealed last start count = record {
 
 -- the address of a node by its id
 abbrev pub address_of : List (List ℕ) → ℕ → List ℕ
-address_of addresses node = unwrap_or (slice_get addresses (node - 1)) []
+address_of addresses node = slice_index_or addresses (node - 1) []
 
 -- the URL to which a client is sent
 abbrev pub location_for : Manner → List ℕ → List ℕ → ℕ → List ℕ

@@ -1,12 +1,12 @@
 //! What is answered for the answer of a step.
 
-ghost use Rattle.std.specs.Prelude.{◌≡◌, ◌++◌, [], IfOk, OnOk, map, option_map, string_bytes};
+ghost use Rattle.std.specs.Prelude.{◌≡◌, ◌++◌, [], IfOk, None, OnOk, Some, length, map, option_map, string_bytes};
 ghost use Rattle.std.specs.Option.{ForSome};
 ghost use Rattle.oc_base.specs.Names.{IsGroupName};
 ghost use Rattle.oc_http.specs.Writing.{HasPhrase, head_text};
 ghost use Rattle.oc_routes.specs.Lawful.{IsAsked};
 ghost use Rattle.oc_routes.specs.Responses.{body_for, client_response, connection_for, copies, framing_for, is_chunked, location_for, message_response, probe_body, probe_response, publish_status, redirection, report_response, response_to, seal_status, served, status_alone, typed, typed_as, whole};
-ghost use Rattle.oc_wire.specs.Spelling.{HasSpelling};
+ghost use Rattle.oc_wire.specs.Spelling.{HasSpelling, spelling};
 
 use crate::addresses::address_of;
 use crate::directory::Directory;
@@ -16,12 +16,14 @@ use crate::report::Report;
 use crate::response::{GroupRange, Response};
 use crate::routes::Operation;
 use oc_base::{Bytes, GroupName, Memory, NodeId, Text, put};
-use oc_http::{ContentType, Framing, Persistence, Reply, write_reply_head, write_response};
+use oc_http::{
+    ContentType, Framing, Persistence, Reply, write_reply_head, write_response, write_response_head,
+};
 use oc_mac::Key;
 use oc_model::{Answer, Message};
 use oc_probe::PROBE_BYTES;
 use oc_updown::{follow_location, location};
-use oc_wire::{encode, mac_for};
+use oc_wire::{encode, length_with_chunk, mac_for, put_message};
 use std::alloc::Global;
 
 /// What an answer depends on besides what was asked.
@@ -92,9 +94,27 @@ fn to_message(alloc: Global, reply: Option<&Message>, key: Option<&Key>) -> Resu
     let Some(message) = reply else {
         return status_alone(alloc, 204);
     };
+    if let (None, Some(length)) = (key, length_with_chunk(message)) {
+        return with_chunk(alloc, message, length);
+    }
     let body = encode(alloc, message)?;
     let mac = mac_for(alloc, key, &body)?;
     whole(alloc, &with_mac(body, mac))
+}
+
+/// A 200 with a message of this length, without a MAC. The bytes of its chunk are copied once.
+fn with_chunk(alloc: Global, message: &Message, length_in_bytes: u64) -> Result<Response, Memory>
+    requires spelled { HasSpelling message.now.body }
+    requires length { length_in_bytes ≡ length (spelling message.now) }
+    ensures { IfOk result (λ response. response ≡ message_response None (Some message.now)) }
+{
+    let mut text = write_response_head(alloc, &typed(Vec::new(alloc)), length_in_bytes)?;
+    put_message(&mut text, message)?;
+    Ok(Response {
+        text: Text::of(text),
+        content: None,
+        connection: Persistence::Close,
+    })
 }
 
 /// A 200 with a message, whose MAC is this.

@@ -20,12 +20,12 @@ use Rattle.oc_server.specs.Asks.{has_to_wait, obeys, refuses_or, responds, takes
 use Rattle.oc_server.specs.Choices.{due_place, next_to_dial, prospect_of, wait_for}
 use Rattle.oc_server.specs.Deeds.{Deed, Sees, Reads, Tells, Takes, Accepts, Says, Notes, Permits, Waits, Replies, Refuses, BreaksOff, Gives, LaysAside, Drops, Dials, Probes, Running, Setting, after, after_all}
 use Rattle.oc_server.specs.Hurries.{came_hurries}
-use Rattle.oc_server.specs.Pace.{wait_until}
-use Rattle.oc_server.specs.Parts.{nothing}
+use Rattle.oc_server.specs.Pace.{has_passed, wait_until}
+use Rattle.oc_server.specs.Parts.{nothing, one, ◌>>◌}
 use Rattle.oc_server.specs.Rooms.{goes_on, moves, room, room_for}
 use Rattle.oc_server.specs.Rooms as rooms
 use Rattle.oc_server.specs.Sends.{dials_at, dials_it, dials_next, sends}
-use Rattle.oc_server.specs.Turns.{Observation, brought, deals, happens, measures, next_peer, probes_it, quickened, takes_at, takes_due, ticked, ticks, ticks_and_sends, turn}
+use Rattle.oc_server.specs.Turns.{Observation, brought, deals, happens, measures, next_peer, probes_it, quickened, takes_at, takes_due, ticked, ticks, ticks_and_sends, ticks_if, turn}
 use Rattle.oc_server.specs.Works.{client_input, pending, work_on}
 use Rattle.oc_server.specs.declared.came.Came.{Came}
 use Rattle.oc_server.specs.declared.came.Came.TheVariants as comes
@@ -83,8 +83,12 @@ answered_then answer back s (d ∷ ds) es a first second = (first.0, answered_th
 silent_ticks : (pace : Pace) (now seconds : ℕ) (s : Setting) (a : Running) → AreSilent (ticks pace now seconds s a)
 silent_ticks pace now seconds s a = by_test (wait_until pace now == 0)
   where
-    by_test : (b : Bool) → AreSilent ((if b then ticked seconds else nothing) s a)
-    by_test true = (tt, (tt, (tt, tt)))
+    by_second : (b : Bool) → AreSilent ((one (Tells seconds) >> ticks_if b seconds) s a)
+    by_second true = (tt, (tt, (tt, (tt, tt))))
+    by_second false = (tt, tt)
+
+    by_test : (b : Bool) → AreSilent ((if b then ticked pace.second seconds else nothing) s a)
+    by_test true = by_second (has_passed pace.second seconds)
     by_test false = tt
 
 silent_dial : (place : ℕ) (m : Option Message) (s : Setting) (a : Running) → AreSilent (dials_it place m s a)
@@ -120,12 +124,12 @@ silent_room (Some (works.Waits w)) now s a = tt
 
 silent_measures : (probing : Option Probing) (peer : ℕ) (fault : Option ProbeFault) (median : ℕ) (s : Setting) (a : Running) → AreSilent (measures probing peer fault median s a)
 silent_measures None peer None median s a = tt
-silent_measures (Some probing) peer None median s a = (tt, tt)
+silent_measures (Some probing) peer None median s a = (tt, (tt, tt))
 silent_measures probing peer (Some fault) median s a = (tt, tt)
 
 silent_brought : (input : Option Input) (s : Setting) (a : Running) → AreSilent (brought input s a)
 silent_brought None s a = tt
-silent_brought (Some i) s a = (tt, (tt, tt))
+silent_brought (Some i) s a = (tt, (tt, (tt, tt)))
 
 silent_probe : (peer : Option ℕ) (started : ℕ) (s : Setting) (a : Running) → AreSilent (probes_it peer started s a)
 silent_probe None started s a = tt
@@ -133,7 +137,7 @@ silent_probe (Some peer) started s a = (tt, (tt, tt))
 
 responded : (r : Pending) (input : Option Input) (now : ℕ) (s : Setting) (a : Running) → AreAnswered s (responds r input now s a) a
 responded r None now s a = (refl, tt)
-responded r (Some i) now s a = (tt, (tt, (refl, tt)))
+responded r (Some i) now s a = (tt, (tt, (tt, (refl, tt))))
 
 took_on : (c : ℕ) (request : Request) (now : ℕ) (s : Setting) (a : Running) → AreAnswered s (takes_on c request now s a) a
 took_on c request now s a = by_condition (unmet request.operation a.node.control.me (shelf a.node.groups))

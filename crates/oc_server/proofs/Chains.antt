@@ -10,6 +10,7 @@ use Rattle.oc_model.specs.Step.{step}
 use Rattle.oc_server.specs.Deeds.{Deed, Running, Setting, after, after_all, calls, calls_of, input_of, inputs_of, line, lines, with_input}
 use Rattle.oc_server.specs.Deeds as deeds
 use Rattle.oc_server.specs.Scenes.{CountsAll}
+use Rattle.oc_server.proofs.Moments.{taken_first}
 
 -- Lists
 
@@ -47,11 +48,6 @@ pub fold_append : (n : Node) (is js : List Input) → after_inputs n (is ++ js) 
 fold_append n [] js = refl
 fold_append n (i ∷ is) js = fold_append (step n i).node is js
 
--- an input is taken before inputs
-fold_with : (n : Node) (o : Option Input) (is : List Input) → after_inputs n (with_input o is) ≡ after_inputs (after_inputs n (with_input o [])) is
-fold_with n None is = refl
-fold_with n (Some i) is = refl
-
 -- the node after a deed
 node_behind : (d : Deed) (a : Running) → (after d a).node ≡ after_inputs a.node (with_input (input_of d) [])
 node_behind (deeds.Sees e wait bytes) a = refl
@@ -76,7 +72,7 @@ node_behind (deeds.Probes peer d now) a = refl
 pub nodes_behind : (ds : List Deed) (a : Running) → (after_all ds a).node ≡ after_inputs a.node (inputs_of ds)
 nodes_behind [] a = refl
 nodes_behind (d ∷ ds) a =
-    nodes_behind ds (after d a) ∙ ap (λ (n : Node). after_inputs n (inputs_of ds)) (node_behind d a) ∙ sym (fold_with a.node (input_of d) (inputs_of ds))
+    nodes_behind ds (after d a) ∙ ap (λ (n : Node). after_inputs n (inputs_of ds)) (node_behind d a) ∙ sym (taken_first a.node (input_of d) (inputs_of ds))
 
 -- Counts
 

@@ -26,7 +26,7 @@ use Rattle.oc_routes.specs.Responses.{client_response, served}
 use Rattle.oc_routes.specs.declared.manner.Manner.{Manner}
 use Rattle.oc_routes.specs.declared.manner.Manner.TheVariants.{HeadAlone, Once, Follow}
 use Rattle.oc_routes.specs.declared.routes.Operation.TheVariants as asks
-use Rattle.oc_server.proofs.Holdings.{held_is}
+use Rattle.oc_routes.proofs.Holdings.{held_is}
 use Rattle.oc_server.specs.Deeds.{content_at}
 use Rattle.oc_server.specs.Replying.{IsGivable, client_content}
 

@@ -1,5 +1,5 @@
 -- Dials that begin.
-use Rattle.std.proofs.Common.{◌≡◌, ℕ, false, Option, Some, List, [], ◌∷◌, ◌++◌, slice_get, refl, sym, ap, subst, ◌∙◌, arith}
+use Rattle.std.proofs.Common.{remove, ◌≡◌, ℕ, false, Option, Some, List, [], ◌∷◌, ◌++◌, slice_get, refl, sym, ap, subst, ◌∙◌, arith}
 use Rattle.std.specs.List.{AllByRecursion}
 use Rattle.oc_base.specs.Lawful.{IsNode}
 use Rattle.oc_link.specs.Told.{AddsAll}
@@ -10,10 +10,10 @@ use Rattle.oc_http.specs.Writing.{probe_text}
 use Rattle.oc_io.specs.DiskView.{DiskView}
 use Rattle.oc_keep.specs.KeptView.{node_of}
 use Rattle.oc_model.specs.declared.message.Message.{Message}
+use Rattle.oc_routes.specs.Responses.{address_of}
 use Rattle.oc_wire.specs.Macs.{request_of}
-use Rattle.oc_server.specs.Deeds.{Dials, Probes, address_at}
+use Rattle.oc_server.specs.Deeds.{Dials, Probes}
 use Rattle.oc_server.specs.Dials.{brings, dialling}
-use Rattle.oc_server.specs.Outboxes.{without_at}
 use Rattle.oc_server.specs.Scenes.{Did, IsLawful, IsLawfulDial}
 use Rattle.oc_server.specs.Sending.{AreSendable}
 use Rattle.oc_server.specs.declared.dials.Dialling.{Dialling}
@@ -27,17 +27,17 @@ use Rattle.oc_server.proofs.Steps.{did_step}
 module _ {D L K : Type 0} (view : D → DiskView) (takes fails : K → List ℕ → K → Type 0) (faults : K → ℕ) (story : L → Option (List Call)) (counts : L → LinkCounts) where
   -- a message was taken out of the outbox and dialled
   pub dialled : (takes_nothing : (k : K) → takes k [] k) (place : ℕ) (m : Message) (d : ℕ) (old : Server D L K) (outbox : List Message) (ds : List Dialling) (link : L) (address text : List ℕ)
-      → old.kept.closed ≡ false → slice_get old.outbox place ≡ Some m → outbox ≡ without_at place old.outbox → ds ≡ old.dials ++ dialling d (brings m) ∷ []
-      → address ≡ address_at old.config.addresses m.to → text ≡ request_of old.config.key (address_at old.config.addresses m.to) m → AddsAll (acts.Dial d address text ∷ []) (story old.link) (story link) → counts link ≡ counts old.link
+      → old.kept.closed ≡ false → slice_get old.outbox place ≡ Some m → outbox ≡ remove old.outbox place → ds ≡ old.dials ++ dialling d (brings m) ∷ []
+      → address ≡ address_of old.config.addresses m.to → text ≡ request_of old.config.key (address_of old.config.addresses m.to) m → AddsAll (acts.Dial d address text ∷ []) (story old.link) (story link) → counts link ≡ counts old.link
       → Did view takes faults story counts (Dials place m d ∷ []) old (record old { outbox = outbox; dials = ds; link = link })
   dialled takes_nothing place m d old outbox ds link address text is_open there rest begun at said made counted =
       did_step view takes fails faults story counts (Dials place m d) old (record old { outbox = outbox; dials = ds; link = link }) refl refl refl (takes_nothing old.sink) (omega arith) counted (looks_none view old.kept is_open)
       lawful
       (λ honest.
       ap (λ (ms : List Message). record { node = node_of old.kept; outbox = ms; works = old.works; dials = ds }) rest
-      ∙ ap (λ (x : List Dialling). record { node = node_of old.kept; outbox = without_at place old.outbox; works = old.works; dials = x }) begun)
+      ∙ ap (λ (x : List Dialling). record { node = node_of old.kept; outbox = remove old.outbox place; works = old.works; dials = x }) begun)
       (λ honest.
-      subst (λ (t : List ℕ). AddsAll (acts.Dial d (address_at old.config.addresses m.to) t ∷ []) (story old.link) (story link)) said
+      subst (λ (t : List ℕ). AddsAll (acts.Dial d (address_of old.config.addresses m.to) t ∷ []) (story old.link) (story link)) said
       (subst (λ (a : List ℕ). AddsAll (acts.Dial d a text ∷ []) (story old.link) (story link)) at made))
     where
       nodes : ℕ
@@ -53,7 +53,7 @@ module _ {D L K : Type 0} (view : D → DiskView) (takes fails : K → List ℕ 
   -- a probe began
   pub probed : (takes_nothing : (k : K) → takes k [] k) (peer d now : ℕ) (old : Server D L K) (ds : List Dialling) (link : L) (address text : List ℕ)
       → old.kept.closed ≡ false → IsNode old.kept.node.control.nodes peer → ds ≡ old.dials ++ dialling d (errands.Probe peer now) ∷ []
-      → address ≡ address_at old.config.addresses peer → text ≡ probe_text address → AddsAll (acts.Dial d address text ∷ []) (story old.link) (story link) → counts link ≡ counts old.link
+      → address ≡ address_of old.config.addresses peer → text ≡ probe_text address → AddsAll (acts.Dial d address text ∷ []) (story old.link) (story link) → counts link ≡ counts old.link
       → Did view takes faults story counts (Probes peer d now ∷ []) old (record old { dials = ds; link = link })
   probed takes_nothing peer d now old ds link address text is_open node begun at written made counted =
       did_step view takes fails faults story counts (Probes peer d now) old (record old { dials = ds; link = link }) refl refl refl (takes_nothing old.sink) (omega arith) counted (looks_none view old.kept is_open)

@@ -5,6 +5,7 @@ use Rattle.std.specs.Option.{option_map}
 use Rattle.std.proofs.lemmas.List.{append-nil}
 use Rattle.oc_base.specs.Groups.{bytes_of}
 use Rattle.oc_base.specs.declared.group.Group.{Group}
+use Rattle.oc_link.specs.Calls.{IsFront}
 use Rattle.oc_link.specs.Stands.{after_finish, stands_after}
 use Rattle.oc_link.specs.declared.phase.Phase.{Phase}
 use Rattle.oc_link.specs.declared.phase.Phase.TheVariants.{Awaiting, Answering, Whole, Broken, Gone}
@@ -16,7 +17,6 @@ use Rattle.oc_routes.specs.declared.response.Response.{Response}
 use Rattle.oc_server.proofs.Grown.{Grows}
 use Rattle.oc_server.specs.Deeds.{finish, first_piece, first_rest, keeps, piece, rest}
 use Rattle.oc_server.specs.Replying.{IsGivable}
-use Rattle.oc_server.specs.Scenes.{IsFront}
 use Rattle.oc_server.specs.declared.work.Pending.{Pending}
 use Rattle.oc_server.specs.declared.work.Transfer.{Transfer}
 use Rattle.oc_server.specs.declared.work.Work.{Work}

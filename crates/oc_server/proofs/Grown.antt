@@ -5,7 +5,7 @@ use Rattle.oc_base.specs.declared.group.Group.{Group}
 use Rattle.oc_base.specs.Groups.{bytes_of, group_of, group_or_empty, or_empty, shelf, with_group}
 use Rattle.oc_base.specs.Named.{same_name}
 use Rattle.oc_base.proofs.NameOrder.{names_equal}
-use Rattle.oc_model.proofs.Groups.{group_of-name, group_of-with_group}
+use Rattle.oc_model.proofs.Groups.{group_of-with_group, group_or_empty-name}
 use Rattle.oc_model.specs.Node.{Node}
 use Rattle.oc_model.specs.Step.{Piece, grown, kept_at, piece_of, plan, step}
 use Rattle.oc_model.specs.declared.input.Input.{Input}
@@ -24,14 +24,6 @@ grows_then a b c x y = λ g.
     let q = y g in
     (p.0 ++ q.0, q.1 ∙ ap (λ (bytes : List ℕ). bytes ++ q.0) (p.1) ∙ append_assoc (bytes_of g a) (p.0) (q.0))
 
--- a group that is found, and an empty one, has the name that was asked for
-name_of : (g : List ℕ) (ks : List Group) → (group_or_empty g ks).name ≡ g
-name_of g ks = by_found (group_of g ks) refl
-  where
-    by_found : (o : Option Group) → group_of g ks ≡ o → (or_empty g o).name ≡ g
-    by_found None is = refl
-    by_found (Some k) is = group_of-name g ks k is
-
 grows_with : (p : Piece) (at : ℕ) (closes : Bool) (ks : List Group) → Grows ks (with_group (grown (group_or_empty p.group ks) at p.bytes closes) ks)
 grows_with p at closes ks = λ g. by_name g (same_name g k.name) refl
   where
@@ -45,7 +37,7 @@ grows_with p at closes ks = λ g. by_name g (same_name g k.name) refl
 
     by_name : (g : List ℕ) (b : Bool) → same_name g k.name ≡ b → (more : List ℕ) × (bytes_of g (with_group k ks) ≡ bytes_of g ks ++ more)
     by_name g true is =
-        let same : g ≡ p.group = names_equal g k.name is ∙ name_of p.group ks in
+        let same : g ≡ p.group = names_equal g k.name is ∙ group_or_empty-name p.group ks in
         let more : List ℕ = drop (length (group_or_empty p.group ks).bytes - at) p.bytes in
         (more, found g true is ∙ ap (λ (x : List ℕ). bytes_of x ks ++ more) (sym same))
     by_name g false is = ([], found g false is ∙ sym (append-nil (bytes_of g ks)))

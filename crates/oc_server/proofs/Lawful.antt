@@ -2,18 +2,20 @@
 use Rattle.std.proofs.Common.{◌≡◌, ◌<◌, ℕ, zero, suc, Option, None, Some, IfSome, List, [], ◌∷◌, ◌++◌, length, take, drop, remove, slice_get, is_some, true, refl, sym, subst, arith}
 use Rattle.std.specs.List.{AllByRecursion}
 use Rattle.std.specs.Option.{option_map}
+use Rattle.oc_base.proofs.Each.{all_append}
 use Rattle.oc_keep.specs.Promises.{IsSameNode}
 use Rattle.oc_model.specs.Node.{Header}
 use Rattle.oc_link.specs.declared.event.LinkEvent.{LinkEvent}
 use Rattle.oc_link.specs.declared.event.LinkEvent.TheVariants as events
 use Rattle.oc_model.specs.Lawful.{IsInput}
+use Rattle.oc_routes.specs.Elements.{element_at, without_at}
 use Rattle.oc_routes.specs.Lawful.{IsAsked}
 use Rattle.oc_server.specs.Asks.{due_of}
 use Rattle.oc_server.specs.Deeds.{dials_behind, errand_in, with_content}
 use Rattle.oc_server.specs.Dials as dials
 use Rattle.oc_server.specs.Scenes.{IsLawful, IsLawfulDial, IsLawfulErrand, IsLawfulWaiting, IsLawfulWork}
 use Rattle.oc_server.specs.Sending.{AreSendable}
-use Rattle.oc_server.specs.Works.{client_input, pending, place_on, without, without_at}
+use Rattle.oc_server.specs.Works.{client_input, pending, place_on, without}
 use Rattle.oc_server.specs.declared.taking_up.Due.TheVariants as dues
 use Rattle.oc_server.specs.declared.work.Pending.{Pending}
 use Rattle.oc_server.specs.declared.dials.Dialling.{Dialling}
@@ -26,11 +28,6 @@ use Rattle.oc_server.specs.declared.work.Work.TheVariants as works
 -- Lists
 
 module _ {X : Type 0} (P : X → Type 0) where
-  -- lists one after the other
-  pub all_append : (xs ys : List X) → AllByRecursion P xs → AllByRecursion P ys → AllByRecursion P (xs ++ ys)
-  all_append [] ys some more = more
-  all_append (x ∷ xs) ys some more = (some.0, all_append xs ys some.1 more)
-
   -- the first ones
   all_take : (n : ℕ) (xs : List X) → AllByRecursion P xs → AllByRecursion P (take n xs)
   all_take zero xs all = tt
@@ -45,7 +42,7 @@ module _ {X : Type 0} (P : X → Type 0) where
 
   -- all but one
   pub all_remove : (place : ℕ) (xs : List X) → AllByRecursion P xs → AllByRecursion P (remove xs place)
-  all_remove place xs all = all_append (take place xs) (drop (suc place) xs) (all_take place xs all) (all_drop (suc place) xs all)
+  all_remove place xs all = all_append P (take place xs) (drop (suc place) xs) (all_take place xs all) (all_drop (suc place) xs all)
 
 -- there is an element at each place
 pub none_there : {X : Type 0} (xs : List X) (k : ℕ) → k < length xs → slice_get xs k ≡ None → ⊥
@@ -96,7 +93,7 @@ module _ (nodes me : ℕ) where
 
 -- Dials
 
-dials_without_place : (nodes : ℕ) (place : Option ℕ) (ds : List Dialling) → AllByRecursion (IsLawfulDial nodes) ds → AllByRecursion (IsLawfulDial nodes) (dials.without_at ds place)
+dials_without_place : (nodes : ℕ) (place : Option ℕ) (ds : List Dialling) → AllByRecursion (IsLawfulDial nodes) ds → AllByRecursion (IsLawfulDial nodes) (without_at ds place)
 dials_without_place nodes None ds all = all
 dials_without_place nodes (Some place) ds all = all_remove (IsLawfulDial nodes) place ds all
 
@@ -114,7 +111,7 @@ dial_there nodes [] k all = tt
 dial_there nodes (d ∷ ds) zero all = all.0
 dial_there nodes (d ∷ ds) (suc k) all = dial_there nodes ds k all.1
 
-dial_placed : (nodes : ℕ) (ds : List Dialling) (place : Option ℕ) → AllByRecursion (IsLawfulDial nodes) ds → IfSome (option_map (λ (d : Dialling). d.errand) (dials.dial_at ds place)) (IsLawfulErrand nodes)
+dial_placed : (nodes : ℕ) (ds : List Dialling) (place : Option ℕ) → AllByRecursion (IsLawfulDial nodes) ds → IfSome (option_map (λ (d : Dialling). d.errand) (element_at ds place)) (IsLawfulErrand nodes)
 dial_placed nodes ds None all = tt
 dial_placed nodes ds (Some k) all = dial_there nodes ds k all
 

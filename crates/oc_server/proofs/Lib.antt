@@ -1,5 +1,5 @@
-pub mod Chains
 pub mod Moments
+pub mod Chains
 pub mod Looking
 pub mod Scenes
 pub mod Lawful
@@ -13,6 +13,8 @@ pub mod Pieces
 pub mod Parts
 pub mod Stopping
 pub mod ToldInputs
+pub mod Ahead
+pub mod Recorded
 pub mod Outgoing
 pub mod Responding
 pub mod Turning
@@ -23,7 +25,6 @@ pub mod Grown
 pub mod Givings
 pub mod Replying
 pub mod RepliedDeeds
-pub mod Holdings
 pub mod ChunksThere
 pub mod Settled
 pub mod PartsOrdered

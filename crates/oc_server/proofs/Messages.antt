@@ -6,7 +6,8 @@ use Rattle.oc_model.specs.Lawful.{IsMessage}
 use Rattle.oc_model.specs.declared.message.Body.{Body}
 use Rattle.oc_model.specs.declared.message.Body.TheVariants as bodies
 use Rattle.oc_model.specs.declared.message.Message.{Message}
-use Rattle.oc_routes.specs.Replies.{message_at, others, reply_place, without}
+use Rattle.oc_routes.specs.Elements.{element_at, without_at}
+use Rattle.oc_routes.specs.Replies.{others, reply_place}
 use Rattle.oc_server.specs.Deeds.{back_to, others_than}
 use Rattle.oc_server.specs.Outboxes.{older_fetch, put_at, with_message, with_messages}
 use Rattle.oc_server.specs.declared.outbox.TheConstants.{MAX_OUTBOX}
@@ -99,7 +100,7 @@ pub without_place : (nodes k : ℕ) (ms : List Message) → AreSendable nodes ms
 without_place nodes k ms are = joined nodes (take k ms) (drop (suc k) ms) (taken nodes k ms are) (dropped nodes (suc k) ms are)
 
 -- without one of them
-without_one : (nodes : ℕ) (ms : List Message) (place : Option ℕ) → AreSendable nodes ms → AreSendable nodes (without ms place)
+without_one : (nodes : ℕ) (ms : List Message) (place : Option ℕ) → AreSendable nodes ms → AreSendable nodes (without_at ms place)
 without_one nodes ms None are = are
 without_one nodes ms (Some k) are = without_place nodes k ms are
 
@@ -132,7 +133,7 @@ with_sendable nodes ms (m ∷ more) are all =
 -- What goes back
 
 -- the message at a place, if there is one, has a text
-text_at : (nodes : ℕ) (ms : List Message) (place : Option ℕ) → AreSendable nodes ms → IfSome (message_at ms place) (λ m. HasSpelling m.body)
+text_at : (nodes : ℕ) (ms : List Message) (place : Option ℕ) → AreSendable nodes ms → IfSome (element_at ms place) (λ m. HasSpelling m.body)
 text_at nodes ms None are = tt
 text_at nodes ms (Some k) are = by_one (slice_get ms k) refl
   where

@@ -10,7 +10,7 @@ use Rattle.oc_server.specs.Looks.{LooksOn}
 use Rattle.oc_server.specs.Moments.{AtEachPrefix, TakesOne, node_after}
 
 -- an input is taken before inputs
-taken_first : (n : Node) (o : Option Input) (is : List Input) → after_inputs n (with_input o is) ≡ after_inputs (after_inputs n (with_input o [])) is
+pub taken_first : (n : Node) (o : Option Input) (is : List Input) → after_inputs n (with_input o is) ≡ after_inputs (after_inputs n (with_input o [])) is
 taken_first n None is = refl
 taken_first n (Some i) is = refl
 

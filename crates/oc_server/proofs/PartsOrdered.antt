@@ -32,6 +32,7 @@ use Rattle.oc_probe.specs.declared.fault.ProbeFault.{ProbeFault}
 use Rattle.oc_probe.specs.declared.probing.Probing.{Probing}
 use Rattle.oc_routes.specs.Asks.{IsInputOf}
 use Rattle.oc_routes.specs.Conditions.{unmet}
+use Rattle.oc_routes.specs.Elements.{element_at}
 use Rattle.oc_routes.specs.Hints.{asked_with_hint}
 use Rattle.oc_routes.specs.Macs.{is_forged}
 use Rattle.oc_routes.specs.Shown.{response_for}
@@ -54,23 +55,24 @@ use Rattle.oc_routes.specs.declared.refused.Refused.TheVariants as refusals
 use Rattle.oc_routes.specs.declared.routes.Operation.{Operation}
 use Rattle.oc_routes.specs.declared.routes.Operation.TheVariants as asks
 use Rattle.oc_server.proofs.ChunksThere.{here_there, step_there}
-use Rattle.oc_server.proofs.Settled.{IsLeft, IsOrderly, all_quiet, breaks, drops, fits_if, gives, lays, one_at_most, orderly_behind, orderly_none, orderly_then, permits, quiet_behind, refuses_request, replies_request, settled_by, waits}
+use Rattle.oc_server.proofs.Settled.{AllQuiet, IsLeft, IsOrderly, all_quiet, breaks, drops, fits_if, gives, lays, one_at_most, orderly_behind, orderly_none, orderly_then, permits, quiet_behind, refuses_request, replies_request, settled_by, waits}
 use Rattle.oc_server.specs.Asks.{has_to_wait, holding_for, obeys, refuses_or, replies, report_for, responds, response_now, takes_on, takes_up, waiting}
 use Rattle.oc_server.specs.Brief.{told_of}
+use Rattle.oc_server.specs.Records.{told_ahead}
 use Rattle.oc_server.specs.Brought.{comes_back}
 use Rattle.oc_server.specs.Choices.{due_place, next_to_dial, prospect_of, wait_for}
-use Rattle.oc_server.specs.Deeds.{Deed, Sees, Reads, Accepts, Says, Waits, Running, Setting, after, after_all, back_to, calls_of, content_in, sender_of}
+use Rattle.oc_server.specs.Deeds.{Deed, Sees, Reads, Tells, Accepts, Says, Waits, Running, Setting, after, after_all, back_to, calls_of, content_in, sender_of}
 use Rattle.oc_server.specs.Hurries.{came_hurries}
-use Rattle.oc_server.specs.Pace.{wait_until}
-use Rattle.oc_server.specs.Parts.{nothing}
+use Rattle.oc_server.specs.Pace.{has_passed, wait_until}
+use Rattle.oc_server.specs.Parts.{nothing, one, ◌>>◌}
 use Rattle.oc_server.specs.Replying.{HasContent, IsGivable, MayAnswer, phase_on, works_on}
 use Rattle.oc_server.specs.Rooms.{goes_on, is_told, moves, room, room_for}
 use Rattle.oc_server.specs.Rooms as rooms
 use Rattle.oc_server.specs.Telling.{takes_in}
 use Rattle.oc_server.specs.Sends.{dials_at, dials_it, dials_next, sends}
 use Rattle.oc_server.specs.Settled.{Fits, IsSettled}
-use Rattle.oc_server.specs.Turns.{Means, MeansBack, Observation, brought, deals, happens, measures, next_peer, probes_it, quickened, takes_at, takes_due, takes_next, takes_one, ticked, ticks, ticks_and_sends, turn}
-use Rattle.oc_server.specs.Works.{client_input, connection_of, pending, place_on, work_at, work_on}
+use Rattle.oc_server.specs.Turns.{Means, MeansBack, Observation, brought, deals, happens, measures, next_peer, probes_it, quickened, takes_at, takes_due, takes_next, takes_one, ticked, ticks, ticks_and_sends, ticks_if, turn}
+use Rattle.oc_server.specs.Works.{client_input, connection_of, pending, place_on, work_on}
 use Rattle.oc_server.specs.declared.came.Came.{Came}
 use Rattle.oc_server.specs.declared.came.Came.TheVariants as comes
 use Rattle.oc_server.specs.declared.choosing.TheConstants.{MAX_DIALS}
@@ -136,7 +138,7 @@ moved s made p now prospects.Breaks a has settled = breaks s made p.connection a
 going_on : (s : Setting) (made : List Call) (p : Transfer) (now : ℕ) (a : Running) → HasContent p made a.works → IsSettled made a.works → IsOrderly s made (goes_on p now s a) a
 going_on s made p now a has settled = moved s made p now (prospect_of p (shelf a.node.groups) now) a has settled
 
-at_place : (ws : List Work) (o : Option ℕ) (w : Work) → work_at ws o ≡ Some w → (i : ℕ) × (slice_get ws i ≡ Some w)
+at_place : (ws : List Work) (o : Option ℕ) (w : Work) → element_at ws o ≡ Some w → (i : ℕ) × (slice_get ws i ≡ Some w)
 at_place ws None w is = let none : None ≡ Some w = is in absurd (cc none)
 at_place ws (Some i) w is = (i, is)
 
@@ -209,12 +211,13 @@ responding s made r None now a may is settled =
     (at_once r.asked.operation r.asked.hint r.last None a.node.groups s.addresses s.key (report_for r.asked.operation a) is) settled
 responding s made r (Some i) now a may is settled =
     let ds : List Deed = replies r now (step a.node i).answer (back_to (sender_of i) (step a.node i).sends) s (after (Accepts i) a) in
-    quiet_behind s made (Accepts i) (Says (told_of s.log a.node i) ∷ ds) a tt settled
-    (λ taken. quiet_behind s (made ++ []) (Says (told_of s.log a.node i)) ds (after (Accepts i) a) tt taken
-    (λ behind. replies_request s ((made ++ []) ++ []) r
+    quiet_behind s made (Says (told_ahead s.log s.me i)) (Accepts i ∷ Says (told_of s.log a.node i) ∷ ds) a tt settled
+    (λ ahead. quiet_behind s (made ++ []) (Accepts i) (Says (told_of s.log a.node i) ∷ ds) a tt ahead
+    (λ taken. quiet_behind s ((made ++ []) ++ []) (Says (told_of s.log a.node i)) ds (after (Accepts i) a) tt taken
+    (λ behind. replies_request s (((made ++ []) ++ []) ++ []) r
     (response_now r (step a.node i).answer (back_to (sender_of i) (step a.node i).sends) s (after (Accepts i) a)) now (after (Accepts i) a)
-    (subst (λ (cs : List Call). MayAnswer r.waited r.connection cs a.works) (sym (append-nil (made ++ []) ∙ append-nil made)) may)
-    (by_step r.asked.operation r.asked.hint r.last i (back_to (sender_of i) (step a.node i).sends) a.node s.addresses s.key (report_for r.asked.operation (after (Accepts i) a)) is) behind))
+    (subst (λ (cs : List Call). MayAnswer r.waited r.connection cs a.works) (sym (append-nil ((made ++ []) ++ []) ∙ append-nil (made ++ []) ∙ append-nil made)) may)
+    (by_step r.asked.operation r.asked.hint r.last i (back_to (sender_of i) (step a.node i).sends) a.node s.addresses s.key (report_for r.asked.operation (after (Accepts i) a)) is) behind)))
 
 taking_on : (s : Setting) (made : List Call) (c : ℕ) (request : Request) (now : ℕ) (a : Running) → phase_on c made ≡ Awaiting → IsInputOf request.operation request.hint request.input → IsSettled made a.works
     → IsOrderly s made (takes_on c request now s a) a
@@ -313,12 +316,12 @@ IsReadyFor came made ws = IsSettled made ws
 -- deeds that touch no connection, made of few
 no_fault : (s : Setting) (made : List Call) (peer : ℕ) (probing : Option Probing) (fault : Option ProbeFault) (median : ℕ) (a : Running) → IsSettled made a.works → IsOrderly s made (measures probing peer fault median s a) a
 no_fault s made peer None None median a settled = orderly_none s made a settled
-no_fault s made peer (Some probing) None median a settled = all_quiet s made _ a (tt, tt) settled
+no_fault s made peer (Some probing) None median a settled = all_quiet s made _ a (tt, (tt, tt)) settled
 no_fault s made peer probing (Some fault) median a settled = all_quiet s made _ a (tt, tt) settled
 
 bringing : (s : Setting) (made : List Call) (input : Option Input) (a : Running) → IsSettled made a.works → IsOrderly s made (brought input s a) a
 bringing s made None a settled = orderly_none s made a settled
-bringing s made (Some i) a settled = all_quiet s made (takes_in i s a) a (tt, (tt, tt)) settled
+bringing s made (Some i) a settled = all_quiet s made (takes_in i s a) a (tt, (tt, (tt, tt))) settled
 
 probing_it : (s : Setting) (made : List Call) (peer : Option ℕ) (started : ℕ) (a : Running) → IsSettled made a.works → IsOrderly s made (probes_it peer started s a) a
 probing_it s made None started a settled = orderly_none s made a settled
@@ -337,8 +340,12 @@ happening s made probing comes.Nothing now median started a ready = probing_it s
 ticking : (s : Setting) (made : List Call) (pace : Pace) (now seconds : ℕ) (a : Running) → IsSettled made a.works → IsOrderly s made (ticks pace now seconds s a) a
 ticking s made pace now seconds a settled = by_test (wait_until pace now == 0)
   where
-    by_test : (b : Bool) → IsOrderly s made ((if b then ticked seconds else nothing) s a) a
-    by_test true = all_quiet s made (ticked seconds s a) a (tt, (tt, (tt, tt))) settled
+    by_second : (b : Bool) → AllQuiet ((one (Tells seconds) >> ticks_if b seconds) s a)
+    by_second true = (tt, (tt, (tt, (tt, tt))))
+    by_second false = (tt, tt)
+
+    by_test : (b : Bool) → IsOrderly s made ((if b then ticked pace.second seconds else nothing) s a) a
+    by_test true = all_quiet s made (ticked pace.second seconds s a) a (by_second (has_passed pace.second seconds)) settled
     by_test false = orderly_none s made a settled
 
 dialling_it : (s : Setting) (made : List Call) (place : ℕ) (m : Option Message) (a : Running) → IsSettled made a.works → IsOrderly s made (dials_it place m s a) a

@@ -1,5 +1,5 @@
 -- Pieces of contents that are read.
-use Rattle.std.proofs.Common.{◌≡◌, ◌-◌, ◌+◌, ℕ, zero, suc, true, false, Bool, Some, None, List, [], ◌∷◌, ◌++◌, length, take, drop, refl, sym, ap, subst, ◌∙◌, arith, cond, length-append}
+use Rattle.std.proofs.Common.{◌≡◌, ◌-◌, ◌+◌, ℕ, true, false, Bool, Some, None, List, [], ◌∷◌, ◌++◌, length, take, drop, refl, sym, ap, subst, ◌∙◌, arith, cond, length-append}
 use Rattle.std.proofs.Math.Seq.{take-append_seam}
 use Rattle.std.proofs.lemmas.List.{append-nil}
 use Rattle.std.specs.Option.{option_map}
@@ -12,6 +12,7 @@ use Rattle.oc_chunked.specs.Texts.{chunked_text, chunks_written, end_written}
 use Rattle.oc_io.specs.DiskView.{DiskView}
 use Rattle.oc_keep.specs.KeptView.{IsHonest, KeptView, node_of}
 use Rattle.oc_routes.specs.Contents.{ending, part_of, pieces}
+use Rattle.oc_routes.proofs.PieceLaws.{drop_none, take_none}
 
 -- Groups that are not held
 
@@ -24,14 +25,6 @@ unnamed false g k ks more none = more none
 no_line : (g : List ℕ) (ks : List Group) → held_of g (shelf ks) ≡ None → bytes_of g ks ≡ []
 no_line g [] none = refl
 no_line g (k ∷ ks) none = unnamed (same_name g k.name) g k ks (no_line g ks) none
-
-take_none : (n : ℕ) → take {A = ℕ} n [] ≡ []
-take_none zero = refl
-take_none (suc n) = refl
-
-drop_none : (n : ℕ) → drop {A = ℕ} n [] ≡ []
-drop_none zero = refl
-drop_none (suc n) = refl
 
 -- of a group that is not held there is nothing to read
 pub no_piece : {D : Type 0} (view : D → DiskView) (k : KeptView D) (g : List ℕ) (at w : ℕ) (lines : List Shelf) → (IsHonest view k → lines ≡ shelf (node_of k).groups) → held_of g lines ≡ None → IsHonest view k

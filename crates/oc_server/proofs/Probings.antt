@@ -4,6 +4,7 @@ use Rattle.std.proofs.lemmas.List.{length-set}
 use Rattle.std.specs.List.{AllByRecursion}
 use Rattle.std.specs.Option.{option_map}
 use Rattle.oc_base.specs.Lawful.{IsNode}
+use Rattle.oc_base.proofs.Each.{all_append}
 use Rattle.oc_probe.specs.Rates.{rates_of, with_rate}
 use Rattle.oc_probe.specs.Turns.{turned}
 use Rattle.oc_probe.specs.declared.fault.ProbeFault.{ProbeFault}
@@ -20,7 +21,6 @@ use Rattle.oc_server.specs.declared.came.Came.{Came}
 use Rattle.oc_server.specs.declared.came.Came.TheVariants as comes
 use Rattle.oc_server.specs.declared.dials.Dialling.{Dialling}
 use Rattle.oc_server.specs.declared.turns.Turns.{Turns}
-use Rattle.oc_server.proofs.Lawful.{all_append}
 
 module _ (nodes : ℕ) where
   all_turned : (ids : List ℕ) → AllByRecursion (IsNode nodes) ids → AllByRecursion (IsNode nodes) (turned ids)

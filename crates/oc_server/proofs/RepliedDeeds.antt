@@ -4,6 +4,7 @@ use Rattle.std.specs.Prelude.{◌==◌, if◌then◌else◌, length}
 use Rattle.std.proofs.lemmas.Bool.{eqb-true}
 use Rattle.std.proofs.lemmas.List.{append_assoc, append-nil}
 use Rattle.oc_base.specs.declared.group.Group.{Group}
+use Rattle.oc_link.specs.Calls.{IsFront}
 use Rattle.oc_link.proofs.Stories.{given-then, stands-then}
 use Rattle.oc_link.specs.Stands.{after_loss, after_request, after_room, sees, stands_after, standing_of, untouched}
 use Rattle.oc_link.specs.Traffic.{given}
@@ -21,11 +22,10 @@ use Rattle.oc_routes.specs.declared.connections.TheConstants.{CONTINUE}
 use Rattle.oc_routes.specs.declared.response.Response.{Response}
 use Rattle.oc_server.proofs.Givings.{Holds, IsGiving, content_left, content_under, first_givable, first_given, front_of, holds_still, piece_given, rest_givable}
 use Rattle.oc_server.proofs.Grown.{Grows, grows_after, grows_all, grows_none, grows_then}
-use Rattle.oc_server.proofs.Replying.{first_at, left_on, other_left, over, permitted, refused, rest_at, taken, taken_other, taken_out, text_given, text_other, waiting}
+use Rattle.oc_server.proofs.Replying.{first_at, left_on, other_left, over, permitted, phase_here, refused, rest_at, taken, taken_other, taken_out, text_given, text_other, waiting}
 use Rattle.oc_server.proofs.WorksOn.{other_pushed, other_without, own_pushed}
 use Rattle.oc_server.specs.Deeds.{Deed, Sees, Reads, Tells, Takes, Accepts, Says, Notes, Permits, Waits, Replies, Refuses, BreaksOff, Gives, LaysAside, Drops, Dials, Probes, Running, Setting, after, after_all, calls, calls_of, content_in, finish, first_piece, first_rest, keeps, piece, place_of, refuses, rest, takes_request, with_content}
 use Rattle.oc_server.specs.Replying.{HasContent, IsGivable, IsOrdered, MayAnswer, MayDo, replied, replies, phase_on, text_or_none, whole_reply, works_on}
-use Rattle.oc_server.specs.Scenes.{IsFront}
 use Rattle.oc_server.specs.Works.{without}
 use Rattle.oc_server.specs.declared.work.Pending.{Pending}
 use Rattle.oc_server.specs.declared.work.Transfer.{Transfer}
@@ -59,10 +59,6 @@ seen_holds c events.Quiet st ws now later g w h = holds_still st.phase ws now no
 -- what holds of the connection c after calls with these replies
 abbrev Behind : ℕ → List Call → List ℕ → Standing → List Work → List Group → List Group → List ℕ → List ℕ → Type 0
 Behind c made text st ws now later g w = Holds (stands_after c made st).phase ws now later (g ++ given c made) (w ++ text)
-
--- the phase of the connection that a deed names is that of this one
-phase_here : (c d : ℕ) (made : List Call) (phase : Phase) → (d == c) ≡ true → phase_on d made ≡ phase → phase_on c made ≡ phase
-phase_here c d made phase own is = ap (λ (x : ℕ). phase_on x made) (sym (eqb-true d c own)) ∙ is
 
 permits : (c d : ℕ) (a : Running) (made : List Call) (later : List Group) (g w : List ℕ) → phase_on d made ≡ Awaiting → Holds (phase_on c made) (works_on c a.works) a.node.groups later g w
     → Behind c (acts.Give d CONTINUE.now ∷ []) (if d == c then CONTINUE.now else []) (standing_of c made) (works_on c a.works) a.node.groups later g w

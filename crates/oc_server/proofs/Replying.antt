@@ -5,6 +5,7 @@ use Rattle.std.specs.Option.{option_map}
 use Rattle.std.proofs.lemmas.Bool.{eqb-true}
 use Rattle.std.proofs.lemmas.List.{append-nil}
 use Rattle.oc_base.specs.declared.group.Group.{Group}
+use Rattle.oc_link.specs.Calls.{IsFront}
 use Rattle.oc_link.specs.Stands.{stands_after, standing_of}
 use Rattle.oc_link.specs.Traffic.{given}
 use Rattle.oc_link.specs.declared.call.Call.{Call}
@@ -21,13 +22,16 @@ use Rattle.oc_server.proofs.Grown.{grows_none}
 use Rattle.oc_server.proofs.WorksOn.{other_pushed, own_pushed, own_without}
 use Rattle.oc_server.specs.Deeds.{Running, finish, first_rest, keeps, refuses, takes_request, with_content}
 use Rattle.oc_server.specs.Replying.{IsGivable, MayAnswer, phase_on, text_or_none, works_on}
-use Rattle.oc_server.specs.Scenes.{IsFront}
 use Rattle.oc_server.specs.Works.{without}
 use Rattle.oc_server.specs.declared.work.Pending.{Pending}
 use Rattle.oc_server.specs.declared.work.Transfer.{Transfer}
 use Rattle.oc_server.specs.declared.work.Waiting.{Waiting}
 use Rattle.oc_server.specs.declared.work.Work.{Work}
 use Rattle.oc_server.specs.declared.work.Work.TheVariants as works
+
+-- the phase of the connection that a deed names is that of this one
+pub phase_here : (c d : ℕ) (made : List Call) (phase : Phase) → (d == c) ≡ true → phase_on d made ≡ phase → phase_on c made ≡ phase
+phase_here c d made phase own is = ap (λ (x : ℕ). phase_on x made) (sym (eqb-true d c own)) ∙ is
 
 -- what was given, with more behind it
 more_given : (g w text : List ℕ) → w ≡ g → w ++ text ≡ g ++ text

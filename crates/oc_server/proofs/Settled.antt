@@ -15,7 +15,7 @@ use Rattle.oc_routes.specs.Refusals.{refusal_text}
 use Rattle.oc_routes.specs.declared.refused.Refused.{Refused}
 use Rattle.oc_routes.specs.declared.response.Response.{Response}
 use Rattle.oc_server.proofs.Givings.{works_left}
-use Rattle.oc_server.proofs.Replying.{first_at, left_on, other_left, rest_at, taken_other, taken_out}
+use Rattle.oc_server.proofs.Replying.{first_at, left_on, other_left, phase_here, rest_at, taken_other, taken_out}
 use Rattle.oc_server.proofs.WorksOn.{other_pushed, other_without, own_pushed}
 use Rattle.oc_server.specs.Deeds.{Deed, Sees, Reads, Tells, Takes, Accepts, Says, Notes, Permits, Waits, Replies, Refuses, BreaksOff, Gives, LaysAside, Drops, Dials, Probes, Running, Setting, after, after_all, calls, calls_of, content_in, finish, first_piece, first_rest, keeps, piece, place_of, refuses, rest, takes_request, with_content}
 use Rattle.oc_server.specs.Replying.{HasContent, IsGivable, IsOrdered, MayAnswer, MayDo, phase_on, works_on}
@@ -86,10 +86,6 @@ one_at_most Gone ws fits = ap (λ (x : List Work). drop 1 x) fits
 pub fits_if : (b : Bool) (x st : Standing) (ws : List Work) → x.phase ≡ st.phase → Fits st.phase ws → Fits (if b then x else st).phase ws
 fits_if true x st ws same fits = subst (λ (y : Phase). Fits y ws) (sym same) fits
 fits_if false x st ws same fits = fits
-
--- the phase of the connection that a deed names is that of this one
-phase_here : (c d : ℕ) (made : List Call) (phase : Phase) → (d == c) ≡ true → phase_on d made ≡ phase → phase_on c made ≡ phase
-phase_here c d made phase own is = ap (λ (x : ℕ). phase_on x made) (sym (eqb-true d c own)) ∙ is
 
 -- where a request is awaited nothing is under way
 none_on : (c d : ℕ) (made : List Call) (ws : List Work) → (d == c) ≡ true → phase_on d made ≡ Awaiting → IsSettled made ws → works_on c ws ≡ []

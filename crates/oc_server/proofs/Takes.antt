@@ -3,6 +3,7 @@ use Rattle.std.proofs.Common.{◌≡◌, ℕ, zero, suc, take, drop, IsTrue, fal
 use Rattle.std.proofs.lemmas.List.{append-nil}
 use Rattle.std.specs.List.{AllByRecursion}
 use Rattle.oc_base.specs.declared.shelf.Shelf.{Shelf}
+use Rattle.oc_link.specs.Calls.{IsFront}
 use Rattle.oc_link.specs.Told.{AddsAll}
 use Rattle.oc_link.specs.declared.call.Call.{Call}
 use Rattle.oc_link.specs.declared.counts.LinkCounts.{LinkCounts}
@@ -30,7 +31,7 @@ use Rattle.oc_server.specs.Deeds.{Accepts, Deed, Running, Takes, after, calls, f
 use Rattle.oc_server.specs.Noting.{LineStops}
 use Rattle.oc_server.specs.Moments.{TakesOne}
 use Rattle.oc_server.specs.Outboxes.{with_messages}
-use Rattle.oc_server.specs.Scenes.{Breaks, CountsAll, Did, IsFront, IsLawfulDial, IsLawfulWork, KeepStops, KeepsAll, KeepsOne, Taking, end_of, running, setting}
+use Rattle.oc_server.specs.Scenes.{Breaks, CountsAll, Did, IsLawfulDial, IsLawfulWork, KeepStops, KeepsAll, KeepsOne, Taking, end_of, running, setting}
 use Rattle.oc_server.specs.Sending.{AreSendable}
 use Rattle.oc_server.specs.declared.dials.Dialling.{Dialling}
 use Rattle.oc_server.specs.declared.ends.TurnEnd.{TurnEnd}

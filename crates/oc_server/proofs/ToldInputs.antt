@@ -28,6 +28,7 @@ use Rattle.oc_server.proofs.Stopping.{note_stops}
 pub told_same : (log : Log) (n : Node) (x : Control) (i : Input) (before : Option Before) (answer : Answer) → IsBefore log n.control i before → x ≡ (step n i).node.control → answer ≡ (step n i).answer
     → told_behind before x answer ≡ told_of log n i
 told_same logs.Inputs n x i before answer known is says = ap (λ (o : Option Before). told_behind o x answer) known
+told_same logs.Record n x i before answer known is says = ap (λ (o : Option Before). told_behind o x answer) known
 told_same logs.Brief n x i None answer known is says = absurd known
 told_same logs.Brief n x i (Some b) answer known is says =
     ap (λ (t : List ℕ). asked_line t answer ++ lost_lines x b.leased.items ++ moved_line b.mode x) known.told

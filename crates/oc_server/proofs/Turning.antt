@@ -21,7 +21,7 @@ use Rattle.oc_base.specs.declared.shelf.Shelf.{Shelf}
 use Rattle.oc_model.specs.Node.{Header}
 use Rattle.oc_server.specs.Choices.{due_place, wait_for}
 use Rattle.oc_server.specs.Deeds.{Deed, Reads, Running, Sees, Setting, after_all, after, calls_of, dials_behind, errand_in}
-use Rattle.oc_server.specs.Pace.{after_tick, wait_until}
+use Rattle.oc_server.specs.Pace.{looked, wait_until}
 use Rattle.oc_server.specs.Looks.{Renews}
 use Rattle.oc_server.specs.Parts.{Does, Part, Stops, nothing, one, ◌>>◌}
 use Rattle.oc_server.specs.Runs.{CouldCome, DealStops, Dealt, IsLent, IsMeasured, IsRead, MayRead, behind_reading, due_in, is_something, is_served, lent_in, reads_by, NextStops, NextTaken, Turned, TurnStops}
@@ -43,18 +43,18 @@ use Rattle.oc_server.proofs.Scenes.{breaks_behind, breaks_first, still_honest, s
 -- none is due
 pub no_tick : (pace : Pace) (now wait seconds : ℕ) (s : Setting) (a : Running) → wait ≡ wait_until pace now → wait ≢ 0 → ticks pace now seconds s a ≡ []
 no_tick pace now wait seconds s a is some =
-    ap (λ (b : Bool). cond b (ticked seconds) nothing s a) (ne_eqb (wait_until pace now) 0 (λ e. some (is ∙ e)))
+    ap (λ (b : Bool). cond b (ticked pace.second seconds) nothing s a) (ne_eqb (wait_until pace now) 0 (λ e. some (is ∙ e)))
 
-pub no_tick_paced : (pace : Pace) (now wait : ℕ) → wait ≡ wait_until pace now → wait ≢ 0 → pace ≡ paced pace now
-no_tick_paced pace now wait is some = sym (ap (λ (b : Bool). cond b (after_tick now pace) pace) (ne_eqb (wait_until pace now) 0 (λ e. some (is ∙ e))))
+pub no_tick_paced : (pace : Pace) (now wait seconds : ℕ) → wait ≡ wait_until pace now → wait ≢ 0 → pace ≡ paced pace now seconds
+no_tick_paced pace now wait seconds is some = sym (ap (λ (b : Bool). cond b (looked now seconds pace) pace) (ne_eqb (wait_until pace now) 0 (λ e. some (is ∙ e))))
 
 -- one is due
-pub a_tick : (pace : Pace) (now wait seconds : ℕ) (s : Setting) (a : Running) → wait ≡ wait_until pace now → wait ≡ 0 → ticks pace now seconds s a ≡ ticked seconds s a
+pub a_tick : (pace : Pace) (now wait seconds : ℕ) (s : Setting) (a : Running) → wait ≡ wait_until pace now → wait ≡ 0 → ticks pace now seconds s a ≡ ticked pace.second seconds s a
 a_tick pace now wait seconds s a is none =
-    ap (λ (b : Bool). cond b (ticked seconds) nothing s a) (eq-eqb (wait_until pace now) 0 (sym is ∙ none))
+    ap (λ (b : Bool). cond b (ticked pace.second seconds) nothing s a) (eq-eqb (wait_until pace now) 0 (sym is ∙ none))
 
-pub a_tick_paced : (pace : Pace) (now wait : ℕ) → wait ≡ wait_until pace now → wait ≡ 0 → after_tick now pace ≡ paced pace now
-a_tick_paced pace now wait is none = sym (ap (λ (b : Bool). cond b (after_tick now pace) pace) (eq-eqb (wait_until pace now) 0 (sym is ∙ none)))
+pub a_tick_paced : (pace : Pace) (now wait seconds : ℕ) → wait ≡ wait_until pace now → wait ≡ 0 → looked now seconds pace ≡ paced pace now seconds
+a_tick_paced pace now wait seconds is none = sym (ap (λ (b : Bool). cond b (looked now seconds pace) pace) (eq-eqb (wait_until pace now) 0 (sym is ∙ none)))
 
 -- What was lent
 
@@ -265,7 +265,7 @@ module _ {D L K : Type 0} (view : D → DiskView) (takes fails : K → List ℕ 
         serves = refl;
         pace = λ honest.
             dealt.pace (honest_then honest)
-            ∙ ap (λ (r : Running). paced (quickened (came_hurries came r.node) old.pace) now) (node_then honest);
+            ∙ ap (λ (r : Running). paced (quickened (came_hurries came r.node) old.pace) now dealt.seconds) (node_then honest);
         probing = λ honest. dealt.probing ∙ ap (λ (r : Running). probed came now r.dials old.probing) (node_then honest);
       }
 
@@ -320,7 +320,7 @@ module _ {D L K : Type 0} (view : D → DiskView) (takes fails : K → List ℕ 
 
     -- some work was due
     module _ (place : ℕ) (is : IsHonest view old.server.kept → due_in old.server before ≡ Some place) where
-      pub turned_due : (seconds : ℕ) → Renews view old.server.kept b.kept → Does view takes faults story counts (takes_due old.pace (slice_get b.works place) before seconds) b new.server → new.pace ≡ paced old.pace before → new.probing ≡ old.probing
+      pub turned_due : (seconds : ℕ) → Renews view old.server.kept b.kept → Does view takes faults story counts (takes_due old.pace (slice_get b.works place) before seconds) b new.server → new.pace ≡ paced old.pace before seconds → new.probing ≡ old.probing
           → Turned view takes faults story counts true old new
       turned_due seconds renews does pace probing = record {
         told = told_due seconds;
@@ -372,7 +372,7 @@ module _ {D L K : Type 0} (view : D → DiskView) (takes fails : K → List ℕ 
         serves = λ honest. taken.serves ∙ ap (λ (o : Option ℕ). is_served o taken.told.came) (sym (due_told taken.told taken.begins honest));
         pace = λ honest.
             taken.pace (b_honest honest)
-            ∙ ap (λ (r : Running). paced (quickened (came_hurries taken.told.came r.node) old.pace) taken.told.now) (did.done honest).after
+            ∙ ap (λ (r : Running). paced (quickened (came_hurries taken.told.came r.node) old.pace) taken.told.now taken.told.seconds) (did.done honest).after
             ∙ ap (λ (o : Option ℕ). pace_behind o old.pace taken.told (node_of old.server.kept)) (sym (due_told taken.told taken.begins honest));
         probing = λ honest.
             taken.probing (b_honest honest)

@@ -6,8 +6,9 @@ use Rattle.std.specs.Option.{option_map}
 use Rattle.std.proofs.lemmas.Bool.{cases_lt, eqb-true, lt-ltb, le-ltb, false≢true}
 use Rattle.std.proofs.lemmas.List.{append-nil}
 use Rattle.std.proofs.lemmas.List.Elements.{filter-append}
+use Rattle.oc_routes.specs.Elements.{without_at}
 use Rattle.oc_server.specs.Replying.{works_on}
-use Rattle.oc_server.specs.Works.{connection_of, without, without_at}
+use Rattle.oc_server.specs.Works.{connection_of, without}
 use Rattle.oc_server.specs.declared.work.Work.{Work}
 
 abbrev pub is_on : ℕ → Work → Bool

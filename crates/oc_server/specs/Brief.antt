@@ -4,6 +4,7 @@ use Rattle.std.specs.Prelude.{ℕ, Bool, if◌then◌else◌, Option, is_some, L
 use Rattle.std.specs.List.{flat_map}
 use Rattle.oc_base.specs.declared.cert.Child.{Child}
 use Rattle.oc_base.specs.declared.rank.Rank.{Rank}
+use Rattle.oc_base.specs.declared.shelf.Shelf.{Shelf}
 use Rattle.oc_model.specs.declared.answer.Answer.{Answer}
 use Rattle.oc_model.specs.declared.answer.Answer.TheVariants as answers
 use Rattle.oc_model.specs.declared.input.Input.{Input}
@@ -21,6 +22,7 @@ use Rattle.oc_replay.specs.Bodies.{rank_or_dash}
 use Rattle.oc_replay.specs.Lines.{answer_text}
 use Rattle.oc_replay.specs.Shows.{mode_text}
 use Rattle.oc_state.specs.Modes.{is_idle}
+use Rattle.oc_server.specs.Records.{record_head}
 use Rattle.oc_server.specs.declared.log.Log.{Log}
 use Rattle.oc_server.specs.declared.log.Log.TheVariants as logs
 
@@ -89,9 +91,11 @@ brief_lines before n answer i = asked_line (told_input before.me i) answer ++ lo
 -- what is told of an input, besides the line that it has where each has one
 abbrev pub told_of : Log → Node → Input → List ℕ
 told_of logs.Inputs n i = []
+told_of logs.Record n i = []
 told_of logs.Brief n i = brief_lines n.control (step n i).node.control (step n i).answer i
 
--- what is told of a node that begins
-abbrev pub told_first : Log → Control → List ℕ
-told_first logs.Inputs n = []
-told_first logs.Brief n = place_line n
+-- what is told of a node that begins and holds these groups
+abbrev pub told_first : Log → Control → List Shelf → List ℕ
+told_first logs.Inputs n shelves = []
+told_first logs.Record n shelves = record_head n shelves
+told_first logs.Brief n shelves = place_line n

@@ -56,5 +56,5 @@ pub record AreBrief : Type 0 where
   pub not_yet : tells parent (inputs.Tick 39) []
   pub answered : tells asking (inputs.Delivered (record { from = 1; to = 2; body = bodies.Yes 1 (record { epoch = 1; depth = 0 }) [] })) (codes "is joined 1 rank 1.1\n")
   pub inputs_alone : told_of Inputs (new 1) (inputs.Tick 0) ≡ []
-  pub begins : told_first Brief (new 1).control ≡ codes "is idle\n"
-  pub begins_again : told_first Brief joined.control ≡ codes "is joined 1 rank 1.1\n"
+  pub begins : told_first Brief (new 1).control [] ≡ codes "is idle\n"
+  pub begins_again : told_first Brief joined.control [] ≡ codes "is joined 1 rank 1.1\n"

@@ -11,7 +11,7 @@ use Rattle.oc_routes.specs.declared.waiting.TheConstants.{FOLLOW_MILLIS, IDLE_MI
 use Rattle.oc_routes.specs.declared.routes.Operation.{Operation}
 use Rattle.oc_routes.specs.declared.routes.Operation.TheVariants as asks
 use Rattle.oc_server.specs.Dials.{is_fetch}
-use Rattle.oc_server.specs.Pace.{wait_until}
+use Rattle.oc_server.specs.Pace.{tick_wait}
 use Rattle.oc_server.specs.declared.choosing.TheConstants.{MAX_DIALS, MAX_OTHER_DIALS}
 use Rattle.oc_server.specs.declared.dials.Dialling.{Dialling}
 use Rattle.oc_server.specs.declared.dials.Errand.{Errand}
@@ -60,7 +60,7 @@ shorter now least (works.Waits w) = min least (left_of FOLLOW_MILLIS w.since now
 
 -- the milliseconds until a tick or some work is due
 abbrev pub wait_for : Pace → List Work → ℕ → ℕ
-wait_for pace ws now = fold (shorter now) (wait_until pace now) ws
+wait_for pace ws now = fold (shorter now) (tick_wait pace now) ws
 
 -- Dials
 

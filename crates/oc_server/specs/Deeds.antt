@@ -1,5 +1,5 @@
 -- What a running node does, deed by deed: what each deed makes of the node, the line that it writes, and the calls that it makes on the link.
-use Rattle.std.specs.Prelude.{ℕ, Bool, true, false, if◌then◌else◌, Option, None, Some, List, [], ◌∷◌, ◌++◌, codes, length, slice_index_or, nat_le, ◌+◌, ◌-◌, ◌^◌}
+use Rattle.std.specs.Prelude.{ℕ, Bool, true, false, if◌then◌else◌, Option, None, Some, List, [], ◌∷◌, ◌++◌, codes, length, remove, nat_le, ◌+◌, ◌-◌, ◌^◌}
 use Rattle.std.specs.Option.{option_map}
 use Rattle.oc_base.specs.declared.group.Group.{Group}
 use Rattle.oc_link.specs.declared.call.Call.{Call}
@@ -19,6 +19,7 @@ use Rattle.oc_routes.specs.declared.content.UnderWay.{UnderWay}
 use Rattle.oc_routes.specs.Inputs.{input_line}
 use Rattle.oc_routes.specs.Refusals.{refusal_text, why_text}
 use Rattle.oc_routes.specs.Replies.{others, reply_to}
+use Rattle.oc_routes.specs.Responses.{address_of}
 use Rattle.oc_routes.specs.declared.connections.TheConstants.{CONTINUE}
 use Rattle.oc_routes.specs.declared.refused.Refused.{Refused}
 use Rattle.oc_routes.specs.declared.response.GroupRange.{GroupRange}
@@ -28,13 +29,13 @@ use Rattle.oc_routes.specs.declared.routes.Operation.TheVariants as asks
 use Rattle.oc_wire.specs.Macs.{request_of}
 use Rattle.oc_server.specs.Dials.{brings, dialling}
 use Rattle.oc_server.specs.Dials as dials
-use Rattle.oc_server.specs.Outboxes.{with_messages, without_at}
+use Rattle.oc_server.specs.Outboxes.{with_messages}
 use Rattle.oc_server.specs.Works.{without}
 use Rattle.oc_server.specs.declared.dials.Dialling.{Dialling}
 use Rattle.oc_server.specs.declared.dials.Errand.{Errand}
 use Rattle.oc_server.specs.declared.dials.Errand.TheVariants as errands
 use Rattle.oc_server.specs.declared.log.Log.{Log}
-use Rattle.oc_server.specs.declared.log.Log.TheVariants.{Brief, Inputs}
+use Rattle.oc_server.specs.declared.log.Log.TheVariants.{Brief, Inputs, Record}
 use Rattle.oc_server.specs.declared.work.Pending.{Pending}
 use Rattle.oc_server.specs.declared.work.Transfer.{Transfer}
 use Rattle.oc_server.specs.declared.work.Waiting.{Waiting}
@@ -48,11 +49,8 @@ pub record Setting : Type 0 where
   pub key : Option (List ℕ)
   pub log : Log
 
-abbrev pub address_at : List (List ℕ) → ℕ → List ℕ
-address_at addresses node = slice_index_or addresses (node - 1) []
-
 abbrev pub address_in : Setting → ℕ → List ℕ
-address_in s node = address_at s.addresses node
+address_in s node = address_of s.addresses node
 
 -- a running node: its state, the messages that it has still to send, what is under way on its connections, and its dials
 pub record Running : Type 0 where
@@ -68,11 +66,11 @@ pub data Deed : Type 0 where
   Reads : ℕ → Deed
   -- the clock gave this number of seconds
   Tells : ℕ → Deed
-  -- an input was taken, and its line was written, where each has one; its messages go to the outbox
+  -- an input was taken, and its line was written, where each has one behind its frame; its messages go to the outbox
   Takes : Input → Deed
   -- the same for the input of a request: a message back to its sender is the reply
   Accepts : Input → Deed
-  -- what is told of an input was written: these lines, or none
+  -- what is told before an input or behind it was written: these lines, or none
   Says : List ℕ → Deed
   -- the line `! WHY` was written
   Notes : List ℕ → Deed
@@ -107,9 +105,10 @@ note_line why = codes "! " ++ why ++ codes "\n"
 abbrev pub drop_line : Bool → List ℕ
 drop_line told = if told then note_line (codes "write") else []
 
--- the line of an input that is taken
+-- the line of an input that is written behind its frame; that of a record is written before it
 abbrev pub taken_line : Log → ℕ → Input → List ℕ
 taken_line Inputs me i = input_line me i
+taken_line Record me i = []
 taken_line Brief me i = []
 
 -- the lines of a deed
@@ -219,7 +218,7 @@ after (BreaksOff c) a = record a { works = without c a.works }
 after (Gives p now) a = record a { works = with_content (rest p now a.node.groups) (without p.connection a.works) }
 after (LaysAside p) a = record a { works = without p.connection a.works ++ works.Aside p ∷ [] }
 after (Drops c told) a = record a { works = without c a.works }
-after (Dials place m d) a = record a { outbox = without_at place a.outbox; dials = a.dials ++ dialling d (brings m) ∷ [] }
+after (Dials place m d) a = record a { outbox = remove a.outbox place; dials = a.dials ++ dialling d (brings m) ∷ [] }
 after (Probes peer d now) a = record a { dials = a.dials ++ dialling d (errands.Probe peer now) ∷ [] }
 after d a = a
 

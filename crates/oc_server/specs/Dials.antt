@@ -1,9 +1,10 @@
 -- The dials under way.
-use Rattle.std.specs.Prelude.{ℕ, ◌==◌, Bool, true, false, Option, None, Some, List, position, remove, slice_get}
+use Rattle.std.specs.Prelude.{ℕ, ◌==◌, Bool, true, false, Option, List, position}
 use Rattle.std.specs.Option.{option_map}
 use Rattle.oc_model.specs.declared.message.Body.{Body}
 use Rattle.oc_model.specs.declared.message.Body.TheVariants as bodies
 use Rattle.oc_model.specs.declared.message.Message.{Message}
+use Rattle.oc_routes.specs.Elements.{element_at, without_at}
 use Rattle.oc_server.specs.declared.dials.Dialling.{Dialling}
 use Rattle.oc_server.specs.declared.dials.Errand.{Errand}
 use Rattle.oc_server.specs.declared.dials.Errand.TheVariants as errands
@@ -12,19 +13,9 @@ use Rattle.oc_server.specs.declared.dials.Errand.TheVariants as errands
 abbrev pub place_of : ℕ → List Dialling → Option ℕ
 place_of dial ds = position (λ d. d.dial == dial) ds
 
--- the dial at a place
-abbrev pub dial_at : List Dialling → Option ℕ → Option Dialling
-dial_at ds None = None
-dial_at ds (Some place) = slice_get ds place
-
--- all but that
-abbrev pub without_at : List Dialling → Option ℕ → List Dialling
-without_at ds None = ds
-without_at ds (Some place) = remove ds place
-
 -- for what the dial of this number was made
 abbrev pub errand_of : ℕ → List Dialling → Option Errand
-errand_of dial ds = option_map (λ d. d.errand) (dial_at ds (place_of dial ds))
+errand_of dial ds = option_map (λ (d : Dialling). d.errand) (element_at ds (place_of dial ds))
 
 -- all else
 abbrev pub without : ℕ → List Dialling → List Dialling

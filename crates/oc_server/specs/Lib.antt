@@ -4,6 +4,7 @@ pub mod Dials
 pub mod Outboxes
 pub mod Sending
 pub mod Looks
+pub mod Records
 pub mod Brief
 pub mod Deeds
 pub mod Moments
@@ -14,6 +15,7 @@ pub mod Examples
 pub mod Choices
 pub mod Parts
 pub mod Telling
+pub mod Recorded
 pub mod Rooms
 pub mod Sends
 pub mod Brought

@@ -1,5 +1,5 @@
 -- The messages that a node has still to send, oldest first.
-use Rattle.std.specs.Prelude.{ℕ, ◌-◌, ◌==◌, ◌&&◌, Bool, Option, Some, None, List, [], ◌∷◌, ◌++◌, length, drop, position, remove, slice_set}
+use Rattle.std.specs.Prelude.{ℕ, ◌-◌, ◌==◌, ◌&&◌, Bool, Option, Some, None, List, [], ◌∷◌, ◌++◌, length, drop, position, slice_set}
 use Rattle.oc_model.specs.declared.message.Message.{Message}
 use Rattle.oc_server.specs.Dials.{is_fetch}
 use Rattle.oc_server.specs.declared.outbox.TheConstants.{MAX_OUTBOX}
@@ -29,7 +29,3 @@ with_message ms m = put_at ms (older_fetch ms m) m
 abbrev pub with_messages : List Message → List Message → List Message
 with_messages ms [] = ms
 with_messages ms (m ∷ more) = with_messages (with_message ms m) more
-
--- without the message at a place
-abbrev pub without_at : ℕ → List Message → List Message
-without_at place ms = remove ms place

@@ -99,7 +99,7 @@ pub record Dealt {D L K : Type 0} (view : D → DiskView) (takes : K → List �
   pub seconds : ℕ
   pub measured : IsMeasured old.probing came now median
   pub does : Does view takes faults story counts (deals old.pace old.probing came now median started seconds) old.server new.server
-  pub pace : IsHonest view old.server.kept → new.pace ≡ paced (quickened (came_hurries came (node_of old.server.kept)) old.pace) now
+  pub pace : IsHonest view old.server.kept → new.pace ≡ paced (quickened (came_hurries came (node_of old.server.kept)) old.pace) now seconds
   pub probing : new.probing ≡ probed came now old.server.dials old.probing
 
 -- A front of that was done, and then it ended so.
@@ -117,7 +117,7 @@ pub record NextTaken {D L K : Type 0} (view : D → DiskView) (takes : K → Lis
   pub does : Does view takes faults story counts (takes_next old.pace old.probing told) old.server new.server
   pub read : IsHonest view old.server.kept → IsRead old (story old.server.link) (story new.server.link) told
   pub serves : served ≡ is_something told.came
-  pub pace : IsHonest view old.server.kept → new.pace ≡ paced (quickened (came_hurries told.came (node_of old.server.kept)) old.pace) told.now
+  pub pace : IsHonest view old.server.kept → new.pace ≡ paced (quickened (came_hurries told.came (node_of old.server.kept)) old.pace) told.now told.seconds
   pub probing : IsHonest view old.server.kept → new.probing ≡ probed told.came told.now (dials_behind told.event old.server.dials) old.probing
 
 -- A front of that was done, and then it ended so. What came was read, where more was done than to ask for it.

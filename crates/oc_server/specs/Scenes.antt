@@ -1,7 +1,8 @@
 -- A running node with its files, its output and its link, from one moment to a later one.
-use Rattle.std.specs.Prelude.{◌≡◌, ◌≤◌, ◌⊎◌, ℕ, false, Option, IfSome, List, [], ◌∷◌, ◌++◌, length, slice_index_or, ◌-◌}
+use Rattle.std.specs.Prelude.{◌≡◌, ◌≤◌, ◌⊎◌, ℕ, false, Option, IfSome, List, [], ◌∷◌, ◌++◌, length}
 use Rattle.std.specs.List.{AllByRecursion}
 use Rattle.oc_base.specs.Lawful.{IsNode}
+use Rattle.oc_link.specs.Calls.{IsFront}
 use Rattle.oc_link.specs.Counts.{CountsEvent, CountsFailure}
 use Rattle.oc_link.specs.Told.{AddsAll}
 use Rattle.oc_link.specs.declared.call.Call.{Call}
@@ -9,6 +10,7 @@ use Rattle.oc_link.specs.declared.counts.LinkCounts.{LinkCounts}
 use Rattle.oc_http.specs.Writing.{IsHost}
 use Rattle.oc_io.specs.DiskView.{DiskView}
 use Rattle.oc_io.specs.Faults.{NoFall, Rose}
+use Rattle.oc_keep.specs.ControlStep.{control_step}
 use Rattle.oc_keep.specs.Files.{Disks, AllGoOn, Leaves, OneRose, SameAsEither, Survives}
 use Rattle.oc_keep.specs.KeptView.{AtAnyMoment, IsFullAt, IsHonest, KeptView, NodeSurvives, disks_of, header_of, node_of}
 use Rattle.oc_keep.specs.Promises.{ChangesNothing, IsSameNode}
@@ -22,6 +24,7 @@ use Rattle.oc_model.specs.Step.{step}
 use Rattle.oc_node.specs.OutcomeView.{OutcomeView}
 use Rattle.oc_policy.specs.declared.deciding.TheConstants.{MAX_RULES}
 use Rattle.oc_routes.specs.Lawful.{IsAsked}
+use Rattle.oc_routes.specs.Responses.{address_of}
 use Rattle.oc_server.specs.Deeds.{Deed, Sees, Running, Setting, after_all, calls_of, inputs_of, line, lines, taken_line}
 use Rattle.oc_server.specs.Looks.{LooksOn, LooksOnly, RunsSafely}
 use Rattle.oc_server.specs.Moments.{AtEachPrefix}
@@ -50,7 +53,7 @@ setting s = record { me = s.kept.node.control.me; addresses = s.config.addresses
 -- each node has an address
 pub record IsPlaced (nodes : ℕ) (addresses : List (List ℕ)) : Type 0 where
   pub count : length addresses ≡ nodes
-  pub hosts : (x : ℕ) → IsNode nodes x → IsHost (slice_index_or addresses (x - 1) [])
+  pub hosts : (x : ℕ) → IsNode nodes x → IsHost (address_of addresses x)
 
 -- what is asked is within its ranges, and so is the input
 pub record IsLawfulWaiting (nodes me : ℕ) (w : Waiting) : Type 0 where
@@ -85,12 +88,14 @@ pub record IsServing {D L K : Type 0} (s : Server D L K) : Type 0 where
 
 -- Deeds that were done
 
--- an input was taken into the files, none of which was full for it, with this outcome, whose messages can be sent
+-- an input was taken into the files, none of which was full for it, with this outcome, whose messages can be sent; whatever the disks do, the
+-- control state is that of the control step
 pub record KeepsOne {D : Type 0} (view : D → DiskView) (i : Input) (outcome : OutcomeView) (old new : KeptView D) : Type 0 where
   pub is_open : new.closed ≡ false
   pub same : IsSameNode old.node.control new.node.control
   pub goes_on : AllGoOn view (disks_of old) (disks_of new)
   pub fits : ¬ IsFullAt old i
+  pub control : new.node.control ≡ (control_step old i).node
   pub outcome_is : IsHonest view old → outcome ≡ told_of (step (node_of old) i)
   pub sendable : AreSendable old.node.control.nodes outcome.sends
   pub node : IsHonest view old → node_of new ≡ (step (node_of old) i).node
@@ -160,9 +165,6 @@ LeavesAt view old new end n under = LeavesUnder view old new n Idle
 abbrev pub EndsOn : {D : Type 0} → (D → DiskView) → Header → ℕ → Node → Under → Disks D → Disks D → Type 0
 EndsOn view h me n (Taking i) d e = RunsSafely view h me d e (SameAsEither n (step n i).node) ⊎ (e ≡ d)
 EndsOn view h me n under d e = (k : ℕ) × LooksOn view h me n k d e
-
-abbrev pub IsFront : List ℕ → List ℕ → Type 0
-IsFront front whole = (behind : List ℕ) × (whole ≡ front ++ behind)
 
 -- where the output failed, some prefix of another line was written after the text, and else nothing more was
 abbrev pub WritesAt : {K : Type 0} → (K → List ℕ → K → Type 0) → (K → List ℕ → K → Type 0) → K → K → TurnEnd → List ℕ → List ℕ → Type 0

@@ -1,5 +1,6 @@
 -- What is under way between any two turns, by the calls of the link, and what connections are given over turns.
 use Rattle.std.specs.Prelude.{◌≡◌, ◌⊎◌, ℕ, zero, suc, Option, List, [], ◌∷◌, ◌++◌}
+use Rattle.oc_link.specs.Calls.{IsFront}
 use Rattle.oc_link.specs.Traffic.{given}
 use Rattle.oc_link.specs.declared.call.Call.{Call}
 use Rattle.oc_link.specs.declared.counts.LinkCounts.{LinkCounts}
@@ -9,7 +10,6 @@ use Rattle.oc_io.specs.DiskView.{DiskView}
 use Rattle.oc_server.specs.Deeds.{Deed, Running, Setting, after_all, calls_of}
 use Rattle.oc_server.specs.Replying.{IsOrdered, replies, phase_on, works_on}
 use Rattle.oc_server.specs.Runs.{ServeEnds, Serves, ServesUpTo}
-use Rattle.oc_server.specs.Scenes.{IsFront}
 use Rattle.oc_server.specs.declared.ends.TurnEnd.{TurnEnd}
 use Rattle.oc_server.specs.declared.ends.TurnEnd.TheVariants as ends
 use Rattle.oc_server.specs.declared.turns.Turns.{Turns}

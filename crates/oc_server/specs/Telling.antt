@@ -5,18 +5,35 @@ use Rattle.oc_model.specs.declared.input.Input.{Input}
 use Rattle.oc_model.specs.Node.{Control}
 use Rattle.oc_server.specs.Brief.{asked_line, at_stake, lost_lines, moved_line, told_input, told_of}
 use Rattle.oc_server.specs.Deeds.{Accepts, Says, Takes}
-use Rattle.oc_server.specs.Parts.{Part}
+use Rattle.oc_server.specs.Parts.{Part, ◌>>◌}
+use Rattle.oc_server.specs.Records.{told_ahead}
 use Rattle.oc_server.specs.declared.log.Log.{Log}
 use Rattle.oc_server.specs.declared.log.Log.TheVariants as logs
 use Rattle.oc_server.specs.declared.brief.Before.{Before}
 
--- an input is taken, and what is told of it is said
+-- what is told of an input before its frame
+abbrev pub says_ahead : Input → Part
+says_ahead i s a = Says (told_ahead s.log s.me i) ∷ []
+
+-- an input is taken, of which nothing is told behind it
+abbrev pub takes_ahead : Input → Part
+takes_ahead i s a = Says (told_ahead s.log s.me i) ∷ Takes i ∷ []
+
+-- an input is taken, and what is told behind it is said
+abbrev pub takes_told : Input → Part
+takes_told i s a = Takes i ∷ Says (told_of s.log a.node i) ∷ []
+
+-- the same for the input of a request
+abbrev pub accepts_told : Input → Part
+accepts_told i s a = Accepts i ∷ Says (told_of s.log a.node i) ∷ []
+
+-- an input is taken, and what is told of it is said, before it and behind it
 abbrev pub takes_in : Input → Part
-takes_in i s a = Takes i ∷ Says (told_of s.log a.node i) ∷ []
+takes_in i = says_ahead i >> takes_told i
 
 -- the same for the input of a request
 abbrev pub accepts_in : Input → Part
-accepts_in i s a = Accepts i ∷ Says (told_of s.log a.node i) ∷ []
+accepts_in i = says_ahead i >> accepts_told i
 
 -- What is known before an input
 
@@ -28,6 +45,7 @@ pub record IsNoted (n : Control) (i : Input) (b : Before) : Type 0 where
 
 abbrev pub IsBefore : Log → Control → Input → Option Before → Type 0
 IsBefore logs.Inputs n i before = before ≡ None
+IsBefore logs.Record n i before = before ≡ None
 IsBefore logs.Brief n i None = ⊥
 IsBefore logs.Brief n i (Some b) = IsNoted n i b
 

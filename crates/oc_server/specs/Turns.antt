@@ -1,5 +1,5 @@
 -- What a running node does in a turn, by what the link and the clock tell.
-use Rattle.std.specs.Prelude.{◌≡◌, ℕ, ◌-◌, min, Bool, ◌==◌, if◌then◌else◌, Option, Some, None, Result, List, [], ◌∷◌, ◌++◌, codes, decimal, length, slice_get, slice_set}
+use Rattle.std.specs.Prelude.{◌≡◌, ℕ, ◌-◌, min, Bool, true, false, ◌==◌, if◌then◌else◌, Option, Some, None, Result, List, [], ◌∷◌, ◌++◌, codes, decimal, length, slice_get, slice_set}
 use Rattle.std.specs.Option.{option_map}
 use Rattle.oc_base.specs.Groups.{shelf}
 use Rattle.oc_base.specs.declared.limits.TheConstants.{MAX_RATE, MAX_TIME}
@@ -22,13 +22,13 @@ use Rattle.oc_routes.specs.declared.verdict.Verdict.{Verdict}
 use Rattle.oc_server.specs.Asks.{obeys, takes_up}
 use Rattle.oc_server.specs.Brought.{HadMemory, IsReading, comes_back}
 use Rattle.oc_server.specs.Choices.{due_place, free_number, wait_for}
-use Rattle.oc_server.specs.Deeds.{Notes, Probes, Reads, Sees, Takes, Tells, dials_behind}
+use Rattle.oc_server.specs.Deeds.{Notes, Probes, Reads, Sees, Tells, dials_behind}
 use Rattle.oc_server.specs.Hurries.{came_hurries}
-use Rattle.oc_server.specs.Pace.{after_tick, hurried, wait_until}
+use Rattle.oc_server.specs.Pace.{has_passed, hurried, looked, wait_until}
 use Rattle.oc_server.specs.Parts.{Part, nothing, one, ◌>>◌}
 use Rattle.oc_server.specs.Rooms.{gone, room}
 use Rattle.oc_server.specs.Sends.{sends}
-use Rattle.oc_server.specs.Telling.{takes_in}
+use Rattle.oc_server.specs.Telling.{takes_ahead, takes_in}
 use Rattle.oc_server.specs.declared.came.Came.{Came}
 use Rattle.oc_server.specs.declared.came.Came.TheVariants as comes
 use Rattle.oc_server.specs.declared.choosing.TheConstants.{MAX_DIALS}
@@ -83,9 +83,9 @@ probe_note peer fault = codes "probe " ++ decimal peer ++ fault_word fault
 abbrev pub notes_fault : ℕ → ProbeFault → Part
 notes_fault peer fault s a = Notes (probe_note peer fault) ∷ []
 
--- a rate is taken with the hops of the last record; nothing is told of it
+-- a rate is taken with the hops of the last record; nothing is told behind it
 abbrev pub measured : ℕ → ℕ → Part
-measured peer rate s a = Takes (inputs.Measured peer rate (reading_of a.node.control.kept.measures peer).hops) ∷ []
+measured peer rate s a = takes_ahead (inputs.Measured peer rate (reading_of a.node.control.kept.measures peer).hops) s a
 
 -- the median of a peer is taken, if it is measured at all
 abbrev pub takes_median : Option Probing → ℕ → ℕ → Part
@@ -126,12 +126,17 @@ happens probing (comes.Reply input taken) now median started = brought input
 happens probing (comes.Probed peer since fault) now median started = measures probing peer fault median
 happens probing comes.Nothing now median started = probes_next probing started
 
--- a tick is taken, where it is due
-abbrev pub ticked : ℕ → Part
-ticked seconds s a = (one (Tells seconds) >> takes_in (inputs.Tick (min seconds MAX_TIME))) s a
+-- a tick at these seconds is taken, if the clock has passed the second that it has to
+abbrev pub ticks_if : Bool → ℕ → Part
+ticks_if true seconds = takes_in (inputs.Tick (min seconds MAX_TIME))
+ticks_if false seconds = nothing
 
+abbrev pub ticked : Option ℕ → ℕ → Part
+ticked second seconds = one (Tells seconds) >> ticks_if (has_passed second seconds) seconds
+
+-- a tick is taken, where it is due
 abbrev pub ticks : Pace → ℕ → ℕ → Part
-ticks pace now seconds = if wait_until pace now == 0 then ticked seconds else nothing
+ticks pace now seconds = if wait_until pace now == 0 then ticked pace.second seconds else nothing
 
 -- and then messages are dialled
 abbrev pub ticks_and_sends : Pace → ℕ → ℕ → Part
@@ -170,13 +175,13 @@ turn pace probing t = one (Reads t.before) >> takes_one pace probing t
 
 -- Behind a turn
 
-abbrev pub paced : Pace → ℕ → Pace
-paced pace now = if wait_until pace now == 0 then after_tick now pace else pace
+abbrev pub paced : Pace → ℕ → ℕ → Pace
+paced pace now seconds = if wait_until pace now == 0 then looked now seconds pace else pace
 
 -- the pace after a turn in which the work at this place was due, or none was
 abbrev pub pace_behind : Option ℕ → Pace → Observation → Node → Pace
-pace_behind None pace t n = paced (quickened (came_hurries t.came n) pace) t.now
-pace_behind (Some place) pace t n = paced pace t.before
+pace_behind None pace t n = paced (quickened (came_hurries t.came n) pace) t.now t.seconds
+pace_behind (Some place) pace t n = paced pace t.before t.seconds
 
 -- with another rate of a peer
 abbrev pub with_measure : ℕ → ℕ → Probing → Probing

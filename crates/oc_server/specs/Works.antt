@@ -1,7 +1,8 @@
 -- What is under way by connection.
-use Rattle.std.specs.Prelude.{ℕ, ◌==◌, Bool, Option, None, Some, List, position, remove, slice_get}
+use Rattle.std.specs.Prelude.{ℕ, ◌==◌, Bool, Option, None, Some, List, position}
 use Rattle.oc_model.specs.declared.input.Input.{Input}
 use Rattle.oc_model.specs.declared.input.Input.TheVariants as inputs
+use Rattle.oc_routes.specs.Elements.{element_at, without_at}
 use Rattle.oc_routes.specs.Verdicts.{input_for}
 use Rattle.oc_routes.specs.declared.hint.Hint.{Hint}
 use Rattle.oc_routes.specs.declared.verdict.Request.{Request}
@@ -21,19 +22,9 @@ connection_of (works.Waits w) = w.connection
 abbrev pub place_on : ℕ → List Work → Option ℕ
 place_on c ws = position (λ w. connection_of w == c) ws
 
--- what is under way at a place
-abbrev pub work_at : List Work → Option ℕ → Option Work
-work_at ws None = None
-work_at ws (Some place) = slice_get ws place
-
--- all but that
-abbrev pub without_at : List Work → Option ℕ → List Work
-without_at ws None = ws
-without_at ws (Some place) = remove ws place
-
 -- what is under way on the connection c
 abbrev pub work_on : ℕ → List Work → Option Work
-work_on c ws = work_at ws (place_on c ws)
+work_on c ws = element_at ws (place_on c ws)
 
 -- all else
 abbrev pub without : ℕ → List Work → List Work

@@ -1,7 +1,7 @@
 //! The lines of a node for people and log collectors.
 
 ghost use Rattle.std.specs.Prelude.{◌≡◌, ◌++◌, IfOk, OnOk, Some, codes, decimal};
-ghost use Rattle.oc_server.specs.Brief.{asked_line, at_stake, has_lease, is_still, lost_line, lost_lines, moved_line, place_line, ranked, told_answer, told_first, told_input};
+ghost use Rattle.oc_server.specs.Brief.{asked_line, at_stake, has_lease, is_still, lost_line, lost_lines, moved_line, place_line, ranked, told_answer, told_input};
 ghost use Rattle.oc_server.specs.Telling.{IsBefore, IsNoted, told_behind};
 
 use crate::log::Log;
@@ -36,7 +36,7 @@ pub(crate) fn known_before(
     ensures { IfOk result (IsBefore log node.now.control input.now) }
 {
     match log {
-        Log::Inputs => Ok(None),
+        Log::Inputs | Log::Record => Ok(None),
         Log::Brief => Ok(Some(noted(alloc, node, input)?)),
     }
 }
@@ -208,20 +208,8 @@ fn is_still(before: Mode, now: Mode) -> bool
     }
 }
 
-/// Where a node that begins is in the tree, where that is told.
-pub(crate) fn first(alloc: Global, log: Log, node: &Node) -> Result<Vec<u8>, Memory>
-    ensures { IfOk result (λ text. text.items ≡ told_first log node.now.control) }
-{
-    let mut text = Vec::new(alloc);
-    match log {
-        Log::Inputs => {}
-        Log::Brief => put_place(&mut text, node)?,
-    }
-    Ok(text)
-}
-
 /// Puts where a node is in the tree.
-fn put_place(out: &mut Vec<u8>, node: &Node) -> Result<(), Memory>
+pub(crate) fn put_place(out: &mut Vec<u8>, node: &Node) -> Result<(), Memory>
     ensures { OnOk result (out.new.items ≡ out.old.items ++ place_line node.now.control) }
 {
     put(out, b"is ")?;

@@ -69,9 +69,7 @@ pub(crate) fn prospect_of(place: &Transfer, shelf: &[Shelf], now: u64) -> Prospe
 pub(crate) fn wait_for(pace: &Pace, works: &[Work], now: u64) -> u64
     ensures { result ≡ wait_for pace.now works.now now }
 {
-    works
-        .iter()
-        .fold(pace.wait(now), |least, work| shorter(least, work, now))
+    works.iter().fold(pace.tick_wait(now), |least, work| shorter(least, work, now))
 }
 
 /// The shorter of this time and what some work has left.

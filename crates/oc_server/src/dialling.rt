@@ -6,6 +6,7 @@ ghost use Rattle.oc_link.specs.Told.{AddsAll};
 ghost use Rattle.oc_link.specs.declared.call.Call.TheVariants as acts;
 ghost use Rattle.oc_http.specs.Writing.{IsHost};
 ghost use Rattle.oc_model.specs.declared.message.Message.{Message};
+ghost use Rattle.oc_routes.specs.Responses.{address_of};
 ghost use Rattle.oc_wire.specs.Macs.{request_of};
 ghost use Rattle.oc_wire.specs.Spelling.{HasSpelling};
 ghost use Rattle.oc_server.specs.Deeds.{Probes};
@@ -74,8 +75,8 @@ impl<D: Disk, L: Link, K: Sink> Server<D, L, K> {
 /// The request that brings a message to its receiver.
 fn request_to(alloc: Global, config: &Config, message: &Message) -> Result<Vec<u8>, Memory>
     requires body { HasSpelling message.now.body }
-    requires host { IsHost (deeds.address_at config.now.addresses message.now.to) }
-    ensures { IfOk result (λ text. text.items ≡ request_of config.now.key (deeds.address_at config.now.addresses message.now.to) message.now) }
+    requires host { IsHost (address_of config.now.addresses message.now.to) }
+    ensures { IfOk result (λ text. text.items ≡ request_of config.now.key (address_of config.now.addresses message.now.to) message.now) }
 {
     let address = address_of(config, message.to);
     to_http(alloc, message, address, config.key.as_ref())
@@ -106,10 +107,7 @@ fn begin_dial<L: Link>(
 
 /// The address of a node.
 fn address_of(config: &Config, node: NodeId) -> &str
-    ensures { result.now ≡ deeds.address_at config.now.addresses node }
+    ensures { result.now ≡ address_of config.now.addresses node }
 {
-    match config.addresses.get((node.0 as usize).saturating_sub(1)) {
-        Some(address) => address.as_str(),
-        None => "",
-    }
+    oc_routes::address_of(&config.addresses, node)
 }

@@ -1,6 +1,6 @@
 //! What connections are given.
 
-ghost use Rattle.std.specs.Prelude.{◌≡◌, ◌≤◌, ◌∷◌, ◌++◌, [], OnErr, OnOk, IfErr, IfOk, List, ℕ, false, true, length, take, vec_len};
+ghost use Rattle.std.specs.Prelude.{◌≡◌, ◌≤◌, ◌∷◌, ◌++◌, [], OnErr, OnOk, IfErr, IfOk, List, ℕ, false, true, length, option_map, take, unwrap_or, vec_len};
 ghost use Rattle.oc_chunked.specs.Texts.{chunked_text};
 ghost use Rattle.oc_link.specs.Told.{AddsAll};
 ghost use Rattle.oc_keep.specs.KeptView.{IsHonest, node_of};
@@ -77,7 +77,8 @@ impl<D: Disk, L: Link, K: Sink> Server<D, L, K> {
         let _waited = self.works.take(request.connection);
         begin_rest(&mut self.works, &piece.rest)?;
         take_request(&mut self.link, &request);
-        self.link.give(request.connection, &text);
+        let all = whole(&text, response.text.items());
+        self.link.give(request.connection, all);
         let ending = Ending {
             keeps: keeps(response.connection),
             watched: request.told,
@@ -203,14 +204,27 @@ fn finish<L: Link>(link: &mut L, connection: ConnectionId, ending: Ending, left:
     }
 }
 
-/// One text behind another.
-fn joined(alloc: Global, first: &[u8], more: &[u8]) -> Result<Vec<u8>, Memory>
-    ensures { IfOk result (λ text. text.items ≡ first.now ++ more.now) }
+/// One text behind another; none where the second is empty, and the first is the whole.
+fn joined(alloc: Global, first: &[u8], more: &[u8]) -> Result<Option<Vec<u8>>, Memory>
+    ensures { IfOk result (λ both. unwrap_or (option_map (λ text. text.items) both) first.now ≡ first.now ++ more.now) }
 {
-    let mut text = Vec::new(alloc);
-    put(&mut text, first)?;
-    put(&mut text, more)?;
-    Ok(text)
+    if more.is_empty() {
+        return Ok(None);
+    }
+    let mut both = Vec::new(alloc);
+    put(&mut both, first)?;
+    put(&mut both, more)?;
+    Ok(Some(both))
+}
+
+/// Both texts, or else the first.
+fn whole<'a>(both: &'a Option<Vec<u8>>, first: &'a [u8]) -> &'a [u8]
+    ensures { result.now ≡ unwrap_or (option_map (λ text. text.items) both.now) first.now }
+{
+    match both {
+        Some(both) => both,
+        None => first,
+    }
 }
 
 /// Reads the first piece of the content of a response, if it has one. Nothing of the node changes.

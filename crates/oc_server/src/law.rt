@@ -2,6 +2,7 @@
 
 ghost use Rattle.std.specs.Prelude.{◌≡◌, ◌≢◌, ◌⊎◌, ℕ, Bool, List, [], ◌++◌};
 ghost use Rattle.oc_base.specs.declared.group.Group.{Group};
+ghost use Rattle.oc_link.specs.Calls.{IsFront};
 ghost use Rattle.oc_link.specs.Traffic.{given};
 ghost use Rattle.oc_link.specs.declared.call.Call.{Call};
 ghost use Rattle.oc_link.specs.declared.phase.Phase.TheVariants.{Answering, Awaiting, Whole};
@@ -17,7 +18,6 @@ ghost use Rattle.oc_server.specs.Deeds.{Deed, Running, Setting, after_all, calls
 ghost use Rattle.oc_server.specs.Examples.{AreRuns};
 ghost use Rattle.oc_server.specs.ReplyExamples.{AreReplied};
 ghost use Rattle.oc_server.specs.Replying.{IsGivable, IsOrdered, client_content, replies, phase_on};
-ghost use Rattle.oc_server.specs.Scenes.{IsFront};
 
 /// Worked examples of short runs come out as they should. They are computed.
 pub fn examples_compute()

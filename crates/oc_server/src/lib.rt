@@ -7,8 +7,8 @@
 //! (`specs/Scenes`). While deeds are done every crash at any moment leaves the node of a prefix of them
 //! (`specs/Moments`). What holds between any two calls is `IsServing`.
 //!
-//! What a node writes of its inputs goes by its [`Log`]: a line for each, or what people and log collectors are told of it
-//! (`specs/Brief`).
+//! What a node writes of its inputs goes by its [`Log`]: a line for each, behind its frame or, in a record, before it
+//! (`specs/Records`), or what people and log collectors are told of it (`specs/Brief`).
 //!
 //! A content under way is a place in a group and not bytes ([`Transfer`]): each piece is read when it is given, so nothing
 //! grows with its length. A follower that has all of a group waits ([`Waiting`]). [`connections_are_given_their_replies`]
@@ -38,6 +38,7 @@ mod order_law;
 mod outbox;
 mod pace;
 mod reading;
+mod record;
 mod sendable;
 mod sending;
 mod server;

@@ -1,4 +1,4 @@
-ghost use Rattle.std.specs.Prelude.{◌≡◌, ◌<◌, ◌∷◌, [], None, IfOk, drop, length, slice_get};
+ghost use Rattle.std.specs.Prelude.{◌≡◌, ◌<◌, ◌∷◌, [], None, IfOk, drop, length, remove, slice_get};
 ghost use Rattle.oc_server.specs.Dials as dials;
 ghost use Rattle.oc_server.specs.Outboxes.{older_fetch, with_messages};
 ghost use Rattle.oc_server.specs.Outboxes as outboxes;
@@ -32,7 +32,7 @@ impl Model for Outbox {
 }
 
 impl Outbox {
-    ghost use Rattle.oc_server.specs.Outboxes.{with_message, without_at, put_at};
+    ghost use Rattle.oc_server.specs.Outboxes.{with_message, put_at};
 
     /// An empty outbox, with room for `MAX_OUTBOX` messages.
     pub fn new(alloc: Global) -> Result<Outbox, Memory>
@@ -101,7 +101,7 @@ impl Outbox {
     pub fn take(&mut self, place: usize) -> Option<Message>
         requires { place < length self.old }
         ensures message { result ≡ slice_get self.old place }
-        ensures rest { self.new ≡ without_at place self.old }
+        ensures rest { self.new ≡ remove self.old place }
     {
         self.messages.remove(place)
     }

@@ -7,12 +7,13 @@ ghost use Rattle.oc_server.specs.Parts.{Does, Stops};
 ghost use Rattle.oc_server.specs.Rooms.{goes_on, gone, is_told, room};
 ghost use Rattle.oc_server.specs.Rooms as rooms;
 ghost use Rattle.oc_server.specs.Scenes.{IsServing};
-ghost use Rattle.oc_server.specs.Works.{place_on, work_on};
+ghost use Rattle.oc_server.specs.Works.{work_on};
 
 use crate::choosing::prospect_of;
 use crate::ends::TurnEnd;
 use crate::server::Server;
 use crate::work::{Transfer, Work};
+use crate::works::place_on;
 use oc_io::{Disk, Sink};
 use oc_link::{ConnectionId, Link, Loss};
 use oc_routes::Prospect;
@@ -75,15 +76,6 @@ fn work_on(works: &[Work], connection: ConnectionId) -> Option<&Work>
         Some(place) => works.get(place),
         None => None,
     }
-}
-
-/// The place of what is under way on a connection.
-fn place_on(works: &[Work], connection: ConnectionId) -> Option<usize>
-    ensures { result ≡ place_on connection works.now }
-{
-    works
-        .iter()
-        .position(|work| work.connection() == connection)
 }
 
 /// Whether a line was written for the request of a connection that is over: also for one whose reply was given

@@ -8,6 +8,7 @@ ghost use Rattle.oc_routes.specs.Inputs as inputs;
 ghost use Rattle.oc_wire.specs.Spelling.{HasSpelling};
 ghost use Rattle.oc_server.specs.Deeds.{Accepts, Takes, back_to, others_than, sender_of, taken_line};
 ghost use Rattle.oc_server.specs.Deeds as deeds;
+ghost use Rattle.oc_server.specs.Records.{told_ahead};
 ghost use Rattle.oc_server.specs.Scenes as scenes;
 ghost use Rattle.oc_server.specs.Scenes.{Breaks, Did, IsServing, KeepStops, KeepsOne, Taking};
 
@@ -35,8 +36,8 @@ pub struct Accepted {
 }
 
 impl<D: Disk, L: Link, K: Sink> Server<D, L, K> {
-    /// Takes an input: makes its frame safe, changes the node, and then writes its line, where each input has one. What
-    /// it sends goes to the outbox. It answers what the step does.
+    /// Takes an input: makes its frame safe, changes the node, and then writes its line, where each input has one there.
+    /// What it sends goes to the outbox. It answers what the step does.
     pub fn takes(&mut self, input: Input) -> Result<Answer, TurnEnd>
         requires serving { IsServing self.old }
         requires input { IsInput self.old.kept.node.control.nodes self.old.kept.node.control.me input }
@@ -79,7 +80,7 @@ impl<D: Disk, L: Link, K: Sink> Server<D, L, K> {
     }
 }
 
-/// The line of an input of this node that is taken; none where not each input has one.
+/// The line of an input of this node that is written behind its frame; none where not each input has one there.
 fn line_of<D: Disk>(
     alloc: Global,
     log: Log,
@@ -91,7 +92,23 @@ fn line_of<D: Disk>(
 {
     match log {
         Log::Inputs => input_line(alloc, kept, input),
-        Log::Brief => Ok(Vec::new(alloc)),
+        Log::Record | Log::Brief => Ok(Vec::new(alloc)),
+    }
+}
+
+/// What is written of an input of this node before its frame: in a record its line.
+pub(crate) fn line_ahead<D: Disk>(
+    alloc: Global,
+    log: Log,
+    kept: &Kept<D>,
+    input: &Input,
+) -> Result<Vec<u8>, Memory>
+    requires { IsInput kept.now.node.control.nodes kept.now.node.control.me input.now }
+    ensures { IfOk result (λ line. line.items ≡ told_ahead log kept.now.node.control.me input.now) }
+{
+    match log {
+        Log::Record => input_line(alloc, kept, input),
+        Log::Inputs | Log::Brief => Ok(Vec::new(alloc)),
     }
 }
 

@@ -8,10 +8,11 @@ ghost use Rattle.oc_server.specs.Parts.{Does, Stops};
 ghost use Rattle.oc_server.specs.Scenes.{IsServing};
 ghost use Rattle.oc_server.specs.Works.{client_input, pending};
 ghost use Rattle.oc_routes.specs.Lawful.{IsAsked};
-ghost use Rattle.oc_server.specs.Turns.{brought, measured, notes_fault, probe_note, probes_it, ticked};
+ghost use Rattle.oc_server.specs.Turns.{brought, measured, notes_fault, probe_note, probes_it, ticked, ticks_if};
 
 use crate::choosing::free_number;
 use crate::ends::TurnEnd;
+use crate::pace::Pace;
 use crate::server::Server;
 use crate::work::{Pending, Transfer, Waiting, Work, client_input, pending_of};
 use oc_base::{MAX_TIME, Memory, NodeId, put, put_number};
@@ -82,8 +83,7 @@ impl<D: Disk, L: Link, K: Sink> Server<D, L, K> {
     {
         self.kept.recovers();
         let (_rate, hops) = self.kept.node().measures().get(peer);
-        let _answer = self.takes(Input::Measured { peer, rate, hops })?;
-        Ok(())
+        self.takes_ahead(Input::Measured { peer, rate, hops })
     }
 
     /// Begins the probe of a node now.
@@ -98,14 +98,28 @@ impl<D: Disk, L: Link, K: Sink> Server<D, L, K> {
         self.probes(peer, dial, now)
     }
 
-    /// Takes a tick.
-    pub fn ticks(&mut self) -> Result<(), TurnEnd>
+    /// Asks the clock, and takes a tick, if the clock has passed the second that it has to. It answers the clock's seconds.
+    pub fn ticks(&mut self, pace: &Pace) -> Result<u64, TurnEnd>
         requires { IsServing self.old }
-        ensures did { OnOk result ((seconds : ℕ) × Does D.view K.takes K.faults L.story L.counts (ticked seconds) self.old self.new) }
-        ensures breaks { IfErr result (λ end. (seconds : ℕ) × Stops D.view K.takes K.fails K.faults L.story L.counts end (ticked seconds) self.old self.new) }
+        ensures did { IfOk result (λ seconds. Does D.view K.takes K.faults L.story L.counts (ticked pace.now.second seconds) self.old self.new) }
+        ensures breaks { IfErr result (λ end. (seconds : ℕ) × Stops D.view K.takes K.fails K.faults L.story L.counts end (ticked pace.now.second seconds) self.old self.new) }
     {
         let seconds = self.tells();
-        self.takes_in(Input::Tick(seconds.min(MAX_TIME)))
+        self.ticks_if(pace.has_passed(seconds), seconds)?;
+        Ok(seconds)
+    }
+
+    /// Takes a tick at these seconds, if they have passed.
+    fn ticks_if(&mut self, passed: bool, seconds: u64) -> Result<(), TurnEnd>
+        requires { IsServing self.old }
+        ensures did { OnOk result (Does D.view K.takes K.faults L.story L.counts (ticks_if passed seconds) self.old self.new) }
+        ensures breaks { IfErr result (λ end. Stops D.view K.takes K.fails K.faults L.story L.counts end (ticks_if passed seconds) self.old self.new) }
+    {
+        if passed {
+            self.takes_in(Input::Tick(seconds.min(MAX_TIME)))
+        } else {
+            Ok(())
+        }
     }
 
     /// Tells why a probe took nothing.

@@ -72,8 +72,8 @@ impl<D: Disk, L: Link, K: Sink> Turns<D, L, K> {
         requires { IsReady self.old }
         ensures ready { OnOk result (IsReady self.new) }
         ensures did { IfOk result (λ served. (served ≡ true) × ((seconds : ℕ)
-            × Does D.view K.takes K.faults L.story L.counts (takes_due self.old.pace (slice_get self.old.server.works place) before seconds) self.old.server self.new.server)) }
-        ensures pace { OnOk result (self.new.pace ≡ paced self.old.pace before) }
+            × Does D.view K.takes K.faults L.story L.counts (takes_due self.old.pace (slice_get self.old.server.works place) before seconds) self.old.server self.new.server
+            × (self.new.pace ≡ paced self.old.pace before seconds))) }
         ensures probing { self.new.probing ≡ self.old.probing }
         ensures breaks { IfErr result (λ end. (seconds : ℕ)
             × Stops D.view K.takes K.fails K.faults L.story L.counts end (takes_due self.old.pace (slice_get self.old.server.works place) before seconds) self.old.server self.new.server) }
@@ -211,8 +211,8 @@ impl<D: Disk, L: Link, K: Sink> Turns<D, L, K> {
     /// Takes a tick, where one is due, and dials messages.
     fn ticks_and_sends(&mut self, now: u64) -> Result<(), TurnEnd>
         requires { IsServing self.old.server }
-        ensures did { OnOk result ((seconds : ℕ) × Does D.view K.takes K.faults L.story L.counts (ticks_and_sends self.old.pace now seconds) self.old.server self.new.server) }
-        ensures pace { OnOk result (self.new.pace ≡ paced self.old.pace now) }
+        ensures did { OnOk result ((seconds : ℕ) × Does D.view K.takes K.faults L.story L.counts (ticks_and_sends self.old.pace now seconds) self.old.server self.new.server
+            × (self.new.pace ≡ paced self.old.pace now seconds)) }
         ensures probing { self.new.probing ≡ self.old.probing }
         ensures breaks { IfErr result (λ end. (seconds : ℕ) × Stops D.view K.takes K.fails K.faults L.story L.counts end (ticks_and_sends self.old.pace now seconds) self.old.server self.new.server) }
     {
@@ -223,16 +223,16 @@ impl<D: Disk, L: Link, K: Sink> Turns<D, L, K> {
     /// Takes a tick, where one is due.
     fn ticks(&mut self, now: u64) -> Result<(), TurnEnd>
         requires { IsServing self.old.server }
-        ensures did { OnOk result ((seconds : ℕ) × Does D.view K.takes K.faults L.story L.counts (ticks self.old.pace now seconds) self.old.server self.new.server) }
-        ensures pace { OnOk result (self.new.pace ≡ paced self.old.pace now) }
+        ensures did { OnOk result ((seconds : ℕ) × Does D.view K.takes K.faults L.story L.counts (ticks self.old.pace now seconds) self.old.server self.new.server
+            × (self.new.pace ≡ paced self.old.pace now seconds)) }
         ensures probing { self.new.probing ≡ self.old.probing }
         ensures breaks { IfErr result (λ end. (seconds : ℕ) × Stops D.view K.takes K.fails K.faults L.story L.counts end (ticks self.old.pace now seconds) self.old.server self.new.server) }
     {
         if self.pace.wait(now) != 0 {
             return Ok(());
         }
-        self.server.ticks()?;
-        self.pace.tick(now);
+        let seconds = self.server.ticks(&self.pace)?;
+        self.pace.look(now, seconds);
         Ok(())
     }
 }

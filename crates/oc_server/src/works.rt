@@ -48,7 +48,7 @@ impl Works {
         ensures work { result ≡ work_on connection self.old }
         ensures rest { self.new ≡ without connection self.old }
     {
-        match place_of(&self.list, connection) {
+        match place_on(&self.list, connection) {
             Some(place) => Some(self.list.remove(place)),
             None => None,
         }
@@ -63,7 +63,7 @@ impl Works {
 }
 
 /// The place of what is under way on a connection, if anything is.
-fn place_of(works: &[Work], connection: ConnectionId) -> Option<usize>
+pub(crate) fn place_on(works: &[Work], connection: ConnectionId) -> Option<usize>
     ensures { result ≡ place_on connection works.now }
 {
     works

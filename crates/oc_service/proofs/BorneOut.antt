@@ -46,15 +46,16 @@ use Rattle.oc_routes.specs.declared.routes.Operation.TheVariants as asks
 use Rattle.oc_server.specs.Asks.{has_to_wait, obeys, refuses_or, responds, takes_on, takes_up, waiting}
 use Rattle.oc_server.specs.Brought.{comes_back, fault_of, input_of}
 use Rattle.oc_server.specs.Choices.{due_place, next_to_dial, prospect_of, wait_for}
-use Rattle.oc_server.specs.Deeds.{Deed, Drops, Reads, Refuses, Running, Sees, Setting, Takes, Waits, after, after_all, errand_in}
+use Rattle.oc_server.specs.Deeds.{Deed, Drops, Reads, Refuses, Running, Says, Sees, Setting, Takes, Tells, Waits, after, after_all, errand_in}
 use Rattle.oc_server.specs.Hurries.{came_hurries}
-use Rattle.oc_server.specs.Pace.{wait_until}
-use Rattle.oc_server.specs.Parts.{nothing}
+use Rattle.oc_server.specs.Pace.{has_passed, wait_until}
+use Rattle.oc_server.specs.Parts.{nothing, one, ◌>>◌}
+use Rattle.oc_server.specs.Records.{told_ahead}
 use Rattle.oc_server.specs.Rooms.{goes_on, is_told, moves, room, room_for}
 use Rattle.oc_server.specs.Rooms as rooms
 use Rattle.oc_server.specs.Scenes.{CountsAll}
 use Rattle.oc_server.specs.Sends.{dials_at, dials_it, dials_next, sends}
-use Rattle.oc_server.specs.Turns.{Means, MeansBack, Observation, brought, deals, happens, measures, next_peer, probes_it, quickened, takes_at, takes_due, ticked, ticks, ticks_and_sends}
+use Rattle.oc_server.specs.Turns.{Means, MeansBack, Observation, brought, deals, happens, measures, next_peer, probes_it, quickened, takes_at, takes_due, ticked, ticks, ticks_and_sends, ticks_if}
 use Rattle.oc_server.specs.Works.{client_input, pending, work_on}
 use Rattle.oc_server.specs.declared.came.Came.{Came}
 use Rattle.oc_server.specs.declared.came.Came.TheVariants as comes
@@ -122,8 +123,12 @@ borne_front event (d ∷ ds) es all = (all.0, borne_front (told_last event d) ds
 mild_ticks : (pace : Pace) (now seconds : ℕ) (s : Setting) (a : Running) → all_mild (ticks pace now seconds s a) ≡ true
 mild_ticks pace now seconds s a = by_test (wait_until pace now == 0)
   where
-    by_test : (b : Bool) → all_mild ((if b then ticked seconds else nothing) s a) ≡ true
-    by_test true = refl
+    by_second : (b : Bool) → all_mild ((one (Tells seconds) >> ticks_if b seconds) s a) ≡ true
+    by_second true = refl
+    by_second false = refl
+
+    by_test : (b : Bool) → all_mild ((if b then ticked pace.second seconds else nothing) s a) ≡ true
+    by_test true = by_second (has_passed pace.second seconds)
     by_test false = refl
 
 mild_dial : (place : ℕ) (m : Option Message) (s : Setting) (a : Running) → all_mild (dials_it place m s a) ≡ true
@@ -371,18 +376,19 @@ turns_borne event terms calls s (t ∷ ts) m heard =
 
 -- All that a node does
 
-mild_own : (i : Input) (b : Bool) (ds : List Deed) → all_mild ds ≡ true → all_mild ((if b then Takes i ∷ [] else []) ++ ds) ≡ true
-mild_own i true ds mild = mild
-mild_own i false ds mild = mild
+mild_own : (text : List ℕ) (i : Input) (b : Bool) (ds : List Deed) → all_mild ds ≡ true → all_mild ((if b then Says text ∷ Takes i ∷ [] else []) ++ ds) ≡ true
+mild_own text i true ds mild = mild
+mild_own text i false ds mild = mild
 
-own_mild : (me : ℕ) (ms : List Measure) → all_mild (own_measures me ms) ≡ true
-own_mild me [] = refl
-own_mild me (x ∷ ms) = mild_own (Measured x.peer x.rate x.hops) (x.from == me) (own_measures me ms) (own_mild me ms)
+own_mild : (s : Setting) (ms : List Measure) → all_mild (own_measures s ms) ≡ true
+own_mild s [] = refl
+own_mild s (x ∷ ms) =
+    mild_own (told_ahead s.log s.me (Measured x.peer x.rate x.hops)) (Measured x.peer x.rate x.hops) (x.from == s.me) (own_measures s ms) (own_mild s ms)
 
 pub node_borne : (event : LinkEvent) (terms : NodeTerms) (calls : Option (List Call)) (s : Setting) (ms : List Measure) (ts : List Observation) (m : Machine) → AreHeard s terms calls ts (begun s ms m)
     → AreBorneOut event (node_deeds s ms ts m)
 node_borne event terms calls s ms ts m heard =
-    borne_then event (begins s ms m.running.node) (turns_deeds s ts (begun s ms m)) (borne_mild event (begins s ms m.running.node) (own_mild s.me ms))
+    borne_then event (begins s ms m.running.node) (turns_deeds s ts (begun s ms m)) (borne_mild event (begins s ms m.running.node) (own_mild s ms))
     (λ last. turns_borne last terms calls s ts (begun s ms m) heard)
 
 -- An early end

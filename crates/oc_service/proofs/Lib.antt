@@ -4,6 +4,7 @@ mod Measured
 mod Replies
 mod HeadFaults
 mod BorneOut
+mod Recorded
 mod Alike
 mod AtAnyMoment
 mod Headers

@@ -5,14 +5,15 @@ use Rattle.std.specs.List.{AllByRecursion}
 use Rattle.oc_config.specs.Reading.{IsConfig}
 use Rattle.oc_config.specs.Settings.{Settings}
 use Rattle.oc_io.specs.DiskView.{DiskView}
-use Rattle.oc_keep.specs.Files.{AreHonest, disks_in}
-use Rattle.oc_keep.specs.KeptView.{disks_of, node_of}
+use Rattle.oc_keep.specs.Files.{AreHonest, Disks, disks_in}
+use Rattle.oc_keep.specs.KeptView.{KeptView, disks_of, node_of}
 use Rattle.oc_keep.specs.Promises.{IsNodeOf, LoadsSafely}
 use Rattle.oc_model.specs.Node.{Header, Node}
 use Rattle.oc_model.specs.declared.message.Message.{Message}
 use Rattle.oc_policy.specs.declared.deciding.TheConstants.{MAX_RULES}
 use Rattle.oc_probe.specs.declared.probing.Probing.{Probing}
 use Rattle.oc_server.specs.Lawful.{IsMadeFor, IsReady}
+use Rattle.oc_server.specs.Records.{is_record}
 use Rattle.oc_server.specs.Scenes.{IsLawfulDial, IsLawfulWork, IsPlaced, IsServing}
 use Rattle.oc_server.specs.Sending.{AreSendable}
 use Rattle.oc_server.specs.declared.dials.Dialling.{Dialling}
@@ -55,6 +56,10 @@ module _ {D L K : Type 0} (view : D → DiskView) (c : Settings) (me : ℕ) (pro
   pub ready : IsReady turns
   ready = record { serving = serving; probing = subst (λ (n : ℕ). IfSome turns.probing (IsMadeFor n)) (sym nodes_are) made }
 
+-- the areas of its configuration are those that it was loaded with
+pub loaded_areas : {D : Type 0} (view : D → DiskView) (c config : Settings) (me : ℕ) (d : Disks D) (k : KeptView D) → IsNodeOf view (header_of_settings c) me d k → config ≡ c → config.areas ≡ k.node.control.areas
+loaded_areas view c config me d k node is = ap (λ (x : Settings). x.areas) is ∙ sym (ap (λ (h : Header). h.areas) node.header)
+
 -- as the machine of what a node does
 pub loaded_machine : {D L K : Type 0} (view : D → DiskView) (c : Settings) (task : Task) (site : Site D L K) (turns : Turns D L K) → IsLoaded view c task site turns → AreHonest view (disks_in site.files)
     → machine turns ≡ machine_on view c task (disks_in site.files)
@@ -63,5 +68,5 @@ loaded_machine view c task site turns loaded honest =
     ∙ ap (λ (ws : List Work). record { running = record { node = node_of turns.server.kept; outbox = []; works = ws; dials = turns.server.dials }; pace = turns.pace; probing = turns.probing }) loaded.works
     ∙ ap (λ (ds : List Dialling). record { running = record { node = node_of turns.server.kept; outbox = []; works = []; dials = ds }; pace = turns.pace; probing = turns.probing }) loaded.dials
     ∙ ap (λ (p : Pace). record { running = record { node = node_of turns.server.kept; outbox = []; works = []; dials = [] }; pace = p; probing = turns.probing }) loaded.pace
-    ∙ ap (λ (p : Option Probing). at_first p (node_of turns.server.kept)) loaded.probing
-    ∙ ap (λ (n : Node). at_first (probing_at_first task.probes task.me (length c.addresses)) n) (loaded.node.node honest)
+    ∙ ap (λ (p : Option Probing). at_first (is_record task.log) p (node_of turns.server.kept)) loaded.probing
+    ∙ ap (λ (n : Node). at_first (is_record task.log) (probing_at_first task.probes task.me (length c.addresses)) n) (loaded.node.node honest)

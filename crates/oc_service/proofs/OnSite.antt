@@ -19,6 +19,7 @@ use Rattle.oc_keep.specs.Trials.{after_inputs, first_node}
 use Rattle.oc_model.specs.declared.input.Input.{Input}
 use Rattle.oc_model.specs.Node.{Control, Header, Node}
 use Rattle.oc_model.specs.Step.{step}
+use Rattle.oc_routes.specs.Responses.{address_of}
 use Rattle.oc_routes.specs.Verdicts.{NodeTerms, terms_of}
 use Rattle.oc_server.specs.Answered.{AreAnswered}
 use Rattle.oc_server.specs.Deeds.{Deed, Setting, calls_of, inputs_of, line, lines}
@@ -39,7 +40,7 @@ use Rattle.oc_service.specs.Failures.{AreBorneOut}
 use Rattle.oc_service.specs.Loading.{IsLoaded}
 use Rattle.oc_service.specs.declared.site.Site.{Site}
 use Rattle.oc_service.proofs.Loaded.{loaded_machine}
-use Rattle.oc_service.specs.Running.{Halts, IsDeaf, Listens, RunEnds, Runs, listens_at, machine}
+use Rattle.oc_service.specs.Running.{Halts, IsDeaf, Listens, RunEnds, Runs, machine}
 use Rattle.oc_service.specs.WhatNodeDoes.{Machine, begun, due_at, node_behind, node_deeds, turn_deeds}
 use Rattle.oc_service.specs.WhatNodeGives.{ServesFrom}
 use Rattle.oc_service.specs.WhatNodeHears.{AreHeard, MayHear, all_calls_behind, until}
@@ -47,6 +48,7 @@ use Rattle.oc_service.specs.declared.running.NodeEnd.TheVariants.{Turned}
 use Rattle.oc_service.specs.declared.running.Task.{Task}
 use Rattle.oc_service.proofs.AtAnyMoment.{prefix_of}
 use Rattle.oc_service.proofs.BorneOut.{front_borne, node_borne}
+use Rattle.oc_service.proofs.Recorded.{cut_record, node_record}
 use Rattle.oc_service.proofs.Replies.{front_answered, node_answered, serves_until}
 use Rattle.oc_service.proofs.Stories.{Follows, follows_adds, until_then}
 
@@ -102,11 +104,11 @@ module _ {D L K : Type 0} (view : D → DiskView) (takes fails : K → List ℕ 
     abbrev l : Server D L K
     l = listening_by link
 
-    adds_listen : AddsAll (acts.Listen (listens_at c.listens me) ∷ []) (story first.server.link) (story link)
-    adds_listen = subst (λ (x : ℕ). AddsAll (acts.Listen (listens_at c.listens x) ∷ []) (story first.server.link) (story link)) loaded.id listens.calls
+    adds_listen : AddsAll (acts.Listen (address_of c.listens me) ∷ []) (story first.server.link) (story link)
+    adds_listen = subst (λ (x : ℕ). AddsAll (acts.Listen (address_of c.listens x) ∷ []) (story first.server.link) (story link)) loaded.id listens.calls
 
     heard_is : (all : Option (List Call)) → Follows (story link) all → until (story link) all ≡ heard_before c me (story first.server.link) all
-    heard_is all follows = until_then (acts.Listen (listens_at c.listens me) ∷ []) (story first.server.link) (story link) all adds_listen follows
+    heard_is all follows = until_then (acts.Listen (address_of c.listens me) ∷ []) (story first.server.link) (story link) all adds_listen follows
 
     heard_on : AreHonest view d → (told : List Observation) → Follows (story link) (story last.server.link)
         → AreHeard (setting first.server) (reads_by first.server) (until (story link) (story last.server.link)) told (begun (setting first.server) c.measures (machine first))
@@ -120,7 +122,7 @@ module _ {D L K : Type 0} (view : D → DiskView) (takes fails : K → List ℕ 
     calls_on : AreHonest view d → (deeds : List Deed) → AddsAll (calls_of (setting l) deeds (running l)) (story link) (story last.server.link)
         → AddsAll (node_calls c task deeds m) (story first.server.link) (story last.server.link)
     calls_on honest deeds adds =
-        adds-then (acts.Listen (listens_at c.listens me) ∷ []) (calls_of (setting_of c task) deeds m.running) (story first.server.link) (story link) (story last.server.link) adds_listen
+        adds-then (acts.Listen (address_of c.listens me) ∷ []) (calls_of (setting_of c task) deeds m.running) (story first.server.link) (story link) (story last.server.link) adds_listen
         (subst (λ (x : Machine). AddsAll (calls_of (setting_of c task) deeds x.running) (story link) (story last.server.link)) (begins honest)
         (subst (λ (x : Setting). AddsAll (calls_of x deeds (running first.server)) (story link) (story last.server.link)) setting_is adds))
 
@@ -201,6 +203,7 @@ module _ {D L K : Type 0} (view : D → DiskView) (takes fails : K → List ℕ 
       failures = λ honest.
           subst (λ (ds : List Deed). AreBorneOut Quiet ds) (sym (deeds_on honest told deeds are))
           (node_borne Quiet (terms_in c me) (heard_before c me (story first.server.link) (story last.server.link)) (setting_of c task) c.measures told m (heard_told honest told deeds did heard));
+      recorded = λ honest. node_record (setting_of c task) c.measures told m deeds (deeds_on honest told deeds are);
       counted = subst (λ (x : LinkCounts). CountsAll deeds x (counts last.server.link)) listens.counted did.counted;
       goes_on = all_go_on_then view d (disks_of first.server.kept) e safely.goes_on did.goes_on;
       survives = λ honest.
@@ -334,6 +337,7 @@ module _ {D L K : Type 0} (view : D → DiskView) (takes fails : K → List ℕ 
               (heard_on link listens honest r.told (follows honest) (r.heard (honest_kept honest))) r.deeds (cut honest).behind
               (all_calls_behind (setting_of c task) r.told (begun (setting_of c task) c.measures m) (heard_before c me (story first.server.link) (story last.server.link))) (cut honest).front
               (last_on link listens honest r.told r.last r.deeds (follows honest) (r.last_heard (honest_kept honest)));
+          recorded = λ honest. cut_record (setting_of c task) c.measures r.told r.last m r.deeds r.under (cut honest);
           goes_on = goes_on_all link listens r.deeds r.under end breaks;
           leaves = λ honest.
               subst (λ (x : Node). LeavesBehind view h me e end (after_inputs x (inputs_of r.deeds)) r.under) (loaded.node honest)

@@ -17,8 +17,9 @@ use Rattle.oc_server.proofs.Chains.{after_append, calls_append}
 use Rattle.oc_server.proofs.RepliedDeeds.{given_front, given_whole}
 use Rattle.oc_server.proofs.Settled.{AllQuiet, all_quiet, ordered_front, ordered_then}
 use Rattle.oc_server.specs.Answered.{AreAnswered, AreAnsweredBy, answer_of, back_of}
-use Rattle.oc_server.specs.Deeds.{Deed, Running, Setting, Takes, after, after_all, calls_of}
+use Rattle.oc_server.specs.Deeds.{Deed, Running, Says, Setting, Takes, after, after_all, calls_of}
 use Rattle.oc_server.specs.Parts.{Cuts}
+use Rattle.oc_server.specs.Records.{told_ahead}
 use Rattle.oc_server.specs.Replying.{IsOrdered, phase_on}
 use Rattle.oc_server.specs.Scenes.{Under}
 use Rattle.oc_server.specs.Settled.{AreServed, Fits, IsSettled}
@@ -32,32 +33,33 @@ use Rattle.oc_service.proofs.Stories.{Follows}
 
 -- What was measured touches no connection
 
-quiet_behind : (i : Input) (b : Bool) (ds : List Deed) → AllQuiet ds → AllQuiet ((if b then Takes i ∷ [] else []) ++ ds)
-quiet_behind i true ds quiet = (tt, quiet)
-quiet_behind i false ds quiet = quiet
+quiet_behind : (text : List ℕ) (i : Input) (b : Bool) (ds : List Deed) → AllQuiet ds → AllQuiet ((if b then Says text ∷ Takes i ∷ [] else []) ++ ds)
+quiet_behind text i true ds quiet = (tt, (tt, quiet))
+quiet_behind text i false ds quiet = quiet
 
-own_quiet : (me : ℕ) (ms : List Measure) → AllQuiet (own_measures me ms)
-own_quiet me [] = tt
-own_quiet me (x ∷ ms) = quiet_behind (Measured x.peer x.rate x.hops) (x.from == me) (own_measures me ms) (own_quiet me ms)
+own_quiet : (s : Setting) (ms : List Measure) → AllQuiet (own_measures s ms)
+own_quiet s [] = tt
+own_quiet s (x ∷ ms) =
+    quiet_behind (told_ahead s.log s.me (Measured x.peer x.rate x.hops)) (Measured x.peer x.rate x.hops) (x.from == s.me) (own_measures s ms) (own_quiet s ms)
 
-one_works : (i : Input) (b : Bool) (a : Running) → (after_all (if b then Takes i ∷ [] else []) a).works ≡ a.works
-one_works i true a = refl
-one_works i false a = refl
+one_works : (text : List ℕ) (i : Input) (b : Bool) (a : Running) → (after_all (if b then Says text ∷ Takes i ∷ [] else []) a).works ≡ a.works
+one_works text i true a = refl
+one_works text i false a = refl
 
 -- and leaves what is under way
-own_works : (me : ℕ) (ms : List Measure) (a : Running) → (after_all (own_measures me ms) a).works ≡ a.works
-own_works me [] a = refl
-own_works me (x ∷ ms) a =
-    ap (λ (r : Running). r.works) (after_append (own_measure me x) (own_measures me ms) a)
-    ∙ own_works me ms (after_all (own_measure me x) a)
-    ∙ one_works (Measured x.peer x.rate x.hops) (x.from == me) a
+own_works : (s : Setting) (ms : List Measure) (a : Running) → (after_all (own_measures s ms) a).works ≡ a.works
+own_works s [] a = refl
+own_works s (x ∷ ms) a =
+    ap (λ (r : Running). r.works) (after_append (own_measure s x) (own_measures s ms) a)
+    ∙ own_works s ms (after_all (own_measure s x) a)
+    ∙ one_works (told_ahead s.log s.me (Measured x.peer x.rate x.hops)) (Measured x.peer x.rate x.hops) (x.from == s.me) a
 
 -- and so it is with all that it begins with
 pub begins_quiet : (s : Setting) (ms : List Measure) (n : Node) → AllQuiet (begins s ms n)
-begins_quiet s ms n = (tt, own_quiet s.me ms)
+begins_quiet s ms n = (tt, own_quiet s ms)
 
 pub begins_works : (s : Setting) (ms : List Measure) (n : Node) (a : Running) → (after_all (begins s ms n) a).works ≡ a.works
-begins_works s ms n a = own_works s.me ms a
+begins_works s ms n a = own_works s ms a
 
 -- Deeds in order, from nothing under way
 
@@ -138,15 +140,16 @@ answered_front : (answer : Answer) (back : Option Message) (s : Setting) (ds es 
 answered_front answer back s [] es a all = tt
 answered_front answer back s (d ∷ ds) es a all = (all.0, answered_front (answer_of answer d a) (back_of back d a) s ds es (after d a) (all.1))
 
-one_answered : (answer : Answer) (back : Option Message) (s : Setting) (i : Input) (b : Bool) (a : Running) → AreAnsweredBy answer back s (if b then Takes i ∷ [] else []) a
-one_answered answer back s i true a = (tt, tt)
-one_answered answer back s i false a = tt
+one_answered : (answer : Answer) (back : Option Message) (s : Setting) (text : List ℕ) (i : Input) (b : Bool) (a : Running) → AreAnsweredBy answer back s (if b then Says text ∷ Takes i ∷ [] else []) a
+one_answered answer back s text i true a = (tt, (tt, tt))
+one_answered answer back s text i false a = tt
 
-own_answered : (answer : Answer) (back : Option Message) (s : Setting) (me : ℕ) (ms : List Measure) (a : Running) → AreAnsweredBy answer back s (own_measures me ms) a
-own_answered answer back s me [] a = tt
-own_answered answer back s me (x ∷ ms) a =
-    answered_then answer back s (own_measure me x) (own_measures me ms) a (one_answered answer back s (Measured x.peer x.rate x.hops) (x.from == me) a)
-    (λ p q. own_answered p q s me ms (after_all (own_measure me x) a))
+own_answered : (answer : Answer) (back : Option Message) (s : Setting) (ms : List Measure) (a : Running) → AreAnsweredBy answer back s (own_measures s ms) a
+own_answered answer back s [] a = tt
+own_answered answer back s (x ∷ ms) a =
+    answered_then answer back s (own_measure s x) (own_measures s ms) a
+    (one_answered answer back s (told_ahead s.log s.me (Measured x.peer x.rate x.hops)) (Measured x.peer x.rate x.hops) (x.from == s.me) a)
+    (λ p q. own_answered p q s ms (after_all (own_measure s x) a))
 
 -- a turn begins with a reading of the clock, so it is all the same what was answered before
 turn_answered : (answer : Answer) (back : Option Message) (s : Setting) (t : Observation) (m : Machine) → AreAnsweredBy answer back s (turn_deeds s t m) m.running
@@ -159,7 +162,7 @@ turns_answered answer back s (t ∷ ts) m =
     (λ p q. turns_answered p q s ts (behind_turn s t m))
 
 begins_answered : (answer : Answer) (back : Option Message) (s : Setting) (ms : List Measure) (n : Node) (a : Running) → AreAnsweredBy answer back s (begins s ms n) a
-begins_answered answer back s ms n a = (tt, own_answered answer back s s.me ms a)
+begins_answered answer back s ms n a = (tt, own_answered answer back s ms a)
 
 pub node_answered : (s : Setting) (ms : List Measure) (ts : List Observation) (m : Machine) → AreAnswered s (node_deeds s ms ts m) m.running
 node_answered s ms ts m =

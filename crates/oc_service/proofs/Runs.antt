@@ -3,6 +3,8 @@ use Rattle.std.proofs.Common.{◌≡◌, ◌⊎◌, ◌∙◌, ℕ, ◌+◌, ◌
 use Rattle.std.specs.Prelude.{◌==◌, if◌then◌else◌, Bool, true, false}
 use Rattle.std.specs.Option.{option_map}
 use Rattle.std.proofs.lemmas.List.{append_assoc}
+use Rattle.oc_base.specs.Groups.{shelf}
+use Rattle.oc_base.specs.declared.shelf.Shelf.{Shelf}
 use Rattle.oc_link.specs.Told.{AddsAll}
 use Rattle.oc_link.specs.declared.call.Call.{Call}
 use Rattle.oc_link.specs.declared.counts.LinkCounts.{LinkCounts}
@@ -12,8 +14,9 @@ use Rattle.oc_keep.specs.KeptView.{IsHonest, KeptView, node_of}
 use Rattle.oc_model.specs.declared.input.Input.{Input}
 use Rattle.oc_model.specs.declared.input.Input.TheVariants.{Measured}
 use Rattle.oc_routes.specs.Verdicts.{NodeTerms}
-use Rattle.oc_server.specs.Deeds.{Deed, Running, Setting, Takes, after_all, calls_of}
+use Rattle.oc_server.specs.Deeds.{Deed, Running, Says, Setting, Takes, after_all, calls_of}
 use Rattle.oc_server.specs.Parts.{Cuts, Stops}
+use Rattle.oc_server.specs.Records.{told_ahead}
 use Rattle.oc_server.specs.Runs.{MayRead, ServeEnds, ServesUpTo, TurnStops, due_in, reads_by}
 use Rattle.oc_server.specs.Scenes.{BreaksBehind, Did, running, setting}
 use Rattle.oc_server.specs.Settled.{AreServed, IsSettled, deeds_until, deeds_up_to}
@@ -30,7 +33,7 @@ use Rattle.oc_server.proofs.Parts.{cuts_behind, cuts_more}
 use Rattle.oc_server.proofs.Scenes.{breaks_then, did_then, setting_stays, still_honest}
 use Rattle.oc_service.specs.Measuring.{begins_with}
 use Rattle.oc_service.specs.Running.{Halts, Listens, RunEnds, Runs, machine}
-use Rattle.oc_service.specs.WhatNodeDoes.{Machine, begins, begun, behind_turns, due_at, node_behind, node_deeds, own_measure, own_measures, turn_deeds, turns_deeds}
+use Rattle.oc_service.specs.WhatNodeDoes.{Machine, begins, begins_on, begun, behind_turns, due_at, node_behind, node_deeds, own_measure, own_measures, turn_deeds, turns_deeds}
 use Rattle.oc_service.specs.WhatNodeGives.{ServesFrom}
 use Rattle.oc_service.specs.WhatNodeHears.{AreHeard, MayHear, all_calls_behind, until}
 use Rattle.oc_service.proofs.Machines.{Made, heard_at, machine_of, made, made_deeds, reads_stay}
@@ -38,15 +41,15 @@ use Rattle.oc_service.proofs.Replies.{begins_quiet, begins_works, serves_behind,
 use Rattle.oc_service.proofs.Stories.{Follows, follows_adds, follows_self, follows_then, until_then}
 
 -- taking what was measured makes no call
-one_calls : (s : Setting) (i : Input) (a : Running) (b : Bool) → calls_of s (if b then Takes i ∷ [] else []) a ≡ []
-one_calls s i a true = refl
-one_calls s i a false = refl
+one_calls : (s : Setting) (text : List ℕ) (i : Input) (a : Running) (b : Bool) → calls_of s (if b then Says text ∷ Takes i ∷ [] else []) a ≡ []
+one_calls s text i a true = refl
+one_calls s text i a false = refl
 
-own_calls : (s : Setting) (me : ℕ) (ms : List Measure) (a : Running) → calls_of s (own_measures me ms) a ≡ []
-own_calls s me [] a = refl
-own_calls s me (x ∷ ms) a =
-    calls_append s (own_measure me x) (own_measures me ms) a
-    ∙ ap₂ (λ (p q : List Call). p ++ q) (one_calls s (Measured x.peer x.rate x.hops) a (x.from == me)) (own_calls s me ms (after_all (own_measure me x) a))
+own_calls : (s t : Setting) (ms : List Measure) (a : Running) → calls_of s (own_measures t ms) a ≡ []
+own_calls s t [] a = refl
+own_calls s t (x ∷ ms) a =
+    calls_append s (own_measure t x) (own_measures t ms) a
+    ∙ ap₂ (λ (p q : List Call). p ++ q) (one_calls s (told_ahead t.log t.me (Measured x.peer x.rate x.hops)) (Measured x.peer x.rate x.hops) a (x.from == t.me)) (own_calls s t ms (after_all (own_measure t x) a))
 
 none_more : (cs : List Call) → cs ≡ [] → (calls : Option (List Call)) → option_map (λ (c : List Call). c ++ cs) calls ≡ calls
 none_more cs is None = refl
@@ -54,15 +57,21 @@ none_more cs is (Some p) = ap Some (ap (λ (x : List Call). p ++ x) is ∙ appen
 
 module _ {D L K : Type 0} (view : D → DiskView) (takes fails : K → List ℕ → K → Type 0) (faults : K → ℕ) (story : L → Option (List Call)) (counts : L → LinkCounts)
     (takes_nothing : (k : K) → takes k [] k) (takes_then : (a b c : K) (x y : List ℕ) → takes a x b → takes b y c → takes a (x ++ y) c)
-    (most : ℕ) (old : Turns D L K) (listening : Server D L K) (listens : Listens story counts old.server listening) where
-  abbrev me : ℕ
-  me = old.server.kept.node.control.me
-
+    (most : ℕ) (old : Turns D L K) (held : IsHonest view old.server.kept → old.server.kept.content.shelves ≡ shelf (node_of old.server.kept).groups)
+    (listening : Server D L K) (listens : Listens story counts old.server listening) where
   abbrev s : Setting
   s = setting old.server
 
+  -- what is done before the first turn
   abbrev own : List Deed
-  own = begins s old.server.config.measures (node_of old.server.kept)
+  own = begins_on s old.server.config.measures old.server.kept.node.control old.server.kept.content.shelves
+
+  -- over honest disks it is told of the node
+  abbrev own_told : List Deed
+  own_told = begins s old.server.config.measures (node_of old.server.kept)
+
+  own_is : IsHonest view old.server.kept → own ≡ own_told
+  own_is honest = ap (λ (shelves : List Shelf). begins_on s old.server.config.measures old.server.kept.node.control shelves) (held honest)
 
   abbrev terms : NodeTerms
   terms = reads_by old.server
@@ -134,7 +143,7 @@ module _ {D L K : Type 0} (view : D → DiskView) (takes fails : K → List ℕ 
     calls_at : IsHonest view old.server.kept → (all : Option (List Call)) → Follows (story at.link) all → until (story at.link) all ≡ until (story listening.link) all
     calls_at honest all follows =
         until_then (calls_of (setting listening) own (running listening)) (story listening.link) (story at.link) all (did.done (honest_listening honest)).calls follows
-        ∙ none_more (calls_of (setting listening) own (running listening)) (own_calls (setting listening) me old.server.config.measures (running listening)) (until (story listening.link) all)
+        ∙ none_more (calls_of (setting listening) own (running listening)) (own_calls (setting listening) s old.server.config.measures (running listening)) (until (story listening.link) all)
 
     -- no turn was made, or some
     module _ (n : ℕ) (last : Turns D L K) (turns : Made view takes fails faults story counts takes_nothing takes_then n first last) where
@@ -148,6 +157,7 @@ module _ {D L K : Type 0} (view : D → DiskView) (takes fails : K → List ℕ 
       deeds_are honest =
           ap (λ (ds : List Deed). own ++ ds)
           (turns.are (honest_at honest) ∙ ap₂ (λ (x : Setting) (y : Machine). turns_deeds x turns.told y) setting_at (machine_at honest))
+          ∙ ap (λ (ds : List Deed). ds ++ turns_deeds s turns.told m) (own_is honest)
 
       machine_last : IsHonest view old.server.kept → machine last ≡ node_behind s old.server.config.measures turns.told (machine old)
       machine_last honest = turns.behind (honest_at honest) ∙ ap₂ (λ (x : Setting) (y : Machine). behind_turns x turns.told y) setting_at (machine_at honest)
@@ -287,7 +297,7 @@ module _ {D L K : Type 0} (view : D → DiskView) (takes fails : K → List ℕ 
   no_told = record { before = 0; event = events.Quiet; bytes = []; came = comes.Nothing; now = 0; median = 0; started = 0; seconds = 0 }
 
   module _ (end : TurnEnd) (new : Turns D L K) (stops : Stops view takes fails faults story counts end (begins_with old.server.config.measures) listening new.server) where
-    front : IsHonest view old.server.kept → Cuts own stops.deeds stops.under
+    front : IsHonest view old.server.kept → Cuts own_told stops.deeds stops.under
     front honest =
         subst (λ (x : Server D L K). Cuts (begins (setting x) old.server.config.measures (node_of x.kept)) stops.deeds stops.under) listens.rest (stops.cut (honest_listening honest))
 
@@ -310,12 +320,12 @@ module _ {D L K : Type 0} (view : D → DiskView) (takes fails : K → List ℕ 
       under = stops.under;
       breaks = stops.breaks;
       cut = λ honest.
-          cuts_more (own ++ []) (turn_deeds s no_told (node_behind s old.server.config.measures [] (machine old))) stops.deeds stops.under
-          (cuts_more own [] stops.deeds stops.under (front honest));
+          cuts_more (own_told ++ []) (turn_deeds s no_told (node_behind s old.server.config.measures [] (machine old))) stops.deeds stops.under
+          (cuts_more own_told [] stops.deeds stops.under (front honest));
       heard = λ honest. tt;
-      last_heard = λ honest. inl (omega (arith, ap length (front honest).front, length-append stops.deeds (front honest).behind, length-append own []));
+      last_heard = λ honest. inl (omega (arith, ap length (front honest).front, length-append stops.deeds (front honest).behind, length-append own_told []));
       serves = λ honest none.
-          serves_front s own (running old.server) (begins_quiet s old.server.config.measures (node_of old.server.kept)) none stops.deeds (front honest).behind (story listening.link) (story new.server.link) (front honest).front (calls_stopped honest);
+          serves_front s own_told (running old.server) (begins_quiet s old.server.config.measures (node_of old.server.kept)) none stops.deeds (front honest).behind (story listening.link) (story new.server.link) (front honest).front (calls_stopped honest);
     }
 
   pub early_ends : (end : TurnEnd) (new : Turns D L K) → Stops view takes fails faults story counts end (begins_with old.server.config.measures) listening new.server
@@ -330,11 +340,11 @@ module _ {D L K : Type 0} (view : D → DiskView) (takes fails : K → List ℕ 
 
   -- and told of the measures of the server that listens
 
-  pub served_ends : (at : Server D L K) → Did view takes faults story counts (begins (setting listening) listening.config.measures (node_of listening.kept)) listening at
+  pub served_ends : (at : Server D L K) → Did view takes faults story counts (begins_on (setting listening) listening.config.measures listening.kept.node.control listening.kept.content.shelves) listening at
       → (end : TurnEnd) (new : Turns D L K) (ended : ServeEnds view takes fails faults story counts most end (record old { server = at }) new)
       → IsServedSince at (deeds_until view takes fails faults story counts most end (record old { server = at }) new ended) (story new.server.link) → RunEnds view takes fails faults story counts most end old new
   served_ends at did =
-      serve_ends at (subst (λ (ds : List Deed). Did view takes faults story counts ds listening at) (ap (λ (x : Server D L K). begins (setting x) x.config.measures (node_of x.kept)) listens.rest) did)
+      serve_ends at (subst (λ (ds : List Deed). Did view takes faults story counts ds listening at) (ap (λ (x : Server D L K). begins_on (setting x) x.config.measures x.kept.node.control x.kept.content.shelves) listens.rest) did)
 
   pub halted_ends : (end : TurnEnd) (new : Turns D L K) → Stops view takes fails faults story counts end (begins_with listening.config.measures) listening new.server
       → RunEnds view takes fails faults story counts most end old new

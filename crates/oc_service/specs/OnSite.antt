@@ -2,6 +2,7 @@
 use Rattle.std.specs.Prelude.{◌≡◌, ◌⊎◌, ℕ, ◌+◌, ◌<◌, Bool, true, false, Option, Some, None, List, [], ◌∷◌, ◌++◌, length, replicate, take}
 use Rattle.std.specs.Option.{option_map}
 use Rattle.oc_config.specs.Settings.{Settings}
+use Rattle.oc_link.specs.Calls.{IsFront}
 use Rattle.oc_link.specs.Counts.{CountsFailure}
 use Rattle.oc_link.specs.Told.{AddsAll}
 use Rattle.oc_link.specs.declared.call.Call.{Call}
@@ -14,23 +15,25 @@ use Rattle.oc_keep.specs.Files.{Disks, AllGoOn, AreHonest, Leaves, OneRose, Same
 use Rattle.oc_keep.specs.KeptView.{IsFullAt, KeptView, disks_of, header, node_of}
 use Rattle.oc_keep.specs.Promises.{LoadsSafely, RefusesNode}
 use Rattle.oc_keep.specs.Trials.{after_inputs, first_node}
+use Rattle.oc_keep.specs.Errors.{IsOutOfMemory}
 use Rattle.oc_keep.specs.declared.errors.KeepLoad.{KeepLoad}
-use Rattle.oc_keep.specs.declared.errors.KeepLoad.TheVariants as loads
 use Rattle.oc_model.specs.declared.input.Input.{Input}
 use Rattle.oc_model.specs.Node.{Header, Node}
 use Rattle.oc_model.specs.Step.{step}
 use Rattle.oc_probe.specs.Turns.{others}
 use Rattle.oc_probe.specs.declared.probing.Probing.{Probing}
+use Rattle.oc_routes.specs.Responses.{address_of}
 use Rattle.oc_routes.specs.Verdicts.{NodeTerms, terms_of}
 use Rattle.oc_server.specs.Deeds.{Deed, Setting, calls_of, inputs_of, lines}
 use Rattle.oc_server.specs.Parts.{Cuts}
-use Rattle.oc_server.specs.Scenes.{CountsAll, IsFront, Idle, Taking, Under, under_line}
+use Rattle.oc_server.specs.Recorded.{IsRecordOf}
+use Rattle.oc_server.specs.Records.{is_record}
+use Rattle.oc_server.specs.Scenes.{CountsAll, Idle, Taking, Under, under_line}
 use Rattle.oc_server.specs.Turns.{Observation}
 use Rattle.oc_server.specs.declared.ends.TurnEnd.{TurnEnd}
 use Rattle.oc_server.specs.declared.ends.TurnEnd.TheVariants as ends
 use Rattle.oc_service.specs.AtAnyMoment.{AlwaysRecovers}
 use Rattle.oc_service.specs.Failures.{AreBorneOut}
-use Rattle.oc_service.specs.Running.{listens_at}
 use Rattle.oc_service.specs.WhatNodeDoes.{Machine, at_first, begun, due_at, node_behind, node_deeds, turn_deeds}
 use Rattle.oc_service.specs.WhatNodeGives.{GivesReplies}
 use Rattle.oc_service.specs.WhatNodeHears.{AreHeard, MayHear, all_calls_behind, until}
@@ -62,23 +65,23 @@ probing_at_first false me nodes = None
 
 -- the node that its files recover, as the machine of what a node does
 abbrev pub machine_on : {D : Type 0} → (D → DiskView) → Settings → Task → Disks D → Machine
-machine_on view c task d = at_first (probing_at_first task.probes task.me (length c.addresses)) (first_node view (header_of_settings c) task.me d)
+machine_on view c task d = at_first (is_record task.log) (probing_at_first task.probes task.me (length c.addresses)) (first_node view (header_of_settings c) task.me d)
 
 -- Its link
 
 -- it waits where the node listens, and then each deed makes its calls
 abbrev pub node_calls : Settings → Task → List Deed → Machine → List Call
-node_calls c task ds m = acts.Listen (listens_at c.listens task.me) ∷ calls_of (setting_of c task) ds m.running
+node_calls c task ds m = acts.Listen (address_of c.listens task.me) ∷ calls_of (setting_of c task) ds m.running
 
 -- the calls before its first turn, if the link tells them to the end
 abbrev pub heard_before : Settings → ℕ → Option (List Call) → Option (List Call) → Option (List Call)
-heard_before c me old new = option_map (λ (cs : List Call). cs ++ acts.Listen (listens_at c.listens me) ∷ []) (until old new)
+heard_before c me old new = option_map (λ (cs : List Call). cs ++ acts.Listen (address_of c.listens me) ∷ []) (until old new)
 
 -- All turns
 
 -- The deeds are those of what a node does, in this many turns, by what its link told. Each made its calls, each connection was given the
--- replies to its requests, a line of a failure was written only where its link told of one, and every crash leaves the node that took their
--- inputs, at every moment of the run those of a prefix.
+-- replies to its requests, a line of a failure was written only where its link told of one, a record tells their inputs, and every crash
+-- leaves the node that took them, at every moment of the run those of a prefix.
 pub record DidOn {D L : Type 0} (view : D → DiskView) (story : L → Option (List Call)) (counts : L → LinkCounts) (c : Settings) (task : Task) (deeds : List Deed) (old new : Disks D) (link after : L) : Type 0 where
   pub told : List Observation
   pub many : length told ≡ task.turns
@@ -88,6 +91,7 @@ pub record DidOn {D L : Type 0} (view : D → DiskView) (story : L → Option (L
   pub calls : AreHonest view old → AddsAll (node_calls c task deeds (machine_on view c task old)) (story link) (story after)
   pub replies : AreHonest view old → GivesReplies (setting_of c task) deeds (machine_on view c task old).running (heard_before c task.me (story link) (story after)) (story after)
   pub failures : AreHonest view old → AreBorneOut Quiet deeds
+  pub recorded : AreHonest view old → IsRecordOf (setting_of c task) (first_node view (header_of_settings c) task.me old) deeds []
   pub counted : CountsAll deeds (counts link) (counts after)
   pub goes_on : AllGoOn view old new
   pub survives : AreHonest view old → Survives view (header_of_settings c) task.me new (after_inputs (first_node view (header_of_settings c) task.me old) (inputs_of deeds))
@@ -121,7 +125,8 @@ HasCauseOn view end under n old new before behind = Unit {0}
 
 -- It ended so after these deeds, a front of what a node does: after whole turns, in the midst of one that is told `last`, or before the
 -- first. What came in that one was read, where more was done in it than to ask the link. Each connection was given the replies to its requests
--- until then, and a line of a failure was written, or begun, only where its link told of one.
+-- until then, and a line of a failure was written, or begun, only where its link told of one. A record tells the inputs of these deeds, and
+-- perhaps the one that was to be taken next.
 pub record StoppedOn {D L : Type 0} (view : D → DiskView) (story : L → Option (List Call)) (counts : L → LinkCounts) (c : Settings) (task : Task) (end : TurnEnd) (deeds : List Deed) (under : Under) (old new : Disks D) (link after : L) : Type 0 where
   pub told : List Observation
   pub last : Observation
@@ -138,6 +143,7 @@ pub record StoppedOn {D L : Type 0} (view : D → DiskView) (story : L → Optio
   pub calls : AreHonest view old → AddsAll (node_calls c task deeds (machine_on view c task old)) (story link) (story after)
   pub replies : AreHonest view old → GivesReplies (setting_of c task) deeds (machine_on view c task old).running (heard_before c task.me (story link) (story after)) (story after)
   pub failures : (honest : AreHonest view old) → AreBorneOut Quiet (deeds ++ take 1 (cut honest).behind)
+  pub recorded : (honest : AreHonest view old) → IsRecordOf (setting_of c task) (first_node view (header_of_settings c) task.me old) deeds (cut honest).behind
   pub goes_on : AllGoOn view old new
   pub leaves : AreHonest view old → LeavesBehind view (header_of_settings c) task.me new end (after_inputs (first_node view (header_of_settings c) task.me old) (inputs_of deeds)) under
   pub moments : AreHonest view old → AlwaysRecovers view (header_of_settings c) task.me deeds under old new
@@ -191,7 +197,7 @@ module _ (run : OnRun) (written cut_off : List ℕ → Type 0) (s : Setting) whe
 
 -- all turns were made, or memory ran out, or a file was full
 abbrev pub EndsUnfailed : NodeEnd → Type 0
-EndsUnfailed (Load error) = error ≡ loads.Memory
+EndsUnfailed (Load error) = IsOutOfMemory error
 EndsUnfailed (Turned ends.Served) = Unit {0}
 EndsUnfailed (Turned ends.Full) = Unit {0}
 EndsUnfailed (Turned ends.Memory) = Unit {0}

@@ -1,5 +1,5 @@
 -- A loaded node that listens, takes what was measured, and turns.
-use Rattle.std.specs.Prelude.{◌≡◌, ◌⊎◌, ℕ, ◌+◌, ◌-◌, ◌<◌, Option, List, [], ◌++◌, length, slice_get, unwrap_or}
+use Rattle.std.specs.Prelude.{◌≡◌, ◌⊎◌, ℕ, ◌+◌, ◌<◌, Option, List, [], ◌++◌, length}
 use Rattle.oc_link.specs.Counts.{CountsFailure}
 use Rattle.oc_link.specs.Told.{Adds}
 use Rattle.oc_link.specs.declared.call.Call.{Call}
@@ -7,6 +7,7 @@ use Rattle.oc_link.specs.declared.call.Call.TheVariants as acts
 use Rattle.oc_link.specs.declared.counts.LinkCounts.{LinkCounts}
 use Rattle.oc_io.specs.DiskView.{DiskView}
 use Rattle.oc_keep.specs.KeptView.{IsHonest}
+use Rattle.oc_routes.specs.Responses.{address_of}
 use Rattle.oc_server.specs.Deeds.{Deed}
 use Rattle.oc_server.specs.Parts.{Cuts}
 use Rattle.oc_server.specs.Runs.{reads_by}
@@ -24,14 +25,10 @@ use Rattle.oc_service.specs.WhatNodeHears.{AreHeard, MayHear, all_calls_behind, 
 abbrev pub machine : {D L K : Type 0} → Turns D L K → Machine
 machine t = record { running = running t.server; pace = t.pace; probing = t.probing }
 
--- where it listens
-abbrev pub listens_at : List (List ℕ) → ℕ → List ℕ
-listens_at listens me = unwrap_or (slice_get listens (me - 1)) []
-
 -- its link waits there, and nothing else changed
 pub record Listens {D L K : Type 0} (story : L → Option (List Call)) (counts : L → LinkCounts) (old new : Server D L K) : Type 0 where
   pub rest : new ≡ record old { link = new.link }
-  pub calls : Adds (acts.Listen (listens_at old.config.listens old.kept.node.control.me)) (story old.link) (story new.link)
+  pub calls : Adds (acts.Listen (address_of old.config.listens old.kept.node.control.me)) (story old.link) (story new.link)
   pub counted : counts new.link ≡ counts old.link
 
 -- it could not, and nothing changed

@@ -1,14 +1,16 @@
 -- What a node does, on one page: a machine whose steps are turns, by what the link and the clock tell in each. What a turn does is said by
 -- `turn` of oc_server, and what a deed makes of the node, writes and calls by its `after`, `line` and `calls`.
-use Rattle.std.specs.Prelude.{ℕ, ◌==◌, if◌then◌else◌, Option, List, [], ◌∷◌, ◌++◌}
+use Rattle.std.specs.Prelude.{ℕ, Bool, ◌==◌, if◌then◌else◌, Option, List, [], ◌∷◌, ◌++◌}
 use Rattle.oc_base.specs.Groups.{shelf}
+use Rattle.oc_base.specs.declared.shelf.Shelf.{Shelf}
 use Rattle.oc_model.specs.declared.input.Input.TheVariants.{Measured}
-use Rattle.oc_model.specs.Node.{Node}
+use Rattle.oc_model.specs.Node.{Control, Node}
 use Rattle.oc_probe.specs.declared.probing.Probing.{Probing}
 use Rattle.oc_server.specs.Brief.{told_first}
 use Rattle.oc_server.specs.Choices.{due_place}
 use Rattle.oc_server.specs.Deeds.{Deed, Running, Says, Setting, Takes, after_all}
 use Rattle.oc_server.specs.Pace.{first_pace}
+use Rattle.oc_server.specs.Records.{told_ahead}
 use Rattle.oc_server.specs.Turns.{Observation, pace_behind, probing_behind, turn}
 use Rattle.oc_server.specs.declared.pace.Pace.{Pace}
 use Rattle.oc_updown.specs.declared.measure_lines.Measure.{Measure}
@@ -19,21 +21,25 @@ pub record Machine : Type 0 where
   pub pace : Pace
   pub probing : Option Probing
 
--- at first: nothing to send, nothing under way, and no tick yet
-abbrev pub at_first : Option Probing → Node → Machine
-at_first probing n = record { running = record { node = n; outbox = []; works = []; dials = [] }; pace = first_pace; probing = probing }
+-- at first: nothing to send, nothing under way, and no tick yet; in a record ticks are whole seconds apart
+abbrev pub at_first : Bool → Option Probing → Node → Machine
+at_first whole probing n = record { running = record { node = n; outbox = []; works = []; dials = [] }; pace = first_pace whole; probing = probing }
 
 -- each measure that is its own is taken as an input
-abbrev pub own_measure : ℕ → Measure → List Deed
-own_measure me m = if m.from == me then Takes (Measured m.peer m.rate m.hops) ∷ [] else []
+abbrev pub own_measure : Setting → Measure → List Deed
+own_measure s m = if m.from == s.me then Says (told_ahead s.log s.me (Measured m.peer m.rate m.hops)) ∷ Takes (Measured m.peer m.rate m.hops) ∷ [] else []
 
-abbrev pub own_measures : ℕ → List Measure → List Deed
-own_measures me [] = []
-own_measures me (m ∷ ms) = own_measure me m ++ own_measures me ms
+abbrev pub own_measures : Setting → List Measure → List Deed
+own_measures s [] = []
+own_measures s (m ∷ ms) = own_measure s m ++ own_measures s ms
 
--- how a node begins: it tells where it is in the tree, where that is told, and takes what was measured
+-- how a node with this control part and these groups begins: it tells where it is in the tree or begins its record, where that is told, and
+-- takes what was measured
+abbrev pub begins_on : Setting → List Measure → Control → List Shelf → List Deed
+begins_on s ms n shelves = Says (told_first s.log n shelves) ∷ own_measures s ms
+
 abbrev pub begins : Setting → List Measure → Node → List Deed
-begins s ms n = Says (told_first s.log n.control) ∷ own_measures s.me ms
+begins s ms n = begins_on s ms n.control (shelf n.groups)
 
 abbrev pub begun : Setting → List Measure → Machine → Machine
 begun s ms m = record m { running = after_all (begins s ms m.running.node) m.running }

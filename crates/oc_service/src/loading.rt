@@ -76,7 +76,7 @@ pub(crate) fn load<D: Disk, L: Link, K: Sink>(
                 sink,
                 heads,
             },
-            pace: Pace::new(),
+            pace: Pace::new(task.log.is_record()),
             probing,
         }),
         Err((files, error)) => Err((Site { files, link, sink }, error)),

@@ -1,12 +1,13 @@
 //! A node from its files to the end of its turns.
 
-ghost use Rattle.std.specs.Prelude.{◌≡◌, ◌≤◌, ◌⊎◌, All, IfErr, OnOk, false, length, slice_get, Some, ◌-◌};
+ghost use Rattle.std.specs.Prelude.{◌≡◌, ◌⊎◌, All, IfErr, OnOk, false, length};
 ghost use Rattle.oc_base.specs.Lawful.{IsNode};
 ghost use Rattle.oc_config.specs.Reading.{IsConfig};
 ghost use Rattle.oc_io.specs.Faults.{NoFall, Rose};
 ghost use Rattle.oc_keep.specs.Files.{AreHonest, OneRose, disks_in};
 ghost use Rattle.oc_keep.specs.KeptView.{IsHonest, NodeSurvives, disks_of, node_of};
 ghost use Rattle.oc_keep.specs.Promises.{HoldFiles};
+ghost use Rattle.oc_routes.specs.Responses.{address_of};
 ghost use Rattle.oc_server.specs.Lawful.{IsReady};
 ghost use Rattle.oc_server.specs.Scenes.{IsServing};
 ghost use Rattle.oc_service.specs.OnSite.{EndsUnfailed, NodeEnds, at_run, setting_of};
@@ -21,6 +22,7 @@ use oc_config::Config;
 use oc_io::{Disk, Sink};
 use oc_keep::{Files, KeepLoad};
 use oc_link::Link;
+use oc_routes::address_of;
 use oc_server::{Log, Server, TurnEnd, Turns, turns_are_in_order};
 use std::alloc::Global;
 
@@ -104,11 +106,12 @@ pub fn run_node<D: Disk, L: Link, K: Sink>(
 /// Begins, and makes this many turns, of which a law says what connections are given.
 fn run<D: Disk, L: Link, K: Sink>(turns: &mut Turns<D, L, K>, most: u64) -> TurnEnd
     requires ready { IsReady turns.old }
-    requires listens { length turns.old.server.config.listens ≡ turns.old.server.kept.node.control.nodes }
     requires measures { All (IsMeasure turns.old.server.kept.node.control.nodes) turns.old.server.config.measures }
+    requires areas { turns.old.server.config.areas ≡ turns.old.server.kept.node.control.areas }
     ensures { RunEnds D.view K.takes K.fails K.faults L.story L.counts most result turns.old turns.new }
 {
     turns_are_in_order::<D, L, K>();
+    turns.server.kept.recovers();
     match listen(&mut turns.server) {
         Ok(()) => {}
         Err(end) => return end,
@@ -121,7 +124,6 @@ fn run<D: Disk, L: Link, K: Sink>(turns: &mut Turns<D, L, K>, most: u64) -> Turn
 
 /// Has the link wait where the node listens, which others may know by another address.
 fn listen<D: Disk, L: Link, K: Sink>(server: &mut Server<D, L, K>) -> Result<(), TurnEnd>
-    requires { length server.old.config.listens ≡ server.old.kept.node.control.nodes }
     ensures listens { OnOk result (Listens L.story L.counts server.old server.new) }
     ensures deaf { IfErr result (λ end. IsDeaf L.story L.counts end server.old server.new) }
 {
@@ -136,11 +138,9 @@ fn listen<D: Disk, L: Link, K: Sink>(server: &mut Server<D, L, K>) -> Result<(),
 
 /// Where a node listens: its `listen` in the configuration, or its address where it has none.
 fn listen_of(config: &Config, node: NodeId) -> &str
-    requires first { 1 ≤ node }
-    requires last { node ≤ length config.now.listens }
-    ensures { Some result.now ≡ slice_get config.now.listens (node - 1) }
+    ensures { result.now ≡ address_of config.now.listens node }
 {
-    config.listens[node.index()].as_str()
+    address_of(&config.listens, node)
 }
 
 /// What a node ran on.

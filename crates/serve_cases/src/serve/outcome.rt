@@ -70,11 +70,15 @@ fn live(
     run(alloc, &setting.config, play, site)
 }
 
-/// What the node writes of its inputs: where there is a step `brief`, what is told to people.
+/// What the node writes of its inputs: where there is a step `brief`, what is told to people; where there is a step
+/// `record`, a record.
 fn log_in(scene: &str) -> Log {
-    match said_by(scene, "brief") {
-        Some(_) => Log::Brief,
-        None => Log::Inputs,
+    if said_by(scene, "brief").is_some() {
+        Log::Brief
+    } else if said_by(scene, "record").is_some() {
+        Log::Record
+    } else {
+        Log::Inputs
     }
 }
 

@@ -1,6 +1,7 @@
-use Rattle.std.proofs.Common.{subst, rules}
+use Rattle.std.proofs.Common.{ap, subst, rules}
 use Rattle.std.proofs.lemmas.Result.{IfErr-weaker, IfOk-weaker}
 use Rattle.oc_commands.specs.Checks.{header_without_areas}
+use Rattle.oc_keep.specs.Errors.{cause_of}
 use Rattle.oc_keep.specs.Files.{disks_in}
 use Rattle.oc_keep.specs.KeptView.{header}
 use Rattle.oc_keep.specs.Promises.{IsNodeOf}
@@ -29,7 +30,7 @@ returns-in-Ok-load-clause-shows g c =
 
 pub returns-in-Ok-load-clause-complete : goal.returns-in-Ok-load-clause-complete
 returns-in-Ok-load-clause-complete g c =
-    IfErr-weaker c.text_of-text.result _ _ (λ error memory honest files sound. memory) c.text_of-text.ensures.memory
+    IfErr-weaker c.text_of-text.result _ _ (λ error memory honest files sound. ap cause_of memory) c.text_of-text.ensures.memory
 
 pub returns-in-Err-load-clause-complete : goal.returns-in-Err-load-clause-complete
 returns-in-Err-load-clause-complete g c = λ honest files sound. only_memory g.D.Disk.view c.args.network.nodes _ _ honest files sound _ c.in-Err-load.ensures.refuses

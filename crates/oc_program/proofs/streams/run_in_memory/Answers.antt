@@ -1,6 +1,6 @@
 use Rattle.std.proofs.Common.{◌≡◌, ◌∙◌, ◌⊎◌, ◌≤◌, ◌^◌, ◌-◌, length, ap, rules, sym, subst}
 use Rattle.oc_schedule.specs.Schedule.{schedule_of}
-use Rattle.oc_commands.specs.AtReplay.{status_for}
+use Rattle.oc_commands.specs.AtReplay.{scale_of, status_for}
 use Rattle.oc_keep.specs.Files.{disks_in}
 use Rattle.oc_commands.specs.Outside.{at_files, at_link, at_node, at_stage}
 use Rattle.oc_words.specs.Words.{asked, texts_of}
@@ -36,5 +36,5 @@ returns g c =
     let told = happened_told _ _ _ _ _ _ stage input output lines words files link node _ _ token end happened in
     record {
       ended = (end, usage, error.writer.items, is, written, told);
-      replayed = λ summary file asks. subst (λ n. (n ≡ status_for (schedule_of c.args.input.now)) ⊎ (n ≡ 1) ⊎ (n ≡ 4)) (sym is) (replayed_of c.args.input.now c.traffic.result.bytes _ _ stage files link _ node summary file words end asks told);
+      replayed = λ large summary file asks. subst (λ n. (n ≡ status_for (schedule_of (scale_of large) c.args.input.now)) ⊎ (n ≡ 1) ⊎ (n ≡ 4)) (sym is) (replayed_of c.args.input.now c.traffic.result.bytes _ _ stage files link _ node large summary file words end asks told);
     }

@@ -16,6 +16,7 @@ returns-in-Ok-clause-kept g c =
       same = c.take.ensures.same.node;
       goes_on = c.take.ensures.same.goes_on;
       fits = t.fits;
+      control = t.control.control;
       outcome_is = λ honest.
           let lawful = c.recovers.ensures.lawful honest in
           let outcome = c.lawful_nodes_stay_lawful.ensures.step c.args.kept.now.node.control.nodes n c.args.input c.requires.input c.recovers.ensures.short lawful in

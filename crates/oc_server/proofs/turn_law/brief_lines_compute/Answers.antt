@@ -11,7 +11,7 @@ use Rattle.oc_model.specs.declared.answer.Answer.TheVariants as words
 use Rattle.oc_model.specs.declared.record.Record.TheVariants as records
 use Rattle.oc_server.specs.Brief.{is_still, moved_line, place_line, told_of}
 use Rattle.oc_server.specs.declared.log.Log.{Log}
-use Rattle.oc_server.specs.declared.log.Log.TheVariants.{Brief, Inputs}
+use Rattle.oc_server.specs.declared.log.Log.TheVariants.{Brief, Inputs, Record}
 use Rattle.oc_model.specs.declared.input.Input.TheVariants.{Measured}
 use Rattle.oc_server.proofs.turn_law.brief_lines_compute.Goals as goal
 
@@ -34,6 +34,7 @@ mode_stays o peer rate hops false false = refl
 
 untold : (log : Log) (n : Node) (peer rate hops : ℕ) → told_of log n (Measured peer rate hops) ≡ []
 untold Inputs n peer rate hops = refl
+untold Record n peer rate hops = refl
 untold Brief n peer rate hops =
     still n.control.kept.mode (step n (Measured peer rate hops)).node.control
     (mode_stays (begun n.control) peer rate hops (peer == n.control.me) (same_reading (reading_of n.control.kept.measures peer) (record { rate = rate; hops = hops })))

@@ -1,9 +1,10 @@
 use Rattle.std.proofs.Common.{refl}
+use Rattle.std.specs.Fmt.{digits}
 use Rattle.oc_server.specs.Sends.{sends}
 use Rattle.oc_server.proofs.turn_law.turns_compute.Goals as goal
 
 pub returns : goal.returns
-unfolding sends
+unfolding digits sends
 returns c = record {
   gives = refl;
   lays_aside = refl;
@@ -17,6 +18,8 @@ returns c = record {
   first_wait = refl;
   tick_wait = refl;
   work_wait = refl;
+  second_wait = refl;
+  interval_wait = refl;
   oldest = refl;
   besides = refl;
   neither = refl;
@@ -26,5 +29,8 @@ returns c = record {
   waits = refl;
   first_tick = refl;
   no_tick = refl;
+  first_recorded = refl;
+  same_second = refl;
+  next_second = refl;
   quiet_turn = refl;
 }

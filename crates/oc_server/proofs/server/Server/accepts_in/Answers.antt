@@ -1,32 +1,42 @@
-use Rattle.std.proofs.Common.{refl, subst}
+use Rattle.std.proofs.Common.{ap, ◌∙◌}
 use Rattle.std.proofs.lemmas.Result.{err_from_is_err_and}
-use Rattle.oc_server.specs.Deeds.{Accepts}
-use Rattle.oc_server.specs.Telling.{IsBefore, accepts_in}
-use Rattle.oc_server.proofs.Steps.{memory_breaks}
-use Rattle.oc_server.proofs.Stopping.{stops_idle}
-use Rattle.oc_server.proofs.ToldInputs.{taking_stops, telling_stops, told_then}
+use Rattle.oc_model.specs.Node.{Node}
+use Rattle.oc_model.specs.Step.{step}
+use Rattle.oc_server.specs.Deeds.{back_to, sender_of}
+use Rattle.oc_server.specs.Telling.{accepts_told}
+use Rattle.oc_server.proofs.Ahead.{ahead_honest, ahead_input, ahead_node, ahead_serving, ahead_stops, ahead_then, ahead_then_stops}
+use Rattle.oc_server.proofs.Results.{done_then, err_then, ok_then}
 use Rattle.oc_server.proofs.server.Server.accepts_in.Goals as goal
 
-pub returns-in_err-before-clause-breaks : goal.returns-in_err-before-clause-breaks
-returns-in_err-before-clause-breaks g c =
-    let p = err_from_is_err_and c.from_residual.result c.from_residual.ensures.1 in
-    let s = c.args.self.now in
-    rw (p.1, p.2) (stops_idle g.D.Disk.view g.K.Sink.takes g.K.Sink.fails g.K.Sink.faults g.L.Link.story g.L.Link.counts g.met.K.Sink.takes_nothing _ (accepts_in c.args.input) s s c.requires.serving.is_open (memory_breaks g.D.Disk.view g.K.Sink.takes g.K.Sink.fails g.K.Sink.faults g.L.Link.story g.L.Link.counts g.met.K.Sink.takes_nothing s s refl refl refl refl (c.recovers.ensures.survives c.requires.serving.is_open)))
+pub accepts_told-requires-clause-serving : goal.accepts_told-requires-clause-serving
+accepts_told-requires-clause-serving g c = ahead_serving g.D.Disk.view g.K.Sink.takes g.K.Sink.fails g.K.Sink.faults g.L.Link.story g.L.Link.counts c.args.input c.args.self.now c.says_ahead.new.self c.in_ok-says_ahead.ensures.did c.requires.serving
 
-pub returns-in_err-accepted-clause-breaks : goal.returns-in_err-accepted-clause-breaks
-returns-in_err-accepted-clause-breaks g c =
-    let p = err_from_is_err_and c.from_residual-in_err-accepted.result c.from_residual-in_err-accepted.ensures.1 in
-    rw (p.1, p.2) (taking_stops g.D.Disk.view g.K.Sink.takes g.K.Sink.fails g.K.Sink.faults g.L.Link.story g.L.Link.counts g.met.K.Sink.takes_nothing g.met.K.Sink.takes_then (Accepts c.args.input) (accepts_in c.args.input) c.args.input c.args.self.now refl refl c.in_err-accepted.field-0.0 c.accepts.new.self c.requires.serving.is_open refl c.in_err-accepted.ensures.breaks)
+pub accepts_told-requires-clause-input : goal.accepts_told-requires-clause-input
+accepts_told-requires-clause-input g c = ahead_input g.D.Disk.view g.K.Sink.takes g.K.Sink.fails g.K.Sink.faults g.L.Link.story g.L.Link.counts c.args.input c.args.self.now c.says_ahead.new.self c.in_ok-says_ahead.ensures.did c.requires.input
 
 pub returns-clause-did : goal.returns-clause-did
 returns-clause-did g c =
-    let s = c.args.self.now in
-    let known : IsBefore s.log s.kept.node.control c.args.input c.in_ok-before.before = subst (λ n. IsBefore s.log n.control c.args.input c.in_ok-before.before) c.node.ensures c.in_ok-before.ensures in
-    told_then g.D.Disk.view g.K.Sink.takes g.K.Sink.fails g.K.Sink.faults g.L.Link.story g.L.Link.counts g.met.K.Sink.takes_nothing g.met.K.Sink.takes_then (Accepts c.args.input) (accepts_in c.args.input) c.args.input s refl refl c.in_ok-before.before c.in_ok-accepted.accepted.answer c.accepts.new.self known c.in_ok-accepted.ensures.did c.in_ok-accepted.ensures.answer c.says_behind.new.self c.in_ok-says_behind.ensures.did
+    done_then c.accepts_told.result (λ does. ahead_then g.D.Disk.view g.K.Sink.takes g.K.Sink.fails g.K.Sink.faults g.L.Link.story g.L.Link.counts c.args.input c.args.self.now c.says_ahead.new.self c.in_ok-says_ahead.ensures.did g.met.K.Sink.takes_then (accepts_told c.args.input) c.accepts_told.new.self does) c.accepts_told.ensures.did
 
-pub returns-in_err-says_behind-clause-breaks : goal.returns-in_err-says_behind-clause-breaks
-returns-in_err-says_behind-clause-breaks g c =
-    let p = err_from_is_err_and c.from_residual-in_err-says_behind.result c.from_residual-in_err-says_behind.ensures.1 in
+pub returns-clause-answer : goal.returns-clause-answer
+returns-clause-answer g c =
     let s = c.args.self.now in
-    let known : IsBefore s.log s.kept.node.control c.args.input c.in_ok-before.before = subst (λ n. IsBefore s.log n.control c.args.input c.in_ok-before.before) c.node.ensures c.in_ok-before.ensures in
-    rw (p.1, p.2) (telling_stops g.D.Disk.view g.K.Sink.takes g.K.Sink.fails g.K.Sink.faults g.L.Link.story g.L.Link.counts g.met.K.Sink.takes_nothing g.met.K.Sink.takes_then (Accepts c.args.input) (accepts_in c.args.input) c.args.input s refl refl c.in_ok-before.before c.in_ok-accepted.accepted.answer c.accepts.new.self known c.in_ok-accepted.ensures.did c.in_ok-accepted.ensures.answer c.in_err-says_behind.field-0.0 c.says_behind.new.self c.in_err-says_behind.ensures.breaks)
+    let did = c.in_ok-says_ahead.ensures.did in
+    ok_then c.accepts_told.result (λ accepted is honest. is (ahead_honest g.D.Disk.view g.K.Sink.takes g.K.Sink.fails g.K.Sink.faults g.L.Link.story g.L.Link.counts c.args.input s c.says_ahead.new.self did honest)
+    ∙ ap (λ (n : Node). (step n c.args.input).answer) (ahead_node g.D.Disk.view g.K.Sink.takes g.K.Sink.fails g.K.Sink.faults g.L.Link.story g.L.Link.counts c.args.input s c.says_ahead.new.self did honest)) c.accepts_told.ensures.answer
+
+pub returns-clause-back : goal.returns-clause-back
+returns-clause-back g c =
+    let s = c.args.self.now in
+    let did = c.in_ok-says_ahead.ensures.did in
+    ok_then c.accepts_told.result (λ accepted is honest. is (ahead_honest g.D.Disk.view g.K.Sink.takes g.K.Sink.fails g.K.Sink.faults g.L.Link.story g.L.Link.counts c.args.input s c.says_ahead.new.self did honest)
+    ∙ ap (λ (n : Node). back_to (sender_of c.args.input) (step n c.args.input).sends) (ahead_node g.D.Disk.view g.K.Sink.takes g.K.Sink.fails g.K.Sink.faults g.L.Link.story g.L.Link.counts c.args.input s c.says_ahead.new.self did honest)) c.accepts_told.ensures.back
+
+pub returns-clause-breaks : goal.returns-clause-breaks
+returns-clause-breaks g c =
+    err_then c.accepts_told.result (λ end stops. ahead_then_stops g.D.Disk.view g.K.Sink.takes g.K.Sink.fails g.K.Sink.faults g.L.Link.story g.L.Link.counts c.args.input c.args.self.now c.says_ahead.new.self c.in_ok-says_ahead.ensures.did g.met.K.Sink.takes_then end (accepts_told c.args.input) c.accepts_told.new.self stops) c.accepts_told.ensures.breaks
+
+pub returns-in_err-says_ahead-clause-breaks : goal.returns-in_err-says_ahead-clause-breaks
+returns-in_err-says_ahead-clause-breaks g c =
+    let p = err_from_is_err_and c.from_residual.result c.from_residual.ensures.1 in
+    rw (p.1, p.2) (ahead_stops g.D.Disk.view g.K.Sink.takes g.K.Sink.fails g.K.Sink.faults g.L.Link.story g.L.Link.counts c.args.input c.args.self.now g.met.K.Sink.takes_nothing c.in_err-says_ahead.field-0.0 (accepts_told c.args.input) c.says_ahead.new.self c.requires.serving.is_open c.in_err-says_ahead.ensures.breaks)

@@ -38,7 +38,7 @@ returns-clause-dealt g c =
       measured = h.2;
       does = does_deal g.D.Disk.view g.K.Sink.takes g.K.Sink.fails g.K.Sink.faults g.L.Link.story g.L.Link.counts g.met.K.Sink.takes_then t.pace t.probing c.args.came c.args.now h.0 h.1 soon t.server c.happens.new.self.server c.ticks_and_sends.new.self.server h.3 c.in_ok-hurries.ensures.hurries ticks.0
           (subst (λ (p : Pace). Does g.D.Disk.view g.K.Sink.takes g.K.Sink.faults g.L.Link.story g.L.Link.counts (ticks_and_sends p c.args.now ticks.0) c.happens.new.self.server c.ticks_and_sends.new.self.server) pace ticks.1);
-      pace = λ honest. c.in_ok-ticks_and_sends.ensures.pace ∙ ap (λ (p : Pace). paced p c.args.now) (pace ∙ ap (λ (b : Bool). quickened b t.pace) (c.in_ok-hurries.ensures.hurries honest));
+      pace = λ honest. ticks.2 ∙ ap (λ (p : Pace). paced p c.args.now ticks.0) (pace ∙ ap (λ (b : Bool). quickened b t.pace) (c.in_ok-hurries.ensures.hurries honest));
       probing = c.ticks_and_sends.ensures.probing ∙ c.happens.ensures.probing;
     }
 

@@ -25,7 +25,7 @@ pub returns-clause-did : goal.returns-clause-did
 returns-clause-did g c =
     let t = c.args.self.now in
     let ticks = c.in_ok-ticks_and_sends.ensures.did in
-    (refl, (ticks.0, does_then g.D.Disk.view g.K.Sink.takes g.K.Sink.fails g.K.Sink.faults g.L.Link.story g.L.Link.counts g.met.K.Sink.takes_then (takes_up (slice_get t.server.works c.args.place) c.args.before) (ticks_and_sends t.pace c.args.before ticks.0) t.server c.takes_up.new.self c.ticks_and_sends.new.self.server c.in_ok-takes_up.ensures.did ticks.1))
+    (refl, (ticks.0, does_then g.D.Disk.view g.K.Sink.takes g.K.Sink.fails g.K.Sink.faults g.L.Link.story g.L.Link.counts g.met.K.Sink.takes_then (takes_up (slice_get t.server.works c.args.place) c.args.before) (ticks_and_sends t.pace c.args.before ticks.0) t.server c.takes_up.new.self c.ticks_and_sends.new.self.server c.in_ok-takes_up.ensures.did ticks.1, ticks.2))
 
 pub returns-in_err-takes_up-clause-breaks : goal.returns-in_err-takes_up-clause-breaks
 returns-in_err-takes_up-clause-breaks g c =

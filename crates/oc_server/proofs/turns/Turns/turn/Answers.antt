@@ -46,9 +46,9 @@ returns-in-Some-clause-turned g c =
     let renewed : Renews g.D.Disk.view t.server.kept c.reads-before.new.self.kept =
     still_renewed g.D.Disk.view g.K.Sink.takes g.K.Sink.fails g.K.Sink.faults g.L.Link.story g.L.Link.counts [] (Reads c.reads-before.result ∷ []) t.server c.tidies.new.self c.reads-before.new.self c.in_ok-tidies.ensures.did c.reads-before.ensures
     (λ honest ripe. omega (arith, c.in_ok-tidies.ensures.ripe ripe)) in
-    ok_then c.takes_due.result (λ served x. subst (λ (s : Bool). Turned g.D.Disk.view g.K.Sink.takes g.K.Sink.faults g.L.Link.story g.L.Link.counts s t c.takes_due.new.self) (sym x.0.0)
-    (turned_due g.D.Disk.view g.K.Sink.takes g.K.Sink.fails g.K.Sink.faults g.L.Link.story g.L.Link.counts g.met.K.Sink.takes_nothing g.met.K.Sink.takes_then t c.reads-before.result c.reads-before.new.self c.takes_due.new.self did c.in-Some.place is x.0.1.0 renewed x.0.1.1 x.1 c.takes_due.ensures.probing))
-    (ok_with _ _ c.takes_due.result c.takes_due.ensures.did c.takes_due.ensures.pace)
+    ok_then c.takes_due.result (λ served x. subst (λ (s : Bool). Turned g.D.Disk.view g.K.Sink.takes g.K.Sink.faults g.L.Link.story g.L.Link.counts s t c.takes_due.new.self) (sym x.0)
+    (turned_due g.D.Disk.view g.K.Sink.takes g.K.Sink.fails g.K.Sink.faults g.L.Link.story g.L.Link.counts g.met.K.Sink.takes_nothing g.met.K.Sink.takes_then t c.reads-before.result c.reads-before.new.self c.takes_due.new.self did c.in-Some.place is x.1.0 renewed x.1.1 x.1.2 c.takes_due.ensures.probing))
+    c.takes_due.ensures.did
 
 pub returns-in-Some-clause-stops : goal.returns-in-Some-clause-stops
 returns-in-Some-clause-stops g c =

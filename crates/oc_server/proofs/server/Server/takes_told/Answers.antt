@@ -1,0 +1,32 @@
+use Rattle.std.proofs.Common.{refl, subst}
+use Rattle.std.proofs.lemmas.Result.{err_from_is_err_and}
+use Rattle.oc_server.specs.Deeds.{Takes}
+use Rattle.oc_server.specs.Telling.{IsBefore, takes_told}
+use Rattle.oc_server.proofs.Results.{done_then, err_then}
+use Rattle.oc_server.proofs.Steps.{memory_breaks}
+use Rattle.oc_server.proofs.Stopping.{stops_idle}
+use Rattle.oc_server.proofs.ToldInputs.{taking_stops, telling_stops, told_then}
+use Rattle.oc_server.proofs.server.Server.takes_told.Goals as goal
+
+pub returns-in_err-before-clause-breaks : goal.returns-in_err-before-clause-breaks
+returns-in_err-before-clause-breaks g c =
+    let p = err_from_is_err_and c.from_residual.result c.from_residual.ensures.1 in
+    let s = c.args.self.now in
+    rw (p.1, p.2) (stops_idle g.D.Disk.view g.K.Sink.takes g.K.Sink.fails g.K.Sink.faults g.L.Link.story g.L.Link.counts g.met.K.Sink.takes_nothing _ (takes_told c.args.input) s s c.requires.serving.is_open (memory_breaks g.D.Disk.view g.K.Sink.takes g.K.Sink.fails g.K.Sink.faults g.L.Link.story g.L.Link.counts g.met.K.Sink.takes_nothing s s refl refl refl refl (c.recovers.ensures.survives c.requires.serving.is_open)))
+
+pub returns-in_err-answer-clause-breaks : goal.returns-in_err-answer-clause-breaks
+returns-in_err-answer-clause-breaks g c =
+    let p = err_from_is_err_and c.from_residual-in_err-answer.result c.from_residual-in_err-answer.ensures.1 in
+    rw (p.1, p.2) (taking_stops g.D.Disk.view g.K.Sink.takes g.K.Sink.fails g.K.Sink.faults g.L.Link.story g.L.Link.counts g.met.K.Sink.takes_nothing g.met.K.Sink.takes_then (Takes c.args.input) (takes_told c.args.input) c.args.input c.args.self.now refl refl c.in_err-answer.field-0.0 c.takes.new.self c.requires.serving.is_open refl c.in_err-answer.ensures.breaks)
+
+pub returns-clause-did : goal.returns-clause-did
+returns-clause-did g c =
+    let s = c.args.self.now in
+    let known : IsBefore s.log s.kept.node.control c.args.input c.in_ok-before.before = subst (λ n. IsBefore s.log n.control c.args.input c.in_ok-before.before) c.node.ensures c.in_ok-before.ensures in
+    done_then c.says_behind.result (λ did. told_then g.D.Disk.view g.K.Sink.takes g.K.Sink.fails g.K.Sink.faults g.L.Link.story g.L.Link.counts g.met.K.Sink.takes_nothing g.met.K.Sink.takes_then (Takes c.args.input) (takes_told c.args.input) c.args.input s refl refl c.in_ok-before.before c.in_ok-answer.answer c.takes.new.self known c.in_ok-answer.ensures.did c.in_ok-answer.ensures.answer c.says_behind.new.self did) c.says_behind.ensures.did
+
+pub returns-clause-breaks : goal.returns-clause-breaks
+returns-clause-breaks g c =
+    let s = c.args.self.now in
+    let known : IsBefore s.log s.kept.node.control c.args.input c.in_ok-before.before = subst (λ n. IsBefore s.log n.control c.args.input c.in_ok-before.before) c.node.ensures c.in_ok-before.ensures in
+    err_then c.says_behind.result (λ end breaks. telling_stops g.D.Disk.view g.K.Sink.takes g.K.Sink.fails g.K.Sink.faults g.L.Link.story g.L.Link.counts g.met.K.Sink.takes_nothing g.met.K.Sink.takes_then (Takes c.args.input) (takes_told c.args.input) c.args.input s refl refl c.in_ok-before.before c.in_ok-answer.answer c.takes.new.self known c.in_ok-answer.ensures.did c.in_ok-answer.ensures.answer end c.says_behind.new.self breaks) c.says_behind.ensures.breaks

@@ -1,0 +1,16 @@
+pub mod Lawful
+pub mod LineEnds
+pub mod LastLine
+pub mod Inputs
+pub mod Own
+pub mod Fronts
+pub mod Chosen
+pub mod Going
+pub mod Ending
+pub mod OneMore
+pub mod Ways
+pub mod NextPlaces
+pub mod Looking
+pub mod LinesThere
+pub mod Starting
+pub mod Taken

@@ -1,0 +1,14 @@
+pub mod Told
+pub mod Limits
+pub mod Lines
+pub mod Reading
+pub mod Reader
+pub mod Faults
+pub mod Examples
+pub mod Records
+pub mod Recorded
+pub mod Folds
+pub mod BehindView
+pub mod Merging
+pub mod Heads
+pub mod Ends

@@ -1,0 +1,45 @@
+ghost use Rattle.std.specs.Prelude.{◌≡◌, ℕ, List, OnOk, IfOk};
+ghost use Rattle.oc_base.specs.Lawful.{IsNode};
+ghost use Rattle.oc_model.specs.Lawful.{IsHeader, IsInput};
+ghost use Rattle.oc_model.specs.Node.{Node, new_node, restarted};
+ghost use Rattle.oc_model.specs.Step.{step};
+
+use oc_base::{Bytes, Memory, NodeId};
+use oc_model::Input;
+use std::alloc::Global;
+
+/// One node alone, on which the lines of its own record are played. It shows a node of the model.
+pub trait Alone: Drop {
+    /// The node that it shows.
+    ghost node: { Self → Node };
+
+    /// The digits that stand for the files of a node.
+    ghost digest: { Node → List ℕ };
+
+    /// A new node: its number, the number of nodes, the length of the chain, the greatest number of bytes of a chunk, and
+    /// the area of each node.
+    fn new(
+        alloc: Global,
+        nodes: u32,
+        chain: u32,
+        chunk: u32,
+        areas: &[u8],
+        me: NodeId,
+    ) -> Result<Self, Memory>
+        requires header { IsHeader (record { nodes = nodes; chain = chain; chunk = chunk; areas = areas.now }) }
+        requires me { IsNode nodes me }
+        ensures { IfOk result (λ made. node made ≡ new_node (record { nodes = nodes; chain = chain; chunk = chunk; areas = areas.now }) me) };
+
+    /// What a start makes of it. It stays as it is.
+    fn restarted(&self) -> Result<Self, Memory>
+        ensures { IfOk result (λ other. node other ≡ restarted (node self.now)) };
+
+    /// Takes an input within its ranges. Nothing is said of it once memory ran out.
+    fn take(&mut self, input: &Input) -> Result<(), Memory>
+        requires { IsInput (node self.old).control.nodes (node self.old).control.me input.now }
+        ensures { OnOk result (node self.new ≡ (step (node self.old) input.now).node) };
+
+    /// The digits that stand for its files.
+    fn files(&self) -> Result<Bytes, Memory>
+        ensures { IfOk result (λ digits. digits ≡ digest (node self.now)) };
+}

@@ -1,0 +1,8 @@
+/// A node behind a line of its record.
+#[derive(Drop)]
+pub(crate) struct Behind<A> {
+    /// None where nothing more is found of it.
+    pub node: Option<A>,
+    /// Whether the line is there.
+    pub there: bool,
+}

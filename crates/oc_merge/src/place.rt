@@ -1,0 +1,12 @@
+/// Between which lines a reading is.
+#[derive(Clone, Copy, Debug)]
+pub enum Place {
+    /// Before the first header.
+    Outside,
+    /// Behind a header, with its areas.
+    Opened,
+    /// Directly behind the start of this node.
+    Begun(u32),
+    /// In the record of this node.
+    Within(u32),
+}

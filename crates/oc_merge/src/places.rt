@@ -1,0 +1,36 @@
+//! Where the lines of each node stand among those of all.
+
+ghost use Rattle.std.specs.Prelude.{◌≡◌, IfOk};
+ghost use Rattle.std.specs.List.{AllByRecursion};
+ghost use Rattle.oc_merge.specs.Heads.{ArePlacesFrom};
+ghost use Rattle.oc_merge.specs.Records.{IsLine};
+
+use crate::told::ToldLine;
+use oc_base::Memory;
+use std::alloc::Global;
+
+/// Where the lines of each node stand. What stands behind all lines stands for none.
+#[derive(Debug, Drop)]
+pub(crate) struct Places {
+    /// The first line of each node, by its number.
+    pub first: Vec<usize>,
+    /// The next line of the same node, by the place of a line.
+    pub next: Vec<usize>,
+}
+
+/// Finds them, in one walk over the lines from the last to the first.
+pub(crate) fn find_places(alloc: Global, nodes: u32, lines: &[ToldLine]) -> Result<Places, Memory>
+    requires { AllByRecursion (IsLine nodes) lines.now }
+    ensures { IfOk result (λ places. ArePlacesFrom nodes lines.now 0 places.first.items places.next.items) }
+{
+    let mut first = vec![in alloc; lines.len(); nodes as usize]?;
+    let mut next = vec![in alloc; 0; lines.len()]?;
+    let mut place = lines.len();
+    'lines: while place > 0 {
+        place -= 1;
+        let at = lines[place].node.index();
+        next[place] = first[at];
+        first[at] = place;
+    }
+    Ok(Places { first, next })
+}

@@ -1,5 +1,5 @@
 ghost use Rattle.std.specs.Prelude.{◌≡◌, ◌<◌, ◌==◌, [], ◌∷◌, length, IfNone, IfSome, position};
-ghost use Rattle.std.specs.List.{slice_split};
+ghost use Rattle.std.specs.List.{after_first, before_first, slice_split};
 
 /// The bytes before the first separator, and what follows it; `None` where there is no
 /// separator. Lines, words and the segments of a name all come from this.
@@ -21,4 +21,15 @@ pub fn place_of(bytes: &[u8], byte: u8) -> Option<usize>
     ensures { result ≡ position (λ b. b == byte) bytes.now }
 {
     bytes.iter().position(|b| *b == byte)
+}
+
+/// The bytes up to the first such byte, and what follows it.
+pub fn cut_at_first(bytes: &[u8], byte: u8) -> (&[u8], &[u8])
+    ensures before { result.0.now ≡ before_first (λ b. b == byte) bytes.now }
+    ensures after { result.1.now ≡ after_first (λ b. b == byte) bytes.now }
+{
+    match place_of(bytes, byte) {
+        Some(at) => (&bytes[..at], &bytes[at + 1..]),
+        None => (bytes, &[]),
+    }
 }

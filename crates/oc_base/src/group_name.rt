@@ -1,4 +1,4 @@
-ghost use Rattle.std.specs.Prelude.{◌≡◌, ◌≤◌, ◌==◌, ◌++◌, drop, length, not, position};
+ghost use Rattle.std.specs.Prelude.{◌≡◌, ◌≤◌, ◌==◌, length, not, position};
 ghost use Rattle.std.proofs.Common.{rules};
 ghost use Rattle.std.specs.Cmp.{partial_order_from_own_ties};
 ghost use Rattle.std.specs.Cmp.Rules.{comparing};
@@ -10,6 +10,7 @@ ghost use Rattle.oc_base.specs.declared.limits.TheConstants.{MAX_NAME_BYTES};
 
 use crate::cutter::cut;
 use crate::limits::{MAX_NAME_BYTES, MIN_NAME_BYTES};
+use crate::padding::put_in_front;
 use std::cmp::Ordering;
 use std::fmt;
 use std::marker::Model;
@@ -84,14 +85,6 @@ impl GroupName {
             len: name.len() as u8,
         }
     }
-}
-
-/// Copies a name to the front.
-fn put_in_front(bytes: &mut [u8], name: &[u8])
-    requires { length name.now ≤ length bytes.old }
-    ensures { bytes.new ≡ name.now ++ drop (length name.now) bytes.old }
-{
-    bytes[..name.len()].copy_from_slice(name);
 }
 
 /// The first fault, in the order of [`NameFault`].

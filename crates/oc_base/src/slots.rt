@@ -1,12 +1,12 @@
-ghost use Rattle.std.specs.Prelude.{◌≡◌, ◌+◌, ◌-◌, ◌≤◌, ◌<◌, ◌++◌, drop, get_or, length, max, replicate, set, vec_capacity, IfOk};
+ghost use Rattle.std.specs.Prelude.{◌≡◌, ◌+◌, ◌-◌, ◌≤◌, ◌<◌, ◌++◌, drop, get_or, length, max, replicate, set, take, vec_capacity, IfOk, OnOk};
 
 use crate::Memory;
 use std::alloc::Global;
 use std::marker::Model;
 
-/// A value for each of a fixed number of slots, the same everywhere at first. All memory is taken at
-/// the beginning, but what follows the last slot that was put is not written, so making one takes no
-/// longer for a thousand slots than for ten. Slots are counted from 0.
+/// A value for each of a fixed number of slots, the same everywhere at first. None of them takes memory until
+/// [`Slots::reserve`] takes it for all, and what follows the last slot that was put is not written: so a thousand
+/// slots where nothing is put cost no more than ten. Slots are counted from 0.
 ///
 /// A contract sees the list of the values, how many of them are in use, the value of all others, and
 /// for how many there is memory.
@@ -27,10 +27,10 @@ impl<T> Model for Slots<T> {
       items = filled_up r.count r.blank r.written.items;
       used = length r.written.items;
       blank = r.blank;
-      room = r.count;
+      room = vec_capacity r.written;
     } };
 
-    ghost invariant = { λ r. (length r.written.items ≤ r.count) × (r.count ≤ vec_capacity r.written) };
+    ghost invariant = { λ r. length r.written.items ≤ r.count };
 }
 
 impl<T: Copy> Slots<T> {
@@ -39,13 +39,23 @@ impl<T: Copy> Slots<T> {
         ensures items { IfOk result (λ made. made.items ≡ replicate count blank) }
         ensures used { IfOk result (λ made. made.used ≡ 0) }
         ensures blank { IfOk result (λ made. made.blank ≡ blank) }
-        ensures room { IfOk result (λ made. count ≤ made.room) }
     {
         Ok(Slots {
             count,
             blank,
-            written: Vec::with_capacity(alloc, count)?,
+            written: Vec::new(alloc),
         })
+    }
+
+    /// Takes the memory for all slots.
+    pub fn reserve(&mut self) -> Result<(), Memory>
+        ensures room { OnOk result (length self.new.items ≤ self.new.room) }
+        ensures stays { self.old.room ≤ self.new.room }
+        ensures rest { self.new ≡ record self.old { room = self.new.room } }
+    {
+        let left = self.count - self.written.len();
+        self.written.reserve(left)?;
+        Ok(())
     }
 
     /// How many slots there are.
@@ -64,6 +74,15 @@ impl<T: Copy> Slots<T> {
         self.written.len()
     }
 
+    /// The values of the slots in use: each slot after them has the blank value.
+    pub fn filled(&self) -> &[T]
+        ensures used { length result.now ≡ self.now.used }
+        ensures front { result.now ≡ take (length result.now) self.now.items }
+        ensures rest { drop (length result.now) self.now.items ≡ replicate (length self.now.items - length result.now) self.now.blank }
+    {
+        &self.written
+    }
+
     /// The value at a slot, or `other` past the last slot.
     pub fn get_or(&self, slot: usize, other: T) -> T
         ensures { result ≡ get_or self.now.items slot other }
@@ -77,9 +96,23 @@ impl<T: Copy> Slots<T> {
         }
     }
 
-    /// Puts a value at a slot. Takes no memory.
+    /// The value at a slot as it is kept, or `other` past the last slot.
+    pub fn lend_or<'a>(&'a self, slot: usize, other: &'a T) -> &'a T
+        ensures { result.now ≡ get_or self.now.items slot other.now }
+    {
+        if slot < self.written.len() {
+            &self.written[slot]
+        } else if slot < self.count {
+            &self.blank
+        } else {
+            other
+        }
+    }
+
+    /// Puts a value at a slot. There is memory for all. Takes no memory.
     pub fn put(&mut self, slot: usize, value: T)
-        requires { slot < length self.old.items }
+        requires slot { slot < length self.old.items }
+        requires room { length self.old.items ≤ self.old.room }
         ensures items { self.new.items ≡ set self.old.items slot value }
         ensures used { self.new.used ≡ max self.old.used (slot + 1) }
         ensures blank { self.new.blank ≡ self.old.blank }

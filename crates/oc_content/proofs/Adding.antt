@@ -1,5 +1,5 @@
 -- What one more entry makes of the index.
-use Rattle.std.proofs.Common.{◌≡◌, ℕ, zero, suc, ◌+◌, ◌<◌, ◌≤◌, Bool, true, false, IsTrue, List, [], ◌∷◌, ◌++◌, length, get_or, drop, insert, Option, Some, None, vec_capacity, refl, sym, ap, subst, ◌∙◌, arith}
+use Rattle.std.proofs.Common.{◌≡◌, ℕ, zero, suc, ◌+◌, ◌<◌, ◌≤◌, Bool, true, false, IsTrue, List, [], ◌∷◌, ◌++◌, length, get_or, drop, insert, Option, Some, None, refl, sym, ap, subst, ◌∙◌, arith}
 use Rattle.std.proofs.lemmas.List.{length-map, get_or_push, length_push}
 use Rattle.oc_base.specs.declared.shelf.Shelf.{Shelf}
 use Rattle.oc_content.specs.declared.heading.Heading.{Heading}
@@ -13,7 +13,7 @@ use Rattle.oc_base.specs.Groups.{shelf, shelf_of, or_empty}
 use Rattle.oc_base.specs.Shelves.{line_of, LooksUpLine}
 use Rattle.oc_content.specs.Entries.{Entry, entry_of}
 use Rattle.oc_content.specs.ContentFile.{fits, grown, with_entry, taken}
-use Rattle.oc_base.specs.declared.limits.TheConstants.{MAX_GROUPS, MAX_GROUP_BYTES}
+use Rattle.oc_base.specs.declared.limits.TheConstants.{MAX_GROUP_BYTES}
 use Rattle.oc_content.specs.Headings.{entry_at}
 use Rattle.oc_content.specs.Indexes.{IsTracked, AreTracked, paths, span_of, lines_with, line_with, paths_with, IsIndexOf, IsSized, OnlyReserves, IsWithin}
 use Rattle.oc_base.proofs.Each.{all_at}
@@ -67,8 +67,8 @@ rows-add ss ps h count spans (Free i) e =
     length_insert i ps spans ∙ (ap suc e ∙ sym (length_insert i ss (record { group = h.group; held = count; sealed = h.seals })))
 
 -- the index with an entry is that of one frame more
-pub IsIndexOf-add : (bodies : List (List ℕ)) (groups : List Group) (x y : Index) (honest : Bool) (h : Heading) (body : List ℕ) (count frame : ℕ) (place : Lookup) → IsIndexOf bodies groups x honest → LooksUpLine x.shelves.items h.group place → fits (line_of h.group x.shelves.items) (length x.shelves.items) h.start count h.seals ≡ true → count ≡ length (drop h.skip body) → entry_of body ≡ Some (entry_at h body) → (IsTrue honest → frame ≡ length bodies) → y.shelves.items ≡ lines_with place h count x.shelves.items → paths y.tracks.items ≡ paths_with place (span_of h count frame) (paths x.tracks.items) → MAX_GROUPS ≤ vec_capacity y.shelves → MAX_GROUPS ≤ vec_capacity y.tracks → IsIndexOf (bodies ++ body ∷ []) (with_entry (entry_at h body) groups) y honest
-IsIndexOf-add bodies groups x y honest h body count frame place is at fit many says number lines tracks line_memory track_memory =
+pub IsIndexOf-add : (bodies : List (List ℕ)) (groups : List Group) (x y : Index) (honest : Bool) (h : Heading) (body : List ℕ) (count frame : ℕ) (place : Lookup) → IsIndexOf bodies groups x honest → LooksUpLine x.shelves.items h.group place → fits (line_of h.group x.shelves.items) (length x.shelves.items) h.start count h.seals ≡ true → count ≡ length (drop h.skip body) → entry_of body ≡ Some (entry_at h body) → (IsTrue honest → frame ≡ length bodies) → y.shelves.items ≡ lines_with place h count x.shelves.items → paths y.tracks.items ≡ paths_with place (span_of h count frame) (paths x.tracks.items) → IsIndexOf (bodies ++ body ∷ []) (with_entry (entry_at h body) groups) y honest
+IsIndexOf-add bodies groups x y honest h body count frame place is at fit many says number lines tracks =
     let at' : LooksUpLine (shelf groups) h.group place = subst (λ (ss : List Shelf). LooksUpLine ss h.group place) is.lines at in
     let fit' : fits (line_of h.group (shelf groups)) (length groups) h.start count h.seals ≡ true =
     subst (λ (n : ℕ). fits (line_of h.group (shelf groups)) n h.start count h.seals ≡ true) (length-shelf groups) (subst (λ (ss : List Shelf). fits (line_of h.group ss) (length ss) h.start count h.seals ≡ true) is.lines fit) in
@@ -76,8 +76,6 @@ IsIndexOf-add bodies groups x y honest h body count frame place is at fit many s
       content = content_of-push bodies groups body is.content ∙ (ap (taken groups) says ∙ took groups (entry_at h body) (subst (λ (n : ℕ). fits (line_of h.group (shelf groups)) (length groups) h.start n h.seals ≡ true) many fit'));
       lines = lines ∙ (ap (lines_with place h count) is.lines ∙ lines-add groups h body count place at' many);
       rows = sym (length-map y.tracks.items (λ t. t.spans.items)) ∙ (ap length tracks ∙ (rows-add x.shelves.items (paths x.tracks.items) h count (span_of h count frame) place (length-map x.tracks.items (λ t. t.spans.items) ∙ is.rows) ∙ ap length (sym lines)));
-      line_memory = line_memory;
-      track_memory = track_memory;
       tracked = λ honest. subst (λ (ps : List (List Span)). AreTracked (bodies ++ body ∷ []) (with_entry (entry_at h body) groups) ps) (sym tracks) (tracked-add bodies groups (paths x.tracks.items) h body count frame place (is.tracked honest) at' fit' many says (number honest));
     }
   where
@@ -90,8 +88,6 @@ IsSized-good bodies groups x honest is =
     let good = content_of-good bodies groups is.content in
     record {
       rows = is.rows;
-      line_memory = is.line_memory;
-      track_memory = is.track_memory;
       ascending = rw is.lines good.ascending;
       few = omega (arith, good.few, length-shelf groups, ap length is.lines);
       short = rw is.lines (all_at (λ s. s.held ≤ MAX_GROUP_BYTES) (shelf groups) good.short);
@@ -100,11 +96,9 @@ IsSized-good bodies groups x honest is =
 -- and with more memory it is within the limits still
 pub IsSized-reserved : (x y : Index) → IsSized x → OnlyReserves x y → IsSized y
 IsSized-reserved x y sized keeps = record {
-  rows = sym (length-map y.tracks.items (λ (t : Track). t.spans.items)) ∙ (ap length keeps.tracks.paths ∙ (length-map x.tracks.items (λ (t : Track). t.spans.items) ∙ (sized.rows ∙ sym (ap (λ v. length v.items) keeps.lines))));
-  line_memory = omega (arith, sized.line_memory, ap (λ v. vec_capacity v) keeps.lines);
-  track_memory = omega (arith, sized.track_memory, keeps.memory);
+  rows = sym (length-map y.tracks.items (λ (t : Track). t.spans.items)) ∙ (ap length keeps.tracks.paths ∙ (length-map x.tracks.items (λ (t : Track). t.spans.items) ∙ (sized.rows ∙ sym (ap length keeps.lines))));
   ascending = rw keeps.lines sized.ascending;
-  few = omega (arith, sized.few, ap (λ v. length v.items) keeps.lines);
+  few = omega (arith, sized.few, ap length keeps.lines);
   short = rw keeps.lines sized.short;
 }
 

@@ -1,5 +1,5 @@
 -- The index as the frames of a journal are read one by one.
-use Rattle.std.proofs.Common.{◌≡◌, ℕ, suc, ◌+◌, ◌<◌, ◌≤◌, Bool, IsTrue, List, [], ◌∷◌, ◌++◌, length, take, get_or, Some, None, vec_capacity, refl, sym, ap, subst, ◌∙◌, arith}
+use Rattle.std.proofs.Common.{◌≡◌, ℕ, suc, ◌+◌, ◌<◌, Bool, IsTrue, List, [], ◌∷◌, ◌++◌, length, take, get_or, Some, None, refl, sym, ap, subst, ◌∙◌, arith}
 use Rattle.std.proofs.lemmas.List.{take_more, length-take-le, take_all}
 use Rattle.oc_io.specs.DiskView.{DiskView}
 use Rattle.oc_journal.specs.JournalView.{JournalView}
@@ -9,23 +9,20 @@ use Rattle.oc_content.specs.declared.track.Span.{Span}
 use Rattle.oc_base.specs.declared.group.Group.{Group}
 use Rattle.oc_content.specs.Entries.{entry_of}
 use Rattle.oc_content.specs.ContentFile.{taken, content_of, IsFirstBad}
-use Rattle.oc_base.specs.declared.limits.TheConstants.{MAX_GROUPS}
 use Rattle.oc_content.specs.Indexes.{IsIndexOf, IsSized, AreTracked, paths}
 use Rattle.oc_content.specs.ContentView.{IsIndexed, IsIndexedTo}
 use Rattle.oc_content.proofs.Meanings.{content_of-push}
 use Rattle.oc_content.proofs.Adding.{IsSized-good}
 
 -- an index of no frames
-pub IsIndexedTo-start : {D : Type 0} (view : D → DiskView) (j : JournalView D) (x : Index) → x.shelves.items ≡ [] → x.tracks.items ≡ [] → MAX_GROUPS ≤ vec_capacity x.shelves → MAX_GROUPS ≤ vec_capacity x.tracks → IsIndexedTo view j x 0
-IsIndexedTo-start view j x lines tracks line_memory track_memory = record {
+pub IsIndexedTo-start : {D : Type 0} (view : D → DiskView) (j : JournalView D) (x : Index) → x.shelves.items ≡ [] → x.tracks.items ≡ [] → IsIndexedTo view j x 0
+IsIndexedTo-start view j x lines tracks = record {
   bodies = [];
   groups = [];
   is = record {
     content = refl;
     lines = lines;
     rows = ap length tracks ∙ sym (ap length lines);
-    line_memory = line_memory;
-    track_memory = track_memory;
     tracked = λ _. subst (λ (ps : List (List Span)). AreTracked [] [] ps) (sym (ap paths tracks)) tt;
   };
   frames = λ _. refl;

@@ -14,7 +14,7 @@ use Rattle.oc_base.specs.Named.{IsThere, is_free}
 use Rattle.oc_content.specs.declared.group_state.GroupState.{GroupState}
 use Rattle.oc_content.specs.Entries.{Entry}
 use Rattle.oc_content.specs.ContentView.{PieceView, IsReady}
-use Rattle.oc_content.specs.Indexes.{IsWithin, HasTrackRoom}
+use Rattle.oc_content.specs.Indexes.{IsWithin, HasGroupRoom, HasTrackRoom}
 use Rattle.oc_content.proofs.Lines.{stands_within, goes_within, line_of-stands, line_of-goes}
 
 -- what is not refused
@@ -145,10 +145,11 @@ state_short ss name (Free i) short at =
     rw absent (omega arith)
 
 -- what was put is ready
-pub ready_put : (ss : List Shelf) (rs : List ℕ) (spare : ℕ) (p : PieceView) (name : List ℕ) (start : ℕ) (bytes : List ℕ) (last : Bool) → All (λ s. s.held ≤ MAX_GROUP_BYTES) ss → LooksUpLine ss name p.place → fault_of (group_state_in ss name) start (length bytes) ≡ None → p.entry ≡ put_entry (group_state_in ss name) name start bytes last → HasTrackRoom rs p.room p.place → 0 < spare → IsReady ss rs spare p
-ready_put ss rs spare p name start bytes last short at none is room some = record {
+pub ready_put : (ss : List Shelf) (rs : List ℕ) (memory spare : ℕ) (p : PieceView) (name : List ℕ) (start : ℕ) (bytes : List ℕ) (last : Bool) → All (λ s. s.held ≤ MAX_GROUP_BYTES) ss → LooksUpLine ss name p.place → fault_of (group_state_in ss name) start (length bytes) ≡ None → p.entry ≡ put_entry (group_state_in ss name) name start bytes last → HasTrackRoom rs p.room p.place → HasGroupRoom (length ss) memory p.place → 0 < spare → IsReady ss rs memory spare p
+ready_put ss rs memory spare p name start bytes last short at none is room groups some = record {
   place = subst (λ (e : Entry). LooksUpLine ss e.group p.place) (sym is) at;
   fits = λ adds. subst (λ (e : Entry). fits (line_of e.group ss) (length ss) e.start (length e.bytes) e.seals ≡ true) (sym is) (put_fits ss name p.place start bytes last short at none (subst (λ (e : Entry). (is_free p.place || nat_lt 0 (length e.bytes) || e.seals) ≡ true) is adds));
   room = room;
+  groups = groups;
   spare = some;
 }

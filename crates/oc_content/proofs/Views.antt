@@ -1,5 +1,5 @@
 -- The index beside its journal, as calls go on.
-use Rattle.std.proofs.Common.{◌≡◌, ◌≢◌, ℕ, zero, suc, ◌≤◌, Bool, true, false, IsTrue, List, [], ◌∷◌, ◌++◌, length, take, drop, Option, Some, None, Result, Ok, Err, option_map, unwrap_or, IfSome, IfNone, MatchOption, get_or, flat_map, vec_capacity, refl, sym, ap, subst, ◌∙◌, arith}
+use Rattle.std.proofs.Common.{◌≡◌, ◌≢◌, ℕ, zero, suc, ◌≤◌, Bool, true, false, IsTrue, List, [], ◌∷◌, ◌++◌, length, take, drop, Option, Some, None, Result, Ok, Err, option_map, unwrap_or, IfSome, IfNone, MatchOption, get_or, flat_map, refl, sym, ap, subst, ◌∙◌, arith}
 use Rattle.std.proofs.lemmas.List.{length-map, drop_all}
 use Rattle.std.specs.Result.{IsErrOf}
 use Rattle.oc_io.specs.DiskView.{DiskView}
@@ -76,10 +76,8 @@ IsIndexed-kept view j k x y is honest frames keeps = record {
   groups = is.groups;
   is = record {
     content = is.is.content;
-    lines = ap (λ v. v.items) keeps.lines ∙ is.is.lines;
-    rows = sym (length-map y.tracks.items (λ (t : Track). t.spans.items)) ∙ (ap length keeps.tracks.paths ∙ (length-map x.tracks.items (λ (t : Track). t.spans.items) ∙ (is.is.rows ∙ ap (λ v. length v.items) (sym keeps.lines))));
-    line_memory = omega (arith, is.is.line_memory, ap (λ v. vec_capacity v) keeps.lines);
-    track_memory = omega (arith, is.is.track_memory, keeps.memory);
+    lines = keeps.lines ∙ is.is.lines;
+    rows = sym (length-map y.tracks.items (λ (t : Track). t.spans.items)) ∙ (ap length keeps.tracks.paths ∙ (length-map x.tracks.items (λ (t : Track). t.spans.items) ∙ (is.is.rows ∙ ap length (sym keeps.lines))));
     tracked = λ h. subst (λ (ps : List (List Span)). AreTracked is.bodies is.groups ps) (sym keeps.tracks.paths) (is.is.tracked (subst (λ (b : Bool). IsTrue b) honest h));
   };
   frames = λ h. let k_honest = subst (λ (b : Bool). IsTrue b) honest h in frames k_honest ∙ is.frames k_honest;
@@ -94,9 +92,9 @@ IsIndexed-same view j k x is honest frames =
 pub PutsNothing-by : {D : Type 0} (view : D → DiskView) (j k : JournalView D) (x y : Index) → OnlyReads view j k → OnlyReserves x y → PutsNothing view (content_with j x) (content_with k y)
 PutsNothing-by view j k x y reads keeps = record {
   journal = reads;
-  shelves = ap (λ v. v.items) keeps.lines;
+  shelves = keeps.lines;
   rooms = keeps.tracks.rooms;
-  memory = omega (arith, ap (λ v. vec_capacity v) keeps.lines, keeps.memory);
+  memory = keeps.memory;
 }
 
 -- what adding an entry says of the index

@@ -13,7 +13,7 @@ use Rattle.oc_base.specs.Shelves.{line_of, LooksUpLine}
 use Rattle.oc_content.specs.Entries.{Entry}
 use Rattle.oc_content.specs.ContentFile.{fits, IsShelved, IsFirstBad}
 use Rattle.oc_base.specs.Named.{is_free}
-use Rattle.oc_content.specs.Indexes.{IsIndexOf, HasTrackRoom, rooms, memory_of}
+use Rattle.oc_content.specs.Indexes.{IsIndexOf, HasGroupRoom, HasTrackRoom, rooms, memory_of}
 
 -- the journal, the line of each group, for how many more frames of each group the index has memory, and for how many groups
 pub record ContentView (D : Type 0) : Type 0 where
@@ -38,15 +38,16 @@ abbrev pub adds : PieceView → Bool
 adds p = is_free p.place || nat_lt 0 (length p.entry.bytes) || p.entry.seals
 
 -- nothing was put to these groups since the piece was prepared, and there is all the memory for it
-pub record IsReady (shelves : List Shelf) (rooms : List ℕ) (frames_to_come : ℕ) (p : PieceView) : Type 0 where
+pub record IsReady (shelves : List Shelf) (rooms : List ℕ) (memory frames_to_come : ℕ) (p : PieceView) : Type 0 where
   pub place : LooksUpLine shelves p.entry.group p.place
   pub fits : adds p ≡ true → fits (line_of p.entry.group shelves) (length shelves) p.entry.start (length p.entry.bytes) p.entry.seals ≡ true
   pub room : HasTrackRoom rooms p.room p.place
+  pub groups : HasGroupRoom (length shelves) memory p.place
   pub spare : 0 < frames_to_come
 
 -- the same for a content log
 abbrev pub IsPrepared : {D : Type 0} → ContentView D → PieceView → Type 0
-IsPrepared c p = IsReady c.shelves c.rooms c.journal.spare p
+IsPrepared c p = IsReady c.shelves c.rooms c.memory c.journal.spare p
 
 -- The index is that of some frames, which over an honest disk are the journal's.
 pub record IsIndexed {D : Type 0} (view : D → DiskView) (j : JournalView D) (x : Index) : Type 0 where
@@ -58,7 +59,7 @@ pub record IsIndexed {D : Type 0} (view : D → DiskView) (j : JournalView D) (x
 -- a piece that adds something to the groups is ready for this journal and its index
 pub record CanAppend {D : Type 0} (view : D → DiskView) (j : JournalView D) (x : Index) (p : PieceView) : Type 0 where
   pub indexed : IsIndexed view j x
-  pub ready : IsReady x.shelves.items (rooms x.tracks.items) j.spare p
+  pub ready : IsReady x.shelves.items (rooms x.tracks.items) (memory_of x) j.spare p
   pub adds_some : IsTrue (adds p)
 
 -- the index is that of the first n frames

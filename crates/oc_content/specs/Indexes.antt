@@ -1,5 +1,5 @@
 -- The index: the line of each group, and the frames that hold its bytes.
-use Rattle.std.specs.Prelude.{◌≡◌, ℕ, ◌+◌, ◌-◌, ◌<◌, ◌≤◌, nat_lt, if◌then◌else◌, Some, List, [], ◌∷◌, ◌++◌, length, drop, map, get_or, insert, flat_map, vec_capacity, All, IsTrue, Bool}
+use Rattle.std.specs.Prelude.{◌≡◌, ℕ, ◌+◌, ◌-◌, ◌<◌, ◌≤◌, nat_lt, if◌then◌else◌, Some, List, [], ◌∷◌, ◌++◌, length, drop, map, get_or, insert, min, flat_map, vec_capacity, All, IsTrue, Bool}
 use Rattle.oc_base.specs.declared.shelf.Shelf.{Shelf}
 use Rattle.oc_base.specs.declared.named.Lookup.{Lookup}
 use Rattle.oc_base.specs.declared.named.Lookup.TheVariants.{Found, Free}
@@ -58,11 +58,9 @@ helds ss = map (λ s. s.held) ss
 abbrev pub rooms : List Track → List ℕ
 rooms tracks = map room_of tracks
 
--- There is a track for each line, and memory for as many of both as there may be. The lines ascend by name, and are within the limits.
+-- There is a track for each line. The lines ascend by name, and are within the limits.
 pub record IsSized (x : Index) : Type 0 where
   pub rows : length x.tracks.items ≡ length x.shelves.items
-  pub line_memory : MAX_GROUPS ≤ vec_capacity x.shelves
-  pub track_memory : MAX_GROUPS ≤ vec_capacity x.tracks
   pub ascending : AreLinesAscending x.shelves.items
   pub few : length x.shelves.items ≤ MAX_GROUPS
   pub short : All (λ s. s.held ≤ MAX_GROUP_BYTES) x.shelves.items
@@ -77,6 +75,11 @@ abbrev pub HasTrackRoom : List ℕ → ℕ → Lookup → Type 0
 HasTrackRoom rooms room (Found i) = 0 < get_or rooms i 0
 HasTrackRoom rooms room (Free i) = 0 < room
 
+-- memory for one more group than these n, where the place is free
+abbrev pub HasGroupRoom : ℕ → ℕ → Lookup → Type 0
+HasGroupRoom n memory (Found i) = Unit {0}
+HasGroupRoom n memory (Free i) = n < memory
+
 -- how many spans an entry of n bytes has
 abbrev pub spans_for : ℕ → ℕ
 spans_for n = if nat_lt 0 n then 1 else 0
@@ -86,9 +89,9 @@ abbrev pub rooms_with : Lookup → ℕ → ℕ → List ℕ → List ℕ
 rooms_with (Found i) room n rooms = changed (λ r. r - spans_for n) i rooms
 rooms_with (Free i) room n rooms = insert rooms i (room - spans_for n)
 
--- for how many lines and tracks the index has memory
+-- for how many groups the index has memory: for the line and the track of each
 abbrev pub memory_of : Index → ℕ
-memory_of x = vec_capacity x.shelves + vec_capacity x.tracks
+memory_of x = min (vec_capacity x.shelves) (vec_capacity x.tracks)
 
 -- the spans stay, and all memory
 pub record KeepsTracks (old new : List Track) : Type 0 where
@@ -97,9 +100,9 @@ pub record KeepsTracks (old new : List Track) : Type 0 where
 
 -- memory was reserved, and nothing else was done
 pub record OnlyReserves (old new : Index) : Type 0 where
-  pub lines : new.shelves ≡ old.shelves
+  pub lines : new.shelves.items ≡ old.shelves.items
   pub tracks : KeepsTracks old.tracks.items new.tracks.items
-  pub memory : vec_capacity old.tracks ≤ vec_capacity new.tracks
+  pub memory : memory_of old ≤ memory_of new
 
 -- the lines with an entry
 abbrev pub lines_with : Lookup → Heading → ℕ → List Shelf → List Shelf
@@ -121,6 +124,4 @@ pub record IsIndexOf (bodies : List (List ℕ)) (groups : List Group) (x : Index
   pub content : content_of bodies ≡ Some groups
   pub lines : x.shelves.items ≡ shelf groups
   pub rows : length x.tracks.items ≡ length x.shelves.items
-  pub line_memory : MAX_GROUPS ≤ vec_capacity x.shelves
-  pub track_memory : MAX_GROUPS ≤ vec_capacity x.tracks
   pub tracked : IsTrue honest → AreTracked bodies groups (paths x.tracks.items)

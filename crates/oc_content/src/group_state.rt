@@ -39,7 +39,7 @@ impl GroupState {
     }
 }
 
-/// The bytes behind the first `held_of_them`, which are held already.
+/// The bytes after the first `held_of_them`, which are held already.
 pub fn past(bytes: &[u8], held_of_them: u64) -> &[u8]
     ensures { result.now ≡ drop held_of_them bytes.now }
 {

@@ -5,9 +5,9 @@ ghost use Rattle.oc_base.specs.declared.group.Group.{Group};
 ghost use Rattle.oc_base.specs.Shelves.{line_of, held_of, IsHeldAt, AreLinesAscending, LooksUpLine};
 ghost use Rattle.oc_content.specs.Entries.{entry_of};
 ghost use Rattle.oc_content.specs.ContentFile.{fits, taken, with_entry};
-ghost use Rattle.oc_base.specs.declared.limits.TheConstants.{MAX_GROUPS, MAX_GROUP_BYTES};
+ghost use Rattle.oc_base.specs.declared.limits.TheConstants.{MAX_GROUP_BYTES};
 ghost use Rattle.oc_content.specs.Tracks.{room_of};
-ghost use Rattle.oc_content.specs.Indexes.{IsIndexOf, IsSized, IsWithin, HasTrackRoom, paths, rooms, line_with, lines_with, span_of, paths_with, spans_for, rooms_with, memory_of, changed, KeepsTracks, OnlyReserves, helds, IsTracked};
+ghost use Rattle.oc_content.specs.Indexes.{IsIndexOf, IsSized, IsWithin, HasGroupRoom, HasTrackRoom, paths, rooms, line_with, lines_with, span_of, paths_with, spans_for, rooms_with, memory_of, changed, KeepsTracks, OnlyReserves, helds, IsTracked};
 ghost use Rattle.oc_content.specs.Founds.{IsRest, IsSpot};
 
 use crate::entry_lines::grow_at;
@@ -26,17 +26,15 @@ pub struct Index {
 }
 
 impl Index {
-    /// No groups, and memory for as many lines as there may be.
-    pub fn new(alloc: Global) -> Result<Index, AllocError>
-        ensures lines { IfOk result (λ index. index.shelves.items ≡ []) }
-        ensures tracks { IfOk result (λ index. index.tracks.items ≡ []) }
-        ensures line_memory { IfOk result (λ index. MAX_GROUPS ≤ vec_capacity index.shelves) }
-        ensures track_memory { IfOk result (λ index. MAX_GROUPS ≤ vec_capacity index.tracks) }
+    /// No groups, and no memory.
+    pub fn new(alloc: Global) -> Index
+        ensures lines { result.shelves.items ≡ [] }
+        ensures tracks { result.tracks.items ≡ [] }
     {
-        Ok(Index {
-            shelves: Vec::with_capacity(alloc, MAX_GROUPS)?,
-            tracks: Vec::with_capacity(alloc, MAX_GROUPS)?,
-        })
+        Index {
+            shelves: Vec::new(alloc),
+            tracks: Vec::new(alloc),
+        }
     }
 
     /// Adds the frame of the number `frame`, and answers whether it may follow those before it.
@@ -73,10 +71,13 @@ impl Index {
         }
     }
 
-    /// Memory for one more span of a group: in its own track, or in the one that is handed out.
+    /// Memory for one more span of a group: in its own track, or in the one that is handed out. For a
+    /// new group it is memory for its line and its track too.
     pub fn reserve(&mut self, alloc: Global, place: Lookup) -> Result<Track, AllocError>
-        requires { IsWithin place (length self.old.tracks.items) }
+        requires within { IsWithin place (length self.old.tracks.items) }
+        requires rows { length self.old.tracks.items ≡ length self.old.shelves.items }
         ensures room { IfOk result (λ track. HasTrackRoom (rooms self.new.tracks.items) (room_of track) place) }
+        ensures groups { OnOk result (HasGroupRoom (length self.new.shelves.items) (memory_of self.new) place) }
         ensures empty { IfOk result (λ track. track.spans.items ≡ []) }
         ensures keeps { OnlyReserves self.old self.new }
     {
@@ -85,7 +86,11 @@ impl Index {
                 reserve_at(&mut self.tracks, at)?;
                 Ok(Track::new(alloc))
             }
-            Lookup::Free(_) => Track::with_room(alloc),
+            Lookup::Free(_) => {
+                self.shelves.reserve(1)?;
+                self.tracks.reserve(1)?;
+                Track::with_room(alloc)
+            }
         }
     }
 
@@ -148,6 +153,7 @@ impl Index {
         requires fits { fits (line_of piece.entry.group self.old.shelves.items) (length self.old.shelves.items)
             piece.entry.start (length piece.entry.bytes) piece.entry.seals ≡ true }
         requires room { HasTrackRoom (rooms self.old.tracks.items) piece.room piece.place }
+        requires groups { HasGroupRoom (length self.old.shelves.items) (memory_of self.old) piece.place }
         ensures held { result ≡ piece.entry.start + length piece.entry.bytes }
         ensures rooms { rooms self.new.tracks.items
             ≡ rooms_with piece.place piece.room (length piece.entry.bytes) (rooms self.old.tracks.items) }
@@ -172,6 +178,7 @@ impl Index {
         requires sized { IsSized self.old }
         requires within { IsWithin place (length self.old.shelves.items) }
         requires room { HasTrackRoom (rooms self.old.tracks.items) (room_of track) place }
+        requires groups { HasGroupRoom (length self.old.shelves.items) (memory_of self.old) place }
         requires empty { track.spans.items ≡ [] }
         requires few { count ≤ MAX_GROUP_BYTES }
         ensures lines { self.new.shelves.items ≡ lines_with place heading.now count self.old.shelves.items }
@@ -179,8 +186,7 @@ impl Index {
             ≡ paths_with place (span_of heading.now count frame) (paths self.old.tracks.items) }
         ensures rooms { rooms self.new.tracks.items
             ≡ rooms_with place (room_of track) count (rooms self.old.tracks.items) }
-        ensures line_memory { vec_capacity self.new.shelves ≡ vec_capacity self.old.shelves }
-        ensures track_memory { vec_capacity self.new.tracks ≡ vec_capacity self.old.tracks }
+        ensures memory { memory_of self.new ≡ memory_of self.old }
     {
         match place {
             Lookup::Found(at) => {
@@ -195,7 +201,7 @@ impl Index {
     fn insert(&mut self, at: usize, mut track: Track, heading: &Heading, count: u64, frame: u64)
         requires sized { IsSized self.old }
         requires within { at ≤ length self.old.shelves.items }
-        requires few { length self.old.shelves.items < MAX_GROUPS }
+        requires groups { length self.old.shelves.items < memory_of self.old }
         requires room { 0 < room_of track }
         requires empty { track.spans.items ≡ [] }
         ensures lines { self.new.shelves.items ≡ insert self.old.shelves.items at
@@ -204,8 +210,7 @@ impl Index {
             ≡ insert (paths self.old.tracks.items) at (span_of heading.now count frame) }
         ensures rooms { rooms self.new.tracks.items
             ≡ insert (rooms self.old.tracks.items) at (room_of track - spans_for count) }
-        ensures line_memory { vec_capacity self.new.shelves ≡ vec_capacity self.old.shelves }
-        ensures track_memory { vec_capacity self.new.tracks ≡ vec_capacity self.old.tracks }
+        ensures memory { memory_of self.new ≡ memory_of self.old }
     {
         add_span(&mut track, heading, count, frame);
         self.shelves

@@ -20,7 +20,7 @@ pub fn index_frames<D: Disk>(alloc: Global, journal: &mut Journal<D>) -> Result<
     ensures journal { IsErrOf result FileError.NotJournal → ⊥ }
     ensures same { OnlyReads D.view journal.old journal.new }
 {
-    let mut index = Index::new(alloc)?;
+    let mut index = Index::new(alloc);
     let mut body = Vec::new(alloc);
     for number in 0..journal.count() {
         journal.frame(number, &mut body)?;

@@ -53,7 +53,7 @@ impl Frame {
         Frame::joined(alloc, &[], body)
     }
 
-    /// A frame of the body that is these bytes, one behind the other. Each byte is copied once.
+    /// A frame of the body that is these bytes, one after the other. Each byte is copied once.
     pub fn joined(alloc: Global, front: &[u8], rest: &[u8]) -> Result<Frame, FrameFault>
         ensures body { IfOk result (λ frame. frame ≡ front.now ++ rest.now) }
         ensures short { IfOk result (λ _. length front.now + length rest.now ≤ MAX_FRAME_BYTES) }

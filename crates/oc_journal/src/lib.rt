@@ -27,7 +27,7 @@
 //!
 //! `load` finds the frames by one read at each gate. `frame` and `peek` then make one read of the
 //! disk. `append` takes no memory and makes four calls of `write_at` and `sync`: it writes the frame
-//! behind the closed gate and then the gate, each by [`write_safely`], a write and a sync. So at every
+//! after the closed gate and then the gate, each by [`write_safely`], a write and a sync. So at every
 //! moment a crash leaves the frame whole after an open gate, or a gate that is not open. Which of the
 //! two it is, the calls that worked tell, and after three of them the byte that the crash leaves as the
 //! gate: [`is_kept_new`].

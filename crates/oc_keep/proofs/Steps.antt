@@ -17,7 +17,7 @@ use Rattle.oc_content.specs.Entries.{Entry, entry_of, written}
 use Rattle.oc_content.specs.Promises.{Prepares, PutsNothing}
 use Rattle.oc_content.proofs.Lines.{line_of-goes, line_of-shelf}
 use Rattle.oc_content.proofs.Spelling.{entry_of-written}
-use Rattle.oc_content.specs.Indexes.{HasTrackRoom}
+use Rattle.oc_content.specs.Indexes.{HasGroupRoom, HasTrackRoom}
 use Rattle.oc_journal.specs.JournalView.{JournalView}
 use Rattle.oc_journal.specs.Promises.{HasRoom, IsFullFor, NoneFailed}
 use Rattle.oc_journal.proofs.ReadRuns.{OnlyReads-then}
@@ -222,6 +222,7 @@ made_commits view v s c c2 lines p q of w applies plain rest same is = record {
               place = subst (λ (ls : List Shelf). LooksUpLine ls piece.entry.group piece.place) (sym same.shelves) ready.place;
               fits = λ some. subst (λ (ls : List Shelf). fits (line_of piece.entry.group ls) (length ls) piece.entry.start (length piece.entry.bytes) piece.entry.seals ≡ true) (sym same.shelves) (ready.fits some);
               room = track_room piece.place piece.room c.rooms c2.rooms same.rooms ready.room;
+              groups = subst (λ (ls : List Shelf). HasGroupRoom (length ls) c2.memory piece.place) (sym same.shelves) (group_room piece.place (length c.shelves) c.memory c2.memory same.memory ready.groups);
               spare = omega (arith, ready.spare, same.journal.spare);
             };
             adds = can.adds;
@@ -237,6 +238,10 @@ made_commits view v s c c2 lines p q of w applies plain rest same is = record {
         track_room : (place : Lookup) (room : ℕ) (old new : List ℕ) → ((i : ℕ) → get_or old i 0 ≤ get_or new i 0) → HasTrackRoom old room place → HasTrackRoom new room place
         track_room (Found i) room old new more h = omega (arith, more i, h)
         track_room (Free i) room old new more h = h
+
+        group_room : (place : Lookup) (n old new : ℕ) → old ≤ new → HasGroupRoom n old place → HasGroupRoom n new place
+        group_room (Found i) n old new more h = h
+        group_room (Free i) n old new more h = omega (arith, more, h)
 
 -- Full files
 

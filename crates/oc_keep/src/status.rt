@@ -6,10 +6,10 @@ ghost use Rattle.oc_updown.specs.TableView.{AreTableRows, entries_of};
 ghost use Rattle.oc_model.specs.Status.{status_of};
 
 use crate::Kept;
-use oc_base::{Cert, CertList, IdList, LineList, Memory};
+use oc_base::{Cert, CertList, IdList, LineList, Memory, Slots};
 use oc_io::Disk;
 use oc_model::NodeStatus;
-use oc_updown::{Slots, Table};
+use oc_updown::Table;
 use std::alloc::Global;
 
 /// What is seen of a node on its files, which is up or not.

@@ -5,7 +5,7 @@ use oc_base::Cert;
 pub struct CheckIn<'a> {
     /// The number of the ask by which it is a child.
     pub seq: u64,
-    /// The place in its change log behind these certificates.
+    /// The place in its change log after these certificates.
     pub upto: u64,
     /// Its rate to its parent, in bytes per second.
     pub rate: u64,

@@ -22,12 +22,12 @@ ghost use Rattle.oc_state.specs.Position.{position_of};
 
 use crate::outcome::Outcome;
 use crate::step::take;
-use oc_base::{Memory, NodeId, Rank, Shelf};
+use oc_base::{Memory, NodeId, Rank, Shelf, Slots};
 use oc_model::{Input, Mode, Record};
 use oc_state::modes::parent_of;
 use oc_state::{Durable, Position, Tries, Volatile, reserve_lists, update_all};
 use oc_step::{Before, Changes, Plan, Step};
-use oc_updown::{ChangeLog, Leases, Measures, Slots, Table};
+use oc_updown::{ChangeLog, Leases, Measures, Table};
 use std::alloc::Global;
 use std::marker::Model;
 
@@ -264,7 +264,7 @@ impl Node {
 
     /// What was measured of each peer.
     pub fn measures(&self) -> &Measures
-        ensures { result.now ≡ self.now.control.kept.measures }
+        ensures { result.now.readings ≡ self.now.control.kept.measures }
     {
         self.durable.measures()
     }

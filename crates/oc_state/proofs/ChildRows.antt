@@ -1,6 +1,7 @@
 -- The children of a node by the rows of its table, one row after another.
-use Rattle.std.proofs.Common.{◌≡◌, ℕ, ◌+◌, ◌<◌, ◌≤◌, Bool, true, false, not, ◌&&◌, ◌==◌, nat_le, Option, Some, None, List, [], ◌∷◌, ◌++◌, length, drop, get_or, replicate, min, ◌⊎◌, inl, inr, refl, ap, sym, subst, ◌∙◌, append_assoc, arith}
+use Rattle.std.proofs.Common.{◌≡◌, ℕ, ◌+◌, ◌<◌, ◌≤◌, Bool, true, false, not, ◌&&◌, ◌==◌, nat_le, Option, Some, None, List, [], ◌∷◌, ◌++◌, length, take, drop, get_or, replicate, min, ◌⊎◌, inl, inr, refl, ap, sym, subst, ◌∙◌, append_assoc, arith, length-take}
 use Rattle.std.proofs.lemmas.Bool.{le-leb, lt-leb, cases_lt}
+use Rattle.std.proofs.lemmas.List.{get_or-take}
 use Rattle.oc_base.specs.declared.cert.Cert.{Cert}
 use Rattle.oc_base.specs.declared.cert.Child.{Child}
 use Rattle.oc_model.specs.Adoption.{chain_child}
@@ -101,3 +102,9 @@ pub told_go_on : (y : ℕ) (rates : List ℕ) (rows : List (Option Cert)) (i : �
 told_go_on y rates rows i row before after whole within e put so =
     let here : told_children (entries_of (drop i rows)) y rates ≡ told_of_row y rates row ++ told_children (entries_of (drop (i + 1) rows)) y rates = ap (λ (rs : List (Option Cert)). told_children (entries_of rs) y rates) (rows_at rows i row within e) ∙ told_cons y rates row (drop (i + 1) rows) in
     rw put (append_assoc before (told_of_row y rates row) (told_children (entries_of (drop (i + 1) rows)) y rates) ∙ (sym (ap (λ (cs : List Child). before ++ cs) here) ∙ so))
+
+-- a row among the first ones is that row of all
+pub row_in_front : (rows filled : List (Option Cert)) (i : ℕ) (row : Option Cert) → i < length filled → filled ≡ take (length filled) rows → row ≡ get_or filled i row → (i < length rows) × (row ≡ get_or rows i row)
+row_in_front rows filled i row within front is =
+    let few : length filled ≤ length rows = omega (arith, ap (λ (l : List (Option Cert)). length l) front, length-take (length filled) rows) in
+    (omega (arith, within, few), is ∙ ap (λ (l : List (Option Cert)). get_or l i row) front ∙ get_or-take (length filled) rows i row within)

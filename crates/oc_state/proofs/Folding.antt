@@ -102,7 +102,7 @@ none_few = omega arith
 one_few : 1 ≤ 1
 one_few = omega arith
 
--- no record brings more than one certificate
+-- no record brings more than one certificate or rate
 pub brought_few : (r : Record) → brought r ≤ 1
 brought_few (records.Ask s p) = none_few
 brought_few (records.Joined p r) = none_few
@@ -112,7 +112,7 @@ brought_few (records.Ranked r) = none_few
 brought_few (records.OldEntry x s p dead) = one_few
 brought_few (records.Acked upto) = none_few
 brought_few (records.Ancestors xs) = none_few
-brought_few (records.Rate p rate hops) = none_few
+brought_few (records.Rate p rate hops) = one_few
 brought_few (records.Epoch e) = none_few
 brought_few (records.Base n) = none_few
 brought_few (records.Snapshot g) = none_few
@@ -170,7 +170,7 @@ follows_one nodes d (records.Ranked r) ok kept = follows_same (length d.table) 0
 follows_one nodes d (records.OldEntry x s p dead) ok kept = follows_noted (length d.table) d.mode d.log (record { subject = x; seq = s; parent = p; dead = dead; number = 0; clients = 0 })
 follows_one nodes d (records.Acked upto) ok kept = follows_acked (length d.table) d.log upto
 follows_one nodes d (records.Ancestors xs) ok kept = follows_same (length d.table) 0 d.log
-follows_one nodes d (records.Rate p rate hops) ok kept = follows_same (length d.table) 0 d.log
+follows_one nodes d (records.Rate p rate hops) ok kept = follows_same (length d.table) 1 d.log
 follows_one nodes d (records.Epoch e) ok kept = follows_same (length d.table) 0 d.log
 follows_one nodes d (records.Base n) ok kept =
     cond_both (is_joined d.mode) (record d { log = acked_whole n }) d (λ e. Follows (length d.table) 0 d.log e.log)
@@ -231,7 +231,7 @@ room_one v r more ok kept room = by_log (follows_one v.nodes v.kept r ok kept) w
 room_first : (v : DurableView) (one more : ℕ) → HasRoom v (one + more) → HasRoom v one
 room_first v one more room = record { waiting = omega (arith, room.waiting); rows = omega (arith, room.rows); places = omega (arith, room.places); based = omega (arith, room.based) }
 
--- room for one more certificate, where any record is folded
+-- room for one more certificate or rate, where any record is folded
 pub room_for : (v : DurableView) (r : Record) → length v.kept.log.waiting + (length v.kept.table + 1) ≤ v.room → v.kept.log.length + 1 < 2 ^ 63 → HasRoom v (brought r)
 room_for v r room places = record {
   waiting = omega (arith, room, brought_few r);

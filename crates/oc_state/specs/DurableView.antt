@@ -10,7 +10,7 @@ use Rattle.oc_laws_step.specs.LawfulNode.{IsLawfulDurable}
 use Rattle.oc_laws_step.specs.Sound.{IsSoundDurable}
 use Rattle.oc_state.specs.declared.position.Position.{Position}
 
--- the number of nodes, the durable state, and how many certificates there is room for among those that wait
+-- the number of nodes, the durable state, and for how many certificates and rates there is room
 pub record DurableView : Type 0 where
   pub nodes : ℕ
   pub kept : Durable
@@ -30,17 +30,18 @@ durable_of s table log ancestors measures = record {
   measures = measures;
 }
 
--- how many certificates a record brings
+-- how many certificates and rates a record brings
 abbrev pub brought : Record → ℕ
 brought (records.Entry c) = 1
 brought (records.OldEntry x s p dead) = 1
+brought (records.Rate p rate hops) = 1
 brought r = 0
 
 abbrev pub brought_by : List Record → ℕ
 brought_by [] = 0
 brought_by (r ∷ rs) = brought r + brought_by rs
 
--- there is room to fold records that bring this many certificates: each lets at most one more wait, or the whole table
+-- there is room to fold records that bring this many certificates and rates: each lets at most one more wait, or the whole table
 pub record HasRoom (v : DurableView) (more : ℕ) : Type 0 where
   pub waiting : length v.kept.log.waiting + more ≤ v.room
   pub rows : length v.kept.table + more ≤ v.room

@@ -5,8 +5,7 @@ ghost use Rattle.oc_model.specs.Numbers.{at};
 ghost use Rattle.oc_updown.specs.TableView.{AreTableRows, entries_of};
 ghost use Rattle.oc_state.specs.Children.{child_of_row, other_child_of_row, told_of_row, told_children};
 
-use oc_base::{Cert, Child, Memory, NodeId};
-use oc_updown::Slots;
+use oc_base::{Cert, Child, Memory, NodeId, Slots};
 use std::alloc::Global;
 
 /// The subject of a row, if it is a leased child of this node.
@@ -87,9 +86,10 @@ pub fn children(
     ensures { IfOk result (λ made. made.items ≡ told_children (entries_of rows.now.items) me rates.now.items) }
 {
     let mut children = Vec::new(alloc);
-    for place in 0..rows.used() {
-        let row = rows.get_or(place, None);
-        push_child(&mut children, &row, me, rates)?;
+    let filled = rows.filled();
+    for place in 0..filled.len() {
+        let row = &filled[place];
+        push_child(&mut children, row, me, rates)?;
     }
     Ok(children)
 }

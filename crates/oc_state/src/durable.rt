@@ -15,15 +15,16 @@ use std::alloc::Global;
 use std::marker::Model;
 
 /// What a stop leaves of a node: all of its control state that is in its records. Contracts see the
-/// model's record, the number of nodes, and how many certificates there is room for in the log.
+/// model's record, the number of nodes, and for how many certificates and rates there is room.
 #[derive(Drop)]
 pub struct Durable {
     nodes: u32,
     position: Position,
     table: Table,
     log: ChangeLog,
-    /// For how many certificates room was made in the log; with any, the table has memory for all rows. A recovery
-    /// that runs out of memory leaves it as it was, though the log and the table keep the memory that they have.
+    /// For how many certificates and rates room was made in the log; with any, the table has memory for all rows, and
+    /// there is memory for all that may be measured. A recovery that runs out of memory leaves it as it was, though
+    /// the log, the table and the measures keep the memory that they have.
     room: usize,
     /// Nearest first.
     ancestors: IdList,
@@ -32,18 +33,19 @@ pub struct Durable {
 }
 
 impl Model for Durable {
-    ghost use Rattle.std.specs.Prelude.{◌≡◌, ◌<◌, ◌≤◌};
+    ghost use Rattle.std.specs.Prelude.{◌≡◌, ◌<◌, ◌≤◌, length};
     ghost use Rattle.oc_state.specs.DurableView.{DurableView, durable_of};
 
     ghost Value = { DurableView };
 
     ghost view = { λ d. record {
       nodes = d.nodes;
-      kept = durable_of d.position d.table.entries d.log.log d.ancestors d.measures;
+      kept = durable_of d.position d.table.entries d.log.log d.ancestors d.measures.readings;
       room = d.room;
     } };
 
-    ghost invariant = { λ d. (d.log.nodes ≡ d.nodes) × (d.table.nodes ≡ d.nodes) × (d.room ≤ d.log.room) × (0 < d.room → d.table.nodes ≤ d.table.room) };
+    ghost invariant = { λ d. (d.log.nodes ≡ d.nodes) × (d.table.nodes ≡ d.nodes) × (d.room ≤ d.log.room) × (0 < d.room → d.table.nodes ≤ d.table.room)
+        × (0 < d.room → length d.measures.readings ≤ d.measures.room) };
 }
 
 impl Durable {
@@ -101,34 +103,35 @@ impl Durable {
     }
 
     pub fn measures(&self) -> &Measures
-        ensures { result.now ≡ self.now.kept.measures }
+        ensures { result.now.readings ≡ self.now.kept.measures }
     {
         &self.measures
     }
 
-    /// Makes room to fold these records: for each certificate that they bring one in the log, or the whole table. Where
-    /// there is none, it takes no memory.
+    /// Makes room to fold these records: for each certificate or rate that they bring one in the log, or the whole
+    /// table. Where there is none, it takes no memory.
     pub fn reserve(&mut self, changes: &[Record]) -> Result<(), Memory>
         ensures room { OnOk result (length self.new.kept.log.waiting + (length self.new.kept.table + brought_by changes.now) ≤ self.new.room) }
         ensures stays { self.old.room ≤ self.new.room }
         ensures kept { self.new.kept ≡ self.old.kept }
         ensures nodes { self.new.nodes ≡ self.old.nodes }
     {
-        self.reserve_certs(brought_by(changes))
+        self.reserve_more(brought_by(changes))
     }
 
-    /// Makes room for this many certificates.
+    /// Makes room for this many certificates and rates.
     #[tactic(auto, using(crate::proofs::Folding::rows_more, crate::proofs::Folding::rows_most))]
-    fn reserve_certs(&mut self, certs: usize) -> Result<(), Memory>
-        ensures room { OnOk result (length self.new.kept.log.waiting + (length self.new.kept.table + certs) ≤ self.new.room) }
+    fn reserve_more(&mut self, brought: usize) -> Result<(), Memory>
+        ensures room { OnOk result (length self.new.kept.log.waiting + (length self.new.kept.table + brought) ≤ self.new.room) }
         ensures stays { self.old.room ≤ self.new.room }
         ensures kept { self.new.kept ≡ self.old.kept }
         ensures nodes { self.new.nodes ≡ self.old.nodes }
     {
-        let more = rows_in_use(&self.table).checked_add(certs).ok_or(Memory)?;
+        let more = rows_in_use(&self.table).checked_add(brought).ok_or(Memory)?;
         let waiting = (self.log.length() - self.log.acked()) as usize;
         let room = waiting.checked_add(more).ok_or(Memory)?;
         reserve_rows(&mut self.table, room)?;
+        reserve_rates(&mut self.measures, room)?;
         self.log.reserve(more)?;
         self.room = self.room.max(room);
         Ok(())
@@ -193,7 +196,7 @@ impl Durable {
         ensures err { OnErr result (self.new.kept ≡ self.old.kept) }
     {
         let change = change.clone()?;
-        self.reserve_certs(1)?;
+        self.reserve_more(1)?;
         self.fold(change);
         Ok(())
     }
@@ -256,7 +259,7 @@ impl Durable {
     }
 }
 
-/// How many certificates these records bring.
+/// How many certificates and rates these records bring.
 #[tactic(auto, using(crate::proofs::Folding::brought_on, crate::proofs::Folding::brought_end))]
 fn brought_by(changes: &[Record]) -> usize
     ensures { result ≡ brought_by changes.now }
@@ -268,18 +271,18 @@ fn brought_by(changes: &[Record]) -> usize
     count
 }
 
-/// How many certificates a record brings.
+/// How many certificates and rates a record brings.
 fn brought(change: &Record) -> usize
     ensures value { result ≡ brought change.now }
     ensures few { result ≤ 1 }
 {
     match change {
-        Record::Entry { .. } | Record::OldEntry { .. } => 1,
+        Record::Entry { .. } | Record::OldEntry { .. } | Record::Rate { .. } => 1,
         _ => 0,
     }
 }
 
-/// Takes the memory for the rows of a table, where room for certificates is wanted.
+/// Takes the memory for the rows of a table, where any room is wanted.
 fn reserve_rows(table: &mut Table, room: usize) -> Result<(), Memory>
     ensures room { OnOk result (0 < room → table.new.nodes ≤ table.new.room) }
     ensures stays { table.old.room ≤ table.new.room }
@@ -289,6 +292,18 @@ fn reserve_rows(table: &mut Table, room: usize) -> Result<(), Memory>
         return Ok(());
     }
     table.reserve()
+}
+
+/// Takes the memory for what may be measured, where any room is wanted.
+fn reserve_rates(measures: &mut Measures, room: usize) -> Result<(), Memory>
+    ensures room { OnOk result (0 < room → length measures.new.readings ≤ measures.new.room) }
+    ensures stays { measures.old.room ≤ measures.new.room }
+    ensures rest { measures.new ≡ record measures.old { room = measures.new.room } }
+{
+    if room == 0 {
+        return Ok(());
+    }
+    measures.reserve()
 }
 
 /// How many rows of a table are in use, at least as many as there are certificates.

@@ -4,8 +4,8 @@ ghost use Rattle.oc_base.specs.Lawful.{IsNode};
 ghost use Rattle.oc_model.specs.Numbers.{at, capped, put_at};
 ghost use Rattle.oc_state.specs.ListUpdates.{AreReserved, IsListUpdate, leases_by, rates_by, counts_by, leases_after, rates_after, counts_after};
 
-use oc_base::{Memory, NodeId};
-use oc_updown::{Leases, Slots, Table};
+use oc_base::{Memory, NodeId, Slots};
+use oc_updown::{Leases, Table};
 
 /// One change of the lists that have an item for each node: lease ends, the rates of children, and
 /// redirection counts.

@@ -17,12 +17,8 @@ pub(crate) fn enter(table: &mut Table, log: &mut ChangeLog, mode: Mode, cert: &C
     requires rows { table.old.nodes ≤ table.old.room }
     requires room { length log.old.log.waiting < log.old.room }
     requires places { log.old.log.length + 1 < 2 ^ 63 }
-    ensures entries { table.new.entries ≡ merge table.old.entries cert.now }
-    ensures rows { table.new.nodes ≡ table.old.nodes }
-    ensures rows_room { table.new.room ≡ table.old.room }
-    ensures log { log.new.log ≡ noted mode log.old.log cert.now }
-    ensures nodes { log.new.nodes ≡ log.old.nodes }
-    ensures room { log.new.room ≡ log.old.room }
+    ensures table { table.new ≡ record table.old { entries = merge table.old.entries cert.now } }
+    ensures log { log.new ≡ record log.old { log = noted mode log.old.log cert.now } }
 {
     table.merge(cert);
     if let Mode::Joined(_) = mode {

@@ -9,9 +9,9 @@ use crate::Position;
 use crate::durable::Durable;
 use crate::log::all_waiting;
 use crate::ranks::rank_or_last;
-use oc_base::{Cert, IdList, Memory, NodeId, Rank};
+use oc_base::{Cert, IdList, Memory, NodeId, Rank, Slots};
 use oc_model::{Mode, Record};
-use oc_updown::{Measures, Slots};
+use oc_updown::Measures;
 use std::alloc::Global;
 
 // A snapshot: records that give one state, whatever was before them.
@@ -50,7 +50,7 @@ fn push_entries(list: &mut Vec<Record>, certs: &[Cert]) -> Result<(), Memory>
 
 /// Puts at the end what was measured of a peer, if anything was.
 fn push_rate(list: &mut Vec<Record>, measures: &Measures, peer: NodeId) -> Result<(), Memory>
-    ensures { OnOk result (list.new.items ≡ list.old.items ++ rate_record peer (reading_of measures.now peer)) }
+    ensures { OnOk result (list.new.items ≡ list.old.items ++ rate_record peer (reading_of measures.now.readings peer)) }
 {
     let (rate, hops) = measures.get(peer);
     if rate != 0 || hops != 0 {
@@ -61,8 +61,8 @@ fn push_rate(list: &mut Vec<Record>, measures: &Measures, peer: NodeId) -> Resul
 
 /// Puts at the end what was measured of each peer.
 fn push_rates(list: &mut Vec<Record>, measures: &Measures, nodes: u32) -> Result<(), Memory>
-    requires { length measures.now ≡ nodes }
-    ensures { OnOk result (list.new.items ≡ list.old.items ++ rates_from 1 measures.now) }
+    requires { length measures.now.readings ≡ nodes }
+    ensures { OnOk result (list.new.items ≡ list.old.items ++ rates_from 1 measures.now.readings) }
 {
     for before in 0..nodes {
         push_rate(list, measures, NodeId(before + 1))?;

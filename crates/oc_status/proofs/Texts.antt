@@ -5,11 +5,11 @@ use Rattle.std.proofs.lemmas.List.{at_drop_more}
 use Rattle.std.proofs.lemmas.Result.{on_ok_weaker}
 use Rattle.oc_base.specs.declared.shelf.Shelf.{Shelf}
 
--- a text is put behind what was put
+-- a text is put after what was put
 pub then_put : (a b c so_far x : List ℕ) → b ≡ a ++ so_far → c ≡ b ++ x → c ≡ a ++ (so_far ++ x)
 then_put a b c so_far x so put = put ∙ (ap (λ (l : List ℕ). l ++ x) so ∙ append_assoc a so_far x)
 
--- a key and a value are put behind what was put
+-- a key and a value are put after what was put
 pub then_field : (a b c so_far key x : List ℕ) → b ≡ a ++ so_far → c ≡ b ++ key ++ x → c ≡ a ++ (so_far ++ key ++ x)
 then_field a b c so_far key x so put =
     put ∙ (ap (λ (l : List ℕ). l ++ x) (then_put a b (b ++ key) so_far key so refl) ∙ append_assoc a (so_far ++ key) x)

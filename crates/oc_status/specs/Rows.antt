@@ -29,7 +29,7 @@ is_first None xs = false
 is_first (Some k) [] = false
 is_first (Some k) (x ∷ xs) = x == k.subject
 
--- those of the rows behind it
+-- those of the rows after it
 abbrev pub behind : Bool → List ℕ → List ℕ
 behind true xs = drop 1 xs
 behind false xs = xs

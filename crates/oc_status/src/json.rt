@@ -8,7 +8,7 @@ use oc_base::{Memory, put, put_number, put_with_number};
 /// The greatest number that every reader of JSON takes exactly, 2^53: it is one of 64 bits with a point.
 pub(crate) const LAST_EXACT: u64 = 9_007_199_254_740_992;
 
-/// Puts a text, and behind it a number, which is a text itself where it is past `LAST_EXACT`.
+/// Puts a text, and after it a number, which is a text itself where it is past `LAST_EXACT`.
 pub(crate) fn put_field(out: &mut Vec<u8>, key: &str, number: u64) -> Result<(), Memory>
     ensures { OnOk result (out.new.items ≡ out.old.items ++ key.now ++ number_text number) }
 {
@@ -47,7 +47,7 @@ pub(crate) fn put_quoted(out: &mut Vec<u8>, text: &[u8]) -> Result<(), Memory>
     put(out, b"\"")
 }
 
-/// Puts a text, and behind it `true` or `false`.
+/// Puts a text, and after it `true` or `false`.
 pub(crate) fn put_flag(out: &mut Vec<u8>, key: &str, is_set: bool) -> Result<(), Memory>
     ensures { OnOk result (out.new.items ≡ out.old.items ++ key.now ++ flag_text is_set) }
 {

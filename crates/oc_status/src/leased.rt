@@ -5,9 +5,9 @@ ghost use Rattle.oc_model.specs.Numbers.{at};
 ghost use Rattle.oc_state.specs.Children.{told_children};
 ghost use Rattle.oc_status.specs.Rows.{leased_among};
 
-use oc_base::{Child, Memory, NodeId};
+use oc_base::{Child, Memory, NodeId, Slots};
 use oc_state::children::children;
-use oc_updown::{Slots, Table};
+use oc_updown::Table;
 use std::alloc::Global;
 
 /// A leased child.

@@ -4,8 +4,8 @@ ghost use Rattle.std.specs.Prelude.{◌≡◌, ◌++◌, map, IfOk, OnOk};
 ghost use Rattle.oc_status.specs.Rows.{behind, is_first, marked, row_of, rows_of};
 ghost use Rattle.oc_updown.specs.TableView.{AreTableRows};
 
-use oc_base::{Cert, Line, Memory, NodeId};
-use oc_updown::{Slots, Table};
+use oc_base::{Cert, Line, Memory, NodeId, Slots};
+use oc_updown::Table;
 use std::alloc::Global;
 
 /// A row of a table.

@@ -8,10 +8,10 @@ ghost use Rattle.oc_step.specs.NodeView.{IsReached};
 ghost use Rattle.oc_state.specs.Position.{position_of};
 ghost use Rattle.oc_state.specs.Volatile.{volatile_of};
 
-use oc_base::{Child, Memory, NodeId};
+use oc_base::{Child, Memory, NodeId, Slots};
 use oc_state::children::children;
 use oc_state::{Durable, Position, Tries, Volatile};
-use oc_updown::{ChangeLog, Leases, Measures, Slots, Table, select};
+use oc_updown::{ChangeLog, Leases, Measures, Table, select};
 use std::alloc::Global;
 use std::marker::Model;
 
@@ -120,7 +120,7 @@ impl Before<'_> {
 
     /// What was measured of each peer.
     pub(crate) fn measures(&self) -> &Measures
-        ensures { result.now ≡ self.now.kept.measures }
+        ensures { result.now.readings ≡ self.now.kept.measures }
     {
         self.durable.measures()
     }

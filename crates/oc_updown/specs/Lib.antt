@@ -3,6 +3,7 @@ pub mod ChangeLogView
 pub mod Children
 pub mod Ended
 pub mod LeasesView
+pub mod MeasuresView
 pub mod TableView
 pub mod Listing
 pub mod Better

@@ -7,9 +7,8 @@ ghost use Rattle.oc_updown.specs.TableView.{AreTableRows, entries_of};
 ghost use Rattle.oc_base.specs.Lawful.{IsNode};
 ghost use Rattle.oc_updown.specs.Children.{start_row, ended_of_row};
 
-use crate::Slots;
 use crate::leases::LEASE_TIME;
-use oc_base::{Cert, NodeId};
+use oc_base::{Cert, NodeId, Slots};
 
 /// The lease of a child begins anew.
 pub(crate) fn renew(ends: &mut Slots<Option<u64>>, child: NodeId, now: u64)
@@ -123,9 +122,9 @@ pub(crate) fn next_over(
     requires nodes { length rows.now.items ≤ length ends.now.items }
     ensures { result ≡ next_ended (entries_of rows.now.items) me ends.now.items after now }
 {
-    let none = None;
-    for place in after as usize..rows.used() {
-        let row = rows.lend_or(place, &none);
+    let filled = rows.filled();
+    for place in after as usize..filled.len() {
+        let row = &filled[place];
         let ended = ended_of_row(row, me, ends, now);
         if ended.is_some() {
             return ended;

@@ -4,9 +4,9 @@ ghost use Rattle.oc_model.specs.Leases.{renew, start_all, next_ended};
 ghost use Rattle.oc_base.specs.Lawful.{IsNode};
 ghost use Rattle.oc_updown.specs.Ended.{IsNextEnded};
 
+use crate::Table;
 use crate::children::{next_over, renew, start_rows};
-use crate::{Slots, Table};
-use oc_base::{Memory, NodeId};
+use oc_base::{Memory, NodeId, Slots};
 use std::alloc::Global;
 use std::marker::Model;
 

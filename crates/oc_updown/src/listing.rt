@@ -6,10 +6,9 @@ ghost use Rattle.oc_updown.specs.Listing.{line_in, lines_of_row, is_beneath, Are
 ghost use Rattle.oc_updown.specs.TableView.{AreRows, AreTableRows, entries_of};
 ghost use Rattle.oc_base.specs.Lawful.{IsNode};
 
-use crate::Slots;
 use crate::post::Post;
 use crate::rows::parent_of;
-use oc_base::{Cert, Line, Memory, NodeId};
+use oc_base::{Cert, Line, Memory, NodeId, Slots};
 use std::alloc::Global;
 
 /// What is known of a node.

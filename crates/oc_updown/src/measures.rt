@@ -1,9 +1,8 @@
-ghost use Rattle.std.specs.Prelude.{◌≡◌, ◌≤◌, ◌<◌, length, replicate, IfOk};
+ghost use Rattle.std.specs.Prelude.{◌≡◌, ◌≤◌, length, replicate, IfOk, OnOk};
 ghost use Rattle.oc_model.specs.Measures.{reading_of, with_reading};
 ghost use Rattle.oc_model.specs.Node.{no_reading};
 
-use crate::Slots;
-use oc_base::{Memory, NodeId};
+use oc_base::{Memory, NodeId, Slots};
 use oc_model::Reading;
 use std::alloc::Global;
 use std::marker::Model;
@@ -11,45 +10,56 @@ use std::marker::Model;
 /// The reading where nothing was measured.
 const NOTHING: Reading = Reading { rate: 0, hops: 0 };
 
-/// The last reading of each peer. Contracts see it as the list of readings by the number of the peer.
+/// The last reading of each peer. A contract sees the list of readings by the number of the peer, and for how many
+/// there is memory.
 #[derive(Drop)]
 pub struct Measures {
     readings: Slots<Reading>,
 }
 
 impl Model for Measures {
-    ghost use Rattle.std.specs.Prelude.{◌≤◌, List, length};
-    ghost use Rattle.oc_model.specs.declared.reading.Reading.{Reading};
+    ghost use Rattle.oc_updown.specs.MeasuresView.{MeasuresView};
 
-    ghost Value = { List Reading };
+    ghost Value = { MeasuresView };
 
-    ghost view = { λ m. m.readings.items };
-
-    ghost invariant = { λ m. length m.readings.items ≤ m.readings.room };
+    ghost view = { λ m. record { readings = m.readings.items; room = m.readings.room } };
 }
 
 impl Measures {
-    /// No reading of any of this many peers.
+    /// No reading of any of this many peers. Takes no memory.
     pub fn new(alloc: Global, nodes: u32) -> Result<Measures, Memory>
-        ensures { IfOk result (λ all. all ≡ replicate nodes no_reading) }
+        ensures { IfOk result (λ all. all.readings ≡ replicate nodes no_reading) }
     {
-        let mut readings = Slots::new(alloc, nodes as usize, NOTHING)?;
-        readings.reserve()?;
-        Ok(Measures { readings })
+        Ok(Measures {
+            readings: Slots::new(alloc, nodes as usize, NOTHING)?,
+        })
+    }
+
+    /// Takes the memory for the readings of all peers.
+    pub fn reserve(&mut self) -> Result<(), Memory>
+        ensures room { OnOk result (length self.new.readings ≤ self.new.room) }
+        ensures stays { self.old.room ≤ self.new.room }
+        ensures rest { self.new ≡ record self.old { room = self.new.room } }
+    {
+        self.readings.reserve()
     }
 
     /// Removes all readings. Takes no memory.
     pub fn clear(&mut self)
-        ensures { self.new ≡ replicate (length self.old) no_reading }
+        ensures readings { self.new.readings ≡ replicate (length self.old.readings) no_reading }
+        ensures room { self.new.room ≡ self.old.room }
     {
         self.readings.fill(NOTHING);
     }
 
-    /// Puts a reading of the peer in the place of the one before: bytes per second and hops.
+    /// Puts a reading of the peer in the place of the one before: bytes per second and hops. There is
+    /// memory for all readings. Takes no memory.
     pub fn put(&mut self, peer: NodeId, rate: u64, hops: u8)
         requires first { 1 ≤ peer }
-        requires last { peer ≤ length self.old }
-        ensures { self.new ≡ with_reading self.old peer (record { rate = rate; hops = hops }) }
+        requires last { peer ≤ length self.old.readings }
+        requires room { length self.old.readings ≤ self.old.room }
+        ensures readings { self.new.readings ≡ with_reading self.old.readings peer (record { rate = rate; hops = hops }) }
+        ensures room { self.new.room ≡ self.old.room }
     {
         self.readings.put(peer.index(), Reading { rate, hops });
     }
@@ -57,8 +67,8 @@ impl Measures {
     /// The rate and the hops that were put last for the peer, and `(0, 0)` where none were, as for a
     /// number past the nodes. Rate 0 means that it was not measured.
     pub fn get(&self, peer: NodeId) -> (u64, u8)
-        ensures rate { result.0 ≡ (reading_of self.now peer).rate }
-        ensures hops { result.1 ≡ (reading_of self.now peer).hops }
+        ensures rate { result.0 ≡ (reading_of self.now.readings peer).rate }
+        ensures hops { result.1 ≡ (reading_of self.now.readings peer).hops }
     {
         let place = (peer.0 as usize).saturating_sub(1);
         let reading = self.readings.get_or(place, NOTHING);

@@ -2,8 +2,7 @@ ghost use Rattle.std.specs.Prelude.{◌≡◌, ◌<◌, ◌≤◌, length, IfSom
 ghost use Rattle.oc_model.specs.Numbers.{at};
 ghost use Rattle.oc_updown.specs.Better.{is_near, is_better, beats};
 
-use crate::Slots;
-use oc_base::NodeId;
+use oc_base::{NodeId, Slots};
 
 /// By what one server is preferred to another for a client.
 #[derive(Drop)]

@@ -3,8 +3,7 @@ ghost use Rattle.oc_model.specs.Table.{newest, parent_in, is_news, put};
 ghost use Rattle.oc_updown.specs.TableView.{AreRows, entries_of};
 ghost use Rattle.oc_base.specs.Lawful.{IsNode, IsCert};
 
-use crate::Slots;
-use oc_base::{Cert, NodeId};
+use oc_base::{Cert, NodeId, Slots};
 
 /// The certificate of a node, if there is one.
 #[tactic(auto, using(crate::proofs::Entries::newest_zero))]

@@ -1,9 +1,9 @@
 ghost use Rattle.std.specs.Prelude.{◌≡◌, length};
 ghost use Rattle.oc_model.specs.Selected.{selected};
 
+use crate::Table;
 use crate::preference::Preference;
-use crate::{Slots, Table};
-use oc_base::NodeId;
+use oc_base::{NodeId, Slots};
 
 /// The node to which this one, a member of the chain, sends a client of this area: a node past the chain
 /// that its table lists beneath it, in the client's area where there is any there; among these the one

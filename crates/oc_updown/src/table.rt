@@ -5,11 +5,10 @@ ghost use Rattle.oc_model.specs.Table.{newest, is_news, merge, leased_by, is_lis
 ghost use Rattle.oc_updown.specs.TableView.{AreTableRows, entries_of};
 ghost use Rattle.oc_base.specs.Lawful.{IsCert};
 
-use crate::Slots;
 use crate::listing::lines_of;
 use crate::rows::{is_news, put, row_of};
 use crate::walk::is_listed;
-use oc_base::{Cert, Line, Memory, NodeId};
+use oc_base::{Cert, Line, Memory, NodeId, Slots};
 use std::alloc::Global;
 use std::marker::Model;
 

@@ -3,8 +3,7 @@ ghost use Rattle.std.specs.VecDeque.{deque_len, deque_capacity};
 ghost use Rattle.oc_updown.specs.TableView.{AreTableRows, entries_of};
 ghost use Rattle.oc_base.specs.Lawful.{IsNode};
 
-use crate::Slots;
-use oc_base::{Cert, Memory, push_reserved};
+use oc_base::{Cert, Memory, Slots, push_reserved};
 use std::alloc::Global;
 use std::collections::VecDeque;
 use std::marker::Model;

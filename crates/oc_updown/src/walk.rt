@@ -2,9 +2,8 @@ ghost use Rattle.std.specs.Prelude.{◌≡◌, length};
 ghost use Rattle.oc_model.specs.Table.{parent_in, reaches, is_listed};
 ghost use Rattle.oc_updown.specs.TableView.{AreRows, entries_of};
 
-use crate::Slots;
 use crate::rows::parent_of;
-use oc_base::{Cert, NodeId};
+use oc_base::{Cert, NodeId, Slots};
 
 /// Whether the way up from a node comes to the root. A way that comes to it goes through no row
 /// twice, so as many steps as there are rows are enough, and a way that goes round in a loop ends.

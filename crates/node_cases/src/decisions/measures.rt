@@ -15,14 +15,15 @@ const PEERS: u32 = 3;
 #[derive(Drop)]
 struct Readings {
     measures: Measures,
-    ghost peers: { length measures ≡ 3 },
+    ghost peers: { length measures.readings ≡ 3 },
+    ghost room: { length measures.readings ≤ measures.room },
 }
 
 /// Puts the words of a row: what each step says.
 pub fn put_words(alloc: Global, given: &str, said: &mut String) -> Result<(), Fault> {
-    let mut readings = Readings {
-        measures: Measures::new(alloc, PEERS)?,
-    };
+    let mut measures = Measures::new(alloc, PEERS)?;
+    measures.reserve()?;
+    let mut readings = Readings { measures };
     act_all(alloc, &mut readings, given.split_ascii_whitespace(), said)
 }
 

@@ -3,7 +3,8 @@
 ghost use Rattle.std.specs.Prelude.{◌≡◌};
 
 use crate::decisions::tables::table_in;
-use oc_updown::{Slots, Table, select};
+use oc_base::Slots;
+use oc_updown::{Table, select};
 use std::alloc::Global;
 use test_tools::{Fault, RowFields, put_shown};
 

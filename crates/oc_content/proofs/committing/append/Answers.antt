@@ -45,5 +45,8 @@ put-requires-clause-fits g c = c.requires.ready.fits c.requires.adds_some
 pub put-requires-clause-room : goal.put-requires-clause-room
 put-requires-clause-room g c = c.requires.ready.room
 
+pub put-requires-clause-groups : goal.put-requires-clause-groups
+put-requires-clause-groups g c = c.requires.ready.groups
+
 pub append-requires : goal.append-requires
 append-requires g c = c.requires.ready.spare

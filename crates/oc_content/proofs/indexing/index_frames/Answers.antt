@@ -10,9 +10,9 @@ use Rattle.oc_content.proofs.indexing.index_frames.Goals as goal
 
 pub loop-number-init : goal.loop-number-init
 loop-number-init g c =
-    let e = c.in_ok-index.ensures in
+    let e = c.new-index.ensures in
     record {
-      indexed = IsIndexedTo-start g.D.Disk.view c.args.journal.now c.in_ok-index.index e.lines e.tracks e.line_memory e.track_memory;
+      indexed = IsIndexedTo-start g.D.Disk.view c.args.journal.now c.new-index.result e.lines e.tracks;
       same = OnlyReads-none g.D.Disk.view c.args.journal.now;
       none_failed = NoneFailed-none g.D.Disk.view c.args.journal.now;
     }
@@ -60,54 +60,29 @@ returns-clause-indexed g c =
     let so_far = c.loop-number.invariant in
     IsIndexed-all g.D.Disk.view c.args.journal.now c.loop-number.journal c.loop-number.index c.loop-number.number (omega (arith, c.loop-number-test.false, c.count-number-end.ensures.count)) so_far.same so_far.indexed
 
-pub returns-in_err-index-clause-indexed : goal.returns-in_err-index-clause-indexed
-returns-in_err-index-clause-indexed g c =
-    let p = err_from_is_err_and c.from_residual.result c.from_residual.ensures.1 in
-    rw p.1 tt
-
-pub returns-in_err-index-clause-none_failed : goal.returns-in_err-index-clause-none_failed
-returns-in_err-index-clause-none_failed g c =
-    let p = err_from_is_err_and c.from_residual.result c.from_residual.ensures.1 in
-    rw p.1 tt
-
-pub returns-in_err-index-clause-bad : goal.returns-in_err-index-clause-bad
-returns-in_err-index-clause-bad g c =
-    let p = err_from_is_err_and c.from_residual.result c.from_residual.ensures.1 in
-    rw (p.1, p.2) (λ i is. absurd (memory_not_bad i is))
-
-pub returns-in_err-index-clause-disk : goal.returns-in_err-index-clause-disk
-returns-in_err-index-clause-disk g c =
-    let p = err_from_is_err_and c.from_residual.result c.from_residual.ensures.1 in
-    rw (p.1, p.2) (λ is. absurd (memory_not_disk is))
-
-pub returns-in_err-index-clause-journal : goal.returns-in_err-index-clause-journal
-returns-in_err-index-clause-journal g c =
-    let p = err_from_is_err_and c.from_residual.result c.from_residual.ensures.1 in
-    rw (p.1, p.2) (λ is. absurd (memory_not_journal is))
-
 pub returns-in_err-frame-clause-indexed : goal.returns-in_err-frame-clause-indexed
 returns-in_err-frame-clause-indexed g c =
-    let p = err_from_is_err_and c.from_residual-in_err-frame.result c.from_residual-in_err-frame.ensures.1 in
+    let p = err_from_is_err_and c.from_residual.result c.from_residual.ensures.1 in
     rw p.1 tt
 
 pub returns-in_err-frame-clause-none_failed : goal.returns-in_err-frame-clause-none_failed
 returns-in_err-frame-clause-none_failed g c =
-    let p = err_from_is_err_and c.from_residual-in_err-frame.result c.from_residual-in_err-frame.ensures.1 in
+    let p = err_from_is_err_and c.from_residual.result c.from_residual.ensures.1 in
     rw p.1 tt
 
 pub returns-in_err-frame-clause-bad : goal.returns-in_err-frame-clause-bad
 returns-in_err-frame-clause-bad g c =
-    let p = err_from_is_err_and c.from_residual-in_err-frame.result c.from_residual-in_err-frame.ensures.1 in
+    let p = err_from_is_err_and c.from_residual.result c.from_residual.ensures.1 in
     rw (p.1, p.2) (λ i is. absurd (unread_not_bad c.in_err-frame.field-0.0 i is))
 
 pub returns-in_err-frame-clause-disk : goal.returns-in_err-frame-clause-disk
 returns-in_err-frame-clause-disk g c =
-    let p = err_from_is_err_and c.from_residual-in_err-frame.result c.from_residual-in_err-frame.ensures.1 in
+    let p = err_from_is_err_and c.from_residual.result c.from_residual.ensures.1 in
     rw (p.1, p.2) (λ is. ClosesByRead-then g.D.Disk.view c.args.journal.now c.loop-number.journal c.frame.new.self c.loop-number.invariant.same (c.in_err-frame.ensures.disk (unread_disk c.in_err-frame.field-0.0 is)))
 
 pub returns-in_err-frame-clause-journal : goal.returns-in_err-frame-clause-journal
 returns-in_err-frame-clause-journal g c =
-    let p = err_from_is_err_and c.from_residual-in_err-frame.result c.from_residual-in_err-frame.ensures.1 in
+    let p = err_from_is_err_and c.from_residual.result c.from_residual.ensures.1 in
     rw (p.1, p.2) (λ is. absurd (unread_not_journal c.in_err-frame.field-0.0 is))
 
 pub returns-in_err-take-clause-indexed : goal.returns-in_err-take-clause-indexed
@@ -134,9 +109,6 @@ pub returns-in_err-take-clause-journal : goal.returns-in_err-take-clause-journal
 returns-in_err-take-clause-journal g c =
     let p = err_from_is_err_and c.from_residual-in_err-take.result c.from_residual-in_err-take.ensures.1 in
     rw (p.1, p.2) (λ is. absurd (memory_not_journal is))
-
-pub returns-in_err-index-clause-same : goal.returns-in_err-index-clause-same
-returns-in_err-index-clause-same g c = OnlyReads-none g.D.Disk.view c.args.journal.now
 
 pub returns-in_err-frame-clause-same : goal.returns-in_err-frame-clause-same
 returns-in_err-frame-clause-same g c =

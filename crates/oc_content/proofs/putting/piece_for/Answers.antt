@@ -21,8 +21,8 @@ refusal-requires-clause-held c =
     let is = subst (λ (l : List Shelf). LooksUpLine l name c.look_up-place.result → c.state_at-state.result ≡ group_state_in l name) c.deref-2.ensures.value (c.state_at-state.ensures name) at in
     subst (λ (s : GroupState). s.held ≤ MAX_GROUP_BYTES) (sym is) (state_short ss name c.look_up-place.result c.requires.sized.short at)
 
-pub reserve-requires : goal.reserve-requires
-reserve-requires c =
+pub reserve-requires-clause-within : goal.reserve-requires-clause-within
+reserve-requires-clause-within c =
     let ss = c.args.index.now.shelves.items in
     let name = c.args.added.now.group.now in
     let at = subst (λ (l : List Shelf). LooksUpLine l name c.look_up-place.result) c.deref.ensures.value c.look_up-place.ensures in

@@ -1,6 +1,6 @@
-use Rattle.std.proofs.Common.{List, refl, sym, ap, subst, rules}
+use Rattle.std.proofs.Common.{List, length, refl, sym, subst, rules}
 use Rattle.oc_base.specs.declared.shelf.Shelf.{Shelf}
-use Rattle.oc_content.specs.Indexes.{rooms}
+use Rattle.oc_content.specs.Indexes.{HasGroupRoom, rooms, memory_of}
 use Rattle.oc_content.specs.ContentView.{IsReady}
 use Rattle.oc_content.proofs.Views.{IsIndexed-sized, IsIndexed-kept, PutsNothing-by}
 use Rattle.oc_content.proofs.Puts.{ready_put}
@@ -46,7 +46,7 @@ returns-clause-prepares g c =
       entry = e.entry;
       body = e.body;
       prepared =
-          subst (λ (ss : List Shelf). IsReady ss (rooms y.tracks.items) c.reserve.new.self.spare c.in_ok-piece.piece) (sym (ap (λ v. v.items) c.piece_for.ensures.keeps.lines))
-          (ready_put x.shelves.items (rooms y.tracks.items) c.reserve.new.self.spare c.in_ok-piece.piece c.args.added.now.group.now c.args.added.now.start c.args.added.now.bytes.now c.args.added.now.last sized.short e.place e.none e.entry e.room c.in_ok-reserve.ensures.room.spare);
+          subst (λ (ss : List Shelf). IsReady ss (rooms y.tracks.items) (memory_of y) c.reserve.new.self.spare c.in_ok-piece.piece) (sym c.piece_for.ensures.keeps.lines)
+          (ready_put x.shelves.items (rooms y.tracks.items) (memory_of y) c.reserve.new.self.spare c.in_ok-piece.piece c.args.added.now.group.now c.args.added.now.start c.args.added.now.bytes.now c.args.added.now.last sized.short e.place e.none e.entry e.room (subst (λ (ss : List Shelf). HasGroupRoom (length ss) (memory_of y) c.in_ok-piece.piece.place) c.piece_for.ensures.keeps.lines e.groups) c.in_ok-reserve.ensures.room.spare);
       room = search rules;
     }

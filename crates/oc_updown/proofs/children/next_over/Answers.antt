@@ -1,4 +1,4 @@
-use Rattle.std.proofs.Common.{◌≡◌, ◌∙◌, [], ap, arith, drop, sym}
+use Rattle.std.proofs.Common.{◌≡◌, ◌∙◌, [], ap, arith, drop, length, sym}
 use Rattle.oc_model.specs.Leases.{next_ended}
 use Rattle.oc_updown.specs.TableView.{entries_of}
 use Rattle.oc_updown.proofs.Entries.{no_entries_past}
@@ -11,5 +11,6 @@ loop-place-init c = (next_begins c.args.me c.args.rows.now.items c.args.ends.now
 pub returns : goal.returns
 returns c =
     let rows = c.args.rows.now.items in
-    let none : entries_of (drop c.loop-place.place rows) ≡ [] = no_entries_past rows c.used-place-end.result c.loop-place.place _ _ c.loop-place-test.false c.used-place-end.ensures.rest c.requires.rows.1 in
+    let filled = c.filled-filled in
+    let none : entries_of (drop c.loop-place.place rows) ≡ [] = no_entries_past rows (length filled.result.now) c.loop-place.place _ _ (omega (arith, c.loop-place-test.false)) filled.ensures.rest c.requires.rows.1 in
     sym (ap (λ es. next_ended es c.args.me c.args.ends.now.items c.args.after c.args.now) none) ∙ c.loop-place.invariant.0

@@ -6,9 +6,9 @@ use Rattle.oc_base.proofs.slots.Slots.put.Goals as goal
 pub returns-clause-items : goal.returns-clause-items
 returns-clause-items g c =
     let before = c.self.inside in
-    let many : length (filled_up before.count before.blank before.written.items) ≡ before.count = filled_length before.count before.blank before.written.items c.self.invariant.0 in
+    let many : length (filled_up before.count before.blank before.written.items) ≡ before.count = filled_length before.count before.blank before.written.items c.self.invariant in
     let all : length (filled_up before.count before.blank before.written.items) ≡ length c.args.self.now.items = ap (λ v. length v.items) c.self.view_is in
-    let within : c.args.slot < before.count = omega (arith, c.requires, many, all) in
+    let within : c.args.slot < before.count = omega (arith, c.requires.slot, many, all) in
     ap (λ ws. filled_up before.count before.blank (set ws c.args.slot c.args.value)) c.write_up_to.ensures.items
-    ∙ put_written before.count c.args.slot before.blank c.args.value before.written.items c.self.invariant.0 within
+    ∙ put_written before.count c.args.slot before.blank c.args.value before.written.items c.self.invariant within
     ∙ ap (λ v. set v.items c.args.slot c.args.value) c.self.view_is

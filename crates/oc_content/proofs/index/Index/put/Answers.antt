@@ -32,4 +32,4 @@ returns-clause-added c = λ bodies groups honest is number.
     let fit = subst (λ (v : PieceView). fits (line_of v.entry.group ss) (length ss) v.entry.start (length v.entry.bytes) v.entry.seals ≡ true) (sym c.piece.view_is) c.requires.fits in
     let fits_count = subst (λ (n : ℕ). fits (line_of h.group ss) (length ss) h.start n h.seals ≡ true) (sym many) fit in
     subst (λ (v : PieceView). IsIndexOf (bodies ++ v.body ∷ []) (with_entry v.entry groups) c.add.new.self honest) c.piece.view_is
-    (IsIndexOf-add bodies groups c.args.self.now c.add.new.self honest h body count c.args.frame place is at fits_count many c.piece.invariant.says number c.add.ensures.lines c.add.ensures.paths (omega (arith, c.requires.sized.line_memory, c.add.ensures.line_memory)) (omega (arith, c.requires.sized.track_memory, c.add.ensures.track_memory)))
+    (IsIndexOf-add bodies groups c.args.self.now c.add.new.self honest h body count c.args.frame place is at fits_count many c.piece.invariant.says number c.add.ensures.lines c.add.ensures.paths)

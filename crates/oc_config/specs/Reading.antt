@@ -94,7 +94,7 @@ settings_with common places measures rules = Ok (record {
   rules = rules;
 })
 
--- the keys of the tables of nodes and of rules, in the order of the text, behind those at the top
+-- the keys of the tables of nodes and of rules, in the order of the text, after those at the top
 abbrev pub tables_known : List Section → List Section → Result (Unit {0}) ConfigFault
 tables_known nodes rules = do
   done ← all_known nodes

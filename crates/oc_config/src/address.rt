@@ -3,8 +3,8 @@ ghost use Rattle.std.specs.List.{list_all};
 ghost use Rattle.std.specs.Net.Reader.{read_ipv6, whole_value};
 ghost use Rattle.oc_config.specs.Addresses.{is_address, is_behind_host, is_bracketed, is_closed, is_everywhere, is_hostname, is_hostname_byte, is_ipv6, is_ipv6_byte, is_named, is_port, is_reachable};
 
+use oc_base::cut_at_first;
 use oc_base::words::number;
-use oc_http::cut_at_first;
 use std::net::Ipv6Addr;
 
 /// The greatest number of bytes of an address.
@@ -50,7 +50,7 @@ fn is_bracketed(text: &[u8]) -> bool
     }
 }
 
-/// Whether a text is an address of IPv6, the bracket behind it, `:` and a port.
+/// Whether a text is an address of IPv6, the bracket after it, `:` and a port.
 fn is_closed(rest: &[u8]) -> bool
     ensures { result ≡ is_closed rest.now }
 {

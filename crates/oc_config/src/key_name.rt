@@ -1,8 +1,9 @@
-ghost use Rattle.std.specs.Prelude.{◌≡◌, ◌≤◌, ◌++◌, drop, length};
+ghost use Rattle.std.specs.Prelude.{◌≡◌, ◌≤◌, length};
 ghost use Rattle.std.specs.List.{list_all};
 ghost use Rattle.oc_config.specs.Keys.{is_key_byte, is_plain_key, shown_key};
 ghost use Rattle.oc_config.specs.declared.key_name.TheConstants.{MAX_KEY_BYTES};
 
+use oc_base::put_in_front;
 use std::fmt;
 use std::marker::Model;
 
@@ -67,14 +68,6 @@ impl KeyName {
             len: key.len() as u8,
         }
     }
-}
-
-/// Copies a key to the front.
-fn put_in_front(bytes: &mut [u8], key: &[u8])
-    requires { length key.now ≤ length bytes.old }
-    ensures { bytes.new ≡ key.now ++ drop (length key.now) bytes.old }
-{
-    bytes[..key.len()].copy_from_slice(key);
 }
 
 /// Whether a fault shows a key as it is.

@@ -7,7 +7,7 @@ use Rattle.oc_link.specs.Calls.{IsFront}
 abbrev pub progress_line : ℕ → List ℕ
 progress_line count = codes "overcast: " ++ decimal count ++ codes " bytes\n"
 
--- the lines of this count of multiples, behind the one of this number
+-- the lines of this count of multiples, after the one of this number
 abbrev pub lines_behind : ℕ → ℕ → List ℕ
 lines_behind done zero = []
 lines_behind done (suc many) = progress_line ((done + 1) * PROGRESS_STEP) ++ lines_behind (done + 1) many

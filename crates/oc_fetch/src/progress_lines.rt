@@ -78,7 +78,7 @@ impl<E: Sink> ProgressLines<E> {
     }
 }
 
-/// Writes the lines of the multiples behind one of this number, up to the last.
+/// Writes the lines of the multiples after one of this number, up to the last.
 fn write_lines<E: Sink>(sink: &mut E, done: u64, last: u64) -> Result<(), Failed>
     requires ahead { done ≤ last }
     requires fits { last * PROGRESS_STEP < 2 ^ 64 }

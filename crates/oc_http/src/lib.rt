@@ -58,6 +58,6 @@ pub use oc_base::Text;
 pub use paths::{MESSAGE_PATH, PROBE_PATH};
 pub use reply::{Reply, ReplyHead};
 pub use target::path_and_query;
-pub use text::{cut_at_first, length_of};
+pub use text::length_of;
 pub use writing_replies::{write_reply_head, write_response, write_response_head};
 pub use writing_requests::{write_follow, write_get, write_probe, write_request};

@@ -3,8 +3,8 @@
 ghost use Rattle.std.specs.Prelude.{◌≡◌};
 ghost use Rattle.oc_http.specs.Targets.{is_absolute, from_slash, origin_form, path_of, query_of};
 
-use crate::text::{cut_at_first, is_alike};
-use oc_base::place_of;
+use crate::text::is_alike;
+use oc_base::{cut_at_first, place_of};
 
 /// How a target that has scheme and authority begins, in upper or lower case.
 const SCHEME: &str = "http://";

@@ -1,14 +1,13 @@
 //! Small tests and cuts of bytes.
 
-ghost use Rattle.std.specs.Prelude.{◌≡◌, ◌==◌, if◌then◌else◌, reverse};
-ghost use Rattle.std.specs.List.{before_first, after_first};
+ghost use Rattle.std.specs.Prelude.{◌≡◌, if◌then◌else◌, reverse};
 ghost use Rattle.std.specs.Str.Parse.{digits_value};
 ghost use Rattle.httparse.specs.Grammar.{skip_ows, trim_ows};
 ghost use Rattle.oc_http.specs.Fields.{is_alike, is_length, lists_close};
 
 use httparse::is_space_or_tab;
+use oc_base::cut;
 use oc_base::words::{are_digits, value_of};
-use oc_base::{cut, place_of};
 
 /// Whether two texts are the same, apart from upper and lower case.
 pub(crate) fn is_alike(a: &[u8], b: &str) -> bool
@@ -49,17 +48,6 @@ fn trim(bytes: &[u8]) -> &[u8]
     ensures { result.now ≡ trim_ows bytes.now }
 {
     trim_end(trim_start(bytes))
-}
-
-/// The bytes up to the first such byte, and what follows it.
-pub fn cut_at_first(bytes: &[u8], byte: u8) -> (&[u8], &[u8])
-    ensures before { result.0.now ≡ before_first (λ b. b == byte) bytes.now }
-    ensures after { result.1.now ≡ after_first (λ b. b == byte) bytes.now }
-{
-    match place_of(bytes, byte) {
-        Some(at) => (&bytes[..at], &bytes[at + 1..]),
-        None => (bytes, &[]),
-    }
 }
 
 /// Whether some part of a list at commas is `close`, in upper or lower case.

@@ -1,4 +1,4 @@
--- A story, and the calls behind it.
+-- A story, and the calls after it.
 use Rattle.std.proofs.Common.{◌≡◌, ℕ, ◌+◌, Option, None, Some, List, [], ◌∷◌, ◌++◌, refl, sym, ap, ◌∙◌, arith}
 use Rattle.std.proofs.lemmas.List.{append_assoc, append-nil}
 use Rattle.oc_link.specs.declared.call.Call.{Call}

@@ -9,7 +9,7 @@ use Rattle.oc_link.specs.Failures.{has_failed}
 pub record ArrivedView : Type 0 where
   -- the bytes that are left
   pub left : List ℕ
-  -- whether a call fails behind them
+  -- whether a call fails after them
   pub fails : Bool
   -- how many calls failed
   pub faults : ℕ

@@ -51,7 +51,7 @@ two_cuts-full = refl
 pub two_cuts-other : given 8 two_cuts ≡ []
 two_cuts-other = refl
 
--- Two requests of a byte each come at once. The connection is kept behind the first reply.
+-- Two requests of a byte each come at once. The connection is kept after the first reply.
 abbrev pub two_at_once : List Call
 two_at_once =
     acts.Next (asks 1 false) (97 ∷ 98 ∷ [])

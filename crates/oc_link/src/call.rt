@@ -7,7 +7,7 @@ use oc_base::{Bytes, Text};
 pub enum Call {
     /// It waits for connections at this address.
     Listen(Text),
-    /// `next` answered this event. These bytes came new: of a request those behind what had come before, and all
+    /// `next` answered this event. These bytes came new: of a request those after what had come before, and all
     /// of a reply.
     Next(LinkEvent, Bytes),
     /// The clock gave this number of seconds.

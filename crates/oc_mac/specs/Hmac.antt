@@ -6,7 +6,7 @@ use Rattle.sha2.specs.Sha256.{sha256}
 abbrev pub short_key : List ℕ → List ℕ
 short_key key = if nat_le (length key) 64 then key else sha256 key
 
--- zeros behind it fill the block up
+-- zeros after it fill the block up
 abbrev pub key_block : List ℕ → List ℕ
 key_block key = short_key key ++ replicate (64 - length (short_key key)) 0
 

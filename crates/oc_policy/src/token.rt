@@ -1,7 +1,8 @@
-ghost use Rattle.std.specs.Prelude.{◌≡◌, ◌≤◌, ◌++◌, drop, length, not, position, Some};
+ghost use Rattle.std.specs.Prelude.{◌≡◌, ◌≤◌, length, not, position, Some};
 ghost use Rattle.oc_policy.specs.Tokens.{is_shown, is_token_byte, parsed_token, token_fault};
 ghost use Rattle.oc_policy.specs.declared.token.TheConstants.{MAX_TOKEN_BYTES};
 
+use oc_base::put_in_front;
 use oc_mac::are_same;
 use std::fmt;
 use std::marker::Model;
@@ -91,14 +92,6 @@ impl Token {
             len: token.len() as u8,
         }
     }
-}
-
-/// Copies a token to the front.
-fn put_in_front(bytes: &mut [u8], token: &[u8])
-    requires { length token.now ≤ length bytes.old }
-    ensures { bytes.new ≡ token.now ++ drop (length token.now) bytes.old }
-{
-    bytes[..token.len()].copy_from_slice(token);
 }
 
 /// The first fault, in the order of [`TokenFault`].

@@ -33,7 +33,7 @@ IsSpent base post = (post.at < length base) ⊎ ((post.load.piece ≡ []) × (po
 abbrev post_at : ℕ → Load → Post
 post_at at load = record { at = at; load = load }
 
--- the POST of a load behind a base
+-- the POST of a load after a base
 abbrev post_of : List ℕ → Load → Post
 post_of base load = post_at (length base) load
 
@@ -41,7 +41,7 @@ post_of base load = post_at (length base) load
 abbrev IsOld : List ℕ → Load → Post → Type 0
 IsOld base load post = IsSpent base post ⊎ (post ≡ post_of base load)
 
--- the source while a load is sent behind a base
+-- the source while a load is sent after a base
 record Holds (base : List ℕ) (load : Load) (sealed : Bool) (source : SourceState) : Type 0 where
   content : (source.group.content ≡ base) ⊎ (source.group.content ≡ base ++ load.piece)
   lost : AllByRecursion (IsOld base load) source.lost
@@ -72,14 +72,14 @@ or_true : (b c : Bool) → c ≡ true → (b || c) ≡ true
 or_true true c e = refl
 or_true false c e = e
 
--- the content behind a load that a source takes at a place
+-- the content after a load that a source takes at a place
 content_taken : (base : List ℕ) (load : Load) (content : List ℕ) → (content ≡ base) ⊎ (content ≡ base ++ load.piece) → length base ≡ length content → content ++ load.piece ≡ base ++ load.piece
 content_taken base load content (inl e) same = ap (λ (c : List ℕ). c ++ load.piece) e
 content_taken base load content (inr e) same =
     let none = no_longer base load.piece (same ∙ ap length e) in
     rw (e, none) (simp (append-nil))
 
--- the seal behind it
+-- the seal after it
 sealed_taken : (load : Load) (before now : Bool) → (now ≡ before) ⊎ ((load.seals ≡ true) × (now ≡ true)) → (b : Bool) → load.seals ≡ b → ((now || load.seals) ≡ before) ⊎ ((load.seals ≡ true) × ((now || load.seals) ≡ true))
 sealed_taken load before now was true e = inr (e, or_true now load.seals e)
 sealed_taken load before now (inl same) false e = inl (or_false now load.seals e ∙ same)
@@ -135,7 +135,7 @@ arrive_holds base load sealed old new holds arrive =
 
 -- Turns
 
--- a source during turns, without what arrives behind them
+-- a source during turns, without what arrives after them
 abbrev Through : SourceState → List Turn → SourceState → Type 0
 Through old [] new = new ≡ old
 Through old (turn ∷ turns) new =
@@ -212,7 +212,7 @@ found_by (turn ∷ turns) failures group new progress leads (met, next, arrive, 
 
 -- A load is taken
 
--- what a client wants who sends a load behind a base
+-- what a client wants who sends a load after a base
 abbrev IsFor : List ℕ → Load → Doing → Type 0
 IsFor base load Finding = ⊥
 IsFor base load (Posting at behind tried) = (at ≡ length base) × (behind ≡ length base + length load.piece)
@@ -254,7 +254,7 @@ conflict base load sealed turns at behind told met new progress On true true e s
 conflict base load sealed turns at behind told met new progress On true false e sound for holds onward truth differs through = absurd (let e : Settled progress ≡ Ended (ends.Length told) = onward.1 in cc)
 conflict base load sealed turns at behind told met new progress On false c e sound for holds onward truth differs through = absurd (let e : Settled progress ≡ Ended (ends.Length told) = onward.1 in cc)
 
--- what is known of the turns behind one
+-- what is known of the turns after one
 abbrev Later : List ℕ → Load → Bool → List Turn → SourceState → Progress → Type 0
 Later base load sealed turns new progress =
     (doing : Doing) (failures : ℕ) (old : SourceState) → IsFor base load doing → Holds base load sealed old → LeadsTo load (record { doing = doing; failures = failures }) turns (Settled progress) → Through old turns new → IsTaken base load sealed new progress
@@ -332,7 +332,7 @@ begins_load base load sealed source stands = record {
   sealed_is = inl stands.sealed_is;
 }
 
--- behind bytes that are taken, what was sent before is spent
+-- after bytes that are taken, what was sent before is spent
 now_spent : (base piece : List ℕ) (post : Post) → IsOld base (bytes piece) post → IsSpent (base ++ piece) post
 now_spent base piece post (inl (inl less)) = inl (omega (arith, less, length-append base piece))
 now_spent base piece post (inl (inr idle)) = inr idle
@@ -355,7 +355,7 @@ behind_piece base piece sealed new progress is = record {
   sealed_is = seal_stays piece sealed new.group.sealed is.holds.sealed_is;
 }
 
--- what is known behind some pieces
+-- what is known after some pieces
 record IsThere (base : List ℕ) (sealed : Bool) (new : SourceState) (progress : Progress) : Type 0 where
   stands : Stands base sealed new
   length_is : progress.length ≡ length base

@@ -25,7 +25,7 @@ use Rattle.oc_put.specs.declared.publication.WriteMode.TheVariants.{New, Append,
 use Rattle.oc_put.specs.declared.publication.Publication.{Publication}
 use Rattle.oc_put.specs.declared.input.TheConstants.{PIECE_BYTES}
 
--- Pieces behind pieces
+-- Pieces after pieces
 
 pub sends_then : (progress : Progress) (loads more : List Load) (first rest : List Turn) (middle reached : Progress) → Sends progress loads first middle → Sends middle more rest reached → Sends progress (loads ++ more) (first ++ rest) reached
 sends_then progress [] more first rest middle reached p q =
@@ -143,7 +143,7 @@ came_of_turns gives fails a b came ends.Link is p = p
 came_of_turns gives fails a b came ends.Input is p = absurd is
 came_of_turns gives fails a b came ends.Memory is p = p
 
--- bytes behind bytes of an input
+-- bytes after bytes of an input
 pub came_behind : {S : Type 0} (gives fails : S → List ℕ → S → Type 0) → ((a b c : S) (x y : List ℕ) → gives a x b → gives b y c → gives a (x ++ y) c) → ((a b c : S) (x y : List ℕ) → gives a x b → fails b y c → fails a (x ++ y) c) → (a b c : S) (x y : List ℕ) (end : PutEnd) → gives a x b → Came gives fails b y c end → Came gives fails a (x ++ y) c end
 came_behind gives fails both last a b c x y ends.Done p q = both a b c x y p q
 came_behind gives fails both last a b c x y ends.BadUrl p q = both a b c x y p q

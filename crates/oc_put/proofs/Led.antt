@@ -24,7 +24,7 @@ use Rattle.oc_put.proofs.Making.{made_none, made_then, made_one}
 
 -- One turn more
 
--- where an answer leads, with no turn behind it
+-- where an answer leads, with no turn after it
 onward_last : (load : Load) (next : Next) → Onward (λ further. LeadsTo load further [] next) next [] next
 onward_last load (Again further) = refl
 onward_last load (Settled progress) = (refl, refl)

@@ -21,7 +21,7 @@ grew_none takes fails laws a = grows_nothing takes fails laws.none laws.both law
 pub grew_both : {E : Type 0} (takes fails : E → List ℕ → E → Type 0) → Laws takes fails → (a b c : ProgressLines E) (m n : ℕ) → Grows takes fails a m b → Grows takes fails b n c → Grows takes fails a (m + n) c
 grew_both takes fails laws a b c m n f s = grows_both takes fails laws.none laws.both laws.last a b c m n f s
 
--- one count behind another
+-- one count after another
 pub grew_then : {E : Type 0} (takes fails : E → List ℕ → E → Type 0) → Laws takes fails → (a b c : ProgressLines E) (x y : List ℕ) (n m : ℕ) → n ≡ length x → m ≡ length y → Grows takes fails a n b → Grows takes fails b m c → Grows takes fails a (length (x ++ y)) c
 grew_then takes fails laws a b c x y n m first second f s =
     grows_then takes fails laws.none laws.both laws.last a b c x y (subst (λ (k : ℕ). Grows takes fails a k b) first f) (subst (λ (k : ℕ). Grows takes fails b k c) second s)

@@ -19,7 +19,7 @@ use Rattle.oc_put.proofs.Making.{made_none, made_then}
 pub carried_none : {S : Type 0} (gives : S → List ℕ → S → Type 0) → ((s : S) → gives s [] s) → (goal : Goal) (found : Progress) (o : Option Story) (s : S) → HasCarried gives goal found o o s s found []
 carried_none gives none goal found o s = record { turns = []; sends = (refl, refl); full = tt; made = made_none goal o; came = none s }
 
--- one piece behind others
+-- one piece after others
 sends_piece : (found reached next : Progress) (pieces : List (List ℕ)) (piece : List ℕ) (first rest : List Turn) → Sends found (map bytes pieces) first reached → Sends reached (bytes piece ∷ []) rest next → Sends found (map bytes (pieces ++ piece ∷ [])) (first ++ rest) next
 sends_piece found reached next pieces piece first rest p q =
     subst (λ (loads : List Load). Sends found loads (first ++ rest) next) (sym (bytes_more pieces piece)) (sends_then found (map bytes pieces) (bytes piece ∷ []) first rest reached next p q)
@@ -37,7 +37,7 @@ carried_more gives both goal found reached next a b c s t u pieces piece has cam
   came = came_piece gives both s t u pieces piece has.came came;
 }
 
--- the input ended behind full pieces
+-- the input ended after full pieces
 pub carried_all : {S : Type 0} (gives : S → List ℕ → S → Type 0) (ended : S → Type 0) → ((a b c : S) (x y : List ℕ) → gives a x b → gives b y c → gives a (x ++ y) c) → (place : WriteMode) (goal : Goal) (found reached : Progress) (a b : Option Story) (s t u : S) (pieces : List (List ℕ)) (piece : List ℕ) → HasCarried gives goal found a b s t reached pieces → gives t piece u → piece ≡ [] → ended u → (sends_empty place ≡ false) ⊎ (pieces ≢ []) → IsCarried gives ended place goal found a b s u reached
 carried_all gives ended both place goal found reached a b s t u pieces piece has came none end later = record {
   pieces = pieces;

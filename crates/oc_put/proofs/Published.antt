@@ -19,7 +19,7 @@ use Rattle.oc_put.specs.declared.publication.Publication.{Publication}
 use Rattle.oc_put.proofs.Carried.{IsOfTurns, ends_of_turns, refuses_of_turns, came_of_turns, came_behind, stops_publishing}
 use Rattle.oc_put.proofs.Making.{made_none, made_then}
 
--- what a source promises of bytes behind bytes
+-- what a source promises of bytes after bytes
 pub record Joins {S : Type 0} (gives fails : S → List ℕ → S → Type 0) : Type 0 where
   pub none : (a : S) → gives a [] a
   pub both : (a b c : S) (x y : List ℕ) → gives a x b → gives b y c → gives a (x ++ y) c

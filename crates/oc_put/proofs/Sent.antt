@@ -21,7 +21,7 @@ use Rattle.oc_put.specs.declared.end.PutEnd.TheVariants as ends
 use Rattle.oc_put.specs.declared.load.Load.{Load}
 use Rattle.oc_put.proofs.Making.{made_none}
 
--- How long the group is behind it
+-- How long the group is after it
 
 -- what is sent ends here
 abbrev IsAbout : ℕ → Doing → Type 0

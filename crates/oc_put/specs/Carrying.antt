@@ -59,7 +59,7 @@ pub record IsCarried {S : Type 0} (gives : S → List ℕ → S → Type 0) (end
   pub came : gives before (joined pieces) after
   pub over : ended after
 
--- behind full pieces no further one comes
+-- after full pieces no further one comes
 pub record IsCutBetween {S : Type 0} (gives fails : S → List ℕ → S → Type 0) (goal : Goal) (found : Progress) (old new : Option Story) (before after : S) (end : PutEnd) : Type 0 where
   pub pieces : List (List ℕ)
   pub reached : Progress
@@ -71,7 +71,7 @@ pub record IsCutBetween {S : Type 0} (gives fails : S → List ℕ → S → Typ
   pub came : Came gives fails before (joined pieces ++ part) after end
   pub missing : IsMissing part end
 
--- behind full pieces the next one came, and is not taken
+-- after full pieces the next one came, and is not taken
 pub record IsRefusedAt {S : Type 0} (gives : S → List ℕ → S → Type 0) (place : WriteMode) (goal : Goal) (found : Progress) (old new : Option Story) (before after : S) (end : PutEnd) : Type 0 where
   pub pieces : List (List ℕ)
   pub reached : Progress

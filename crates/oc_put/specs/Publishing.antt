@@ -42,9 +42,9 @@ AreSome (piece ∷ next ∷ pieces) = IsFull piece × AreSome (next ∷ pieces)
 abbrev pub AreCut : WriteMode → List (List ℕ) → Type 0
 AreCut place pieces = (AreSome pieces × ((sends_empty place ≡ false) ⊎ (pieces ≢ []))) ⊎ ((pieces ≡ [] ∷ []) × (sends_empty place ≡ true))
 
--- One behind another
+-- One after another
 
--- each of these is sent behind the one before, and taken
+-- each of these is sent after the one before, and taken
 abbrev pub Sends : Progress → List Load → List Turn → Progress → Type 0
 Sends progress [] turns reached = (turns ≡ []) × (reached ≡ progress)
 Sends progress (load ∷ loads) turns reached =
@@ -88,7 +88,7 @@ pub record IsDone (plan : Publication) (turns : List Turn) (input : List ℕ) : 
 
 -- How it ends otherwise
 
--- these turns led to an end, or memory ran out behind them
+-- these turns led to an end, or memory ran out after them
 abbrev pub Ends : Load → Effort → List Turn → PutEnd → Type 0
 Ends load effort turns end =
     LeadsTo load effort turns (Ended end)
@@ -107,7 +107,7 @@ pub record StopsBefore (place : WriteMode) (turns : List Turn) (input : List ℕ
   pub finds : LeadsTo nothing finding turns (Settled found)
   pub why : DoesNotBegin place found.length input over end
 
--- the next piece does not come: a call on the input failed behind some of it, or memory ran out
+-- the next piece does not come: a call on the input failed after some of it, or memory ran out
 abbrev pub IsMissing : List ℕ → PutEnd → Type 0
 IsMissing part ends.Input = ⊤
 IsMissing part ends.Memory = part ≡ []
@@ -124,7 +124,7 @@ pub record StopsBetween (place : WriteMode) (turns : List Turn) (input : List �
   pub input_is : input ≡ came ++ part
   pub missing : IsMissing part end
 
--- what is sent next behind these pieces
+-- what is sent next after these pieces
 abbrev pub IsNext : Publication → List (List ℕ) → Load → Type 0
 IsNext plan pieces load =
     ((piece : List ℕ) × (load ≡ bytes piece) × AreCut plan.place (pieces ++ piece ∷ []))

@@ -27,7 +27,7 @@ abbrev pub may_take : SourceGroup → Post → Bool
 may_take group post =
     post.at == length group.content && (post.load.seals || not group.sealed) && (group.held || not post.load.seals)
 
--- the group behind it
+-- the group after it
 abbrev pub taken : Post → SourceGroup → SourceGroup
 taken post group = record {
   held = true;
@@ -86,7 +86,7 @@ Serves old (turn ∷ turns) new =
 abbrev pub fresh : SourceGroup → SourceState
 fresh group = record { group = group; lost = [] }
 
--- what is in a group behind an input, and what was before
+-- what is in a group after an input, and what was before
 abbrev pub IsAdded : WriteMode → List ℕ → List ℕ → List ℕ → Type 0
 IsAdded New input before after = (before ≡ []) × (after ≡ input)
 IsAdded Append input before after = after ≡ before ++ input

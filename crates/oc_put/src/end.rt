@@ -14,7 +14,7 @@ pub enum PutEnd {
     BadUrl,
     /// A reply has this status, which says neither that bytes were taken nor how long the group is.
     Refused(u16),
-    /// The group has this many bytes, with which the next piece does not belong behind them.
+    /// The group has this many bytes, with which the next piece does not belong after them.
     Length(u64),
     /// The input ended before as many bytes as the group has.
     Short,

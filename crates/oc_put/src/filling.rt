@@ -6,7 +6,7 @@ ghost use Rattle.oc_put.specs.Filling.{Fills};
 
 use oc_io::{Failed, Source};
 
-/// Reads into a buffer behind its first `done` bytes, and gives how many are filled then: no more than before
+/// Reads into a buffer after its first `done` bytes, and gives how many are filled then: no more than before
 /// only at the end of the source.
 pub(crate) fn read_on<S: Source>(
     source: &mut S,

@@ -5,7 +5,7 @@ ghost use Rattle.std.specs.Prelude.{◌≡◌};
 pub enum WriteMode {
     /// Into a group that has no bytes yet.
     New,
-    /// Behind what the group has.
+    /// After what the group has.
     Append,
     /// The group has the first bytes of the input, which are not sent again.
     Resume,

@@ -27,9 +27,9 @@ use oc_link::Dialler;
 use std::alloc::Global;
 
 /// Publishes an input at a URL, an `http` URL with a host, without a user and a password: into a group that has no
-/// bytes yet, behind what it has, or from where an earlier publishing of the same input stopped. Where the whole
+/// bytes yet, after what it has, or from where an earlier publishing of the same input stopped. Where the whole
 /// input is empty the group is made. The place is asked for first, and nothing of the input is read before it is
-/// known. Behind each failure but the fifth without anything done between, it pauses and tries again. What of the input is
+/// known. After each failure but the fifth without anything done between, it pauses and tries again. What of the input is
 /// in the group is told as it grows.
 pub fn put<L: Dialler, S: Source, P: Pause, E: Sink>(
     alloc: Global,
@@ -137,7 +137,7 @@ fn passed_over(place: WriteMode, found: u64) -> u64
     }
 }
 
-/// Sends the rest of the input, piece by piece, each behind the one before.
+/// Sends the rest of the input, piece by piece, each after the one before.
 fn carry<L: Dialler, S: Source, P: Pause, E: Sink>(
     job: &Job<'_>,
     found: Progress,

@@ -42,7 +42,7 @@ pub(crate) fn find<L: Dialler, P: Pause>(
     settle(job, &load, effort, room, link, pause)
 }
 
-/// Has this taken behind what the group has. No group has more than `MAX_GROUP_BYTES`.
+/// Has this taken after what the group has. No group has more than `MAX_GROUP_BYTES`.
 pub(crate) fn send<L: Dialler, P: Pause>(
     job: &Job<'_>,
     load: &Load,
@@ -73,7 +73,7 @@ pub(crate) fn send<L: Dialler, P: Pause>(
     settle(job, load, effort, room, link, pause)
 }
 
-/// Makes one request after another, until one settles it. Behind a failure it waits.
+/// Makes one request after another, until one settles it. After a failure it waits.
 fn settle<L: Dialler, P: Pause>(
     job: &Job<'_>,
     load: &Load,

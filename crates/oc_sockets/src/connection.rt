@@ -317,7 +317,7 @@ impl Connection {
 
     /// Once all went out, tells the peer that nothing more comes, and gives it time to end. Were the socket closed
     /// while something comes, the system would send a reset, which may overtake the reply. Where the whole request
-    /// came and nothing behind it, and the reply is short, a close is as good.
+    /// came and nothing after it, and the reply is short, a close is as good.
     fn end(&mut self, now: u64) {
         if !self.unsent.is_empty() || self.incoming.has_failed {
             return;
@@ -416,7 +416,7 @@ impl Connection {
         Fate::Tells(LinkEvent::Request(self.arrival()))
     }
 
-    /// Its request as it is told. Of one that came whole it does not matter what came behind it.
+    /// Its request as it is told. Of one that came whole it does not matter what came after it.
     fn arrival(&self) -> Arrival {
         let is_ripe = self.incoming.is_ripe(self.is_fed);
         let coming = if !is_ripe && (self.incoming.has_failed || self.is_late) {

@@ -95,7 +95,7 @@ impl Incoming {
         moved
     }
 
-    /// Looks at the head, where a line of it ended behind the first `before` bytes or it is as long as it may be.
+    /// Looks at the head, where a line of it ended after the first `before` bytes or it is as long as it may be.
     /// So it is looked at once a line, however slowly its bytes come.
     pub(crate) fn look(&mut self, tools: &mut Tools, before: usize) {
         if self.outline.is_some() || self.is_hopeless {

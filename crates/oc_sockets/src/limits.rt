@@ -54,7 +54,7 @@ pub(crate) const BEGIN_MILLIS: u64 = 25_000;
 
 pub(crate) const DIAL_MILLIS: u64 = 300_000;
 
-/// For how long what was given is sent on behind the last turn of a run.
+/// For how long what was given is sent on after the last turn of a run.
 pub(crate) const FINISH_MILLIS: u64 = 2_000;
 
 /// After how many milliseconds those whose time has run out are looked for again.

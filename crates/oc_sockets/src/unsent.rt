@@ -29,7 +29,7 @@ impl Unsent {
         self.len() == 0
     }
 
-    /// Has these bytes go out behind the others; false where there is no memory for them. What was sent is dropped
+    /// Has these bytes go out after the others; false where there is no memory for them. What was sent is dropped
     /// first, so that the buffer is not longer than what is to go out.
     pub(crate) fn put(&mut self, tools: &Tools, bytes: &[u8]) -> bool {
         if self.sent == 0 {

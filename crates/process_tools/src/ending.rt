@@ -105,7 +105,7 @@ fn told_difference(
     Ok(Some(format!(in rt.alloc(); "line {} of the {}, {}", number, name, shown(line))?))
 }
 
-/// Tells the first of some lines that a text does not have, behind the others.
+/// Tells the first of some lines that a text does not have, after the others.
 fn told_missing(rt: &HostRuntime, seen: &[u8], wanted: &[u8]) -> io::Result<Option<String>> {
     let Some(line) = first_missing(seen, wanted) else {
         return Ok(None);

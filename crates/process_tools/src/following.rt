@@ -10,7 +10,7 @@ const GROUP: &str = "/news/c";
 
 const HERE: &str = "/news/c?here";
 
-/// What is published before the kill, what is published behind it, and both.
+/// What is published before the kill, what is published after it, and both.
 const FIRST: &str = "some bytes, ";
 
 const SECOND: &str = "and some more";

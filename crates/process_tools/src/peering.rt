@@ -60,7 +60,7 @@ fn play_beside(
     }
 }
 
-/// Takes the connections that come, one after the other. What is done on each begins with `accept`, and behind it the
+/// Takes the connections that come, one after the other. What is done on each begins with `accept`, and after it the
 /// connection is dropped: where not all that came was read, the system then sends a reset.
 fn play_peer(rt: &HostRuntime, listener: &TcpListener, steps: &str) -> io::Result<Option<String>> {
     let mut rest = steps.strip_prefix("accept ^ ").unwrap_or(steps);

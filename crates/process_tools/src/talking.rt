@@ -11,7 +11,7 @@ use test_tools::spelled_in;
 /// How long a byte is waited for at most, and the peer's end, in milliseconds.
 const PATIENCE_MILLIS: u64 = 15_000;
 
-/// How much is read at a time, in bytes, and the pause behind each piece where it is read slowly.
+/// How much is read at a time, in bytes, and the pause after each piece where it is read slowly.
 const PIECE: usize = 65_536;
 
 const SLOW_MILLIS: u64 = 10;
@@ -136,7 +136,7 @@ fn spelled(rt: &HostRuntime, text: &str) -> io::Result<Vec<u8>> {
     spelled_in(rt.alloc(), text).map_err(|_| no_row())
 }
 
-/// Reads as many bytes as a text spells, with a pause behind each piece, and tells what came in the place of one of them.
+/// Reads as many bytes as a text spells, with a pause after each piece, and tells what came in the place of one of them.
 fn hear(
     rt: &HostRuntime,
     stream: &mut TcpStream,
@@ -175,7 +175,7 @@ fn hear_end(rt: &HostRuntime, stream: &mut TcpStream) -> io::Result<Option<Strin
     told_bytes(rt, 0, b"more")
 }
 
-/// Tells what came behind the first `heard` bytes.
+/// Tells what came after the first `heard` bytes.
 fn told_bytes(rt: &HostRuntime, heard: usize, came: &[u8]) -> io::Result<Option<String>> {
     let front = came.get(..TOLD).unwrap_or(came);
     let text = std::str::from_utf8(front).unwrap_or("no text").trim_end();

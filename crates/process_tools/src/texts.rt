@@ -70,7 +70,7 @@ pub fn excerpt(alloc: Global, text: &[u8], like: &[u8]) -> io::Result<Vec<u8>> {
     Ok(out)
 }
 
-/// The first of the lines that are wanted which is not among those of the text, behind the ones before it.
+/// The first of the lines that are wanted which is not among those of the text, after the ones before it.
 pub fn first_missing<'w>(text: &[u8], wanted: &'w [u8]) -> Option<&'w [u8]> {
     let mut rest = text;
     for line in wanted.split(is_end) {

@@ -4,7 +4,7 @@ ghost use Rattle.std.specs.Prelude.{◌≡◌, ◌++◌, OnOk};
 ghost use Rattle.oc_replay.specs.Bodies.{body_text, node_or_zero, rank_or_dash, rank_text, tree_text, why_text};
 
 use crate::items::{put_count, put_list};
-use crate::texts::put_mark;
+use crate::texts::{put_byte, put_byte_number, put_mark};
 use oc_base::{
     Cert, Child, GroupName, Memory, NodeId, Rank, Refusal, Shelf, put, put_number, put_with_number,
 };
@@ -70,10 +70,10 @@ fn put_look_is(
 {
     put(out, b"lookis ")?;
     put(out, tree_word(in_tree).as_bytes())?;
-    put(out, b" ")?;
+    put_byte(out, b' ')?;
     put_node_or_zero(out, parent)?;
-    put_with_number(out, b" ", rate)?;
-    put(out, b" ")?;
+    put_byte_number(out, b' ', rate)?;
+    put_byte(out, b' ')?;
     put_list(out, children)
 }
 
@@ -89,7 +89,7 @@ fn put_node_or_zero(out: &mut Vec<u8>, node: Option<NodeId>) -> Result<(), Memor
     ensures { OnOk result (out.new.items ≡ out.old.items ++ node_or_zero node) }
 {
     match node {
-        None => put(out, b"0"),
+        None => put_byte(out, b'0'),
         Some(node) => put_number(out, u64::from(node.0)),
     }
 }
@@ -99,7 +99,7 @@ fn put_ask(out: &mut Vec<u8>, seq: u64, rank: Option<Rank>) -> Result<(), Memory
     ensures { OnOk result (out.new.items ≡ out.old.items ++ body_text (Body.Ask seq rank)) }
 {
     put_with_number(out, b"ask ", seq)?;
-    put(out, b" ")?;
+    put_byte(out, b' ')?;
     put_rank_or_dash(out, rank)
 }
 
@@ -108,7 +108,7 @@ pub fn put_rank_or_dash(out: &mut Vec<u8>, rank: Option<Rank>) -> Result<(), Mem
     ensures { OnOk result (out.new.items ≡ out.old.items ++ rank_or_dash rank) }
 {
     match rank {
-        None => put(out, b"-"),
+        None => put_byte(out, b'-'),
         Some(rank) => put_rank(out, rank),
     }
 }
@@ -118,7 +118,7 @@ fn put_rank(out: &mut Vec<u8>, rank: Rank) -> Result<(), Memory>
     ensures { OnOk result (out.new.items ≡ out.old.items ++ rank_text rank) }
 {
     put_number(out, rank.epoch)?;
-    put_with_number(out, b".", u64::from(rank.depth))
+    put_byte_number(out, b'.', u64::from(rank.depth))
 }
 
 /// Puts `yes S E.D [ids]`.
@@ -126,9 +126,9 @@ fn put_yes(out: &mut Vec<u8>, seq: u64, rank: Rank, ancestors: &[NodeId]) -> Res
     ensures { OnOk result (out.new.items ≡ out.old.items ++ body_text (Body.Yes seq rank ancestors.now)) }
 {
     put_with_number(out, b"yes ", seq)?;
-    put(out, b" ")?;
+    put_byte(out, b' ')?;
     put_rank(out, rank)?;
-    put(out, b" ")?;
+    put_byte(out, b' ')?;
     put_list(out, ancestors)
 }
 
@@ -137,7 +137,7 @@ fn put_no(out: &mut Vec<u8>, seq: u64, why: Refusal) -> Result<(), Memory>
     ensures { OnOk result (out.new.items ≡ out.old.items ++ body_text (Body.No seq why)) }
 {
     put_with_number(out, b"no ", seq)?;
-    put(out, b" ")?;
+    put_byte(out, b' ')?;
     put_why(out, why)
 }
 
@@ -166,9 +166,9 @@ fn put_check_in(
     ensures { OnOk result (out.new.items ≡ out.old.items ++ body_text (Body.CheckIn seq upto rate 0 0 certs.now)) }
 {
     put_with_number(out, b"checkin ", seq)?;
-    put_with_number(out, b" ", upto)?;
-    put_with_number(out, b" ", rate)?;
-    put(out, b" ")?;
+    put_byte_number(out, b' ', upto)?;
+    put_byte_number(out, b' ', rate)?;
+    put_byte(out, b' ')?;
     put_list(out, certs)
 }
 
@@ -183,10 +183,10 @@ fn put_check_ack(
     ensures { OnOk result (out.new.items ≡ out.old.items ++ body_text (Body.CheckAck seq upto rank ancestors.now)) }
 {
     put_with_number(out, b"checkack ", seq)?;
-    put_with_number(out, b" ", upto)?;
-    put(out, b" ")?;
+    put_byte_number(out, b' ', upto)?;
+    put_byte(out, b' ')?;
     put_rank(out, rank)?;
-    put(out, b" ")?;
+    put_byte(out, b' ')?;
     put_list(out, ancestors)
 }
 
@@ -210,8 +210,8 @@ fn put_chunk(
 {
     put(out, b"chunk ")?;
     put(out, group.bytes())?;
-    put_with_number(out, b" ", start)?;
-    put(out, b" ")?;
+    put_byte_number(out, b' ', start)?;
+    put_byte(out, b' ')?;
     put_bytes(out, bytes)?;
     put_mark(out, last, " last")
 }

@@ -4,7 +4,7 @@ ghost use Rattle.std.specs.Prelude.{◌≡◌, ℕ, List, [], ◌++◌, OnOk, de
 ghost use Rattle.oc_replay.specs.Bodies.{cert_text, child_text, count_text, list_text, pair_text, sign_text, spaced};
 ghost use Rattle.oc_replay.specs.Shows.{listed_text};
 
-use crate::texts::put_mark;
+use crate::texts::{put_byte, put_byte_number, put_mark};
 use oc_base::{Cert, Child, Line, Memory, NodeId, Shelf, put, put_number, put_with_number};
 
 /// What a list contains.
@@ -21,9 +21,9 @@ pub(crate) trait ListItem {
 pub(crate) fn put_list<I: ListItem>(out: &mut Vec<u8>, items: &[I]) -> Result<(), Memory>
     ensures { OnOk result (out.new.items ≡ out.old.items ++ list_text I.text items.now) }
 {
-    put(out, b"[")?;
+    put_byte(out, b'[')?;
     put_spaced(out, items)?;
-    put(out, b"]")
+    put_byte(out, b']')
 }
 
 /// Puts the items, with a space between each two.
@@ -35,7 +35,7 @@ fn put_spaced<I: ListItem>(out: &mut Vec<u8>, items: &[I]) -> Result<(), Memory>
     };
     first.put(out)?;
     for item in rest {
-        put(out, b" ")?;
+        put_byte(out, b' ')?;
         item.put(out)?;
     }
     Ok(())
@@ -54,7 +54,7 @@ impl ListItem for Shelf {
 
     fn put(&self, out: &mut Vec<u8>) -> Result<(), Memory> {
         put(out, self.group.bytes())?;
-        put_with_number(out, b"@", self.held)?;
+        put_byte_number(out, b'@', self.held)?;
         put_mark(out, self.sealed, "!")
     }
 }
@@ -64,7 +64,7 @@ impl ListItem for Child {
 
     fn put(&self, out: &mut Vec<u8>) -> Result<(), Memory> {
         put_number(out, u64::from(self.id.0))?;
-        put_with_number(out, b":", self.rate)
+        put_byte_number(out, b':', self.rate)
     }
 }
 
@@ -73,8 +73,8 @@ impl ListItem for Cert {
 
     fn put(&self, out: &mut Vec<u8>) -> Result<(), Memory> {
         put_number(out, u64::from(self.subject.0))?;
-        put_with_number(out, b"/", self.seq)?;
-        put_with_number(out, b"/", u64::from(self.parent.0))?;
+        put_byte_number(out, b'/', self.seq)?;
+        put_byte_number(out, b'/', u64::from(self.parent.0))?;
         put(out, sign(self.dead).as_bytes())?;
         put_count(out, "", self.number, self.clients)
     }
@@ -85,7 +85,7 @@ impl ListItem for Line {
 
     fn put(&self, out: &mut Vec<u8>) -> Result<(), Memory> {
         put_number(out, u64::from(self.node.0))?;
-        put_with_number(out, b"<", u64::from(self.parent.0))
+        put_byte_number(out, b'<', u64::from(self.parent.0))
     }
 }
 
@@ -107,7 +107,7 @@ pub(crate) fn put_count(
 {
     if number != 0 {
         put_with_number(out, before.as_bytes(), number)?;
-        put_with_number(out, b":", clients)?;
+        put_byte_number(out, b':', clients)?;
     }
     Ok(())
 }

@@ -4,7 +4,7 @@ ghost use Rattle.std.specs.Prelude.{◌≡◌, ◌++◌, OnOk, IfOk};
 ghost use Rattle.oc_replay.specs.Lines.{answer_text, word_text, event_line, message_line, held_line, held_text, end_line};
 
 use crate::bodies::put_body;
-use crate::texts::put_mark;
+use crate::texts::{put_byte, put_byte_number, put_mark};
 use oc_base::{Memory, Shelf, put, put_with_number};
 use oc_model::{Answer, Message, Word};
 use std::alloc::Global;
@@ -13,10 +13,10 @@ use std::alloc::Global;
 pub fn put_event(out: &mut Vec<u8>, number: u64, word: &Word) -> Result<(), Memory>
     ensures { OnOk result (out.new.items ≡ out.old.items ++ event_line number word.now) }
 {
-    put_with_number(out, b"#", number)?;
-    put(out, b" ")?;
+    put_byte_number(out, b'#', number)?;
+    put_byte(out, b' ')?;
     put_word(out, word)?;
-    put(out, b"\n")
+    put_byte(out, b'\n')
 }
 
 /// Puts the word of an event.
@@ -63,11 +63,11 @@ pub fn put_message(out: &mut Vec<u8>, number: u64, message: &Message) -> Result<
     ensures { OnOk result (out.new.items ≡ out.old.items ++ message_line number message.now) }
 {
     put_with_number(out, b"  m", number)?;
-    put_with_number(out, b" ", u64::from(message.from.0))?;
-    put_with_number(out, b">", u64::from(message.to.0))?;
-    put(out, b" ")?;
+    put_byte_number(out, b' ', u64::from(message.from.0))?;
+    put_byte_number(out, b'>', u64::from(message.to.0))?;
+    put_byte(out, b' ')?;
     put_body(out, &message.body)?;
-    put(out, b"\n")
+    put_byte(out, b'\n')
 }
 
 /// Puts the block of `held`: a line for each group, in the order in which they come.
@@ -86,9 +86,9 @@ fn put_held_line(out: &mut Vec<u8>, line: &Shelf) -> Result<(), Memory>
 {
     put(out, b"  ")?;
     put(out, line.group.bytes())?;
-    put_with_number(out, b" ", line.held)?;
+    put_byte_number(out, b' ', line.held)?;
     put_mark(out, line.sealed, " sealed")?;
-    put(out, b"\n")
+    put_byte(out, b'\n')
 }
 
 /// Puts `end E M`: how many events there were, and how many messages.
@@ -96,8 +96,8 @@ pub fn put_end(out: &mut Vec<u8>, events: u64, messages: u64) -> Result<(), Memo
     ensures { OnOk result (out.new.items ≡ out.old.items ++ end_line events messages) }
 {
     put_with_number(out, b"end ", events)?;
-    put_with_number(out, b" ", messages)?;
-    put(out, b"\n")
+    put_byte_number(out, b' ', messages)?;
+    put_byte(out, b'\n')
 }
 
 /// The block of `held`, as a text of its own.

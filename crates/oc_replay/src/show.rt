@@ -5,6 +5,7 @@ ghost use Rattle.oc_replay.specs.Shows.{list_line, mode_text, node_line, show_te
 
 use crate::bodies::put_rank_or_dash;
 use crate::items::{ListItem, put_list};
+use crate::texts::{put_byte, put_byte_number};
 use oc_base::{Memory, NodeId, put, put_with_number};
 use oc_model::{Mode, NodeStatus};
 use std::alloc::Global;
@@ -35,9 +36,9 @@ fn put_list_line<I: ListItem>(out: &mut Vec<u8>, word: &str, items: &[I]) -> Res
 {
     put(out, b"  ")?;
     put(out, word.as_bytes())?;
-    put(out, b" ")?;
+    put_byte(out, b' ')?;
     put_list(out, items)?;
-    put(out, b"\n")
+    put_byte(out, b'\n')
 }
 
 /// Puts `  node N STATE MODE seq S rank RANK log A/L`.
@@ -45,16 +46,16 @@ fn put_node_line(out: &mut Vec<u8>, node: NodeId, status: &NodeStatus) -> Result
     ensures { OnOk result (out.new.items ≡ out.old.items ++ node_line node status.now) }
 {
     put_with_number(out, b"  node ", u64::from(node.0))?;
-    put(out, b" ")?;
+    put_byte(out, b' ')?;
     put(out, state_word(status.up).as_bytes())?;
-    put(out, b" ")?;
+    put_byte(out, b' ')?;
     put_mode(out, status.mode)?;
     put_with_number(out, b" seq ", status.seq)?;
     put(out, b" rank ")?;
     put_rank_or_dash(out, status.rank)?;
     put_with_number(out, b" log ", status.acked)?;
-    put_with_number(out, b"/", status.length)?;
-    put(out, b"\n")
+    put_byte_number(out, b'/', status.length)?;
+    put_byte(out, b'\n')
 }
 
 /// Whether a node is up.

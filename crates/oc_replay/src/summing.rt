@@ -15,7 +15,8 @@ ghost use Rattle.oc_replay.specs.Summary.{FitsWith, count_line, plus, run_summar
 use crate::Stage;
 use crate::fault::ReportFault;
 use crate::playing::play;
-use oc_base::{Memory, NodeId, held_in_all, put, put_with_number};
+use crate::texts::{put_byte, put_byte_number};
+use oc_base::{Memory, NodeId, held_in_all, put};
 use oc_io::{Sink, write_all};
 use oc_schedule::EventList;
 use std::alloc::Global;
@@ -155,6 +156,6 @@ fn put_count_line(out: &mut Vec<u8>, word: &str, count: u64) -> Result<(), Memor
     ensures { OnOk result (out.new.items ≡ out.old.items ++ count_line word.now count) }
 {
     put(out, word.as_bytes())?;
-    put_with_number(out, b" ", count)?;
-    put(out, b"\n")
+    put_byte_number(out, b' ', count)?;
+    put_byte(out, b'\n')
 }

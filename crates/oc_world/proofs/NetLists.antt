@@ -9,7 +9,7 @@ use Rattle.oc_model.specs.declared.message.Message.{Message}
 use Rattle.oc_world.specs.declared.letter.Letter.{Letter}
 use Rattle.oc_world.specs.declared.letter.Letter.TheVariants.{Alone, Shared}
 use Rattle.oc_world.specs.Letters.{IsPlaced, KeepsPlaces, whole}
-use Rattle.oc_world.specs.Net.{IsLetter, IsText, brought, ends_with_ack, is_ack_body, message_in}
+use Rattle.oc_world.specs.Net.{IsLetter, IsSpelled, brought, ends_with_ack, is_ack_body, message_in}
 
 -- what holds of all and of one more
 pub all_more : (P : Letter → Type 0) (xs : List Letter) (x : Letter) → AllByRecursion P xs → P x → AllByRecursion P (xs ++ x ∷ [])
@@ -29,7 +29,7 @@ ends_more nodes pools ls l b is =
 -- Letters stay what they are while their bytes stay where they are
 
 kept_whole : (old new : List (List ℕ)) → KeepsPlaces old new → (l : Letter) → IsPlaced old l → IsPlaced new l × (whole new l ≡ whole old l)
-kept_whole old new keeps (Alone text) placed = (tt, refl)
+kept_whole old new keeps (Alone bytes) placed = (tt, refl)
 kept_whole old new keeps (Shared s) placed =
     let stays = keeps s.value.place placed in
     (stays.0, ap (λ (bytes : List ℕ). s.value.front ++ bytes) stays.1)
@@ -37,7 +37,7 @@ kept_whole old new keeps (Shared s) placed =
 kept_letter : (nodes : ℕ) (old new : List (List ℕ)) → KeepsPlaces old new → (l : Letter) → IsLetter nodes old l → IsLetter nodes new l
 kept_letter nodes old new keeps l is =
     let stays = kept_whole old new keeps l is.placed in
-    record { placed = stays.0; text = subst (IsText nodes) (sym stays.1) is.text }
+    record { placed = stays.0; spelled = subst (IsSpelled nodes) (sym stays.1) is.spelled }
 
 pub kept_letters : (nodes : ℕ) (old new : List (List ℕ)) → KeepsPlaces old new → (ls : List Letter) → AllByRecursion (IsLetter nodes old) ls → AllByRecursion (IsLetter nodes new) ls
 kept_letters nodes old new keeps [] all = tt
@@ -47,7 +47,7 @@ kept_letters nodes old new keeps (l ∷ ls) all = (kept_letter nodes old new kee
 pub kept_messages : (nodes : ℕ) (old new : List (List ℕ)) → KeepsPlaces old new → (ls : List Letter) → AllByRecursion (IsLetter nodes old) ls → map (brought nodes new) ls ≡ map (brought nodes old) ls
 kept_messages nodes old new keeps [] all = refl
 kept_messages nodes old new keeps (l ∷ ls) all =
-    ap (λ (text : List ℕ). message_in nodes text ∷ map (brought nodes new) ls) (kept_whole old new keeps l all.0.placed).1
+    ap (λ (bytes : List ℕ). message_in nodes bytes ∷ map (brought nodes new) ls) (kept_whole old new keeps l all.0.placed).1
     ∙ ap (λ (ms : List Message). brought nodes old l ∷ ms) (kept_messages nodes old new keeps ls all.1)
 
 -- with one letter more, one message more was sent

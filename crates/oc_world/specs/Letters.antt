@@ -1,4 +1,4 @@
--- The texts of the net, whose last bytes may be shared.
+-- The letters of the net, whose last bytes may be shared.
 use Rattle.std.specs.Prelude.{◌≡◌, ℕ, ◌+◌, ◌<◌, ◌≤◌, List, [], ◌++◌, length, take, drop, get_or, map}
 use Rattle.oc_world.specs.declared.letter.Letter.{Letter}
 use Rattle.oc_world.specs.declared.letter.Letter.TheVariants.{Alone, Shared}
@@ -28,12 +28,12 @@ pub record IsKnown (held : List ℕ) (start : ℕ) (bytes : List ℕ) (known : �
   pub fits : start + length bytes ≤ length (held ++ drop known bytes)
   pub same : take (length bytes) (drop start (held ++ drop known bytes)) ≡ bytes
 
--- the text of a letter
+-- the bytes of a letter
 abbrev pub whole : List (List ℕ) → Letter → List ℕ
-whole pools (Alone text) = text
+whole pools (Alone bytes) = bytes
 whole pools (Shared s) = s.value.front ++ piece pools s.value.place
 
 -- what a letter shares is there
 abbrev pub IsPlaced : List (List ℕ) → Letter → Type 0
-IsPlaced pools (Alone text) = Unit {0}
+IsPlaced pools (Alone bytes) = Unit {0}
 IsPlaced pools (Shared s) = IsWithin pools s.value.place

@@ -1,5 +1,5 @@
--- The net: each message as the text of the request that brings it.
-use Rattle.std.specs.Prelude.{◌≡◌, ℕ, ◌==◌, ◌&&◌, Bool, true, false, if◌then◌else◌, Option, Some, None, Result, Ok, Err, List, [], ◌∷◌, ◌++◌, codes, decimal, map, drop}
+-- The net: each message as its bytes, those that the request to its receiver brings.
+use Rattle.std.specs.Prelude.{◌≡◌, ℕ, Bool, true, false, Option, Some, None, Result, Ok, Err, List, [], ◌∷◌, ◌++◌, codes, decimal, map}
 use Rattle.oc_http.specs.Writing.{request_text}
 use Rattle.oc_model.specs.declared.message.Body.{Body}
 use Rattle.oc_model.specs.declared.message.Body.TheVariants.{Look, CheckAck}
@@ -19,33 +19,18 @@ host_of x = codes "node" ++ decimal x
 abbrev pub text_of : Message → List ℕ
 text_of m = request_text (host_of m.to) (spelling m)
 
--- whether bytes begin with these
-abbrev pub begins : List ℕ → List ℕ → Bool
-begins [] bytes = true
-begins (c ∷ cs) [] = false
-begins (c ∷ cs) (b ∷ bs) = b == c && begins cs bs
-
--- the end of a line, and an empty line
-abbrev pub head_end : List ℕ
-head_end = 13 ∷ 10 ∷ 13 ∷ 10 ∷ []
-
--- what follows the first empty line
-abbrev pub body_in : List ℕ → List ℕ
-body_in [] = []
-body_in (byte ∷ rest) = if begins head_end (byte ∷ rest) then drop 3 rest else body_in rest
-
 abbrev pub message_or_look : Result Message WireFault → Message
 message_or_look (Ok m) = m
 message_or_look (Err fault) = record { from = 0; to = 0; body = Look }
 
--- the message between `nodes` nodes that a text brings
+-- the message between `nodes` nodes that these bytes spell
 abbrev pub message_in : ℕ → List ℕ → Message
-message_in nodes text = message_or_look (decoded nodes (body_in text))
+message_in nodes bytes = message_or_look (decoded nodes bytes)
 
--- a text is that of a lawful message
-pub record IsText (nodes : ℕ) (text : List ℕ) : Type 0 where
-  pub lawful : IsMessage nodes (message_in nodes text)
-  pub exact : text ≡ text_of (message_in nodes text)
+-- bytes are those of a lawful message
+pub record IsSpelled (nodes : ℕ) (bytes : List ℕ) : Type 0 where
+  pub lawful : IsMessage nodes (message_in nodes bytes)
+  pub exact : bytes ≡ spelling (message_in nodes bytes)
 
 -- the message between `nodes` nodes that a letter brings
 abbrev pub brought : ℕ → List (List ℕ) → Letter → Message
@@ -54,7 +39,7 @@ brought nodes pools l = message_in nodes (whole pools l)
 -- a letter is that of a lawful message
 pub record IsLetter (nodes : ℕ) (pools : List (List ℕ)) (l : Letter) : Type 0 where
   pub placed : IsPlaced pools l
-  pub text : IsText nodes (whole pools l)
+  pub spelled : IsSpelled nodes (whole pools l)
 
 -- the number of nodes, and every message in the order of sending
 pub record NetView : Type 0 where

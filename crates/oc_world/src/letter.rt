@@ -1,63 +1,63 @@
-//! A message as it is kept: its text, or what is left of it where its last bytes are shared.
+//! A message as it is kept: its bytes, or what is left of them where the last ones are shared.
 
 ghost use Rattle.std.specs.Prelude.{◌≡◌, ◌≤◌, ◌++◌, IfOk};
 ghost use Rattle.oc_base.specs.declared.limits.TheConstants.{MAX_NODES};
 ghost use Rattle.oc_world.specs.Letters.{IsPlaced, KeepsPlaces, whole};
-ghost use Rattle.oc_world.specs.Net.{IsText, message_in};
+ghost use Rattle.oc_world.specs.Net.{IsSpelled, message_in};
 
 use crate::pools::{PoolPart, Pools};
 use crate::texts::message_in;
-use oc_base::{GroupName, Memory, Text};
+use oc_base::{Bytes, GroupName, Memory};
 use oc_model::{Body, Message};
 use std::alloc::Global;
 
-/// The text of a message. What a chunk brings is kept once for all letters, and beside it the letter of a chunk
+/// The bytes of a message. What a chunk brings is kept once for all letters, and beside it the letter of a chunk
 /// takes as much memory as any other one.
 #[derive(Drop)]
 pub(crate) enum Letter {
-    /// The whole text.
-    Alone(Text),
-    /// A text whose last bytes are shared.
+    /// All bytes.
+    Alone(Bytes),
+    /// Bytes of which the last ones are shared.
     Shared(Box<Sharing>),
 }
 
 /// What comes before the bytes that are shared, and where these are.
 #[derive(Drop)]
 pub(crate) struct Sharing {
-    front: Text,
+    front: Bytes,
     place: PoolPart,
 }
 
 impl Letter {
-    /// The letter of a text that brings this body. If it shares bytes, they go into the pools.
+    /// The letter of the bytes of a message with this body. If it shares some of them, they go into the pools.
     pub(crate) fn of(
         alloc: Global,
         pools: &mut Pools,
-        text: Vec<u8>,
+        bytes: &[u8],
         body: &Body,
     ) -> Result<Letter, Memory>
         ensures keeps { KeepsPlaces pools.old pools.new }
         ensures placed { IfOk result (λ letter. IsPlaced pools.new letter) }
-        ensures whole { IfOk result (λ letter. whole pools.new letter ≡ text.items) }
+        ensures whole { IfOk result (λ letter. whole pools.new letter ≡ bytes.now) }
     {
         match body {
             Body::Chunk {
                 group,
                 start,
-                bytes,
+                bytes: piece,
                 ..
-            } => shared(alloc, pools, text, *group, *start, bytes.items().len()),
-            _ => Ok(Letter::Alone(Text::of(text))),
+            } => shared(alloc, pools, bytes, *group, *start, piece.items().len()),
+            _ => Ok(Letter::Alone(copied(alloc, bytes)?)),
         }
     }
 
-    /// A copy of the text.
-    pub(crate) fn text(&self, alloc: Global, pools: &Pools) -> Result<Vec<u8>, Memory>
+    /// A copy of the bytes.
+    fn bytes(&self, alloc: Global, pools: &Pools) -> Result<Vec<u8>, Memory>
         requires { IsPlaced pools.now self.now }
-        ensures { IfOk result (λ text. text.items ≡ whole pools.now self.now) }
+        ensures { IfOk result (λ bytes. bytes.items ≡ whole pools.now self.now) }
     {
         match self {
-            Letter::Alone(text) => Ok(text.items().to_vec(alloc)?),
+            Letter::Alone(bytes) => Ok(bytes.items().to_vec(alloc)?),
             Letter::Shared(sharing) => joined(
                 alloc,
                 sharing.front.items(),
@@ -66,7 +66,7 @@ impl Letter {
         }
     }
 
-    /// The message between `nodes` nodes that the text brings.
+    /// The message between `nodes` nodes that the bytes spell.
     pub(crate) fn message(
         &self,
         alloc: Global,
@@ -75,50 +75,57 @@ impl Letter {
     ) -> Result<Message, Memory>
         requires few { nodes ≤ MAX_NODES }
         requires placed { IsPlaced pools.now self.now }
-        requires text { IsText nodes (whole pools.now self.now) }
+        requires spelled { IsSpelled nodes (whole pools.now self.now) }
         ensures { IfOk result (λ message. message ≡ message_in nodes (whole pools.now self.now)) }
     {
         match self {
-            Letter::Alone(text) => message_in(alloc, text.items(), nodes),
+            Letter::Alone(bytes) => message_in(alloc, bytes.items(), nodes),
             Letter::Shared(_) => {
-                let text = self.text(alloc, pools)?;
-                message_in(alloc, &text, nodes)
+                let bytes = self.bytes(alloc, pools)?;
+                message_in(alloc, &bytes, nodes)
             }
         }
     }
 }
 
-/// The letter of a text that ends with `count` bytes of a group, those from the offset `start` on.
+/// The letter of bytes that end with `count` bytes of a group, those from the offset `start` on.
 fn shared(
     alloc: Global,
     pools: &mut Pools,
-    text: Vec<u8>,
+    bytes: &[u8],
     group: GroupName,
     start: u64,
     count: usize,
 ) -> Result<Letter, Memory>
     ensures keeps { KeepsPlaces pools.old pools.new }
     ensures placed { IfOk result (λ letter. IsPlaced pools.new letter) }
-    ensures whole { IfOk result (λ letter. whole pools.new letter ≡ text.items) }
+    ensures whole { IfOk result (λ letter. whole pools.new letter ≡ bytes.now) }
 {
-    if count > text.len() {
-        return Ok(Letter::Alone(Text::of(text)));
+    if count > bytes.len() {
+        return Ok(Letter::Alone(copied(alloc, bytes)?));
     }
-    let (front, bytes) = text.split_at(text.len() - count);
-    match pools.place(alloc, group, start, bytes)? {
-        None => Ok(Letter::Alone(Text::of(text))),
+    let (front, piece) = bytes.split_at(bytes.len() - count);
+    match pools.place(alloc, group, start, piece)? {
+        None => Ok(Letter::Alone(copied(alloc, bytes)?)),
         Some(place) => {
-            let front = Text::of(front.to_vec(alloc)?);
+            let front = copied(alloc, front)?;
             Ok(Letter::Shared(Box::new(alloc, Sharing { front, place })?))
         }
     }
 }
 
-/// Two texts, one after the other.
-fn joined(alloc: Global, front: &[u8], back: &[u8]) -> Result<Vec<u8>, Memory>
-    ensures { IfOk result (λ text. text.items ≡ front.now ++ back.now) }
+/// A copy of bytes.
+fn copied(alloc: Global, bytes: &[u8]) -> Result<Bytes, Memory>
+    ensures { IfOk result (λ copy. copy ≡ bytes.now) }
 {
-    let mut text = front.to_vec(alloc)?;
-    text.extend_from_slice(back)?;
-    Ok(text)
+    Ok(Bytes::of(bytes.to_vec(alloc)?))
+}
+
+/// Two pieces, one after the other.
+fn joined(alloc: Global, front: &[u8], back: &[u8]) -> Result<Vec<u8>, Memory>
+    ensures { IfOk result (λ bytes. bytes.items ≡ front.now ++ back.now) }
+{
+    let mut bytes = front.to_vec(alloc)?;
+    bytes.extend_from_slice(back)?;
+    Ok(bytes)
 }

@@ -1,8 +1,9 @@
 //! All nodes of a network on their files, and every message between them.
 //!
-//! A [`World`] keeps each node as a process on three disks in memory, up or down, and each message as the text
-//! of the request that brings it. A node that is up runs by the same `Kept` as the running program keeps its one
-//! node; one that is down has no state in memory: what it holds is what its files recover.
+//! A [`World`] keeps each node as a process on three disks in memory, up or down, and each message as the bytes
+//! that its request brings, from which the text of that request follows. A node that is up runs by the same
+//! `Kept` as the running program keeps its one node; one that is down has no state in memory: what it holds is
+//! what its files recover.
 //!
 //! The contract used above: [`World::event`] leaves exactly the model's `next_world`, and says the model's word
 //! and which messages were sent; so a [`World`] is a stage of a replay. An act at a node whose control files are

@@ -1,4 +1,4 @@
-//! Every message that was ever sent, each as the text of the request that brings it.
+//! Every message that was ever sent, each as the bytes that its request brings.
 
 ghost use Rattle.std.specs.Prelude.{◌≡◌, ◌<◌, ◌≤◌, false, [], ◌∷◌, ◌++◌, length, take, slice_get, Some, IfOk, OnOk, OnErr};
 ghost use Rattle.std.specs.List.{AllByRecursion};
@@ -9,7 +9,7 @@ ghost use Rattle.oc_world.specs.Net.{ends_with_ack, is_ack_body, text_of};
 
 use crate::letter::Letter;
 use crate::pools::Pools;
-use crate::texts::text_of;
+use crate::texts::{spell, text_of};
 use oc_base::Memory;
 use oc_model::{Body, Message};
 use std::alloc::Global;
@@ -27,6 +27,8 @@ pub struct Net {
     letters: Vec<Letter>,
     /// The bytes that letters share.
     pools: Pools,
+    /// The bytes of the message that is being sent; its memory serves the next one too.
+    spelling: Vec<u8>,
     /// Whether the last message acknowledges a check-in.
     acks: bool,
 }
@@ -58,6 +60,7 @@ impl Net {
             nodes,
             letters: Vec::new(alloc),
             pools: Pools::new(alloc),
+            spelling: Vec::new(alloc),
             acks: false,
         }
     }
@@ -105,8 +108,8 @@ impl Net {
         if self.letters.len() >= MOST_SENT {
             return Err(Memory);
         }
-        let text = text_of(self.alloc, self.nodes, message)?;
-        let letter = Letter::of(self.alloc, &mut self.pools, text, &message.body)?;
+        spell(&mut self.spelling, self.nodes, message)?;
+        let letter = Letter::of(self.alloc, &mut self.pools, &self.spelling, &message.body)?;
         self.letters.push(letter)?;
         self.acks = is_ack_body(&message.body);
         Ok(())
@@ -135,15 +138,16 @@ impl Net {
         self.acks
     }
 
-    /// The text of the message at an index.
+    /// The text of the request that brings the message at an index.
     pub fn text(&self, at: usize) -> Result<Vec<u8>, Memory>
         requires { at < length self.now.messages }
         ensures { IfOk result (λ text. (m : Sent) → slice_get self.now.messages at ≡ Some m → text.items ≡ text_of m) }
     {
-        self.letters[at].text(self.alloc, &self.pools)
+        let message = self.message(at)?;
+        text_of(self.alloc, self.nodes, &message)
     }
 
-    /// The message at an index, which its text is read as.
+    /// The message at an index, which its bytes are read as.
     pub fn message(&self, at: usize) -> Result<Message, Memory>
         requires { at < length self.now.messages }
         ensures message { IfOk result (λ message. slice_get self.now.messages at ≡ Some message) }

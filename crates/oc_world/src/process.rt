@@ -4,6 +4,7 @@ ghost use Rattle.std.specs.Prelude.{◌≡◌, ◌≤◌, true, false, if◌then
 ghost use Rattle.std.specs.List.{AllByRecursion};
 ghost use Rattle.oc_base.specs.Groups.{shelf};
 ghost use Rattle.oc_base.specs.Lawful.{IsNode};
+ghost use Rattle.oc_digest.specs.Digests.{digest_text};
 ghost use Rattle.oc_keep.specs.Files.{Survives, disks};
 ghost use Rattle.oc_keep.specs.KeptView.{header, header_of, node_of};
 ghost use Rattle.oc_keep.specs.Promises.{IsSameNode};
@@ -21,7 +22,9 @@ ghost use Rattle.oc_world.specs.ProcessState.{IsOpen, IsRunning};
 
 use crate::network::Network;
 use crate::process_state::{ProcessState, copied, empty_files};
-use crate::process_status::{groups_of, groups_recovered, lawful_node};
+use crate::process_status::{
+    digest_of, digest_recovered, groups_of, groups_recovered, lawful_node,
+};
 use crate::{process_acts, starting, stopping};
 use oc_base::{Memory, NodeId, Shelf};
 use oc_io::MemDisk;
@@ -230,6 +233,17 @@ impl Process {
             return groups_of(self.alloc, self.kept());
         }
         groups_recovered(self.alloc, self.load()?)
+    }
+
+    /// The digits that stand for what the node's files hold.
+    pub fn digest(&self) -> Result<Vec<u8>, Memory>
+        ensures { IfOk result (λ digits. digits.items
+            ≡ digest_text self.now.process.node.control.kept (shelf self.now.process.node.groups)) }
+    {
+        if self.is_up() {
+            return digest_of(self.alloc, self.kept());
+        }
+        digest_recovered(self.alloc, self.load()?)
     }
 
     /// The state of the node.

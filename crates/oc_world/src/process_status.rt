@@ -2,10 +2,12 @@
 
 ghost use Rattle.std.specs.Prelude.{◌≡◌, IfOk};
 ghost use Rattle.oc_base.specs.Groups.{shelf};
+ghost use Rattle.oc_digest.specs.Digests.{digest_text};
 ghost use Rattle.oc_keep.specs.KeptView.{IsHonest, node_of};
 ghost use Rattle.oc_laws_step.specs.LawfulNode.{IsLawfulControl};
 
 use oc_base::{Memory, Shelf};
+use oc_digest::put_digest;
 use oc_io::Disk;
 use oc_keep::{Kept, Node};
 use std::alloc::Global;
@@ -28,7 +30,28 @@ pub(crate) fn groups_of<D: Disk>(alloc: Global, kept: &Kept<D>) -> Result<Vec<Sh
     Ok(kept.shelf().to_vec(alloc)?)
 }
 
-/// The same for a node that was recovered to be read.
+/// The digits that stand for what these files hold.
+pub(crate) fn digest_of<D: Disk>(alloc: Global, kept: &Kept<D>) -> Result<Vec<u8>, Memory>
+    requires { IsHonest D.view kept.now }
+    ensures { IfOk result (λ digits. digits.items ≡ digest_text kept.now.node.control.kept (shelf (node_of kept.now).groups)) }
+{
+    let mut digits = Vec::new(alloc);
+    put_digest(alloc, &mut digits, kept.node(), kept.shelf())?;
+    Ok(digits)
+}
+
+/// The same of files that were recovered to be read.
+pub(crate) fn digest_recovered<D: Disk + Drop>(
+    alloc: Global,
+    kept: Kept<D>,
+) -> Result<Vec<u8>, Memory>
+    requires { IsHonest D.view kept }
+    ensures { IfOk result (λ digits. digits.items ≡ digest_text kept.node.control.kept (shelf (node_of kept).groups)) }
+{
+    digest_of(alloc, &kept)
+}
+
+/// The groups of a node that was recovered to be read.
 pub(crate) fn groups_recovered<D: Disk + Drop>(
     alloc: Global,
     kept: Kept<D>,

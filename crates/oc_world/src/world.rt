@@ -1,4 +1,4 @@
-ghost use Rattle.std.specs.Prelude.{◌≡◌, ◌↔◌, ℕ, ◌≤◌, List, [], length, option_map, if◌then◌else◌, IsSome, IsTrue, IfOk, IfSome, OnOk, OnErr};
+ghost use Rattle.std.specs.Prelude.{◌≡◌, ◌↔◌, ℕ, ◌^◌, ◌<◌, ◌≤◌, List, [], length, option_map, if◌then◌else◌, IsSome, IsTrue, IfOk, IfSome, OnOk, OnErr};
 ghost use Rattle.oc_base.specs.Groups.{shelf};
 ghost use Rattle.oc_base.specs.Lawful.{IsNode};
 ghost use Rattle.std.specs.List.{range_with_len};
@@ -9,7 +9,8 @@ ghost use Rattle.oc_journal.specs.JournalFile.{frames_of};
 ghost use Rattle.oc_keep.specs.Files.{Survives, disks};
 ghost use Rattle.oc_keep.specs.KeptView.{header, header_of};
 ghost use Rattle.oc_laws_step.specs.LawfulNode.{IsLawfulControl};
-ghost use Rattle.oc_model.specs.Lawful.{IsEvent, IsHeader, IsInput};
+ghost use Rattle.oc_digest.specs.Digests.{digest_text};
+ghost use Rattle.oc_model.specs.Lawful.{IsEvent, IsHeader, IsInput, IsMessage};
 ghost use Rattle.oc_model.specs.NextWorld.{crashed, next_world, started, stopped_at, word_of, word_of_act, word_of_stop};
 ghost use Rattle.oc_model.specs.Ready.{IsSettled};
 ghost use Rattle.oc_model.specs.Runs.{last_body};
@@ -255,9 +256,10 @@ impl World {
     }
 
     /// The message of this number, counted from 1 over all that were sent; none where there is none. It is
-    /// read from its text.
+    /// read from its bytes.
     pub fn message(&self, number: u64) -> Result<Option<Message>, Memory>
-        ensures { IfOk result (λ found. found ≡ message_at self.now.world.net number) }
+        ensures found { IfOk result (λ found. found ≡ message_at self.now.world.net number) }
+        ensures lawful { IfOk result (λ found. IfSome found (IsMessage (length (ids self.now.world)))) }
     {
         match message_place(number, self.net.len()) {
             None => Ok(None),
@@ -286,6 +288,17 @@ impl World {
         let process = &self.processes[at];
         let lines = process.held()?;
         Ok(lines)
+    }
+
+    /// The digits that stand for what a node's files hold: its control part, and the lengths and seals of its groups.
+    pub fn digest(&self, node: NodeId) -> Result<Vec<u8>, Memory>
+        requires { IsNode (length (ids self.now.world)) node }
+        ensures { IfOk result (λ digits. let n = node_in self.now.world node in digits.items ≡ digest_text n.control.kept (shelf n.groups)) }
+    {
+        let at = node.index();
+        let process = &self.processes[at];
+        let digits = process.digest()?;
+        Ok(digits)
     }
 
     /// The state of a node; what its files recover, where it is down.
@@ -361,7 +374,7 @@ impl World {
     }
 
     /// How many nodes there are.
-    pub(crate) fn count(&self) -> u32
+    pub fn count(&self) -> u32
         ensures ids { ids self.now.world ≡ range_with_len 1 result }
         ensures few { result ≤ MAX_NODES }
     {
@@ -369,8 +382,9 @@ impl World {
     }
 
     /// How many messages were ever sent.
-    pub(crate) fn sent_count(&self) -> u64
-        ensures { result ≡ length self.now.world.net }
+    pub fn sent_count(&self) -> u64
+        ensures count { result ≡ length self.now.world.net }
+        ensures few { result < 2 ^ 63 }
     {
         self.net.len() as u64
     }

@@ -1,8 +1,7 @@
-use Rattle.std.proofs.Common.{◌≡◌, List, ℕ, ap, sym, subst, ◌∙◌, arith}
+use Rattle.std.proofs.Common.{List, ℕ, ap, sym, subst, ◌∙◌, arith}
 use Rattle.oc_http.specs.Writing.{IsHost, request_text}
 use Rattle.oc_wire.specs.Spelling.{spelling}
-use Rattle.oc_world.specs.Net.{IsText, message_in, text_of}
-use Rattle.oc_world.proofs.ReadBack.{good_host, read_back, text_written}
+use Rattle.oc_world.proofs.ReadBack.{good_host}
 use Rattle.oc_world.proofs.texts.text_of.Goals as goal
 
 pub to_http-requires-clause-body : goal.to_http-requires-clause-body
@@ -13,14 +12,7 @@ to_http-requires-clause-host c =
     let is = c.as_str.ensures.value ∙ c.in_ok-host.ensures in
     subst IsHost (sym is) (good_host c.args.message.now.to (omega (arith, c.requires.few, c.requires.lawful.to.1)))
 
-pub returns-clause-text : goal.returns-clause-text
-returns-clause-text c =
+pub returns : goal.returns
+returns c =
     let is = c.as_str.ensures.value ∙ c.in_ok-host.ensures in
-    let whole : c.in_ok-text.text.items ≡ text_of c.args.message.now = c.in_ok-text.ensures ∙ ap (λ (h : List ℕ). request_text h (spelling c.args.message.now)) is in
-    subst (IsText c.args.nodes) (sym whole) (text_written c.args.nodes c.args.message.now c.requires.few c.requires.lawful)
-
-pub returns-clause-message : goal.returns-clause-message
-returns-clause-message c =
-    let is = c.as_str.ensures.value ∙ c.in_ok-host.ensures in
-    let whole : c.in_ok-text.text.items ≡ text_of c.args.message.now = c.in_ok-text.ensures ∙ ap (λ (h : List ℕ). request_text h (spelling c.args.message.now)) is in
-    ap (message_in c.args.nodes) whole ∙ read_back c.args.nodes c.args.message.now c.requires.few c.requires.lawful
+    c.in_ok-text.ensures ∙ ap (λ (h : List ℕ). request_text h (spelling c.args.message.now)) is

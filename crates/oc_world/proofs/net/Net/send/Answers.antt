@@ -2,14 +2,14 @@ use Rattle.std.proofs.Common.{◌≡◌, false, List, [], ◌∷◌, ◌++◌, m
 use Rattle.std.specs.List.{AllByRecursion}
 use Rattle.oc_model.specs.declared.message.Message.{Message}
 use Rattle.oc_world.specs.declared.letter.Letter.{Letter}
-use Rattle.oc_world.specs.Net.{IsLetter, IsText, NetView, brought, ends_with_ack, message_in}
+use Rattle.oc_world.specs.Net.{IsLetter, IsSpelled, NetView, brought, ends_with_ack, message_in}
 use Rattle.oc_world.proofs.NetLists.{all_more, ends_more, kept_letters, kept_messages, sent_more}
 use Rattle.oc_world.proofs.Sites.{on_err}
 use Rattle.oc_world.proofs.net.Net.send.Goals as goal
 
 -- the letters are what they were, whatever was put into the pools
-pub invariant_of-self : goal.invariant_of-self
-invariant_of-self c =
+pub invariant_of-self-in_err-letter : goal.invariant_of-self-in_err-letter
+invariant_of-self-in_err-letter c =
     let s = c.self.inside in
     let new = c.of.new.pools in
     let keeps = c.of.ensures.keeps in
@@ -55,8 +55,8 @@ invariant_of-self-2 c =
     let new = c.of.new.pools in
     let letter = c.in_ok-letter.letter in
     let more : c.push.new.self.items ≡ s.letters.items ++ letter ∷ [] = c.in_ok-push.ensures.items in
-    let is : IsLetter s.nodes new letter = record { placed = c.in_ok-letter.ensures.placed; text = subst (IsText s.nodes) (sym c.in_ok-letter.ensures.whole) c.in_ok-text.ensures.text } in
-    let brings : brought s.nodes new letter ≡ c.args.message.now = ap (message_in s.nodes) c.in_ok-letter.ensures.whole ∙ c.in_ok-text.ensures.message in (
+    let is : IsLetter s.nodes new letter = record { placed = c.in_ok-letter.ensures.placed; spelled = subst (IsSpelled s.nodes) (sym (c.in_ok-letter.ensures.whole ∙ c.deref.ensures.value)) c.in_ok-spell.ensures.spelled } in
+    let brings : brought s.nodes new letter ≡ c.args.message.now = ap (message_in s.nodes) (c.in_ok-letter.ensures.whole ∙ c.deref.ensures.value) ∙ c.in_ok-spell.ensures.message in (
       c.self.invariant.0,
       omega (arith, c.in_ok-push.ensures.len, c.if-len-ge-MOST_SENT.false, c.len.ensures),
       subst (AllByRecursion (IsLetter s.nodes new)) (sym more) (all_more (IsLetter s.nodes new) s.letters.items letter (kept_letters s.nodes s.pools new c.of.ensures.keeps s.letters.items c.self.invariant.2) is),
@@ -70,6 +70,6 @@ returns-clause-ok c =
     let new = c.of.new.pools in
     let letter = c.in_ok-letter.letter in
     let m = c.args.message.now in
-    let brings : brought s.nodes new letter ≡ m = ap (message_in s.nodes) c.in_ok-letter.ensures.whole ∙ c.in_ok-text.ensures.message in
+    let brings : brought s.nodes new letter ≡ m = ap (message_in s.nodes) (c.in_ok-letter.ensures.whole ∙ c.deref.ensures.value) ∙ c.in_ok-spell.ensures.message in
     ap (λ (ls : List Letter). map (brought s.nodes new) ls) c.in_ok-push.ensures.items
     ∙ (sent_more s.nodes s.pools new c.of.ensures.keeps s.letters.items letter m c.self.invariant.2 brings ∙ ap (λ (v : NetView). v.messages ++ m ∷ []) c.self.view_is)

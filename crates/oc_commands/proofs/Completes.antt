@@ -25,7 +25,7 @@ use Rattle.oc_words.specs.Status.{number_of}
 use Rattle.oc_commands.specs.declared.checking.CheckEnd.{CheckEnd}
 use Rattle.oc_commands.specs.declared.checking.CheckEnd.TheVariants as checks
 use Rattle.oc_commands.specs.declared.ending.End.{End}
-use Rattle.oc_commands.specs.declared.ending.End.TheVariants.{Helped, HelpFailed, Versioned, VersionFailed, Misused, NoMemory, Replayed, Generated, Listed, Checked, CheckedConfigured, NoToken, Got, Published, Served}
+use Rattle.oc_commands.specs.declared.ending.End.TheVariants.{Helped, HelpFailed, Versioned, VersionFailed, Misused, NoMemory, Replayed, Generated, Merged, Listed, Checked, CheckedConfigured, NoToken, Got, Published, Served}
 use Rattle.oc_commands.proofs.Tokens.{untaken, untokened}
 
 -- the output did not fail
@@ -57,6 +57,7 @@ module _ {D : Type 0} (view : D → DiskView) (old new : Disks D) (output : Outp
   checked input error stage link token node asked m f NoMemory is files h = inr refl
   checked input error stage link token node asked m f (Replayed large end) is files h = let also = h.0.2 in cc
   checked input error stage link token node asked m f (Generated end) is files h = let also = h.0.1 in cc
+  checked input error stage link token node asked m f (Merged end) is files h = let also = h.0 in cc
   checked input error stage link token node asked m f (Listed end) is files h = let also = h.0.1 in cc
   checked input error stage link token node asked m f (Checked end) is files h =
       let (n, g, also, at) = h.0 in
@@ -94,6 +95,7 @@ module _ {L : Type 0} (story : L → Option Story) (faults : L → ℕ) (old new
   fetched input error stage files token node asked address start progress NoMemory is s h = inr refl
   fetched input error stage files token node asked address start progress (Replayed large end) is s h = let also = h.0.2 in cc
   fetched input error stage files token node asked address start progress (Generated end) is s h = let also = h.0.1 in cc
+  fetched input error stage files token node asked address start progress (Merged end) is s h = let also = h.0 in cc
   fetched input error stage files token node asked address start progress (Listed end) is s h = let also = h.0.1 in cc
   fetched input error stage files token node asked address start progress (Checked end) is s h = let also = h.0.2 in cc
   fetched input error stage files token node asked address start progress (CheckedConfigured end) is s h = let also = h.0.2 in cc

@@ -29,7 +29,7 @@ use Rattle.oc_commands.specs.declared.checking.ConfiguredEnd.{ConfiguredEnd}
 use Rattle.oc_commands.specs.declared.checking.ConfiguredEnd.TheVariants as configured
 use Rattle.oc_commands.specs.declared.configuring.ConfigEnd.TheVariants as configs
 use Rattle.oc_commands.specs.declared.ending.End.{End}
-use Rattle.oc_commands.specs.declared.ending.End.TheVariants.{Helped, HelpFailed, Versioned, VersionFailed, Misused, NoMemory, Replayed, Generated, Listed, Checked, CheckedConfigured, NoToken, Got, Published, Served}
+use Rattle.oc_commands.specs.declared.ending.End.TheVariants.{Helped, HelpFailed, Versioned, VersionFailed, Misused, NoMemory, Replayed, Generated, Merged, Listed, Checked, CheckedConfigured, NoToken, Got, Published, Served}
 use Rattle.oc_commands.proofs.AnyLine.{shown_over}
 use Rattle.oc_commands.proofs.Completes.{IsSound}
 use Rattle.oc_commands.proofs.Tokens.{untokened}
@@ -91,6 +91,7 @@ module _ {S D : Type 0} (gives fails : S → List ℕ → S → Type 0) (ended :
   shown error stage link token node asked id p NoMemory is h = inr refl
   shown error stage link token node asked id p (Replayed large end) is h = let also = h.0.2 in cc
   shown error stage link token node asked id p (Generated end) is h = let also = h.0.1 in cc
+  shown error stage link token node asked id p (Merged end) is h = let also = h.0 in cc
   shown error stage link token node asked id p (Listed end) is h = let also = h.0.1 in cc
   shown error stage link token node asked id p (Checked end) is h = let also = h.0.2 in cc
   shown error stage link token node asked id p (CheckedConfigured end) is h =

@@ -14,3 +14,4 @@ pub mod Works
 pub mod Serves
 mod Headers
 mod Shown
+mod RecordsRead

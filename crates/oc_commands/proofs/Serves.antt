@@ -30,7 +30,7 @@ use Rattle.oc_commands.specs.Run.{Happened}
 use Rattle.oc_words.specs.Status.{number_of}
 use Rattle.oc_commands.specs.declared.configuring.ConfigEnd.TheVariants as configs
 use Rattle.oc_commands.specs.declared.ending.End.{End}
-use Rattle.oc_commands.specs.declared.ending.End.TheVariants.{Helped, HelpFailed, Versioned, VersionFailed, Misused, NoMemory, Replayed, Generated, Listed, Checked, CheckedConfigured, NoToken, Got, Published, Served}
+use Rattle.oc_commands.specs.declared.ending.End.TheVariants.{Helped, HelpFailed, Versioned, VersionFailed, Misused, NoMemory, Replayed, Generated, Merged, Listed, Checked, CheckedConfigured, NoToken, Got, Published, Served}
 use Rattle.oc_commands.specs.declared.serving.ServiceEnd.{ServiceEnd}
 use Rattle.oc_commands.specs.declared.serving.ServiceEnd.TheVariants as services
 use Rattle.oc_commands.proofs.AnyLine.{status_over}
@@ -104,6 +104,7 @@ module _ {S D N : Type 0} (gives fails : S → List ℕ → S → Type 0) (ended
   served error stage dialler token asked v p NoMemory is h = inr refl
   served error stage dialler token asked v p (Replayed large end) is h = let also = h.0.2 in cc
   served error stage dialler token asked v p (Generated end) is h = let also = h.0.1 in cc
+  served error stage dialler token asked v p (Merged end) is h = let also = h.0 in cc
   served error stage dialler token asked v p (Listed end) is h = let also = h.0.1 in cc
   served error stage dialler token asked v p (Checked end) is h = let also = h.0.2 in cc
   served error stage dialler token asked v p (CheckedConfigured end) is h = let also = h.0.2 in cc

@@ -8,14 +8,15 @@ use Rattle.oc_fetch.specs.declared.end.GetEnd.TheVariants as gets
 use Rattle.oc_keep.specs.FileError.{FileError}
 use Rattle.oc_keep.specs.FileError.TheVariants as causes
 use Rattle.oc_keep.specs.Errors.{cause_of}
+use Rattle.oc_merge.specs.declared.merge_end.MergeEnd.TheVariants as merges
 use Rattle.oc_put.specs.declared.end.PutEnd.{PutEnd}
 use Rattle.oc_put.specs.declared.end.PutEnd.TheVariants as puts
-use Rattle.oc_commands.specs.Ends.{status_of, status_of_cause, status_of_check, status_of_configured, status_of_gen, status_of_get, status_of_put, status_of_replay, status_of_rules, status_of_service, status_of_token, status_of_turns}
+use Rattle.oc_commands.specs.Ends.{status_of, status_of_cause, status_of_check, status_of_configured, status_of_gen, status_of_get, status_of_put, status_of_records, status_of_replay, status_of_rules, status_of_service, status_of_token, status_of_turns}
 use Rattle.oc_commands.specs.Outside.{Outside}
 use Rattle.oc_commands.specs.Run.{Happened}
 use Rattle.oc_words.specs.Status.{number_of}
 use Rattle.oc_commands.specs.declared.ending.End.{End}
-use Rattle.oc_commands.specs.declared.ending.End.TheVariants.{Helped, HelpFailed, Versioned, VersionFailed, Misused, NoMemory, Replayed, Generated, Listed, Checked, CheckedConfigured, NoToken, Got, Published, Served}
+use Rattle.oc_commands.specs.declared.ending.End.TheVariants.{Helped, HelpFailed, Versioned, VersionFailed, Misused, NoMemory, Replayed, Generated, Merged, Listed, Checked, CheckedConfigured, NoToken, Got, Published, Served}
 use Rattle.oc_commands.specs.declared.generating.GenEnd.{GenEnd}
 use Rattle.oc_commands.specs.declared.generating.GenEnd.TheVariants as gens
 use Rattle.oc_commands.specs.declared.checking.CheckEnd.{CheckEnd}
@@ -23,6 +24,8 @@ use Rattle.oc_commands.specs.declared.checking.CheckEnd.TheVariants as checks
 use Rattle.oc_commands.specs.declared.checking.ConfiguredEnd.{ConfiguredEnd}
 use Rattle.oc_commands.specs.declared.checking.ConfiguredEnd.TheVariants as configured
 use Rattle.oc_commands.specs.declared.configuring.ConfigEnd.TheVariants as configs
+use Rattle.oc_commands.specs.declared.merging.RecordsEnd.{RecordsEnd}
+use Rattle.oc_commands.specs.declared.merging.RecordsEnd.TheVariants as records
 use Rattle.oc_commands.specs.declared.listing.RulesEnd.{RulesEnd}
 use Rattle.oc_commands.specs.declared.listing.RulesEnd.TheVariants as lists
 use Rattle.oc_commands.specs.declared.serving.ServiceEnd.{ServiceEnd}
@@ -47,6 +50,17 @@ gen_is_other : (end : GenEnd) → number_of (status_of_gen end) ≡ 2 → ⊥
 gen_is_other gens.Done is = absurd (omega (arith, is))
 gen_is_other gens.Sink is = absurd (omega (arith, is))
 gen_is_other gens.Memory is = absurd (omega (arith, is))
+
+-- and so `merge`
+merge_is_other : (end : RecordsEnd) → number_of (status_of_records end) ≡ 2 → ⊥
+merge_is_other (records.Merged merges.Whole) is = absurd (omega (arith, is))
+merge_is_other (records.Merged (merges.State line)) is = absurd (omega (arith, is))
+merge_is_other (records.Merged (merges.Unsent line)) is = absurd (omega (arith, is))
+merge_is_other (records.Text line cause) is = absurd (omega (arith, is))
+merge_is_other (records.Limit most) is = absurd (omega (arith, is))
+merge_is_other records.Source is = absurd (omega (arith, is))
+merge_is_other records.Sink is = absurd (omega (arith, is))
+merge_is_other records.Memory is = absurd (omega (arith, is))
 
 -- and so `rules`
 rules_are_other : (end : RulesEnd) → number_of (status_of_rules end) ≡ 2 → ⊥
@@ -138,6 +152,7 @@ module _ (o : Outside) where
   only_misused NoMemory is h = absurd (omega (arith, is))
   only_misused (Replayed large end) is h = absurd (replay_is_other end is)
   only_misused (Generated end) is h = absurd (gen_is_other end is)
+  only_misused (Merged end) is h = absurd (merge_is_other end is)
   only_misused (Listed end) is h = absurd (rules_are_other end is)
   only_misused (Checked end) is h = absurd (check_is_other end is)
   only_misused (CheckedConfigured end) is h = absurd (configured_is_other end is)

@@ -4,6 +4,10 @@ use Rattle.oc_config.specs.Settings.{Settings}
 use Rattle.oc_config.specs.declared.fault.ConfigFault.TheVariants as faults
 use Rattle.oc_fetch.specs.declared.end.GetEnd.{GetEnd}
 use Rattle.oc_fetch.specs.declared.end.GetEnd.TheVariants as gets
+use Rattle.oc_merge.specs.Told.{Records}
+use Rattle.oc_merge.specs.declared.fault.Most.{Most}
+use Rattle.oc_merge.specs.declared.fault.Most.TheVariants as mosts
+use Rattle.oc_merge.specs.declared.fault.RecordsFault.{RecordsFault}
 use Rattle.oc_put.specs.declared.end.PutEnd.{PutEnd}
 use Rattle.oc_put.specs.declared.end.PutEnd.TheVariants as puts
 use Rattle.oc_put.specs.declared.publication.Publication.{Publication}
@@ -24,6 +28,7 @@ use Rattle.oc_commands.specs.AtConfig.{ReadsConfig}
 use Rattle.oc_commands.specs.AtConfigured.{HappenedAtConfigured}
 use Rattle.oc_commands.specs.AtGen.{HappenedAtGen}
 use Rattle.oc_commands.specs.AtGet.{Downloaded, HappenedAtGet, Tells as GetTells, Wrote, is_done as is_got}
+use Rattle.oc_commands.specs.AtMerge.{HappenedAtMerge, PassesMost, TellsRecords}
 use Rattle.oc_commands.specs.AtNode.{HappenedAtNode, task_of}
 use Rattle.oc_commands.specs.AtPut.{Came, CameSo, HappenedAtPut, Published as Posted, Tells as PutTells, is_done as is_put, plan_of}
 use Rattle.oc_commands.specs.AtReplay.{HappenedAtReplay, scale_of}
@@ -39,11 +44,13 @@ use Rattle.oc_commands.specs.declared.checking.ConfiguredEnd.TheVariants as conf
 use Rattle.oc_commands.specs.declared.configuring.ConfigEnd.{ConfigEnd}
 use Rattle.oc_commands.specs.declared.configuring.ConfigEnd.TheVariants as configs
 use Rattle.oc_commands.specs.declared.ending.End.{End}
-use Rattle.oc_commands.specs.declared.ending.End.TheVariants.{Helped, HelpFailed, Versioned, VersionFailed, Misused, NoMemory, Replayed, Generated, Listed, Checked, CheckedConfigured, NoToken, Got, Published, Served}
+use Rattle.oc_commands.specs.declared.ending.End.TheVariants.{Helped, HelpFailed, Versioned, VersionFailed, Misused, NoMemory, Replayed, Generated, Merged, Listed, Checked, CheckedConfigured, NoToken, Got, Published, Served}
 use Rattle.oc_commands.specs.declared.generating.GenEnd.{GenEnd}
 use Rattle.oc_commands.specs.declared.generating.GenEnd.TheVariants as gens
 use Rattle.oc_commands.specs.declared.listing.RulesEnd.{RulesEnd}
 use Rattle.oc_commands.specs.declared.listing.RulesEnd.TheVariants as lists
+use Rattle.oc_commands.specs.declared.merging.RecordsEnd.{RecordsEnd}
+use Rattle.oc_commands.specs.declared.merging.RecordsEnd.TheVariants as records
 use Rattle.oc_commands.specs.declared.serving.ServiceEnd.{ServiceEnd}
 use Rattle.oc_commands.specs.declared.serving.ServiceEnd.TheVariants as services
 use Rattle.oc_commands.specs.declared.token.TokenEnd.{TokenEnd}
@@ -93,6 +100,23 @@ module _ (i j : Input) (o p : Output) (d e : OnError) (stage : OnStage) (input :
   gen_told sample gens.Done h = output.written _ h
   gen_told sample gens.Sink h = (h.0, output.cut_off _ h.1)
   gen_told sample gens.Memory h = output.written _ h
+
+  -- at the end of `merge`
+  records_told : (r : Result Records RecordsFault) → TellsRecords i r → TellsRecords j r
+  records_told r h = (h.0, input.whole _ h.1, h.2)
+
+  most_told : (most : Most) → PassesMost i most → PassesMost j most
+  most_told mosts.Bytes h = (h.0, input.gave _ h.1, h.2)
+  most_told mosts.Lines h = records_told _ h
+  most_told mosts.Published h = records_told _ h
+
+  merge_told : (end : RecordsEnd) → HappenedAtMerge i o end → HappenedAtMerge j p end
+  merge_told (records.Merged end) h = let (r, told, text, is, written) = h in (r, records_told _ told, text, is, output.written _ written)
+  merge_told records.Sink h = let (r, told, text, end, is, cut) = h in (r, records_told _ told, text, end, is, (cut.0, output.cut_off (take cut.0 text) cut.1))
+  merge_told (records.Text line cause) h = (records_told _ h.0, output.written _ h.1)
+  merge_told (records.Limit most) h = (most_told most h.0, output.written _ h.1)
+  merge_told records.Source h = (input.failed h.0, output.written _ h.1)
+  merge_told records.Memory h = (input.came h.0, output.written _ h.1)
 
   -- of a configuration
   config_told : (read : Result Settings ConfigEnd) → ReadsConfig i read → ReadsConfig j read
@@ -272,6 +296,7 @@ module _ (i j : Input) (o p : Output) (d e : OnError) (stage : OnStage) (input :
     happened_told NoMemory h = let (written, x, n) = h in (output.written _ written, unplayed_told x, alone_told n)
     happened_told (Replayed large end) h = let ((summary, file, a, at), n) = h in ((summary, file, a, replay_told (scale_of large) summary end at), alone_told n)
     happened_told (Generated end) h = let ((sample, a, at), x, n) = h in ((sample, a, gen_told sample end at), unplayed_told x, alone_told n)
+    happened_told (Merged end) h = let (a, at, unplayed, n) = h in (a, merge_told end at, unplayed, alone_told n)
     happened_told (Listed end) h = let (a, at, unplayed, n) = h in (a, rules_told end at, unplayed, alone_told n)
     happened_told (Checked end) h = let ((member, folder, a, at), x, n) = h in ((member, folder, a, check_told files (network_of member) member.id end at), unplayed_told x, offline_told n)
     happened_told (CheckedConfigured end) h = let ((id, paths, a, at), unplayed, n, f) = h in ((id, paths, a, configured_told files id end at), unplayed, offline_told n, f)

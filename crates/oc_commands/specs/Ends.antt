@@ -8,6 +8,7 @@ use Rattle.oc_keep.specs.FileError.{FileError}
 use Rattle.oc_keep.specs.FileError.TheVariants as causes
 use Rattle.oc_keep.specs.Errors.{cause_of}
 use Rattle.oc_keep.specs.declared.errors.KeepLoad.{KeepLoad}
+use Rattle.oc_merge.specs.declared.merge_end.MergeEnd.TheVariants as merges
 use Rattle.oc_put.specs.declared.end.PutEnd.{PutEnd}
 use Rattle.oc_put.specs.declared.end.PutEnd.TheVariants as puts
 use Rattle.oc_replay.specs.declared.end.ReplayEnd.{ReplayEnd}
@@ -23,11 +24,13 @@ use Rattle.oc_commands.specs.declared.checking.ConfiguredEnd.TheVariants as conf
 use Rattle.oc_commands.specs.declared.configuring.ConfigEnd.{ConfigEnd}
 use Rattle.oc_commands.specs.declared.configuring.ConfigEnd.TheVariants as configs
 use Rattle.oc_commands.specs.declared.ending.End.{End}
-use Rattle.oc_commands.specs.declared.ending.End.TheVariants.{Helped, HelpFailed, Versioned, VersionFailed, Misused, NoMemory, Replayed, Generated, Listed, Checked, CheckedConfigured, NoToken, Got, Published, Served}
+use Rattle.oc_commands.specs.declared.ending.End.TheVariants.{Helped, HelpFailed, Versioned, VersionFailed, Misused, NoMemory, Replayed, Generated, Merged, Listed, Checked, CheckedConfigured, NoToken, Got, Published, Served}
 use Rattle.oc_commands.specs.declared.generating.GenEnd.{GenEnd}
 use Rattle.oc_commands.specs.declared.generating.GenEnd.TheVariants as gens
 use Rattle.oc_commands.specs.declared.listing.RulesEnd.{RulesEnd}
 use Rattle.oc_commands.specs.declared.listing.RulesEnd.TheVariants as lists
+use Rattle.oc_commands.specs.declared.merging.RecordsEnd.{RecordsEnd}
+use Rattle.oc_commands.specs.declared.merging.RecordsEnd.TheVariants as records
 use Rattle.oc_commands.specs.declared.serving.ServiceEnd.{ServiceEnd}
 use Rattle.oc_commands.specs.declared.serving.ServiceEnd.TheVariants as services
 use Rattle.oc_commands.specs.declared.token.TokenEnd.{TokenEnd}
@@ -47,6 +50,16 @@ abbrev pub status_of_gen : GenEnd → Status
 status_of_gen gens.Done = statuses.Done
 status_of_gen gens.Sink = statuses.Failed
 status_of_gen gens.Memory = statuses.Memory
+
+abbrev pub status_of_records : RecordsEnd → Status
+status_of_records (records.Merged merges.Whole) = statuses.Done
+status_of_records (records.Merged (merges.State line)) = statuses.BadText
+status_of_records (records.Merged (merges.Unsent line)) = statuses.BadText
+status_of_records (records.Text line cause) = statuses.BadText
+status_of_records (records.Limit most) = statuses.Limit
+status_of_records records.Source = statuses.Failed
+status_of_records records.Sink = statuses.Failed
+status_of_records records.Memory = statuses.Memory
 
 abbrev pub status_of_fault : ConfigFault → Status
 status_of_fault faults.Memory = statuses.Memory
@@ -137,6 +150,7 @@ status_of Misused = statuses.Usage
 status_of NoMemory = statuses.Memory
 status_of (Replayed large end) = status_of_replay end
 status_of (Generated end) = status_of_gen end
+status_of (Merged end) = status_of_records end
 status_of (Listed end) = status_of_rules end
 status_of (Checked end) = status_of_check end
 status_of (CheckedConfigured end) = status_of_configured end

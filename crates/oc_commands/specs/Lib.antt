@@ -3,6 +3,7 @@ pub mod SettleAndHeal
 pub mod Headline
 pub mod AtReplay
 pub mod AtGen
+pub mod AtMerge
 pub mod AtConfig
 pub mod AtRules
 pub mod AtCheck

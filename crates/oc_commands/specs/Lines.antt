@@ -17,6 +17,11 @@ use Rattle.oc_keep.specs.declared.errors.KeepLoad.{KeepLoad}
 use Rattle.oc_keep.specs.declared.errors.KeepLoad.TheVariants as loads
 use Rattle.oc_keep.specs.Side.{Side}
 use Rattle.oc_keep.specs.Side.TheVariants as sides
+use Rattle.oc_merge.specs.Limits.{most_of as most_records, most_text}
+use Rattle.oc_merge.specs.declared.fault.Cause.{Cause}
+use Rattle.oc_merge.specs.declared.fault.Cause.TheVariants.{Said, Areas}
+use Rattle.oc_merge.specs.declared.merge_end.MergeEnd.{MergeEnd}
+use Rattle.oc_merge.specs.declared.merge_end.MergeEnd.TheVariants as merges
 use Rattle.oc_put.specs.declared.end.PutEnd.{PutEnd}
 use Rattle.oc_put.specs.declared.end.PutEnd.TheVariants as puts
 use Rattle.oc_replay.specs.declared.end.ReplayEnd.{ReplayEnd}
@@ -38,12 +43,14 @@ use Rattle.oc_commands.specs.declared.checking.ConfiguredEnd.TheVariants as conf
 use Rattle.oc_commands.specs.declared.configuring.ConfigEnd.{ConfigEnd}
 use Rattle.oc_commands.specs.declared.configuring.ConfigEnd.TheVariants as configs
 use Rattle.oc_commands.specs.declared.ending.End.{End}
-use Rattle.oc_commands.specs.declared.ending.End.TheVariants.{Helped, HelpFailed, Versioned, VersionFailed, Misused, NoMemory, Replayed, Generated, Listed, Checked, CheckedConfigured, NoToken, Got, Published, Served}
+use Rattle.oc_commands.specs.declared.ending.End.TheVariants.{Helped, HelpFailed, Versioned, VersionFailed, Misused, NoMemory, Replayed, Generated, Merged, Listed, Checked, CheckedConfigured, NoToken, Got, Published, Served}
 use Rattle.oc_commands.specs.declared.generating.GenEnd.{GenEnd}
 use Rattle.oc_commands.specs.declared.generating.GenEnd.TheVariants as gens
 use Rattle.oc_commands.specs.declared.lines.ErrorLine.{ErrorLine}
 use Rattle.oc_commands.specs.declared.listing.RulesEnd.{RulesEnd}
 use Rattle.oc_commands.specs.declared.listing.RulesEnd.TheVariants as lists
+use Rattle.oc_commands.specs.declared.merging.RecordsEnd.{RecordsEnd}
+use Rattle.oc_commands.specs.declared.merging.RecordsEnd.TheVariants as records
 use Rattle.oc_commands.specs.declared.serving.ServiceEnd.{ServiceEnd}
 use Rattle.oc_commands.specs.declared.serving.ServiceEnd.TheVariants as services
 use Rattle.oc_commands.specs.declared.token.TokenEnd.{TokenEnd}
@@ -94,6 +101,10 @@ out_of_memory = short_line (codes "overcast: out of memory")
 abbrev pub limit_line : Scale → What → List ℕ
 limit_line scale what = line (codes "overcast: limit ") (what_text what) (codes " ") (decimal (most_of scale what))
 
+-- the line of the input that is to blame, and why
+abbrev pub blame_line : ℕ → List ℕ → List ℕ
+blame_line number why = line (codes "overcast: line ") (decimal number) (codes ": ") why
+
 abbrev pub line_of_replay : Option (List ℕ) → Scale → ReplayEnd → List ℕ
 line_of_replay file scale replays.Done = []
 line_of_replay file scale (replays.Text number why) = line (codes "overcast: line ") (decimal number) (codes ": ") (why_text why)
@@ -106,6 +117,24 @@ abbrev pub line_of_gen : GenEnd → List ℕ
 line_of_gen gens.Done = []
 line_of_gen gens.Sink = output_failed
 line_of_gen gens.Memory = out_of_memory
+
+-- why a line of records is refused
+abbrev pub cause_text : Cause → List ℕ
+cause_text (Said why) = why_text why
+cause_text Areas = codes "area"
+
+abbrev pub line_of_merged : MergeEnd → List ℕ
+line_of_merged merges.Whole = []
+line_of_merged (merges.State number) = blame_line number (codes "state")
+line_of_merged (merges.Unsent number) = blame_line number (codes "unsent")
+
+abbrev pub line_of_records : RecordsEnd → List ℕ
+line_of_records (records.Merged end) = line_of_merged end
+line_of_records (records.Text number cause) = blame_line number (cause_text cause)
+line_of_records (records.Limit most) = line (codes "overcast: limit ") (most_text most) (codes " ") (decimal (most_records most))
+line_of_records records.Source = input_failed None
+line_of_records records.Sink = output_failed
+line_of_records records.Memory = out_of_memory
 
 -- a fault of a table, and of what; a table of an array is named
 abbrev pub line_in : SectionName → List ℕ → List ℕ → List ℕ
@@ -245,6 +274,7 @@ line_of Misused file usage = codes "overcast: usage\n" ++ usage
 line_of NoMemory file usage = out_of_memory
 line_of (Replayed large end) file usage = line_of_replay file (scale_of large) end
 line_of (Generated end) file usage = line_of_gen end
+line_of (Merged end) file usage = line_of_records end
 line_of (Listed end) file usage = line_of_rules file end
 line_of (Checked end) file usage = line_of_check end
 line_of (CheckedConfigured end) file usage = line_of_configured file end

@@ -6,7 +6,7 @@ use Rattle.oc_words.specs.declared.request.Download.{Download}
 use Rattle.oc_words.specs.declared.request.Member.{Member}
 use Rattle.oc_words.specs.declared.request.Paths.{Paths}
 use Rattle.oc_words.specs.declared.request.Invocation.{Invocation}
-use Rattle.oc_words.specs.declared.request.Invocation.TheVariants.{Help, Version, Replay, Gen, Check, CheckConfigured, Get, Put, Node, Rules}
+use Rattle.oc_words.specs.declared.request.Invocation.TheVariants.{Help, Version, Replay, Merge, Gen, Check, CheckConfigured, Get, Put, Node, Rules}
 use Rattle.oc_words.specs.declared.request.Sample.{Sample}
 use Rattle.oc_words.specs.declared.request.Service.{Service}
 use Rattle.oc_words.specs.declared.request.Upload.{Upload}
@@ -15,6 +15,7 @@ use Rattle.oc_commands.specs.AtCheck.{HappenedAtCheck, network_of}
 use Rattle.oc_commands.specs.AtConfigured.{HappenedAtConfigured, UnlessChecked}
 use Rattle.oc_commands.specs.AtGen.{HappenedAtGen}
 use Rattle.oc_commands.specs.AtGet.{HappenedAtGet}
+use Rattle.oc_commands.specs.AtMerge.{HappenedAtMerge}
 use Rattle.oc_commands.specs.AtNode.{HappenedAtNode, UnlessRan}
 use Rattle.oc_commands.specs.AtPut.{HappenedAtPut}
 use Rattle.oc_commands.specs.AtReplay.{HappenedAtReplay, scale_of}
@@ -23,7 +24,7 @@ use Rattle.oc_commands.specs.AtToken.{LacksToken, TakesToken}
 use Rattle.oc_commands.specs.Lines.{version_line}
 use Rattle.oc_commands.specs.Outside.{Outside}
 use Rattle.oc_commands.specs.declared.ending.End.{End}
-use Rattle.oc_commands.specs.declared.ending.End.TheVariants.{Helped, HelpFailed, Versioned, VersionFailed, Misused, NoMemory, Replayed, Generated, Listed, Checked, CheckedConfigured, NoToken, Got, Published, Served}
+use Rattle.oc_commands.specs.declared.ending.End.TheVariants.{Helped, HelpFailed, Versioned, VersionFailed, Misused, NoMemory, Replayed, Generated, Merged, Listed, Checked, CheckedConfigured, NoToken, Got, Published, Served}
 
 -- the text was taken, or a prefix of it and then a call failed
 abbrev pub IsWrittenOrCut : {E : Type 0} → (E → List ℕ → E → Type 0) → (E → List ℕ → E → Type 0) → (E → ℕ) → E → E → List ℕ → Type 0
@@ -69,6 +70,7 @@ Happened o Misused = (o.asked ≡ None) × o.output.written [] × IsUnplayed o �
 Happened o NoMemory = o.output.written [] × IsUnplayed o × IsAlone o
 Happened o (Replayed large end) = ((summary : Bool) × (file : Option (List ℕ)) × (o.asked ≡ Some (Replay large summary file)) × HappenedAtReplay o.input o.output o.stage (scale_of large) summary end) × IsAlone o
 Happened o (Generated end) = ((sample : Sample) × (o.asked ≡ Some (Gen sample)) × HappenedAtGen o.output sample end) × IsUnplayed o × IsAlone o
+Happened o (Merged end) = (o.asked ≡ Some Merge) × HappenedAtMerge o.input o.output end × o.stage.unplayed × IsAlone o
 Happened o (Listed end) = ((file : Option (List ℕ)) × (o.asked ≡ Some (Rules file))) × HappenedAtRules o.input o.output end × o.stage.unplayed × IsAlone o
 Happened o (Checked end) = ((member : Member) × (folder : Option (List ℕ)) × (o.asked ≡ Some (Check member folder)) × HappenedAtCheck o.files o.output (network_of member) member.id end) × IsUnplayed o × IsOffline o
 Happened o (CheckedConfigured end) = ((id : ℕ) × (paths : Paths) × (o.asked ≡ Some (CheckConfigured id paths)) × HappenedAtConfigured o.input o.files o.output id end) × o.stage.unplayed × IsOffline o

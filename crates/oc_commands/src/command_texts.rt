@@ -63,6 +63,61 @@ Exit status:
 "
 }
 
+pub(crate) fn merge_help() -> &'static str
+    ensures { 0 < length result.now }
+{
+    "\
+overcast merge: makes one schedule of the records of running nodes
+
+Usage: overcast merge < RECORDS > SCHEDULE
+
+A node that runs with `--log record` writes a record of what it takes. Give the
+records of all nodes of a network on standard input, one behind the other; those of
+one node in the order of its runs. The schedule that is written plays the same
+inputs at the same nodes in a replay, each message behind the event that sent it.
+
+A line that ends with `#`, and a last line that has no end, were cut off where a
+node was killed: they are skipped. Where a record tells what the files of a node
+held when it started, that is compared with what they hold at this point of the
+schedule. A line that can't be taken stops its node there, and what is behind it is
+left out; the schedule has all that can be taken.
+
+It reads at most 10000000 lines and 4294967296 bytes, of which the publish lines
+may bring as many. `replay --summary --large` plays what it writes.
+
+Example: node 2 pulls nothing, and ticks twice.
+
+  $ cat node1.log node2.log
+  #
+  overcast 1 nodes 2 chain 1
+  up 1
+  publish 1 /a 68656c6c6f
+  #
+  overcast 1 nodes 2 chain 1
+  up 2
+  tick 2 1
+  tick 2 2
+  $ cat node1.log node2.log | overcast merge
+  overcast 1 nodes 2 chain 1
+  up 1
+  publish 1 /a 68656c6c6f
+  up 2
+  tick 2 1
+  tick 2 2
+
+Exit status:
+  0  every line that is there is in the schedule
+  1  the input or the output failed
+  2  the words are not as under Usage
+  3  a line of the records has a fault, and nothing is written; or the schedule is
+     written without the line that is named: with `state`, a node started on other
+     files than at this point of the schedule; with `unsent`, no node of the
+     records sent this message
+  4  out of memory
+  5  the records pass a limit on their lines, bytes or published bytes
+"
+}
+
 pub(crate) fn gen_help() -> &'static str
     ensures { 0 < length result.now }
 {

@@ -1,18 +1,20 @@
 //! How a run ends.
 ghost use Rattle.std.specs.Prelude.{◌≡◌};
 ghost use Rattle.oc_commands.specs.Ends.{lacks_token, status_of, status_of_check, status_of_config, status_of_configured, status_of_fault, status_of_gen};
-ghost use Rattle.oc_commands.specs.Ends.{status_of_get, status_of_load, status_of_put, status_of_replay, status_of_rules, status_of_run, status_of_service};
+ghost use Rattle.oc_commands.specs.Ends.{status_of_get, status_of_load, status_of_put, status_of_records, status_of_replay, status_of_rules, status_of_run, status_of_service};
 ghost use Rattle.oc_commands.specs.Ends.{status_of_token, status_of_turns};
 
 use crate::checking::{CheckEnd, ConfiguredEnd};
 use crate::configuring::ConfigEnd;
 use crate::generating::GenEnd;
 use crate::listing::RulesEnd;
+use crate::merging::RecordsEnd;
 use crate::serving::ServiceEnd;
 use crate::token::TokenEnd;
 use oc_config::ConfigFault;
 use oc_fetch::GetEnd;
 use oc_keep::{FileError, KeepLoad};
+use oc_merge::MergeEnd;
 use oc_put::PutEnd;
 use oc_replay::ReplayEnd;
 use oc_service::{NodeEnd, TurnEnd};
@@ -37,6 +39,8 @@ pub enum End {
     Replayed { large: bool, end: ReplayEnd },
     /// The command `gen` ended in this way.
     Generated(GenEnd),
+    /// The command `merge` ended in this way.
+    Merged(RecordsEnd),
     /// The command `rules` ended in this way.
     Listed(RulesEnd),
     /// The command `check` ended in this way.
@@ -74,6 +78,7 @@ impl End {
             End::NoMemory => Status::Memory,
             End::Replayed { end, .. } => replay_status(end),
             End::Generated(end) => gen_status(end),
+            End::Merged(end) => records_status(end),
             End::Listed(end) => rules_status(end),
             End::Checked(end) => check_status(end),
             End::CheckedConfigured(end) => configured_status(end),
@@ -104,6 +109,19 @@ fn gen_status(end: GenEnd) -> Status
         GenEnd::Done => Status::Done,
         GenEnd::Sink => Status::Failed,
         GenEnd::Memory => Status::Memory,
+    }
+}
+
+fn records_status(end: RecordsEnd) -> Status
+    ensures { result ≡ status_of_records end }
+{
+    match end {
+        RecordsEnd::Merged(MergeEnd::Whole) => Status::Done,
+        RecordsEnd::Merged(MergeEnd::State { .. } | MergeEnd::Unsent { .. }) => Status::BadText,
+        RecordsEnd::Text { .. } => Status::BadText,
+        RecordsEnd::Limit(_) => Status::Limit,
+        RecordsEnd::Source | RecordsEnd::Sink => Status::Failed,
+        RecordsEnd::Memory => Status::Memory,
     }
 }
 

@@ -1,6 +1,6 @@
 //! The commands of the program: what each does, how it ends, and with which status and which line.
 //!
-//! Each command is a file: `replaying`, `generating`, `listing` (`rules`), `checking`, `getting`, `putting`
+//! Each command is a file: `replaying`, `generating`, `merging`, `listing` (`rules`), `checking`, `getting`, `putting`
 //! and `serving` (`node`), besides `helping`, which answers `--help` and `--version`, `token`, which reads that of a client, and
 //! `progress`, which tells how far one came. [`End`] is the end of any of them, from which
 //! [`End::status`] and [`tell`] make the status and the line on the error output. `Outside` in `specs/` is all that
@@ -28,6 +28,7 @@ mod limits;
 mod lines;
 mod listing;
 mod loading;
+mod merging;
 mod network;
 mod progress;
 mod putting;
@@ -48,6 +49,7 @@ pub use helping::{write_help, write_version};
 pub use limits::limits_are_as_published;
 pub use listing::{RulesEnd, list_rules};
 pub use loading::{Recovered, recovered_text};
+pub use merging::{RecordsEnd, merge_input};
 pub use network::Network;
 pub use oc_words::Status;
 pub use progress::{Counting, error_of, progress_computes, progress_on};

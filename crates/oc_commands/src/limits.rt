@@ -39,6 +39,7 @@ ghost use Rattle.oc_policy.specs.declared.deciding.TheConstants.{MAX_RULES};
 ghost use Rattle.oc_probe.specs.declared.rate.TheConstants.{PROBE_BYTES};
 ghost use Rattle.oc_probe.specs.declared.recent.TheConstants.{KEPT as KEPT_RATES};
 ghost use Rattle.oc_routes.specs.declared.connections.TheConstants.{MAX_REQUESTS};
+ghost use Rattle.oc_merge.specs.declared.fault.TheConstants.{MAX_RECORD_BYTES, MAX_RECORD_LINES, MAX_RECORD_PUBLISHED};
 ghost use Rattle.oc_schedule.specs.declared.scale.TheConstants.{MAX_LARGE_BYTES, MAX_LARGE_LINES, MAX_LARGE_PUBLISHED};
 ghost use Rattle.oc_updown.specs.declared.leases.TheConstants.{LEASE_TIME};
 
@@ -51,7 +52,8 @@ pub fn limits_are_as_published()
     ensures messages { (MAX_CHUNK_BYTES ≡ 524288) × (USUAL_CHUNK_BYTES ≡ 4096) × (FIRST_CHUNK ≡ 262144) × (MAX_CHECK_IN_CERTS ≡ 64) }
     ensures files { (MAX_FRAME_BYTES ≡ 1048576) × (MAX_FRAME_RECORDS ≡ 4096) × (MAX_JOURNAL_BYTES ≡ 2 ^ 48) × (DUE_BYTES ≡ 262144) × (MAX_BASE_ACKED ≡ 2 ^ 62) }
     ensures schedules { (MAX_SCHEDULE_LINES ≡ 100000) × (MAX_SCHEDULE_BYTES ≡ 67108864) × (MAX_SCHEDULE_PUBLISHED ≡ 262144) × (MAX_SCHEDULE_SETTLES ≡ 16) }
-    ensures large { (MAX_LARGE_LINES ≡ 10000000) × (MAX_LARGE_BYTES ≡ 2 ^ 32) × (MAX_LARGE_PUBLISHED ≡ 2 ^ 32) }
+    ensures large { (MAX_LARGE_LINES ≡ 10000000) × (MAX_LARGE_BYTES ≡ 2 ^ 32) × (MAX_LARGE_PUBLISHED ≡ 2 ^ 32)
+        × (MAX_RECORD_LINES ≡ 10000000) × (MAX_RECORD_BYTES ≡ 2 ^ 32) × (MAX_RECORD_PUBLISHED ≡ 2 ^ 32) }
     ensures requests { (MAX_HEAD_BYTES ≡ 8192) × (MAX_FIELDS ≡ 64) × (MAX_BODY_BYTES ≡ 1000000) × (MAX_REQUESTS ≡ 16) × (MAX_RULES ≡ 256) }
     ensures downloads { (MAX_REDIRECTIONS ≡ 2) × (MAX_CONTENT_BYTES ≡ 2 ^ 40) × (MAX_OPEN_BYTES ≡ 2 ^ 40) }
     ensures probes { (PROBE_BYTES ≡ 10240) × (KEPT_RATES ≡ 5) }

@@ -3,19 +3,21 @@
 
 ghost use Rattle.std.specs.Prelude.{◌≡◌, [], option_map};
 ghost use Rattle.oc_config.specs.Keys.{key_text};
-ghost use Rattle.oc_commands.specs.Lines.{file_text, input_failed, limit_line, line, line_in, line_of_check, line_of_config, line_of_configured, line_of_fault, line_of_gen};
-ghost use Rattle.oc_commands.specs.Lines.{line_of_load, line_of_replay, line_of_rules, line_of_run, side_text};
+ghost use Rattle.oc_commands.specs.Lines.{blame_line, cause_text, file_text, input_failed, limit_line, line, line_in, line_of_check, line_of_config, line_of_configured, line_of_fault, line_of_gen};
+ghost use Rattle.oc_commands.specs.Lines.{line_of_load, line_of_merged, line_of_records, line_of_replay, line_of_rules, line_of_run, side_text};
 ghost use Rattle.oc_commands.specs.Lines.{line_of_service, line_of_turns, long_line, short_line, stranger_line, text_of};
 
 use crate::checking::{CheckEnd, ConfiguredEnd};
 use crate::configuring::ConfigEnd;
 use crate::generating::GenEnd;
 use crate::listing::RulesEnd;
+use crate::merging::RecordsEnd;
 use crate::serving::ServiceEnd;
 use itoa::Buffer;
 use oc_base::Why;
 use oc_config::{ConfigFault, ConfigKey, SectionName};
 use oc_keep::{FileError, KeepLoad, Side};
+use oc_merge::{Cause, MergeEnd};
 use oc_replay::ReplayEnd;
 use oc_schedule::{Scale, What};
 use oc_service::{NodeEnd, TurnEnd};
@@ -116,6 +118,62 @@ pub(crate) fn limit_line(scale: Scale, what: What, digits: &mut Digits) -> Error
         fourth: digits.first.format(scale.most(what)),
         fifth: &[],
         end: "\n",
+    }
+}
+
+/// The line that names a line of the input, and why it is to blame.
+fn blame_line<'a>(number: u32, why: &'static str, digits: &'a mut Digits) -> ErrorLine<'a>
+    ensures { text_of result ≡ blame_line number why.now }
+{
+    ErrorLine {
+        first: "overcast: line ",
+        second: digits.first.format(number),
+        third: ": ",
+        fourth: why,
+        fifth: &[],
+        end: "\n",
+    }
+}
+
+/// The line of an end of `merge`.
+pub(crate) fn line_of_records(end: RecordsEnd, digits: &mut Digits) -> ErrorLine<'_>
+    ensures { text_of result ≡ line_of_records end }
+{
+    match end {
+        RecordsEnd::Merged(end) => line_of_merged(end, digits),
+        RecordsEnd::Text { line, cause } => blame_line(line, cause_word(cause), digits),
+        RecordsEnd::Limit(most) => ErrorLine {
+            first: "overcast: limit ",
+            second: most.word(),
+            third: " ",
+            fourth: digits.first.format(most.most()),
+            fifth: &[],
+            end: "\n",
+        },
+        RecordsEnd::Source => short_line("overcast: input failed"),
+        RecordsEnd::Sink => short_line("overcast: output failed"),
+        RecordsEnd::Memory => short_line("overcast: out of memory"),
+    }
+}
+
+/// The line of a merge, which names the first line that was not taken and blocks others.
+fn line_of_merged(end: MergeEnd, digits: &mut Digits) -> ErrorLine<'_>
+    ensures { text_of result ≡ line_of_merged end }
+{
+    match end {
+        MergeEnd::Whole => no_line(),
+        MergeEnd::State { line } => blame_line(line, "state", digits),
+        MergeEnd::Unsent { line } => blame_line(line, "unsent", digits),
+    }
+}
+
+/// The word of the cause for which a line of records is refused.
+fn cause_word(cause: Cause) -> &'static str
+    ensures { result.now ≡ cause_text cause }
+{
+    match cause {
+        Cause::Said(why) => why.word(),
+        Cause::Areas => "area",
     }
 }
 

@@ -10,8 +10,8 @@ ghost use Rattle.oc_http.specs.Parts.{joined};
 use crate::client_lines::{line_of_get, line_of_put, line_of_token};
 use crate::ending::End;
 use crate::lines::{
-    Digits, ErrorLine, line_of_check, line_of_configured, line_of_gen, line_of_replay,
-    line_of_rules, line_of_service, no_line, short_line,
+    Digits, ErrorLine, line_of_check, line_of_configured, line_of_gen, line_of_records,
+    line_of_replay, line_of_rules, line_of_service, no_line, short_line,
 };
 use crate::replaying::scale_of;
 use crate::texts::usage;
@@ -81,6 +81,7 @@ fn line_of<'a>(end: &'a End, file: Option<&'a str>, digits: &'a mut Digits) -> E
         End::NoMemory => short_line("overcast: out of memory"),
         End::Replayed { large, end } => line_of_replay(scale_of(*large), *end, file, digits),
         End::Generated(end) => line_of_gen(*end),
+        End::Merged(end) => line_of_records(*end, digits),
         End::Listed(end) => line_of_rules(end, file, digits),
         End::Checked(end) => line_of_check(*end, digits),
         End::CheckedConfigured(end) => line_of_configured(end, file, digits),

@@ -3,7 +3,7 @@
 ghost use Rattle.std.specs.Prelude.{◌<◌, length};
 
 use crate::command_texts::{
-    check_help, gen_help, get_help, node_help, put_help, replay_help, rules_help,
+    check_help, gen_help, get_help, merge_help, node_help, put_help, replay_help, rules_help,
 };
 
 /// The text that answers `--help`, by the first word: that of a command, or that of the program.
@@ -23,6 +23,7 @@ fn help_on(word: &str) -> &'static str
     match word {
         "replay" => replay_help(),
         "gen" => gen_help(),
+        "merge" => merge_help(),
         "node" => node_help(),
         "check" => check_help(),
         "get" => get_help(),
@@ -53,6 +54,7 @@ Usage: overcast node ID [--turns N] [--probe] [--log inputs|record|brief]
        overcast rules [--config FILE]
        overcast replay [FILE] [--summary [--large]] > REPORT
        overcast gen SEED NODES EVENTS > SCHEDULE
+       overcast merge < RECORDS > SCHEDULE
        overcast [COMMAND] --help
        overcast --version
 
@@ -64,6 +66,7 @@ Commands:
   rules   lists the access rules of a configuration
   replay  plays a schedule over nodes and a network in memory, and reports
   gen     writes a schedule that follows from a seed
+  merge   makes one schedule of the records of running nodes
 
 `overcast COMMAND --help` says more of each, with an example.
 
@@ -98,6 +101,7 @@ Usage: overcast node ID [--turns N] [--probe] [--log inputs|record|brief]
        overcast rules [--config FILE]
        overcast replay [FILE] [--summary [--large]] > REPORT
        overcast gen SEED NODES EVENTS > SCHEDULE
+       overcast merge < RECORDS > SCHEDULE
        overcast [COMMAND] --help
        overcast --version
 "

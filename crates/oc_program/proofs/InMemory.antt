@@ -14,7 +14,7 @@ use Rattle.oc_commands.specs.Outside.{Input, OnError, OnFiles, OnLink, OnNode, O
 use Rattle.oc_commands.specs.Run.{Happened}
 use Rattle.oc_words.specs.Status.{number_of}
 use Rattle.oc_commands.specs.declared.ending.End.{End}
-use Rattle.oc_commands.specs.declared.ending.End.TheVariants.{Helped, HelpFailed, Versioned, VersionFailed, Misused, NoMemory, Replayed, Generated, Listed, Checked, CheckedConfigured, NoToken, Got, Published, Served}
+use Rattle.oc_commands.specs.declared.ending.End.TheVariants.{Helped, HelpFailed, Versioned, VersionFailed, Misused, NoMemory, Replayed, Generated, Merged, Listed, Checked, CheckedConfigured, NoToken, Got, Published, Served}
 use Rattle.oc_program.specs.Streams.{at_bytes}
 
 module _ (bytes : List ℕ) (read : ℕ) (output : Output) (error : OnError) (stage : OnStage) where
@@ -43,6 +43,7 @@ module _ (bytes : List ℕ) (read : ℕ) (output : Output) (error : OnError) (st
       subst (λ (b : Bool). IsRightOf (scale_of b) (number_of (status_of_replay end)))
       (same_scale asked large summary file big h.0.0 h.0.1 is h.0.2) (replay_is_right_of (scale_of big) h.0.0 end h.0.3)
   replayed_of files link token node large summary file asked (Generated end) is h = let asks = h.0.1 in cc
+  replayed_of files link token node large summary file asked (Merged end) is h = let asks = h.0 in cc
   replayed_of files link token node large summary file asked (Listed end) is h = let asks = h.0.1 in cc
   replayed_of files link token node large summary file asked (Checked end) is h = let asks = h.0.2 in cc
   replayed_of files link token node large summary file asked (CheckedConfigured end) is h = let asks = h.0.2 in cc

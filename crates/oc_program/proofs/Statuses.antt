@@ -10,7 +10,7 @@ use Rattle.oc_commands.specs.declared.ending.End.TheVariants.{Misused, NoMemory}
 use Rattle.oc_commands.proofs.Completes.{IsSound, checked, fetched}
 use Rattle.oc_commands.proofs.Configured.{shown}
 use Rattle.oc_commands.proofs.Serves.{served}
-use Rattle.oc_commands.proofs.Works.{generated, helped, listed, replayed, versioned}
+use Rattle.oc_commands.proofs.Works.{generated, helped, listed, merged, replayed, versioned}
 use Rattle.oc_link.specs.declared.call.Call.{Call}
 use Rattle.oc_link.specs.declared.counts.LinkCounts.{LinkCounts}
 use Rattle.oc_io.specs.DiskView.{DiskView}
@@ -20,7 +20,7 @@ use Rattle.oc_model.specs.World.{World}
 use Rattle.oc_words.specs.Status.{number_of}
 use Rattle.oc_words.specs.declared.request.Download.{Download}
 use Rattle.oc_words.specs.declared.request.Invocation.{Invocation}
-use Rattle.oc_words.specs.declared.request.Invocation.TheVariants.{Check, CheckConfigured, Gen, Get, Help, Node, Put, Replay, Rules, Version}
+use Rattle.oc_words.specs.declared.request.Invocation.TheVariants.{Check, CheckConfigured, Gen, Get, Help, Merge, Node, Put, Replay, Rules, Version}
 use Rattle.oc_program.specs.Seen.{seen}
 use Rattle.oc_program.specs.StatusFor.{OutputHeld, StatusFor, StatusForGet}
 use Rattle.oc_program.specs.declared.outside.Outside.{Outside}
@@ -87,6 +87,9 @@ module _ {S K E T D L N P : Type 0} (gives gives_less : S → List ℕ → S →
   status_for (Some (Replay large summary file)) end h misused = λ came held.
       replayed gives gives_less ended input_faults old.input new.input output stage came (sound_of held)
       (Some (Replay large summary file)) error files link token node large summary file end refl h
+  status_for (Some Merge) end h misused = λ came held.
+      merged gives gives_less ended input_faults old.input new.input output stage came (sound_of held)
+      (Some Merge) error files link token node end refl h
   status_for (Some (Rules file)) end h misused = λ came held.
       listed gives gives_less ended input_faults old.input new.input output stage came (sound_of held)
       (Some (Rules file)) error files link token node file end refl h

@@ -1,6 +1,7 @@
 -- Which status comes for which request, where nothing fails that the command names in its status.
 use Rattle.std.specs.Prelude.{◌≡◌, ◌⊎◌, ℕ, List, Option, Some, None}
 use Rattle.oc_commands.specs.AtConfigured.{HasShownStatus}
+use Rattle.oc_commands.specs.AtMerge.{HasRecordsStatus}
 use Rattle.oc_commands.specs.AtNode.{HasServiceStatus}
 use Rattle.oc_commands.specs.AtReplay.{HasStatus, scale_of}
 use Rattle.oc_commands.specs.AtRules.{HasConfigStatus}
@@ -12,7 +13,7 @@ use Rattle.oc_keep.specs.Files.{AreHonest, OneRose, disks_in}
 use Rattle.oc_keep.specs.Promises.{HoldFiles}
 use Rattle.oc_link.specs.Story.{Story}
 use Rattle.oc_words.specs.declared.request.Invocation.{Invocation}
-use Rattle.oc_words.specs.declared.request.Invocation.TheVariants.{Check, CheckConfigured, Gen, Get, Help, Node, Put, Replay, Rules, Version}
+use Rattle.oc_words.specs.declared.request.Invocation.TheVariants.{Check, CheckConfigured, Gen, Get, Help, Merge, Node, Put, Replay, Rules, Version}
 use Rattle.oc_program.specs.declared.outside.Outside.{Outside}
 
 module _ {S K E T D L N P : Type 0} (gives : S → List ℕ → S → Type 0) (ended : S → Type 0) (input_faults : S → ℕ) (output_faults : K → ℕ)
@@ -40,7 +41,7 @@ module _ {S K E T D L N P : Type 0} (gives : S → List ℕ → S → Type 0) (e
   StatusForGet address start times file status = Unit {0}
 
   -- Words that ask for nothing have status 2. Help, `--version` and `gen` are done; a replay has the status of what its input says, and so
-  -- has `rules`. The files of a node are shown by `check`, of a configuration where that has the node. A `node` has the status of what
+  -- have `merge` and `rules`. The files of a node are shown by `check`, of a configuration where that has the node. A `node` has the status of what
   -- its configuration says, and over the files of a node it is done, or a file is full. Or memory ran out.
   abbrev pub StatusFor : Option Invocation → ℕ → Type 0
   StatusFor None status = (status ≡ 2) ⊎ (status ≡ 4)
@@ -48,6 +49,7 @@ module _ {S K E T D L N P : Type 0} (gives : S → List ℕ → S → Type 0) (e
   StatusFor (Some Version) status = OutputHeld → IsDoneOrMemory status
   StatusFor (Some (Gen sample)) status = OutputHeld → IsDoneOrMemory status
   StatusFor (Some (Replay large summary file)) status = InputHeld → OutputHeld → HasStatus (scale_of large) gives ended old.input new.input status ⊎ (status ≡ 4)
+  StatusFor (Some Merge) status = InputHeld → OutputHeld → HasRecordsStatus gives ended old.input new.input status ⊎ (status ≡ 4)
   StatusFor (Some (Rules file)) status = InputHeld → OutputHeld → HasConfigStatus gives ended old.input new.input status ⊎ (status ≡ 4)
   StatusFor (Some (Check member folder)) status = DisksHeld → OutputHeld → HoldFiles view member.nodes (disks_in old.files) → IsDoneOrMemory status
   StatusFor (Some (CheckConfigured id paths)) status =

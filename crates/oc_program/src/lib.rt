@@ -27,8 +27,8 @@ mod words;
 
 pub use disks::{Left, run_to_disks};
 pub use oc_commands::{
-    CheckEnd, ConfigEnd, ConfiguredEnd, End, GenEnd, RulesEnd, ServiceEnd, Status, headline_holds,
-    help, tell, usage,
+    CheckEnd, ConfigEnd, ConfiguredEnd, End, GenEnd, RecordsEnd, RulesEnd, ServiceEnd, Status,
+    headline_holds, help, tell, usage,
 };
 pub use oc_io::{ReaderSource, Traffic, WriterSink};
 pub use oc_words::{

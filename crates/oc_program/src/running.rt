@@ -22,8 +22,8 @@ ghost use Rattle.oc_words.specs.Words.{Answers, IsPlain, IsRequest, asked, texts
 use crate::outside::{Ended, Outside};
 use oc_commands::{
     CheckEnd, ConfiguredEnd, End, Served, ServiceEnd, check_configured, check_files, download,
-    error_of, list_rules, progress_on, publish, replay_input, run_service, scale_of, take_token,
-    tell, write_help, write_sample, write_version,
+    error_of, list_rules, merge_input, progress_on, publish, replay_input, run_service, scale_of,
+    take_token, tell, write_help, write_sample, write_version,
 };
 use oc_fetch::{GetEnd, Metered};
 use oc_io::{Disk, Sink, Source};
@@ -142,6 +142,10 @@ fn perform<S: Source, K: Sink, E: Sink, T: Stage, D: Disk, L: Dialler, N: Link, 
                 *summary,
             );
             (End::Replayed { large: *large, end }, outside)
+        }
+        Ok(Invocation::Merge) => {
+            let end = merge_input(alloc, &mut outside.input, &mut outside.output);
+            (End::Merged(end), outside)
         }
         Ok(Invocation::Gen(sample)) => {
             let end = write_sample(alloc, *sample, &mut outside.output);

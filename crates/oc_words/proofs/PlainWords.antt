@@ -20,14 +20,14 @@ use Rattle.oc_base.specs.declared.why.Why.TheVariants.{Number, Range, Word}
 use Rattle.oc_words.specs.Arguments.{IsNoFlag}
 use Rattle.oc_words.specs.Command.{bare_command, check_shape, command, gen_shape, get_shape, node_shape, put_shape, replay_shape, rules_shape}
 use Rattle.oc_words.specs.Requests.{download_in, id_in, log_by, member_in, sample_in, service_in, start_in, times_in, turns_in}
-use Rattle.oc_words.specs.Words.{IsPlain, plain_replay, plain_summary, plain_large, plain_large_file, plain_file, plain_gen, plain_endless, plain_placed, plain_node, plain_probing, plain_logging, plain_check, plain_configured, plain_configured_there, plain_checked, plain_get, plain_follow, plain_from, plain_get_as, plain_get_told, plain_put, plain_append, plain_resume, plain_seal, plain_append_seal, plain_resume_seal, plain_put_as, plain_put_told, plain_rules, plain_listed, plain_version}
+use Rattle.oc_words.specs.Words.{IsPlain, plain_replay, plain_summary, plain_large, plain_large_file, plain_merge, plain_file, plain_gen, plain_endless, plain_placed, plain_node, plain_probing, plain_logging, plain_check, plain_configured, plain_configured_there, plain_checked, plain_get, plain_follow, plain_from, plain_get_as, plain_get_told, plain_put, plain_append, plain_resume, plain_seal, plain_append_seal, plain_resume_seal, plain_put_as, plain_put_told, plain_rules, plain_listed, plain_version}
 use Rattle.oc_words.specs.Words.{asked, asked_by, asking, check_at, check_in, node_at, put_at, request_by, verdict_among, verdict_of}
 use Rattle.oc_words.specs.declared.request.Download.{Download}
 use Rattle.oc_words.specs.declared.request.LogWord.TheVariants.{Inputs, Record, Brief}
 use Rattle.oc_words.specs.declared.request.Member.{Member}
 use Rattle.oc_words.specs.declared.request.Onto.TheVariants.{New, Append, Resume}
 use Rattle.oc_words.specs.declared.request.Invocation.{Invocation}
-use Rattle.oc_words.specs.declared.request.Invocation.TheVariants.{Replay, Gen, Get, Rules, Version}
+use Rattle.oc_words.specs.declared.request.Invocation.TheVariants.{Replay, Merge, Gen, Get, Rules, Version}
 use Rattle.oc_words.specs.declared.request.Sample.{Sample}
 use Rattle.oc_words.specs.declared.request.Service.{Service}
 use Rattle.oc_words.specs.declared.request.TheConstants.{ENDLESS, MAX_EVENTS, MAX_FOLLOWED}
@@ -258,6 +258,10 @@ pub asked_unsummed : asked (codes "replay" ∷ codes "--large" ∷ []) ≡ None
 unfolding asked verdict_of command clap_on_literals
 asked_unsummed = refl
 
+pub asked_by_merge : asked (codes "merge" ∷ []) ≡ Some Merge
+unfolding asked verdict_of command clap_on_literals
+asked_by_merge = refl
+
 pub asked_by_rules : asked (codes "rules" ∷ []) ≡ Some (Rules None)
 unfolding asked verdict_of command clap_on_literals
 asked_by_rules = refl
@@ -334,6 +338,7 @@ plain_asks words (plain_replay is) = something words _ _ is asked_by_replay
 plain_asks words (plain_summary is) = something words _ _ is asked_by_summary
 plain_asks words (plain_large is) = something words _ _ is asked_by_large
 plain_asks words (plain_large_file file is f) = something words _ _ is (asked_by_large_file file f)
+plain_asks words (plain_merge is) = something words _ _ is asked_by_merge
 plain_asks words (plain_file file is f) = something words _ _ is (asked_by_file file f)
 plain_asks words (plain_rules is) = something words _ _ is asked_by_rules
 plain_asks words (plain_listed config is c) = something words _ _ is (asked_by_listed config c)

@@ -41,6 +41,10 @@ with_argument shape rule = record shape { rules = shape.rules ++ rule ∷ [] }
 abbrev pub replay_shape : Shape
 replay_shape = record (new_shape (codes "replay")) { rules = flag_rule (codes "summary") ∷ flag_rule (codes "large") ∷ optional_rule (codes "FILE") ∷ [] }
 
+-- `merge`
+abbrev pub merge_shape : Shape
+merge_shape = new_shape (codes "merge")
+
 -- `gen SEED NODES EVENTS`
 abbrev pub gen_shape : Shape
 gen_shape = record (new_shape (codes "gen")) {
@@ -77,7 +81,7 @@ rules_shape = record (new_shape (codes "rules")) { rules = option_rule (codes "c
 
 -- the command with the subcommands that take no part in a network
 abbrev pub stateless_command : App
-stateless_command = with_subcommand (with_subcommand bare_command replay_shape) gen_shape
+stateless_command = with_subcommand (with_subcommand (with_subcommand bare_command replay_shape) gen_shape) merge_shape
 
 -- and with those that make no connection
 abbrev pub local_command : App

@@ -16,7 +16,7 @@ use Rattle.oc_words.specs.declared.request.Download.{Download}
 use Rattle.oc_words.specs.declared.request.Member.{Member}
 use Rattle.oc_words.specs.declared.request.Onto.{Onto}
 use Rattle.oc_words.specs.declared.request.Invocation.{Invocation}
-use Rattle.oc_words.specs.declared.request.Invocation.TheVariants.{Replay, Gen, Node, Check, CheckConfigured, Get, Put, Rules, Help, Version}
+use Rattle.oc_words.specs.declared.request.Invocation.TheVariants.{Replay, Merge, Gen, Node, Check, CheckConfigured, Get, Put, Rules, Help, Version}
 use Rattle.oc_words.specs.declared.request.Sample.{Sample}
 use Rattle.oc_words.specs.declared.request.Service.{Service}
 use Rattle.oc_words.specs.declared.words.WordsFault.{WordsFault}
@@ -106,6 +106,7 @@ abbrev pub other_by : Text → List Row → Result Invocation Why
 other_by name rows =
     if bytes_eq name (codes "replay") then replay_of rows
     else if bytes_eq name (codes "gen") then asking Gen (sample_of rows)
+    else if bytes_eq name (codes "merge") then Ok Merge
     else if bytes_eq name (codes "node") then node_of rows
     else if bytes_eq name (codes "check") then check_of rows
     else if bytes_eq name (codes "rules") then Ok (Rules (first_of (codes "config") rows))
@@ -141,6 +142,7 @@ pub data IsPlain (words : List Text) : Type 0 where
   plain_summary : words ≡ codes "replay" ∷ codes "--summary" ∷ [] → IsPlain words
   plain_large : words ≡ codes "replay" ∷ codes "--large" ∷ codes "--summary" ∷ [] → IsPlain words
   plain_large_file : (file : Text) → words ≡ codes "replay" ∷ codes "--large" ∷ codes "--summary" ∷ file ∷ [] → IsNoFlag file → IsPlain words
+  plain_merge : words ≡ codes "merge" ∷ [] → IsPlain words
   plain_file : (file : Text) → words ≡ codes "replay" ∷ file ∷ [] → IsNoFlag file → IsPlain words
   plain_gen : (seed nodes events : Text) (sample : Sample) → words ≡ codes "gen" ∷ seed ∷ nodes ∷ events ∷ []
       → sample_in seed nodes events ≡ Ok sample → IsPlain words

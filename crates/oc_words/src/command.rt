@@ -4,8 +4,8 @@ ghost use Rattle.clap.specs.Words.{App, Shape, app_of, with_subcommand};
 ghost use Rattle.oc_words.specs.Command.{IsSubcommand, bare_command, command, local_command, serving_command, stateless_command};
 
 use crate::subcommands::{
-    check_command, gen_command, get_command, node_command, put_command, replay_command,
-    rules_command,
+    check_command, gen_command, get_command, merge_command, node_command, put_command,
+    replay_command, rules_command,
 };
 use clap::Command;
 use std::alloc::{AllocError, Global};
@@ -41,7 +41,8 @@ fn stateless_command<'a>(alloc: Global) -> Result<Command<'a>, AllocError>
     ensures { IfOk result (λ c. app_of c ≡ stateless_command) }
 {
     let bare = Ok(bare_command(alloc));
-    with(with(bare, replay_command(alloc)), gen_command(alloc))
+    let replaying = with(bare, replay_command(alloc));
+    with(with(replaying, gen_command(alloc)), merge_command(alloc))
 }
 
 /// A command with one more subcommand, where there was memory for both.

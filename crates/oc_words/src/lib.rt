@@ -30,4 +30,4 @@ pub use request::{
 };
 pub use status::Status;
 pub use tips::tip;
-pub use words::{WordsFault, clients_ask, large_ask, logs_ask, places_ask, read_words, rows_ask};
+pub use words::{WordsFault, clients_ask, logs_ask, places_ask, read_words, records_ask, rows_ask};

@@ -25,6 +25,8 @@ pub enum Invocation {
         summary: bool,
         file: Option<Name>,
     },
+    /// To make the records of running nodes on the input into one schedule.
+    Merge,
     /// To write the schedule that follows from a seed.
     Gen(Sample),
     /// To run a node.
@@ -62,6 +64,7 @@ impl Invocation {
         match self {
             Invocation::Node(service, _) => Some(service.id),
             Invocation::Replay { .. }
+            | Invocation::Merge
             | Invocation::Gen(_)
             | Invocation::Check(..)
             | Invocation::CheckConfigured(..)
@@ -83,7 +86,8 @@ impl Invocation {
                 &paths.config,
             ),
             Invocation::Rules(config) => text_of(config),
-            Invocation::Gen(_)
+            Invocation::Merge
+            | Invocation::Gen(_)
             | Invocation::Check(..)
             | Invocation::Get(_)
             | Invocation::Put(_)
@@ -102,6 +106,7 @@ impl Invocation {
             ),
             Invocation::Check(_, folder) => text_of(folder),
             Invocation::Replay { .. }
+            | Invocation::Merge
             | Invocation::Gen(_)
             | Invocation::Get(_)
             | Invocation::Put(_)
@@ -119,6 +124,7 @@ impl Invocation {
             Invocation::Get(download) => text_of(&download.token_file),
             Invocation::Put(upload) => text_of(&upload.token_file),
             Invocation::Replay { .. }
+            | Invocation::Merge
             | Invocation::Gen(_)
             | Invocation::Node(..)
             | Invocation::Check(..)

@@ -2,7 +2,7 @@
 ghost use Rattle.std.specs.Prelude.{◌≡◌, IfOk};
 ghost use Rattle.clap.specs.Simple.{new_shape};
 ghost use Rattle.clap.specs.Words.{Rule, Shape};
-ghost use Rattle.oc_words.specs.Command.{IsArgument, IsSubcommand, check_shape, gen_shape, get_shape, node_shape, put_shape, replay_shape, rules_shape, with_argument};
+ghost use Rattle.oc_words.specs.Command.{IsArgument, IsSubcommand, check_shape, gen_shape, get_shape, merge_shape, node_shape, put_shape, replay_shape, rules_shape, with_argument};
 
 use crate::arguments::{flag, option, optional, required};
 use clap::{Arg, Command};
@@ -15,6 +15,13 @@ pub(crate) fn replay_command<'a>(alloc: Global) -> Result<Command<'a>, AllocErro
     let one = with(named(alloc, "replay"), flag(alloc, "summary"));
     let two = with(one, flag(alloc, "large"));
     with(two, optional(alloc, "FILE"))
+}
+
+/// `merge`.
+pub(crate) fn merge_command<'a>(alloc: Global) -> Result<Command<'a>, AllocError>
+    ensures { IfOk result (IsSubcommand merge_shape) }
+{
+    named(alloc, "merge")
 }
 
 /// `gen SEED NODES EVENTS`.

@@ -128,6 +128,8 @@ fn other_by(alloc: Global, name: &str, arguments: &ArgMatches<'_>) -> Result<Inv
         replay_of(alloc, arguments)
     } else if name == "gen" {
         Ok(Invocation::Gen(sample_of(arguments)?))
+    } else if name == "merge" {
+        Ok(Invocation::Merge)
     } else if name == "node" {
         node_of(alloc, arguments)
     } else if name == "check" {
@@ -297,8 +299,10 @@ pub fn logs_ask()
         → asked (codes "node" ∷ id ∷ codes "--log" ∷ one ∷ codes "--log" ∷ other ∷ []) ≡ None }
 {}
 
-/// What words ask for that play a large schedule: it is summed up.
-pub fn large_ask()
+/// What words ask for that make one schedule of the records of running nodes, and that play such a one: a large
+/// schedule is summed up.
+pub fn records_ask()
+    ensures merging { asked (codes "merge" ∷ []) ≡ Some Invocation.Merge }
     ensures large { asked (codes "replay" ∷ codes "--large" ∷ codes "--summary" ∷ []) ≡ Some (Invocation.Replay true true None) }
     ensures large_file { (file : Text) → IsNoFlag file
         → asked (codes "replay" ∷ codes "--large" ∷ codes "--summary" ∷ file ∷ []) ≡ Some (Invocation.Replay true true (Some file)) }

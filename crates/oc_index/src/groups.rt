@@ -1,0 +1,148 @@
+//! The groups of a node in memory, without a file.
+
+ghost use Rattle.std.specs.Prelude.{◌≡◌, ◌-◌, [], drop, MatchOption, IfOk, OnOk, OnErr};
+ghost use Rattle.oc_base.specs.Groups.{IsAscending, group_or_empty, shelf, shelf_of, with_group};
+ghost use Rattle.oc_keep.specs.Puts.{CanKeep};
+ghost use Rattle.oc_model.specs.Step.{grown, kept_at, piece_of};
+
+use oc_base::{Bytes, Group, GroupName, Lookup, Memory, Shelf, look_up};
+use oc_model::{Body, Input};
+use std::alloc::Global;
+
+/// The line of a group: its length and its seal.
+fn line_of(group: &Group) -> Shelf
+    ensures { result ≡ shelf_of group.now }
+{
+    Shelf {
+        group: group.name,
+        held: group.bytes.items().len() as u64,
+        sealed: group.sealed,
+    }
+}
+
+/// The lines of groups, in their order.
+pub(crate) fn lines_of(alloc: Global, groups: &[Group]) -> Result<Vec<Shelf>, Memory>
+    ensures { IfOk result (λ lines. lines.items ≡ shelf groups.now) }
+{
+    let mut lines = Vec::new(alloc);
+    for group in groups {
+        lines.push(line_of(group))?;
+    }
+    Ok(lines)
+}
+
+/// The same group once more.
+fn copy_of(alloc: Global, group: &Group) -> Result<Group, Memory>
+    ensures { IfOk result (λ copy. copy ≡ group.now) }
+{
+    Ok(Group {
+        name: group.name,
+        bytes: Bytes::of(group.bytes.items().to_vec(alloc)?),
+        sealed: group.sealed,
+    })
+}
+
+/// The same groups once more.
+pub(crate) fn copied(alloc: Global, groups: &[Group]) -> Result<Vec<Group>, Memory>
+    ensures { IfOk result (λ copy. copy.items ≡ groups.now) }
+{
+    let mut copy = Vec::new(alloc);
+    for group in groups {
+        copy.push(copy_of(alloc, group)?)?;
+    }
+    Ok(copy)
+}
+
+/// Keeps what a step keeps of the bytes of its input: those from this offset of their group on, and the seal where it
+/// closes. If memory runs out, the groups stay as they are.
+#[tactic(auto, using(crate::proofs::GroupLists::kept_is, crate::proofs::GroupLists::kept_named))]
+pub(crate) fn keep(
+    alloc: Global,
+    groups: &mut Vec<Group>,
+    input: &Input,
+    start: Option<u64>,
+    closes: bool,
+) -> Result<(), Memory>
+    requires ascending { IsAscending groups.old.items }
+    requires keeps { CanKeep (shelf groups.old.items) (piece_of input.now) start closes }
+    ensures ok { OnOk result (groups.new.items ≡ kept_at start groups.old.items (piece_of input.now) closes) }
+    ensures err { OnErr result (groups.new.items ≡ groups.old.items) }
+{
+    let Some(start) = start else {
+        return Ok(());
+    };
+    match brought(input) {
+        Some((group, bytes)) => {
+            put(alloc, groups, group, start, bytes, closes)?;
+            Ok(())
+        }
+        None => unreachable!(),
+    }
+}
+
+/// The group and the bytes that an input brings, if it is one of those that do.
+fn brought(input: &Input) -> Option<(&GroupName, &[u8])>
+    ensures { MatchOption result (piece_of input.now ≡ record { group = []; bytes = [] })
+        (λ piece. piece_of input.now ≡ record { group = piece.0.now; bytes = piece.1.now }) }
+{
+    match input {
+        Input::Publish { group, bytes } => Some((group, bytes.items())),
+        Input::Seal { group } => Some((group, &[])),
+        Input::Delivered(message) => match &message.body {
+            Body::Chunk { group, bytes, .. } => Some((group, bytes.items())),
+            _ => None,
+        },
+        _ => None,
+    }
+}
+
+/// Puts bytes from an offset of a group on, of which those that it holds are left out, and perhaps closes it.
+#[tactic(auto, using(crate::proofs::GroupLists::put_found, crate::proofs::GroupLists::put_same, crate::proofs::GroupLists::put_free, crate::proofs::GroupLists::found_within, crate::proofs::GroupLists::free_within))]
+fn put(
+    alloc: Global,
+    groups: &mut Vec<Group>,
+    group: &GroupName,
+    start: u64,
+    bytes: &[u8],
+    closes: bool,
+) -> Result<(), Memory>
+    requires { IsAscending groups.old.items }
+    ensures ok { OnOk result (groups.new.items ≡ with_group (grown (group_or_empty group.now groups.old.items) start bytes.now closes) groups.old.items) }
+    ensures err { OnErr result (groups.new.items ≡ groups.old.items) }
+{
+    match look_up(groups, group) {
+        Lookup::Found(at) => {
+            grow(&mut groups[at], start, bytes, closes)?;
+            Ok(())
+        }
+        Lookup::Free(at) => {
+            let mut made = Group {
+                name: *group,
+                bytes: Bytes::of(Vec::new(alloc)),
+                sealed: false,
+            };
+            grow(&mut made, start, bytes, closes)?;
+            groups.insert(at, made)?;
+            Ok(())
+        }
+    }
+}
+
+/// A group takes what is new of bytes from an offset on, and is perhaps closed.
+fn grow(group: &mut Group, start: u64, bytes: &[u8], closes: bool) -> Result<(), Memory>
+    ensures ok { OnOk result (group.new ≡ grown group.old start bytes.now closes) }
+    ensures err { OnErr result (group.new ≡ group.old) }
+{
+    let held = group.bytes.items().len() as u64;
+    group.bytes.append(past(bytes, held.saturating_sub(start)))?;
+    group.sealed = group.sealed || closes;
+    Ok(())
+}
+
+/// The bytes behind the first `held_of_them`, which are held already.
+fn past(bytes: &[u8], held_of_them: u64) -> &[u8]
+    ensures { result.now ≡ drop held_of_them bytes.now }
+{
+    let skip = held_of_them.min(bytes.len() as u64) as usize;
+    &bytes[skip..]
+}

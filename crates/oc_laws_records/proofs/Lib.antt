@@ -1,0 +1,11 @@
+mod Clear
+mod Step
+mod Opening
+mod Starting
+mod Lines
+mod Reading
+mod There
+mod Replaying
+mod Written
+mod Stopping
+mod Stories

@@ -1,0 +1,55 @@
+-- Runs of nodes: what each of them writes as its record, and what the lines of a record tell.
+use Rattle.std.specs.Prelude.{ℕ, ◌==◌, if◌then◌else◌, Some, List, [], ◌∷◌, ◌++◌, map}
+use Rattle.oc_base.specs.Groups.{shelf}
+use Rattle.oc_digest.specs.Digests.{digest_text}
+use Rattle.oc_keep.specs.KeptView.{header_of}
+use Rattle.oc_merge.specs.declared.told.Told.{Told}
+use Rattle.oc_merge.specs.declared.told.Told.TheVariants.{Started, Came, Took}
+use Rattle.oc_model.specs.declared.input.Input.{Input}
+use Rattle.oc_model.specs.declared.input.Input.TheVariants.{Delivered}
+use Rattle.oc_model.specs.Node.{Header, Node}
+use Rattle.oc_server.specs.Recorded.{RecordLine, inputs_in, record_text}
+use Rattle.oc_server.specs.Records.{record_head}
+use Rattle.oc_wire.specs.Spelling.{spelling}
+
+-- A run of a node: the node as its files had it when it began, the lines of its inputs and its notes, and what a kill left of a further line.
+pub record Run : Type 0 where
+  pub node : Node
+  pub lines : List RecordLine
+  pub cut : List ℕ
+
+abbrev pub number_of : Run → ℕ
+number_of run = run.node.control.me
+
+-- among which nodes it is
+abbrev pub network_of : Run → Header
+network_of run = header_of run.node.control
+
+-- what it writes
+abbrev pub run_text : Run → List ℕ
+run_text run = record_head run.node.control (shelf run.node.groups) ++ record_text (number_of run) run.lines ++ run.cut
+
+-- what some runs write, one after another, as `cat` gives it
+abbrev pub runs_text : List Run → List ℕ
+runs_text [] = []
+runs_text (run ∷ runs) = run_text run ++ runs_text runs
+
+-- What they tell
+
+-- an input: a message by its bytes
+abbrev pub told_input : Input → Told
+told_input (Delivered message) = Came (spelling message)
+told_input i = Took i
+
+-- the start of a run: the digits of the files that it found
+abbrev pub told_start : Run → Told
+told_start run = Started (Some (digest_text run.node.control.kept (shelf run.node.groups)))
+
+-- a run: its start and its inputs
+abbrev pub told_by_run : Run → List Told
+told_by_run run = told_start run ∷ map told_input (inputs_in run.lines)
+
+-- the runs of the node x, in their order
+abbrev pub told_by : ℕ → List Run → List Told
+told_by x [] = []
+told_by x (run ∷ runs) = if number_of run == x then told_by_run run ++ told_by x runs else told_by x runs

@@ -1,4 +1,4 @@
--- The lines of a record behind its start: inputs and notes.
+-- The lines of a record after its start: inputs and notes.
 use Rattle.std.proofs.Common.{◌≡◌, ℕ, suc, ◌+◌, ◌-◌, ◌≤◌, Bool, true, false, cond, not, ◌==◌, if◌then◌else◌, nat_lt, Some, Ok, Err, List, [], ◌∷◌, ◌++◌, inl, inr, length, map, take, refl, ap, sym, subst, ◌∙◌, arith, codes, decimal, append_assoc}
 use Rattle.std.specs.Prelude.{filter, slice_index}
 use Rattle.std.specs.List.{AllByRecursion, onto_first, slice_split, sum_by}

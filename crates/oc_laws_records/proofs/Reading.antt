@@ -1,5 +1,5 @@
 -- Runs one after another are read as what they tell.
-use Rattle.std.proofs.Common.{◌≡◌, ◌≢◌, ℕ, ◌+◌, ◌-◌, ◌^◌, ◌<◌, ◌≤◌, Bool, true, false, cond, not, ◌&&◌, ◌||◌, ◌==◌, if◌then◌else◌, nat_lt, Option, Some, None, Result, Ok, Err, List, [], ◌∷◌, ◌++◌, length, map, refl, ap, sym, subst, ◌∙◌, arith, codes, decimal, append_assoc, length-append, replicate}
+use Rattle.std.proofs.Common.{◌≡◌, ◌≢◌, ℕ, ◌+◌, ◌-◌, ◌^◌, ◌<◌, ◌≤◌, Bool, true, false, cond, not, ◌&&◌, ◌||◌, ◌==◌, if◌then◌else◌, nat_lt, Option, Some, Result, Ok, Err, List, [], ◌∷◌, ◌++◌, length, map, refl, ap, sym, subst, ◌∙◌, arith, codes, decimal, append_assoc, length-append, replicate}
 use Rattle.std.specs.Prelude.{slice_index, take}
 use Rattle.std.specs.List.{AllByRecursion, sum_by}
 use Rattle.std.specs.Str.Lines.{lines, strip_carriage_return}
@@ -22,7 +22,6 @@ use Rattle.oc_merge.specs.declared.fault.TheConstants.{MAX_RECORD_BYTES, MAX_REC
 use Rattle.oc_merge.specs.declared.place.Place.{Place}
 use Rattle.oc_merge.specs.declared.place.Place.TheVariants.{Outside, Opened, Begun, Within}
 use Rattle.oc_merge.specs.declared.told.Told.{Told}
-use Rattle.oc_merge.specs.declared.told.Told.TheVariants.{Started}
 use Rattle.oc_merge.specs.declared.told.ToldLine.{ToldLine}
 use Rattle.oc_merge.specs.Lines.{is_cut_off}
 use Rattle.oc_merge.specs.Reading.{Reading, is_ended, nothing_read, read_line, read_lines, read_words}

@@ -2,16 +2,15 @@
 use Rattle.std.specs.Prelude.{◌≡◌, ℕ, Option, List, [], ◌++◌}
 use Rattle.oc_base.specs.Groups.{shelf}
 use Rattle.oc_model.specs.declared.input.Input.{Input}
-use Rattle.oc_model.specs.Node.{Node}
+use Rattle.oc_model.specs.Node.{Header, Node}
 use Rattle.oc_server.specs.Deeds.{Deed, Setting, inputs_of, lines, with_input}
-use Rattle.oc_model.specs.Node.{Header}
 use Rattle.oc_server.specs.Recorded.{IsNext, RecordLine, inputs_in}
 use Rattle.oc_server.specs.Records.{record_head}
 use Rattle.oc_laws_records.specs.Lawful.{IsRun}
 use Rattle.oc_laws_records.specs.Runs.{Run, run_text}
 
--- A run of this node, whose text is what these deeds wrote: its inputs are those that they took, and perhaps one more, which the deeds
--- behind begin with.
+-- A run of this node, whose text is what these deeds wrote: its inputs are those that they took, and perhaps one more, with which the deeds
+-- after them begin.
 pub record IsRunOf (s : Setting) (n : Node) (deeds behind : List Deed) : Type 0 where
   pub run : Run
   pub next : Option Input

@@ -18,7 +18,7 @@ use Rattle.oc_keep.specs.declared.errors.KeepError.{KeepError}
 use Rattle.oc_keep.specs.declared.errors.KeepError.TheVariants as keeps
 use Rattle.oc_keep.specs.Files.{Disks, AllGoOn, AreHonest, AreReliable, Leaves, OneRose, SameAsEither, SameDurable, Survives}
 use Rattle.oc_keep.specs.KeptView.{AtAnyMoment, IsFullAt, IsFullByPlan, IsFullOn, IsHonest, KeptView, NodeSurvives, disks_of, header_of, node_of}
-use Rattle.oc_keep.specs.Promises.{ChangesNothing, Closes, IsNodeOf, IsSameNode, LoadsSafely}
+use Rattle.oc_keep.specs.Promises.{ChangesNothing, IsNodeOf, IsSameNode, LoadsSafely}
 use Rattle.oc_keep.specs.Trials.{BeginsWith, EndsFull, HasCause, HasRunCause, HasTakeCause, LeavesAfter, LeavesBy, LeavesEnd, LeavesTaken, RunLeaves, after_inputs, first_node}
 use Rattle.oc_keep.proofs.Stays.{AllStay, Law, all_honest, all_were_honest, leaves_now, nothing_node, nothing_stays}
 

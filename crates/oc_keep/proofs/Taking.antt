@@ -14,7 +14,7 @@ use Rattle.oc_keep.specs.Calls.{DoesNothing, FailsToCommit, FailsToReady, IsSame
 use Rattle.oc_keep.specs.ControlStep.{AreSent, DoesControlStep, IsControlStep, control_step}
 use Rattle.oc_keep.specs.Errors.{of_commit, of_ready}
 use Rattle.oc_keep.specs.Files.{AllGoOn}
-use Rattle.oc_keep.specs.KeptView.{IsFullAt, IsHonest, KeptView, disks_of, header_of, node_of}
+use Rattle.oc_keep.specs.KeptView.{IsFullAt, KeptView, disks_of, header_of, node_of}
 use Rattle.oc_keep.specs.Promises.{Closes, IsSameNode}
 use Rattle.oc_keep.specs.ReadyView.{ReadyView, outcome_of, told_of}
 use Rattle.oc_keep.proofs.Runs.{all_go_on_then, one_rose_after}

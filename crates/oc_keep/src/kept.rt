@@ -19,7 +19,7 @@ ghost use Rattle.oc_io.specs.MemDiskView.{view_of};
 
 use crate::errors::{CommitError, KeepError, KeepLoad, KeptRead, ReadyError, TidyError};
 use crate::files::Files;
-use crate::ready::{Ready, Write};
+use crate::ready::{Parts, Ready, Write};
 use crate::readying::{make_ready, making_failed};
 use crate::seat::Seat;
 use crate::starting::start;
@@ -152,18 +152,21 @@ impl<D: Disk> Kept<D> {
         ensures works { self.old.closed ≡ false → AreReliable D.view (disks_of self.old)
             → IfErr result (λ error. error ≡ KeepError.Memory) }
     {
-        let ready = self.ready(input)?;
+        let made = self.ready(&input);
+        // Dropped by a call, the input costs one proof; out of scope it costs one at each return.
+        drop(input);
+        let ready = made?;
         Ok(self.commit(ready)?)
     }
 
     /// Makes an input ready: takes all memory for its step, reads what the step sends, and changes
     /// nothing. After `Disk` the node is closed.
-    pub fn ready(&mut self, input: Input) -> Result<Ready, ReadyError>
-        requires { IsInput self.old.node.control.nodes self.old.node.control.me input }
+    pub fn ready(&mut self, input: &Input) -> Result<Ready, ReadyError>
+        requires { IsInput self.old.node.control.nodes self.old.node.control.me input.now }
 
         // What it will do is the step, and it can be committed.
-        ensures made { IfOk result (λ ready. IsReadyFor D.view input ready self.old self.new) }
-        ensures refused { IfErr result (λ error. FailsToReady D.view error input self.old self.new) }
+        ensures made { IfOk result (λ ready. IsReadyFor D.view input.now ready self.old self.new) }
+        ensures refused { IfErr result (λ error. FailsToReady D.view error input.now self.old self.new) }
         ensures closed { IsErrOf result ReadyError.Closed ↔ IsTrue self.old.closed }
 
         // Nothing changes, and every crash leaves the same node.
@@ -173,9 +176,7 @@ impl<D: Disk> Kept<D> {
         ensures works { self.old.closed ≡ false → AreReliable D.view (disks_of self.old)
             → IfErr result (λ error. error ≡ ReadyError.Memory) }
     {
-        // Dropped by a call, the input costs one proof; out of scope it costs one at each return.
         if self.closed {
-            drop(input);
             return Err(ReadyError::Closed);
         }
         let made = make_ready(
@@ -183,9 +184,8 @@ impl<D: Disk> Kept<D> {
             &mut self.node,
             &mut self.store,
             &mut self.content,
-            &input,
+            input,
         );
-        drop(input);
         self.closed = making_failed(&made);
         made
     }
@@ -211,7 +211,7 @@ impl<D: Disk> Kept<D> {
         ensures works { AreReliable D.view (disks_of self.old) → IsOk result }
     {
         frames_add_their_records();
-        let Ready { plan, write } = ready;
+        let Parts { plan, write } = ready.into_parts();
         match put(&mut self.store, &mut self.content, write) {
             Ok(()) => Ok(self.node.apply(plan)),
             Err(CommitError::Full) => Err(CommitError::Full),
@@ -412,7 +412,7 @@ fn files_of<D: Disk>(kept: Kept<D>, ready: Ready) -> (Store<D>, Content<D>, Writ
     ensures write { result.2 ≡ ready.write }
     ensures kept { IsKept D.view kept }
 {
-    let Ready { plan, write } = ready;
+    let Parts { plan, write } = ready.into_parts();
     let Kept {
         alloc: _,
         node,

@@ -1,10 +1,12 @@
-ghost use Rattle.std.specs.Prelude.{◌≡◌};
+ghost use Rattle.std.specs.Prelude.{◌≡◌, IfOk};
 ghost use Rattle.oc_keep.specs.ReadyView.{is_written};
 
+use oc_base::Memory;
 use oc_content::Piece;
 use oc_model::{Answer, Message};
 use oc_node::Plan;
 use oc_store::Frame;
+use std::alloc::Global;
 use std::marker::Model;
 
 /// What a step writes: one frame of one file at most.
@@ -21,8 +23,15 @@ pub enum Write {
 /// sees the plan of the step, and what the step writes.
 #[derive(Drop)]
 pub struct Ready {
-    pub(crate) plan: Plan,
-    pub(crate) write: Write,
+    /// On the heap: it is large, and every call that hands it on would copy it.
+    parts: Box<Parts>,
+}
+
+/// The plan of a step, and what the step writes.
+#[derive(Drop)]
+pub(crate) struct Parts {
+    pub plan: Plan,
+    pub write: Write,
 }
 
 impl Model for Ready {
@@ -30,29 +39,44 @@ impl Model for Ready {
 
     ghost Value = { ReadyView };
 
-    ghost view = { λ r. record { plan = r.plan; write = r.write } };
+    ghost view = { λ r. record { plan = r.parts.value.plan; write = r.parts.value.write } };
 }
 
 impl Ready {
+    /// A plan with what it writes.
+    pub(crate) fn of(alloc: Global, plan: Plan, write: Write) -> Result<Ready, Memory>
+        ensures { IfOk result (λ ready. ready ≡ record { plan = plan; write = write }) }
+    {
+        let parts = Box::new(alloc, Parts { plan, write })?;
+        Ok(Ready { parts })
+    }
+
+    /// The plan, and what it writes.
+    pub(crate) fn into_parts(self) -> Parts
+        ensures { self ≡ record { plan = result.plan; write = result.write } }
+    {
+        Box::into_inner(self.parts)
+    }
+
     /// The messages that the step will hand out.
     pub fn sends(&self) -> &[Message]
         ensures { result.now ≡ self.now.plan.sends }
     {
-        self.plan.sends()
+        self.parts.plan.sends()
     }
 
     /// What the step will answer.
     pub fn answer(&self) -> Answer
         ensures { result ≡ self.now.plan.answer }
     {
-        self.plan.answer()
+        self.parts.plan.answer()
     }
 
     /// Whether the step writes a frame: exactly where something durable changes.
     pub fn writes(&self) -> bool
         ensures { result ≡ is_written self.now.write }
     {
-        match &self.write {
+        match &self.parts.write {
             Write::Nothing => false,
             Write::Records(_) | Write::Content(_) => true,
         }

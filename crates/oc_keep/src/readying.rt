@@ -63,7 +63,7 @@ pub fn make_ready<D: Disk>(
         }
     };
     match fetch(alloc, content, &mut plan) {
-        Ok(()) => Ok(Ready { plan, write }),
+        Ok(()) => Ok(Ready::of(alloc, plan, write)?),
         Err(error) => {
             drop(plan);
             drop(write);

@@ -14,13 +14,13 @@ use oc_model::{Answer, Input};
 
 /// An input comes to a node that is up. What it sends goes into the net. If memory runs out, the node
 /// and the net are as they were; the files may have been turned over.
-pub(crate) fn act(process: &mut Process, net: &mut Net, input: Input) -> Result<Answer, Memory>
+pub(crate) fn act(process: &mut Process, net: &mut Net, input: &Input) -> Result<Answer, Memory>
     requires up { process.old.process.up ≡ true }
-    requires input { IsInput process.old.process.node.control.nodes process.old.process.node.control.me input }
+    requires input { IsInput process.old.process.node.control.nodes process.old.process.node.control.me input.now }
     requires nodes { net.old.nodes ≡ process.old.process.node.control.nodes }
-    ensures process { OnOk result (process.new.process ≡ record { node = (step process.old.process.node input).node; up = true }) }
-    ensures messages { OnOk result (net.new.messages ≡ net.old.messages ++ (step process.old.process.node input).sends) }
-    ensures answer { IfOk result (λ answer. answer ≡ (step process.old.process.node input).answer) }
+    ensures process { OnOk result (process.new.process ≡ record { node = (step process.old.process.node input.now).node; up = true }) }
+    ensures messages { OnOk result (net.new.messages ≡ net.old.messages ++ (step process.old.process.node input.now).sends) }
+    ensures answer { IfOk result (λ answer. answer ≡ (step process.old.process.node input.now).answer) }
     ensures same { IsSameNode process.old.process.node.control process.new.process.node.control }
     ensures nodes { net.new.nodes ≡ net.old.nodes }
 

@@ -148,12 +148,12 @@ impl Process {
 
     /// Makes an input ready at a node that is up, whose control files are first turned over where they are
     /// ripe. The node stays as it is.
-    pub fn ready(&mut self, input: Input) -> Result<Ready, Memory>
+    pub fn ready(&mut self, input: &Input) -> Result<Ready, Memory>
         requires up { self.old.process.up ≡ true }
-        requires input { IsInput self.old.process.node.control.nodes self.old.process.node.control.me input }
+        requires input { IsInput self.old.process.node.control.nodes self.old.process.node.control.me input.now }
         ensures process { self.new.process ≡ self.old.process }
-        ensures step { IfOk result (λ ready. outcome_of self.old.process.node ready ≡ step self.old.process.node input) }
-        ensures writes { IfOk result (λ ready. is_written ready.write ≡ writes self.old.process.node input) }
+        ensures step { IfOk result (λ ready. outcome_of self.old.process.node ready ≡ step self.old.process.node input.now) }
+        ensures writes { IfOk result (λ ready. is_written ready.write ≡ writes self.old.process.node input.now) }
         ensures commits { IfOk result (λ ready. CanCommitTo self.new.kept ready) }
         ensures lawful { IfOk result (λ ready. AllByRecursion (IsMessage self.old.process.node.control.nodes) ready.plan.sends) }
         ensures renews { OnOk result (Renews self.old.kept self.new.kept) }
@@ -181,13 +181,13 @@ impl Process {
     /// A stop of a node that is up, partway through an input, once `calls` of the calls that write its frame
     /// have worked; the byte `image` is found wherever something was written and not synced. Answers whether
     /// the frame is kept. If memory runs out, the node stays as it is.
-    pub fn stop(&mut self, input: Input, calls: u8, image: u8) -> Result<bool, Memory>
+    pub fn stop(&mut self, input: &Input, calls: u8, image: u8) -> Result<bool, Memory>
         requires up { self.old.process.up ≡ true }
-        requires input { IsInput self.old.process.node.control.nodes self.old.process.node.control.me input }
+        requires input { IsInput self.old.process.node.control.nodes self.old.process.node.control.me input.now }
         requires calls { calls ≤ 4 }
-        ensures kept_new { IfOk result (λ kept_new. kept_new ≡ keeps_write calls image self.old.process.node input) }
+        ensures kept_new { IfOk result (λ kept_new. kept_new ≡ keeps_write calls image self.old.process.node input.now) }
         ensures process { OnOk result (self.new.process ≡ stopped
-            (if keeps_write calls image self.old.process.node input then (step self.old.process.node input).node else self.old.process.node)) }
+            (if keeps_write calls image self.old.process.node input.now then (step self.old.process.node input.now).node else self.old.process.node)) }
         ensures same { IsSameNode self.old.process.node.control self.new.process.node.control }
         ensures process_err { OnErr result (self.new.process ≡ self.old.process) }
     {

@@ -36,13 +36,13 @@ fn turn_over<D: Disk>(kept: &mut Kept<D>) -> Result<(), Memory>
 
 /// Takes all memory for the step of an input.
 #[tactic(auto, using(crate::proofs::Open::open_on))]
-fn prepare<D: Disk>(kept: &mut Kept<D>, input: Input) -> Result<Ready, Memory>
+fn prepare<D: Disk>(kept: &mut Kept<D>, input: &Input) -> Result<Ready, Memory>
     requires open { IsOpen D.view kept.old }
-    requires input { IsInput kept.old.node.control.nodes kept.old.node.control.me input }
+    requires input { IsInput kept.old.node.control.nodes kept.old.node.control.me input.now }
     ensures open { IsOpen D.view kept.new }
     ensures node { node_of kept.new ≡ node_of kept.old }
-    ensures step { IfOk result (λ ready. outcome_of (node_of kept.old) ready ≡ step (node_of kept.old) input) }
-    ensures writes { IfOk result (λ ready. is_written ready.write ≡ writes (node_of kept.old) input) }
+    ensures step { IfOk result (λ ready. outcome_of (node_of kept.old) ready ≡ step (node_of kept.old) input.now) }
+    ensures writes { IfOk result (λ ready. is_written ready.write ≡ writes (node_of kept.old) input.now) }
     ensures commits { IfOk result (λ ready. CanCommit D.view kept.new ready) }
     ensures generation { kept.new.store.generation ≡ kept.old.store.generation }
 {
@@ -57,13 +57,13 @@ fn prepare<D: Disk>(kept: &mut Kept<D>, input: Input) -> Result<Ready, Memory>
 
 /// Makes an input ready at a node that runs. If memory runs out, the node is as it was; its files may
 /// have been turned over.
-pub(crate) fn ready<D: Disk>(kept: &mut Kept<D>, input: Input) -> Result<Ready, Memory>
+pub(crate) fn ready<D: Disk>(kept: &mut Kept<D>, input: &Input) -> Result<Ready, Memory>
     requires open { IsOpen D.view kept.old }
-    requires input { IsInput kept.old.node.control.nodes kept.old.node.control.me input }
+    requires input { IsInput kept.old.node.control.nodes kept.old.node.control.me input.now }
     ensures open { IsOpen D.view kept.new }
     ensures node { node_of kept.new ≡ node_of kept.old }
-    ensures step { IfOk result (λ ready. outcome_of (node_of kept.old) ready ≡ step (node_of kept.old) input) }
-    ensures writes { IfOk result (λ ready. is_written ready.write ≡ writes (node_of kept.old) input) }
+    ensures step { IfOk result (λ ready. outcome_of (node_of kept.old) ready ≡ step (node_of kept.old) input.now) }
+    ensures writes { IfOk result (λ ready. is_written ready.write ≡ writes (node_of kept.old) input.now) }
     ensures commits { IfOk result (λ ready. CanCommit D.view kept.new ready) }
     ensures lawful { IfOk result (λ ready. AllByRecursion (IsMessage kept.old.node.control.nodes) ready.plan.sends) }
 

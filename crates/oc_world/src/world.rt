@@ -14,7 +14,7 @@ ghost use Rattle.oc_model.specs.Lawful.{IsEvent, IsHeader, IsInput, IsMessage};
 ghost use Rattle.oc_model.specs.NextWorld.{crashed, next_world, started, stopped_at, word_of, word_of_act, word_of_stop};
 ghost use Rattle.oc_model.specs.Ready.{IsSettled};
 ghost use Rattle.oc_model.specs.Runs.{last_body};
-ghost use Rattle.oc_model.specs.World.{acted, after_act, arrival as arrival_in, ids, is_up, message_at, new_world, node as node_in, process};
+ghost use Rattle.oc_model.specs.World.{acted, after_act, arrival as arrival_in, delivery, ids, is_up, message_at, new_world, node as node_in, process};
 ghost use Rattle.oc_model.specs.declared.event.Event.TheVariants.{Crash, Do, Stop, Up};
 ghost use Rattle.oc_io.specs.MemDiskView.{view_of};
 ghost use Rattle.oc_model.specs.Status.{status_in};
@@ -24,7 +24,7 @@ ghost use Rattle.oc_world.specs.Net.{IsTextOf};
 ghost use Rattle.oc_world.specs.World.{RenewsAt, RenewsBy, processes_of};
 
 use crate::acting::act;
-use crate::arrivals::{arrival, message_place};
+use crate::arrivals::{delivery, message_place};
 use crate::net::Net;
 use crate::network::Network;
 use crate::process::Process;
@@ -186,9 +186,27 @@ impl World {
         ensures renews { OnOk result (RenewsAt (arrival_in self.old.world act.now) self.old self.new) }
         ensures err { OnErr result (self.new.world ≡ self.old.world) }
     {
-        match arrival(&self.net, act)? {
+        match act {
+            // A message comes by its number alone.
+            Act::At {
+                input: Input::Delivered(_),
+                ..
+            } => Ok(Word::NoMessage),
+            Act::At { node, input } => self.act_at(*node, input),
+            Act::Deliver { number } => self.deliver(*number),
+        }
+    }
+
+    /// The message of this number comes to its receiver.
+    fn deliver(&mut self, number: u64) -> Result<Word, Memory>
+        ensures world { OnOk result (self.new.world ≡ acted self.old.world (delivery (message_at self.old.world.net number))) }
+        ensures word { IfOk result (λ word. word ≡ word_of_act self.old.world (delivery (message_at self.old.world.net number))) }
+        ensures renews { OnOk result (RenewsAt (delivery (message_at self.old.world.net number)) self.old self.new) }
+        ensures err { OnErr result (self.new.world ≡ self.old.world) }
+    {
+        match delivery(&self.net, number)? {
             None => Ok(Word::NoMessage),
-            Some((node, input)) => self.act_at(node, input),
+            Some((node, input)) => self.act_at(node, &input),
         }
     }
 
@@ -206,12 +224,12 @@ impl World {
     }
 
     /// An input comes to a node.
-    fn act_at(&mut self, node: NodeId, input: Input) -> Result<Word, Memory>
+    fn act_at(&mut self, node: NodeId, input: &Input) -> Result<Word, Memory>
         requires node { IsNode (length (ids self.old.world)) node }
-        requires input { IsInput (length (ids self.old.world)) node input }
-        ensures world { OnOk result (self.new.world ≡ acted self.old.world (Some (record { at = node; input = input }))) }
-        ensures word { IfOk result (λ word. word ≡ word_of_act self.old.world (Some (record { at = node; input = input }))) }
-        ensures renews { OnOk result (RenewsAt (Some (record { at = node; input = input })) self.old self.new) }
+        requires input { IsInput (length (ids self.old.world)) node input.now }
+        ensures world { OnOk result (self.new.world ≡ acted self.old.world (Some (record { at = node; input = input.now }))) }
+        ensures word { IfOk result (λ word. word ≡ word_of_act self.old.world (Some (record { at = node; input = input.now }))) }
+        ensures renews { OnOk result (RenewsAt (Some (record { at = node; input = input.now })) self.old self.new) }
         ensures err { OnErr result (self.new.world ≡ self.old.world) }
     {
         let at = node.index();
@@ -231,19 +249,27 @@ impl World {
         ensures word { IfOk result (λ word. word ≡ word_of_stop self.old.world calls image (arrival_in self.old.world act.now)) }
         ensures err { OnErr result (self.new.world ≡ self.old.world) }
     {
-        match arrival(&self.net, act)? {
-            None => Ok(Word::NoMessage),
-            Some((node, input)) => self.stop_at(node, input, calls, image),
+        match act {
+            // A message comes by its number alone.
+            Act::At {
+                input: Input::Delivered(_),
+                ..
+            } => Ok(Word::NoMessage),
+            Act::At { node, input } => self.stop_at(*node, input, calls, image),
+            Act::Deliver { number } => match delivery(&self.net, *number)? {
+                None => Ok(Word::NoMessage),
+                Some((node, input)) => self.stop_at(node, &input, calls, image),
+            },
         }
     }
 
     /// An input comes to a node, which stops in it.
-    fn stop_at(&mut self, node: NodeId, input: Input, calls: u8, image: u8) -> Result<Word, Memory>
+    fn stop_at(&mut self, node: NodeId, input: &Input, calls: u8, image: u8) -> Result<Word, Memory>
         requires node { IsNode (length (ids self.old.world)) node }
-        requires input { IsInput (length (ids self.old.world)) node input }
+        requires input { IsInput (length (ids self.old.world)) node input.now }
         requires calls { calls ≤ 4 }
-        ensures world { OnOk result (self.new.world ≡ stopped_at self.old.world calls image (Some (record { at = node; input = input }))) }
-        ensures word { IfOk result (λ word. word ≡ word_of_stop self.old.world calls image (Some (record { at = node; input = input }))) }
+        ensures world { OnOk result (self.new.world ≡ stopped_at self.old.world calls image (Some (record { at = node; input = input.now }))) }
+        ensures word { IfOk result (λ word. word ≡ word_of_stop self.old.world calls image (Some (record { at = node; input = input.now }))) }
         ensures err { OnErr result (self.new.world ≡ self.old.world) }
     {
         let at = node.index();

@@ -16,8 +16,8 @@ writing-requires-clause-keeps g c =
     let made = rw c.groups.ensures.lines at c.in_ok-plan.ensures.made.control in
     plan_keeps n c.in_ok-plan.plan _ c.args.content.now.shelves _ made (c.prepare_refuses_nothing_that_is_kept.ensures.keeps n.nodes n c.args.content.now.shelves c.args.input.now c.requires.input c.groups.ensures.shelf)
 
-pub returns-in-Ok-fetch-clause-step : goal.returns-in-Ok-fetch-clause-step
-returns-in-Ok-fetch-clause-step g c = λ honest.
+pub returns-in_ok-of-in-Ok-fetch-clause-step : goal.returns-in_ok-of-in-Ok-fetch-clause-step
+returns-in_ok-of-in-Ok-fetch-clause-step g c = rw c.in_ok-of-in-Ok-fetch.ensures (λ honest.
     let view = g.D.Disk.view in
     let n = c.args.node.now.control in
     let old = c.args.content.now in
@@ -28,25 +28,22 @@ returns-in-Ok-fetch-clause-step g c = λ honest.
     let bytes = c.in-Ok-fetch.ensures.fetched.groups (still_honest (view old.journal.disk) (view new.journal.disk) c.writing.ensures.content.journal.disk.goes_on honest) in
     ap (λ (q : PlanView). outcome_of (record { control = n; groups = groups_in old.journal.frames }) (record { plan = q; write = c.in-Ok.write }))
     (bytes ∙ ap (λ (bodies : List (List ℕ)). fetched (groups_in bodies) p.wants p) (c.writing.ensures.content.journal.frames honest))
-    ∙ made_step view c.writing.new.store new n old.journal.frames old.shelves c.args.input.now p c.in-Ok.write (c.groups.ensures.content honest) made keeps c.in-Ok.ensures.write
+    ∙ made_step view c.writing.new.store new n old.journal.frames old.shelves c.args.input.now p c.in-Ok.write (c.groups.ensures.content honest) made keeps c.in-Ok.ensures.write)
 
-pub returns-in-Ok-fetch-clause-commits : goal.returns-in-Ok-fetch-clause-commits
-returns-in-Ok-fetch-clause-commits g c =
-    let made = rw c.groups.ensures.lines at c.in_ok-plan.ensures.made.control in
+pub returns-in_ok-of-in-Ok-fetch-clause-commits : goal.returns-in_ok-of-in-Ok-fetch-clause-commits
+returns-in_ok-of-in-Ok-fetch-clause-commits g c = rw c.in_ok-of-in-Ok-fetch.ensures (let made = rw c.groups.ensures.lines at c.in_ok-plan.ensures.made.control in
     made_commits g.D.Disk.view c.plan.new.self c.writing.new.store c.writing.new.content c.fetch.new.content c.args.content.now.shelves c.in_ok-plan.plan c.fetch.new.plan _ c.in-Ok.write
-    c.in_ok-plan.ensures.made.applies (made_plain c.args.node.now.control c.args.content.now.shelves c.args.input.now c.in_ok-plan.plan made) c.fetch.ensures.rest c.fetch.ensures.content c.in-Ok.ensures.write
+    c.in_ok-plan.ensures.made.applies (made_plain c.args.node.now.control c.args.content.now.shelves c.args.input.now c.in_ok-plan.plan made) c.fetch.ensures.rest c.fetch.ensures.content c.in-Ok.ensures.write)
 
-pub returns-in-Ok-fetch-clause-control : goal.returns-in-Ok-fetch-clause-control
-returns-in-Ok-fetch-clause-control g c =
-    let made = rw c.groups.ensures.lines at c.in_ok-plan.ensures.made.control in
+pub returns-in_ok-of-in-Ok-fetch-clause-control : goal.returns-in_ok-of-in-Ok-fetch-clause-control
+returns-in_ok-of-in-Ok-fetch-clause-control g c = rw c.in_ok-of-in-Ok-fetch.ensures (let made = rw c.groups.ensures.lines at c.in_ok-plan.ensures.made.control in
     made_control g.D.Disk.view c.writing.new.store c.writing.new.content c.args.node.now.control c.args.content.now.shelves c.args.input.now c.in_ok-plan.plan c.fetch.new.plan c.in-Ok.write
-    made c.fetch.ensures.rest c.in-Ok-fetch.ensures.fetched.sends c.in-Ok.ensures.write
+    made c.fetch.ensures.rest c.in-Ok-fetch.ensures.fetched.sends c.in-Ok.ensures.write)
 
-pub returns-in-Ok-fetch-clause-full : goal.returns-in-Ok-fetch-clause-full
-returns-in-Ok-fetch-clause-full g c =
-    let made = rw c.groups.ensures.lines at c.in_ok-plan.ensures.made.control in
+pub returns-in_ok-of-in-Ok-fetch-clause-full : goal.returns-in_ok-of-in-Ok-fetch-clause-full
+returns-in_ok-of-in-Ok-fetch-clause-full g c = rw c.in_ok-of-in-Ok-fetch.ensures (let made = rw c.groups.ensures.lines at c.in_ok-plan.ensures.made.control in
     made_full g.D.Disk.view c.args.node.now c.plan.new.self c.args.store.now c.writing.new.store c.args.content.now c.writing.new.content c.fetch.new.content c.args.input.now c.in_ok-plan.plan c.in-Ok.write
-    made c.writing.ensures.store (c.fetch.ensures.content.journal.end ∙ c.writing.ensures.content.journal.end) c.in-Ok.ensures.write
+    made c.writing.ensures.store (c.fetch.ensures.content.journal.end ∙ c.writing.ensures.content.journal.end) c.in-Ok.ensures.write)
 
 pub plan-requires-clause-input : goal.plan-requires-clause-input
 plan-requires-clause-input g c = c.requires.input
@@ -85,13 +82,13 @@ returns-in_err-plan-clause-none_failed g c = inr (record { closed = refl; no_fau
 pub returns-in-Err-clause-none_failed : goal.returns-in-Err-clause-none_failed
 returns-in-Err-clause-none_failed g c = inr c.writing.ensures.none_failed
 
-pub returns-in-Ok-fetch-clause-none_failed : goal.returns-in-Ok-fetch-clause-none_failed
-returns-in-Ok-fetch-clause-none_failed g c =
+pub returns-in_ok-of-in-Ok-fetch-clause-none_failed : goal.returns-in_ok-of-in-Ok-fetch-clause-none_failed
+returns-in_ok-of-in-Ok-fetch-clause-none_failed g c =
     inr (⊎_elim (λ wrong. absurd (done _ _ wrong))
     (λ none. none_then g.D.Disk.view c.args.content.now.journal c.writing.new.content.journal c.fetch.new.content.journal c.writing.ensures.none_failed none) c.in-Ok-fetch.ensures.none_failed)
 
-pub returns-in-Ok-fetch-clause-disk : goal.returns-in-Ok-fetch-clause-disk
-returns-in-Ok-fetch-clause-disk g c = λ wrong. absurd (done _ _ wrong)
+pub returns-in_ok-of-in-Ok-fetch-clause-disk : goal.returns-in_ok-of-in-Ok-fetch-clause-disk
+returns-in_ok-of-in-Ok-fetch-clause-disk g c = λ wrong. absurd (done _ _ wrong)
 
 pub returns-in-Err-clause-step : goal.returns-in-Err-clause-step
 returns-in-Err-clause-step g c = tt
@@ -126,10 +123,20 @@ returns-in-Err-clause-nothing g c = record { control = c.plan.ensures.node; stor
 pub returns-in-Err-fetch-clause-nothing : goal.returns-in-Err-fetch-clause-nothing
 returns-in-Err-fetch-clause-nothing g c = record { control = c.plan.ensures.node; store = c.writing.ensures.store; content = puts_then g.D.Disk.view c.args.content.now c.writing.new.content c.fetch.new.content (λ x h. g.met.D.Disk.consistent x h) c.writing.ensures.content c.fetch.ensures.content }
 
-pub returns-in-Ok-fetch-clause-nothing : goal.returns-in-Ok-fetch-clause-nothing
-returns-in-Ok-fetch-clause-nothing g c = record { control = c.plan.ensures.node; store = c.writing.ensures.store; content = puts_then g.D.Disk.view c.args.content.now c.writing.new.content c.fetch.new.content (λ x h. g.met.D.Disk.consistent x h) c.writing.ensures.content c.fetch.ensures.content }
+pub returns-in_ok-of-in-Ok-fetch-clause-nothing : goal.returns-in_ok-of-in-Ok-fetch-clause-nothing
+returns-in_ok-of-in-Ok-fetch-clause-nothing g c = record { control = c.plan.ensures.node; store = c.writing.ensures.store; content = puts_then g.D.Disk.view c.args.content.now c.writing.new.content c.fetch.new.content (λ x h. g.met.D.Disk.consistent x h) c.writing.ensures.content c.fetch.ensures.content }
 
 pub returns-in-Err-fetch-clause-disk : goal.returns-in-Err-fetch-clause-disk
 returns-in-Err-fetch-clause-disk g c = λ failed.
     let made = rw c.groups.ensures.lines at c.in_ok-plan.ensures.made.control in
     (search rules, λ full. wanting_fits (kept_of c.args.node.now c.args.store.now c.args.content.now false) c.args.input.now c.in_ok-plan.plan made c.in-Err-fetch.ensures.wanting full)
+
+-- There was no memory to hand it on
+
+pub returns-in_err-of-in-Ok-fetch-clause-none_failed : goal.returns-in_err-of-in-Ok-fetch-clause-none_failed
+returns-in_err-of-in-Ok-fetch-clause-none_failed g c =
+    inr (⊎_elim (λ wrong. absurd (done _ _ wrong))
+    (λ none. none_then g.D.Disk.view c.args.content.now.journal c.writing.new.content.journal c.fetch.new.content.journal c.writing.ensures.none_failed none) c.in-Ok-fetch.ensures.none_failed)
+
+pub returns-in_err-of-in-Ok-fetch-clause-nothing : goal.returns-in_err-of-in-Ok-fetch-clause-nothing
+returns-in_err-of-in-Ok-fetch-clause-nothing g c = record { control = c.plan.ensures.node; store = c.writing.ensures.store; content = puts_then g.D.Disk.view c.args.content.now c.writing.new.content c.fetch.new.content (λ x h. g.met.D.Disk.consistent x h) c.writing.ensures.content c.fetch.ensures.content }

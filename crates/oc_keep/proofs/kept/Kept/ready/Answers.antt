@@ -28,12 +28,12 @@ returns-clause-made g c =
     let k = kept_of s.node s.store s.content s.closed in
     let k2 = kept_of m.new.node m.new.store m.new.content c.making_failed-self-inside.result in
     let n = node_of k in
-    rw (← c.self.view_is) (made_ready g.D.Disk.view c.args.input k k2 m.result m.ensures.control
-    (IfOk-weaker m.result (λ (ready : ReadyView). IsTrue (g.D.Disk.view s.content.journal.disk).honest → outcome_of n ready ≡ step n c.args.input)
-    (λ (ready : ReadyView). IsHonest g.D.Disk.view k → outcome_of n ready ≡ step n c.args.input) (λ ready steps honest. steps honest.content) m.ensures.step)
-    (IfOk-weaker m.result (DoesControlStep (plan s.node.control s.content.shelves c.args.input) s.node.control)
-    (λ (ready : ReadyView). IsHonest g.D.Disk.view k → is_written ready.write ≡ writes n c.args.input) (λ ready does honest.
-    does.writes ∙ ap (λ (ls : List Shelf). has_change (plan s.node.control ls c.args.input)) (lines_are s.content.journal.frames s.content.shelves (c.self.invariant.shelved honest.content))) m.ensures.control)
+    rw (← c.self.view_is) (made_ready g.D.Disk.view c.args.input.now k k2 m.result m.ensures.control
+    (IfOk-weaker m.result (λ (ready : ReadyView). IsTrue (g.D.Disk.view s.content.journal.disk).honest → outcome_of n ready ≡ step n c.args.input.now)
+    (λ (ready : ReadyView). IsHonest g.D.Disk.view k → outcome_of n ready ≡ step n c.args.input.now) (λ ready steps honest. steps honest.content) m.ensures.step)
+    (IfOk-weaker m.result (DoesControlStep (plan s.node.control s.content.shelves c.args.input.now) s.node.control)
+    (λ (ready : ReadyView). IsHonest g.D.Disk.view k → is_written ready.write ≡ writes n c.args.input.now) (λ ready does honest.
+    does.writes ∙ ap (λ (ls : List Shelf). has_change (plan s.node.control ls c.args.input.now)) (lines_are s.content.journal.frames s.content.shelves (c.self.invariant.shelved honest.content))) m.ensures.control)
     m.ensures.full
     (ready_commits g.D.Disk.view m.new.node m.new.store m.new.content m.result c.making_failed-self-inside.result c.making_failed-self-inside.ensures m.ensures.commits)
     (IfOk-weaker m.result (CanCommit g.D.Disk.view (kept_of m.new.node m.new.store m.new.content false)) (λ (ready : ReadyView). AreReliable g.D.Disk.view (disks_of k2) → ¬ IsFullToWrite k2 ready.write) (λ ready can. fits_file g.D.Disk.view (kept_of m.new.node m.new.store m.new.content false) ready.plan ready.write can.writes) m.ensures.commits)
@@ -45,7 +45,7 @@ returns-clause-refused g c =
     let m = c.make_ready-made in
     let k = kept_of s.node s.store s.content s.closed in
     let k2 = kept_of m.new.node m.new.store m.new.content c.making_failed-self-inside.result in
-    rw (← c.self.view_is) (unmade_ready g.D.Disk.view c.args.input k k2 m.result
+    rw (← c.self.view_is) (unmade_ready g.D.Disk.view c.args.input.now k k2 m.result
     (λ other. unfailed c.making_failed-self-inside.result c.making_failed-self-inside.ensures other ∙ sym c.if-self.false)
     (λ failed. record { rose = inr (inr (m.ensures.disk failed).0.fails.count); closes = c.making_failed-self-inside.ensures.1 failed })
     (λ failed. (m.ensures.disk failed).1) m.ensures.open)

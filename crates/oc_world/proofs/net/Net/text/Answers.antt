@@ -1,6 +1,5 @@
 use Rattle.std.proofs.Common.{◌≡◌, Some, sym, ap, ◌∙◌}
 use Rattle.std.proofs.lemmas.Result.{IfOk-weaker}
-use Rattle.oc_model.specs.declared.message.Message.{Message}
 use Rattle.oc_world.specs.Net.{text_of}
 use Rattle.oc_world.proofs.net.Net.text.Goals as goal
 

@@ -52,4 +52,4 @@ returns-clause-process c =
     ap (λ (t : ProcessState MemDiskView). (process_of h s.id t).process) c.set.ensures
     ∙ (ap down (left_node h s.id k (after (node_of k)) c.stop-files.result runs c.stop-files.ensures)
     ∙ (ap (λ (n : Node). stopped (after n)) same
-    ∙ ap stopped (kept_as c.args.self.now.process.node r c.args.input c.args.calls c.args.image c.in_ok-ready.ensures.step c.in_ok-ready.ensures.writes)))
+    ∙ ap stopped (kept_as c.args.self.now.process.node r c.args.input.now c.args.calls c.args.image c.in_ok-ready.ensures.step c.in_ok-ready.ensures.writes)))

@@ -23,7 +23,7 @@ returns-then-not-is_up-clause-world c =
     let world_is = ap (λ (v : WorldView). v.world) c.self.view_is in
     let node = within_of ps net x (rw (← c.self.view_is) at c.requires.node) in
     let off = up_here ps x i c.index.result.now.process false is.numbered at node.1 (got sites i c.index.result.now c.index.ensures) (sym c.is_up.ensures.up ∙ c.if-not-is_up.true) in
-    subst (λ (w : World). w ≡ acted w (Some (record { at = x; input = c.args.input }))) world_is (turn_idle ps net x c.args.input off)
+    subst (λ (w : World). w ≡ acted w (Some (record { at = x; input = c.args.input.now }))) world_is (turn_idle ps net x c.args.input.now off)
 
 pub returns-then-not-is_up-clause-word : goal.returns-then-not-is_up-clause-word
 returns-then-not-is_up-clause-word c =
@@ -38,7 +38,7 @@ returns-then-not-is_up-clause-word c =
     let world_is = ap (λ (v : WorldView). v.world) c.self.view_is in
     let node = within_of ps net x (rw (← c.self.view_is) at c.requires.node) in
     let off = up_here ps x i c.index.result.now.process false is.numbered at node.1 (got sites i c.index.result.now c.index.ensures) (sym c.is_up.ensures.up ∙ c.if-not-is_up.true) in
-    subst (λ (w : World). words.Down ≡ word_of_act w (Some (record { at = x; input = c.args.input }))) world_is (word_idle ps net x c.args.input off)
+    subst (λ (w : World). words.Down ≡ word_of_act w (Some (record { at = x; input = c.args.input.now }))) world_is (word_idle ps net x c.args.input.now off)
 
 pub act-requires-clause-input : goal.act-requires-clause-input
 act-requires-clause-input c =
@@ -55,7 +55,7 @@ act-requires-clause-input c =
     let site = c.index_mut-process.result.now in
     let p = site.process in
     let here = got sites i site c.index_mut-process.ensures.value in
-    input_here s.chain s.net.nodes ps net x i p c.args.input is at node.1 here (rw (← c.self.view_is) at c.requires.input)
+    input_here s.chain s.net.nodes ps net x i p c.args.input.now is at node.1 here (rw (← c.self.view_is) at c.requires.input)
 
 pub invariant_of-self-2 : goal.invariant_of-self-2
 invariant_of-self-2 c =
@@ -75,7 +75,7 @@ invariant_of-self-2 c =
     let done = c.in_ok-answer.ensures in
     subst (λ (n : ℕ). IsNetwork s.chain (processes_of (slice_set sites i c.act.new.process)) n) (sym done.nodes)
     (subst (λ (l : List Process). IsNetwork s.chain l s.net.nodes) (sym (put sites i c.act.new.process))
-    (network_acted s.chain s.net.nodes ps x i p c.act.new.process.process c.args.input is at node.1 here done.same (ap (λ (r : Process). r.node.groups) done.process)))
+    (network_acted s.chain s.net.nodes ps x i p c.act.new.process.process c.args.input.now is at node.1 here done.same (ap (λ (r : Process). r.node.groups) done.process)))
 
 pub returns-clause-world : goal.returns-clause-world
 returns-clause-world c =
@@ -95,12 +95,12 @@ returns-clause-world c =
     let on : p.up ≡ true = ap (λ (r : Process). r.up) (read_twice ps x i p c.index.result.now.process is.numbered at node.1 here (got sites i c.index.result.now c.index.ensures)) ∙ (sym c.is_up.ensures.up ∙ c.if-not-is_up.false) in
     let done = c.in_ok-answer.ensures in
     let was = among_at s.chain s.net.nodes ps x i p is at node.1 here in
-    let q : Process = record { node = (step p.node c.args.input).node; up = true } in
-    let turned : world_of (processes_of (slice_set sites i c.act.new.process)) c.act.new.net.messages ≡ acted (world_of ps net) (Some (record { at = x; input = c.args.input })) =
+    let q : Process = record { node = (step p.node c.args.input.now).node; up = true } in
+    let turned : world_of (processes_of (slice_set sites i c.act.new.process)) c.act.new.net.messages ≡ acted (world_of ps net) (Some (record { at = x; input = c.args.input.now })) =
     ap (λ (l : List Process). world_of l c.act.new.net.messages) (put sites i c.act.new.process)
     ∙ (ap (λ (r : Process). world_of (slice_set ps i r) c.act.new.net.messages) done.process
-    ∙ (ap (λ (ms : List Message). world_of (slice_set ps i q) ms) done.messages ∙ turn_acted ps net x i p c.args.input is.numbered at node.1 here on was.limits.0)) in
-    subst (λ (w : World). world_of (processes_of (slice_set sites i c.act.new.process)) c.act.new.net.messages ≡ acted w (Some (record { at = x; input = c.args.input }))) world_is turned
+    ∙ (ap (λ (ms : List Message). world_of (slice_set ps i q) ms) done.messages ∙ turn_acted ps net x i p c.args.input.now is.numbered at node.1 here on was.limits.0)) in
+    subst (λ (w : World). world_of (processes_of (slice_set sites i c.act.new.process)) c.act.new.net.messages ≡ acted w (Some (record { at = x; input = c.args.input.now }))) world_is turned
 
 pub returns-clause-word : goal.returns-clause-word
 returns-clause-word c =
@@ -118,9 +118,9 @@ returns-clause-word c =
     let p = site.process in
     let here = got sites i site c.index_mut-process.ensures.value in
     let on : p.up ≡ true = ap (λ (r : Process). r.up) (read_twice ps x i p c.index.result.now.process is.numbered at node.1 here (got sites i c.index.result.now c.index.ensures)) ∙ (sym c.is_up.ensures.up ∙ c.if-not-is_up.false) in
-    let said : words.Node c.in_ok-answer.answer ≡ word_of_act (world_of ps net) (Some (record { at = x; input = c.args.input })) =
-    ap (λ (a : Answer). words.Node a) c.in_ok-answer.ensures.answer ∙ word_acted ps net x i p c.args.input is.numbered at node.1 here on in
-    subst (λ (w : World). words.Node c.in_ok-answer.answer ≡ word_of_act w (Some (record { at = x; input = c.args.input }))) world_is said
+    let said : words.Node c.in_ok-answer.answer ≡ word_of_act (world_of ps net) (Some (record { at = x; input = c.args.input.now })) =
+    ap (λ (a : Answer). words.Node a) c.in_ok-answer.ensures.answer ∙ word_acted ps net x i p c.args.input.now is.numbered at node.1 here on in
+    subst (λ (w : World). words.Node c.in_ok-answer.answer ≡ word_of_act w (Some (record { at = x; input = c.args.input.now }))) world_is said
 
 pub returns-clause-renews : goal.returns-clause-renews
 returns-clause-renews c =
@@ -137,8 +137,8 @@ returns-clause-renews c =
     let site = c.index_mut-process.result.now in
     let p = site.process in
     let here = got sites i site c.index_mut-process.ensures.value in
-    subst (λ (v : WorldView). RenewsAt (Some (record { at = x; input = c.args.input })) v (seen_as (slice_set sites i c.act.new.process) c.act.new.net.messages)) c.self.view_is
-    (renewed sites net c.act.new.net.messages x i site c.act.new.process c.args.input at node.1 c.index_mut-process.ensures.value c.in_ok-answer.ensures.renews)
+    subst (λ (v : WorldView). RenewsAt (Some (record { at = x; input = c.args.input.now })) v (seen_as (slice_set sites i c.act.new.process) c.act.new.net.messages)) c.self.view_is
+    (renewed sites net c.act.new.net.messages x i site c.act.new.process c.args.input.now at node.1 c.index_mut-process.ensures.value c.in_ok-answer.ensures.renews)
 
 pub returns-then-not-is_up-clause-renews : goal.returns-then-not-is_up-clause-renews
 returns-then-not-is_up-clause-renews c =
@@ -152,8 +152,8 @@ returns-then-not-is_up-clause-renews c =
     let is = c.self.invariant in
     let world_is = ap (λ (v : WorldView). v.world) c.self.view_is in
     let node = within_of ps net x (rw (← c.self.view_is) at c.requires.node) in
-    subst (λ (v : WorldView). RenewsAt (Some (record { at = x; input = c.args.input })) v v) c.self.view_is
-    (idle sites net x i c.index.result.now c.args.input at node.1 c.index.ensures (sym c.is_up.ensures.kept ∙ c.if-not-is_up.true))
+    subst (λ (v : WorldView). RenewsAt (Some (record { at = x; input = c.args.input.now })) v v) c.self.view_is
+    (idle sites net x i c.index.result.now c.args.input.now at node.1 c.index.ensures (sym c.is_up.ensures.kept ∙ c.if-not-is_up.true))
 
 pub act-requires-clause-nodes : goal.act-requires-clause-nodes
 act-requires-clause-nodes c =

@@ -1,6 +1,6 @@
 use Rattle.std.proofs.Common.{◌≡◌, ℕ, length, sym, ap, subst, ◌∙◌}
 use Rattle.oc_model.specs.Lawful.{IsMessage}
-use Rattle.oc_model.specs.World.{World, ids}
+use Rattle.oc_model.specs.World.{ids}
 use Rattle.oc_world.specs.World.{WorldView, processes_of}
 use Rattle.oc_world.proofs.Turns.{count_ids}
 use Rattle.oc_world.proofs.world.World.message.Goals as goal

@@ -21,7 +21,7 @@ returns-then-not-is_up-clause-world c =
     let world_is = ap (λ (v : WorldView). v.world) c.self.view_is in
     let node = within_of ps net x (rw (← c.self.view_is) at c.requires.node) in
     let off = up_here ps x i c.index.result.now.process false is.numbered at node.1 (got sites i c.index.result.now c.index.ensures) (sym c.is_up.ensures.up ∙ c.if-not-is_up.true) in
-    subst (λ (w : World). w ≡ stopped_at w c.args.calls c.args.image (Some (record { at = x; input = c.args.input }))) world_is (turn_unstopped ps net x c.args.input c.args.calls c.args.image off)
+    subst (λ (w : World). w ≡ stopped_at w c.args.calls c.args.image (Some (record { at = x; input = c.args.input.now }))) world_is (turn_unstopped ps net x c.args.input.now c.args.calls c.args.image off)
 
 pub returns-then-not-is_up-clause-word : goal.returns-then-not-is_up-clause-word
 returns-then-not-is_up-clause-word c =
@@ -36,7 +36,7 @@ returns-then-not-is_up-clause-word c =
     let world_is = ap (λ (v : WorldView). v.world) c.self.view_is in
     let node = within_of ps net x (rw (← c.self.view_is) at c.requires.node) in
     let off = up_here ps x i c.index.result.now.process false is.numbered at node.1 (got sites i c.index.result.now c.index.ensures) (sym c.is_up.ensures.up ∙ c.if-not-is_up.true) in
-    subst (λ (w : World). words.Down ≡ word_of_stop w c.args.calls c.args.image (Some (record { at = x; input = c.args.input }))) world_is (word_unstopped ps net x c.args.input c.args.calls c.args.image off)
+    subst (λ (w : World). words.Down ≡ word_of_stop w c.args.calls c.args.image (Some (record { at = x; input = c.args.input.now }))) world_is (word_unstopped ps net x c.args.input.now c.args.calls c.args.image off)
 
 pub stop-requires-clause-input : goal.stop-requires-clause-input
 stop-requires-clause-input c =
@@ -53,7 +53,7 @@ stop-requires-clause-input c =
     let site = c.index_mut-process.result.now in
     let p = site.process in
     let here = got sites i site c.index_mut-process.ensures.value in
-    input_here s.chain s.net.nodes ps net x i p c.args.input is at node.1 here (rw (← c.self.view_is) at c.requires.input)
+    input_here s.chain s.net.nodes ps net x i p c.args.input.now is at node.1 here (rw (← c.self.view_is) at c.requires.input)
 
 pub invariant_of-self-2 : goal.invariant_of-self-2
 invariant_of-self-2 c =
@@ -73,7 +73,7 @@ invariant_of-self-2 c =
     let done = c.in_ok-kept_new.ensures in
     subst (λ (l : List Process). IsNetwork s.chain l s.net.nodes) (sym (put sites i c.stop.new.self))
     (subst (λ (q : Process). IsNetwork s.chain (slice_set ps i q) s.net.nodes) (sym done.process)
-    (network_stopped s.chain s.net.nodes ps x i p c.args.input (keeps_write c.args.calls c.args.image p.node c.args.input) is at node.1 here
+    (network_stopped s.chain s.net.nodes ps x i p c.args.input.now (keeps_write c.args.calls c.args.image p.node c.args.input.now) is at node.1 here
     (subst (λ (q : Process). IsSameNode p.node.control q.node.control) done.process done.same)))
 
 pub returns-clause-world : goal.returns-clause-world
@@ -93,11 +93,11 @@ returns-clause-world c =
     let here = got sites i site c.index_mut-process.ensures.value in
     let on : p.up ≡ true = ap (λ (r : Process). r.up) (read_twice ps x i p c.index.result.now.process is.numbered at node.1 here (got sites i c.index.result.now c.index.ensures)) ∙ (sym c.is_up.ensures.up ∙ c.if-not-is_up.false) in
     let was = among_at s.chain s.net.nodes ps x i p is at node.1 here in
-    let turned : world_of (processes_of (slice_set sites i c.stop.new.self)) net ≡ stopped_at (world_of ps net) c.args.calls c.args.image (Some (record { at = x; input = c.args.input })) =
+    let turned : world_of (processes_of (slice_set sites i c.stop.new.self)) net ≡ stopped_at (world_of ps net) c.args.calls c.args.image (Some (record { at = x; input = c.args.input.now })) =
     ap (λ (l : List Process). world_of l net) (put sites i c.stop.new.self)
     ∙ (ap (λ (q : Process). world_of (slice_set ps i q) net) c.in_ok-kept_new.ensures.process
-    ∙ turn_stopped ps net x i p c.args.input c.args.calls c.args.image is.numbered at node.1 here on was.limits.0) in
-    subst (λ (w : World). world_of (processes_of (slice_set sites i c.stop.new.self)) net ≡ stopped_at w c.args.calls c.args.image (Some (record { at = x; input = c.args.input }))) world_is turned
+    ∙ turn_stopped ps net x i p c.args.input.now c.args.calls c.args.image is.numbered at node.1 here on was.limits.0) in
+    subst (λ (w : World). world_of (processes_of (slice_set sites i c.stop.new.self)) net ≡ stopped_at w c.args.calls c.args.image (Some (record { at = x; input = c.args.input.now }))) world_is turned
 
 pub returns-clause-word : goal.returns-clause-word
 returns-clause-word c =
@@ -115,10 +115,10 @@ returns-clause-word c =
     let p = site.process in
     let here = got sites i site c.index_mut-process.ensures.value in
     let on : p.up ≡ true = ap (λ (r : Process). r.up) (read_twice ps x i p c.index.result.now.process is.numbered at node.1 here (got sites i c.index.result.now c.index.ensures)) ∙ (sym c.is_up.ensures.up ∙ c.if-not-is_up.false) in
-    let said : c.stop_word.result ≡ word_of_stop (world_of ps net) c.args.calls c.args.image (Some (record { at = x; input = c.args.input })) =
+    let said : c.stop_word.result ≡ word_of_stop (world_of ps net) c.args.calls c.args.image (Some (record { at = x; input = c.args.input.now })) =
     c.stop_word.ensures ∙ (ap (λ (b : Bool). if b then words.StoppedNew else words.StoppedOld) c.in_ok-kept_new.ensures.kept_new
-    ∙ word_stopped ps net x i p c.args.input c.args.calls c.args.image is.numbered at node.1 here on) in
-    subst (λ (w : World). c.stop_word.result ≡ word_of_stop w c.args.calls c.args.image (Some (record { at = x; input = c.args.input }))) world_is said
+    ∙ word_stopped ps net x i p c.args.input.now c.args.calls c.args.image is.numbered at node.1 here on) in
+    subst (λ (w : World). c.stop_word.result ≡ word_of_stop w c.args.calls c.args.image (Some (record { at = x; input = c.args.input.now }))) world_is said
 
 pub invariant_of-self : goal.invariant_of-self
 invariant_of-self c =

@@ -98,6 +98,10 @@ pub record KeepsTracks (old new : List Track) : Type 0 where
   pub paths : paths new ≡ paths old
   pub rooms : (i : ℕ) → get_or (rooms old) i 0 ≤ get_or (rooms new) i 0
 
+-- there is room for a frame of the group at a place, for whose track this room is brought, and for the group itself
+abbrev pub HasRoomFor : Index → ℕ → Lookup → Type 0
+HasRoomFor x room place = HasTrackRoom (rooms x.tracks.items) room place × HasGroupRoom (length x.shelves.items) (memory_of x) place
+
 -- memory was reserved, and nothing else was done
 pub record OnlyReserves (old new : Index) : Type 0 where
   pub lines : new.shelves.items ≡ old.shelves.items

@@ -6,7 +6,7 @@ ghost use Rattle.oc_content.specs.Entries.{written, heading};
 ghost use Rattle.oc_base.specs.declared.limits.TheConstants.{MAX_GROUP_BYTES};
 ghost use Rattle.oc_base.specs.Shelves.{LooksUpLine};
 ghost use Rattle.oc_base.specs.Named.{IsThere};
-ghost use Rattle.oc_content.specs.Indexes.{IsSized, HasGroupRoom, HasTrackRoom, OnlyReserves, rooms, memory_of};
+ghost use Rattle.oc_content.specs.Indexes.{IsSized, HasRoomFor, OnlyReserves};
 ghost use Rattle.oc_content.specs.Putting.{group_state, group_state_in, fault_of, put_entry};
 ghost use Rattle.oc_content.specs.ContentView.{IsIndexed, content_with};
 ghost use Rattle.oc_content.specs.Promises.{Prepares, PutsNothing};
@@ -71,8 +71,7 @@ fn piece_for(alloc: Global, index: &mut Index, added: &NewBytes<'_>) -> Result<P
         ≡ put_entry (group_state_in index.old.shelves.items added.now.group.now) added.now.group.now added.now.start added.now.bytes.now added.now.last) }
     ensures body { IfOk result (λ piece. piece.body ≡ written piece.entry) }
     ensures place { IfOk result (λ piece. LooksUpLine index.old.shelves.items added.now.group.now piece.place) }
-    ensures room { IfOk result (λ piece. HasTrackRoom (rooms index.new.tracks.items) piece.room piece.place) }
-    ensures groups { IfOk result (λ piece. HasGroupRoom (length index.new.shelves.items) (memory_of index.new) piece.place) }
+    ensures room { IfOk result (λ piece. HasRoomFor index.new piece.room piece.place) }
     ensures keeps { OnlyReserves index.old index.new }
 {
     let NewBytes {

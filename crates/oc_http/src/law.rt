@@ -12,7 +12,7 @@ ghost use Rattle.oc_http.specs.declared.reply.Reply.{Reply};
 ghost use Rattle.oc_http.specs.declared.reply.ReplyHead.{ReplyHead};
 
 /// There is one answer to the bytes of a source, however they come: the head of a request that is read, or
-/// the fault, and what is left after it. Failed calls and a lack of memory are left out.
+/// the fault, and what is left after it. Failed calls and a want of memory are left out.
 pub fn a_request_has_one_answer()
     ensures { (left r s : List ℕ) (first second : Result Head HttpFault) → AnswersRequest left r first → AnswersRequest left s second
         → IsDecided first → IsDecided second → (first ≡ second) × (r ≡ s) }

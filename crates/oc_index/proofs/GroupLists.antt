@@ -1,5 +1,5 @@
 -- Groups in a list ascending by name, found or put at an index.
-use Rattle.std.proofs.Common.{◌≡◌, ℕ, zero, suc, ◌+◌, ◌<◌, ◌≤◌, Bool, List, [], ◌∷◌, ◌++◌, length, drop, get_or, set, Option, Some, None, Greater, nat_cmp, refl, ap, sym, subst, ◌∙◌, arith}
+use Rattle.std.proofs.Common.{◌≡◌, ℕ, zero, suc, ◌+◌, ◌<◌, ◌≤◌, Bool, List, [], ◌∷◌, length, drop, get_or, set, Option, Some, None, Greater, nat_cmp, refl, ap, sym, subst, ◌∙◌, arith}
 use Rattle.std.specs.Prelude.{insert}
 use Rattle.std.specs.Cmp.Lexicographic.{slice_cmp}
 use Rattle.std.proofs.lemmas.Cmp.{nat_list_cmp_total, tied_itself}
@@ -36,7 +36,7 @@ lines_at ks i k within at = ap shelf (drop_at ks i k within at)
 
 -- Where a name is found
 
--- a group is put behind one of a lesser name
+-- a group is put after one of a lesser name
 put_behind : (k j : Group) (js : List Group) → slice_cmp nat_cmp k.name j.name ≡ Greater → with_group k (j ∷ js) ≡ j ∷ with_group k js
 put_behind k j js past = rw past
 

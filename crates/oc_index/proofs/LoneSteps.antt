@@ -1,11 +1,11 @@
 -- What an input and a start make of a node whose groups are in memory.
-use Rattle.std.proofs.Common.{◌≡◌, ◌∙◌, ◌≤◌, ◌<◌, ℕ, Bool, Option, List, [], length, refl, ap, sym, subst, arith}
+use Rattle.std.proofs.Common.{◌≡◌, ◌∙◌, ◌≤◌, ℕ, Bool, Option, List, [], length, refl, ap, sym, subst, arith}
 use Rattle.std.proofs.lemmas.List.{length-replicate}
 use Rattle.oc_base.specs.Groups.{shelf}
 use Rattle.oc_base.specs.Lawful.{IsCount, IsNode}
 use Rattle.oc_base.specs.Shelves.{IsShelf}
 use Rattle.oc_base.specs.declared.group.Group.{Group}
-use Rattle.oc_base.specs.declared.limits.TheConstants.{MAX_BASE_ACKED, MAX_LOG_LENGTH}
+use Rattle.oc_base.specs.declared.limits.TheConstants.{MAX_BASE_ACKED}
 use Rattle.oc_base.specs.declared.shelf.Shelf.{Shelf}
 use Rattle.oc_keep.specs.Puts.{CanKeep}
 use Rattle.oc_keep.proofs.Limits.{keeps_fit}

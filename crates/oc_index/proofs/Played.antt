@@ -1,5 +1,5 @@
 -- What a merge plays goes on from world to world, and is left as it was where memory runs out.
-use Rattle.std.proofs.Common.{◌≡◌, ◌∙◌, List, sym, subst}
+use Rattle.std.proofs.Common.{◌≡◌, sym, subst}
 use Rattle.oc_merge.specs.Records.{IsPlayed}
 use Rattle.oc_model.specs.declared.event.Event.{Event}
 use Rattle.oc_model.specs.declared.event.Event.TheVariants.{Up, Crash, Stop, Do, Held, Show, Settle, Heal}
@@ -32,7 +32,7 @@ left_same (Show x) old new played left = absurd played
 left_same Settle old new played left = absurd played
 left_same Heal old new played left = absurd played
 
--- the index is one of the net behind an event
+-- the index is one of the net after an event
 pub index_behind : (old new : World) (e : Event) (n : NumbersView) → new ≡ next_world old e → IsIndex old.net n → IsIndex new.net n
 index_behind old new e n is index =
     let (more, grows) = net-next_world old e in

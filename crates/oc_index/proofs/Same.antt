@@ -1,11 +1,11 @@
 -- Messages by their spellings, and the numbers that they have.
-use Rattle.std.proofs.Common.{◌≡◌, ◌∙◌, ℕ, ◌+◌, ◌<◌, ◌≤◌, ◌⊎◌, ◌↔◌, Bool, true, false, nat_lt, IsTrue, Some, None, List, length, inl, inr, refl, sym, ap, subst, arith, bytes_eq}
+use Rattle.std.proofs.Common.{◌≡◌, ◌∙◌, ℕ, ◌+◌, ◌<◌, ◌≤◌, ◌↔◌, Bool, true, false, nat_lt, IsTrue, Some, None, List, length, refl, sym, ap, subst, arith, bytes_eq}
 use Rattle.std.proofs.lemmas.Bool.{ltb-false, ltb-true}
 use Rattle.std.proofs.lemmas.List.FromFn.{length-range_with_len}
 use Rattle.std.proofs.lemmas.Slice.Eq.{bytes_eq-Decides}
 use Rattle.std.specs.List.{range_with_len}
 use Rattle.oc_base.specs.declared.limits.TheConstants.{MAX_NODES}
-use Rattle.oc_merge.specs.Merging.{IsFirstOf, IsNumberOf}
+use Rattle.oc_merge.specs.Merging.{IsNumberOf}
 use Rattle.oc_model.specs.declared.message.Message.{Message}
 use Rattle.oc_model.specs.Lawful.{IsMessage}
 use Rattle.oc_model.specs.World.{World, ids, message_at}

@@ -31,7 +31,7 @@ least_with n h = lookup (nat_eq h) n.entries
 abbrev pub IsFirstFrom : List Message → ℕ → ℕ → Type 0
 IsFirstFrom net h from = (k : ℕ) (m : Message) → k < from → message_at net k ≡ Some m → hash_of m ≡ h → ⊥
 
--- it is the index of the first messages of a net, so many: a hash leads to the least number of a message with it, and the others have none
+-- it is the index of that many first messages of a net: a hash leads to the least number of a message with it, and the others have none
 pub record IsIndex (net : List Message) (n : NumbersView) : Type 0 where
   pub few : n.count ≤ length net
   pub leads : (h j : ℕ) → least_with n h ≡ Some j → (1 ≤ j) × (j ≤ n.count) × IsFirstFrom net h j

@@ -139,7 +139,7 @@ fn grow(group: &mut Group, start: u64, bytes: &[u8], closes: bool) -> Result<(),
     Ok(())
 }
 
-/// The bytes behind the first `held_of_them`, which are held already.
+/// The bytes after the first `held_of_them`, which are held already.
 fn past(bytes: &[u8], held_of_them: u64) -> &[u8]
     ensures { result.now ≡ drop held_of_them bytes.now }
 {

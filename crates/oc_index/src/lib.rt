@@ -5,7 +5,7 @@
 //! of a message without a search through all that were sent.
 //!
 //! The index has, for each hash of a message's bytes, the least number of a message with this hash (`specs/Index`).
-//! What it leads to is compared byte for byte. Where two messages share a hash, the net behind the first of them is
+//! What it leads to is compared byte for byte. Where two messages share a hash, the net after the first of them is
 //! searched; so a hash that is hit by many costs time, and never the right answer.
 //!
 //! A [`LoneNode`] is one node without the others and without files, on which a merge first plays the lines of each

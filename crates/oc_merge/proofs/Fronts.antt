@@ -95,7 +95,7 @@ module _ (digest : Node → List ℕ) (r : Records) (taken : List Line) (taking 
       ≡ map (entry_of r.header.nodes) (own_told x (take p r.lines)) ++ map (entry_of r.header.nodes) (own_told x (drop p r.lines))
   parts = entries_own r.header.nodes x r.lines ∙ (ap (map (entry_of r.header.nodes)) split ∙ map-append (entry_of r.header.nodes) (own_told x (take p r.lines)) (own_told x (drop p r.lines)))
 
-  -- what is left is what is behind the place
+  -- what is left is what is after the place
   pub rest_is : entries_of x (map (line_of r.header.nodes) r.lines) ≡ entries_of x taken ++ map (entry_of r.header.nodes) (own_told x (drop p r.lines))
   rest_is =
       let begun = taken_within (recorded digest r) [] taken (λ y. (entries_of y (map (line_of r.header.nodes) r.lines), refl)) taking x in

@@ -132,7 +132,7 @@ module _ (digest : Node → List ℕ) (r : Records) (w : World) (x : ℕ) (hs bs
   again_but (inl at) is all pending but = looked_but at is all pending but
   again_but (inr still) is all pending but = subst (λ (js : List Head). HaveWaysBut digest r w js pending) (sym still.1) (still_but still.0 pending but)
 
--- Messages behind others
+-- Messages after others
 
 get_longer : (ms news : List Message) (k : ℕ) (m : Message) → slice_get ms k ≡ Some m → slice_get (ms ++ news) k ≡ Some m
 get_longer [] news k m at = absurd (cc at)

@@ -24,7 +24,7 @@ next_other x ls p l at apart =
     ∙ (ap (λ b. if b then 0 else suc (before_own x (drop (suc p) ls))) (ne_eqb l.node x apart)
     ∙ (ap (λ q. suc (before_own x (drop q ls))) next ∙ omega arith))
 
--- behind all lines there is none
+-- after all lines there is none
 pub next_none : (x : ℕ) (ls : List ToldLine) (p : ℕ) → length ls ≤ p → before_own x (drop p ls) ≡ 0
 next_none x ls p past = ap (before_own x) (drop_all p ls past)
 
@@ -57,7 +57,7 @@ heads_push n ls hs h are place begun = record {
 
 -- The walk over the lines
 
--- before it, behind all lines
+-- before it, after all lines
 pub places_none : (nodes : ℕ) (ls : List ToldLine) (first next : List ℕ) → first ≡ replicate nodes (length ls) → length next ≡ length ls → ArePlacesFrom nodes ls (length ls) first next
 places_none nodes ls first next are long = record {
   all_nodes = ap length are ∙ length-replicate nodes (length ls);

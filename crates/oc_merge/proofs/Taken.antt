@@ -122,7 +122,7 @@ get_there [] p l d there = absurd (cc there)
 get_there (k ∷ ks) zero l d there = cc there
 get_there (k ∷ ks) (suc p) l d there = get_there ks p l d there
 
--- the first of its kind at the heads stands
+-- the first of its kind at the heads is the first of its kind that is left
 pub stands_first : (ls : List ToldLine) (heads : List Head) (starts : Bool) (place : ℕ) (d : ToldLine) → IsFirstAtHeads ls heads starts (length heads) place → place < length ls → StandsFirst ls heads starts (get_or ls place d).number
 stands_first ls heads starts place d is within = record {
   place = place;

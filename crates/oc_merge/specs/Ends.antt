@@ -7,7 +7,7 @@ use Rattle.oc_merge.specs.declared.told.ToldLine.{ToldLine}
 use Rattle.oc_merge.specs.Heads.{no_head}
 use Rattle.oc_merge.specs.Merging.{is_start}
 
--- Which line stands first at the heads.
+-- Which line is first at the heads.
 
 -- the kind that is looked for: starts, or any line
 abbrev pub is_of : Bool → Told → Bool
@@ -19,7 +19,7 @@ abbrev pub NoneStandsBefore : List ToldLine → List Head → Bool → ℕ → �
 NoneStandsBefore lines heads starts upto place = (i : ℕ) (l : ToldLine) → i < upto → (get_or heads i no_head).place < place
     → slice_get lines (get_or heads i no_head).place ≡ Some l → is_of starts l.told ≡ false
 
--- a line of the kind stands at this place
+-- a line of the kind is at this place, at a head
 pub record StandsAt (lines : List ToldLine) (heads : List Head) (starts : Bool) (place : ℕ) : Type 0 where
   pub index : ℕ
   pub within : index < length heads
@@ -28,13 +28,13 @@ pub record StandsAt (lines : List ToldLine) (heads : List Head) (starts : Bool) 
   pub there : slice_get lines place ≡ Some told
   pub of_kind : is_of starts told.told ≡ true
 
--- the place of the first line of the kind that stands, so far as the heads before `upto` tell, or behind all lines
+-- the place of the first line of the kind that is at a head, so far as the heads before `upto` tell, or after all lines
 pub record IsFirstAtHeads (lines : List ToldLine) (heads : List Head) (starts : Bool) (upto place : ℕ) : Type 0 where
   pub few : place ≤ length lines
   pub stands : place < length lines → StandsAt lines heads starts place
   pub none_before : NoneStandsBefore lines heads starts upto place
 
--- this line stands first, of its kind
+-- this line is the first of its kind at a head
 pub record StandsFirst (lines : List ToldLine) (heads : List Head) (starts : Bool) (number : ℕ) : Type 0 where
   pub place : ℕ
   pub stands : StandsAt lines heads starts place

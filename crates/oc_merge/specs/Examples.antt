@@ -64,7 +64,7 @@ pub record AreRead : Type 0 where
   pub message_of_odd_digits : refuses (two_nodes ++ codes "up 1\nrecv 1 000\n") 4 causes.Hex
   pub message_past_the_nodes : refuses (two_nodes ++ codes "up 1\nrecv 3 00\n") 4 causes.Range
 
--- Of a record in which the line of an input stands before a start, what is there: the lengths of all groups stand for the files.
+-- Of a record in which the line of an input comes before a start, what is there: the lengths of all groups stand for the files.
 
 abbrev lengths : Node → List ℕ
 lengths n = map (λ l. l.held) (shelf n.groups)

@@ -11,7 +11,7 @@ use Rattle.oc_merge.specs.Told.{Records}
 
 -- Each node folded on its own lines, up to a place among those of all.
 
--- the node behind a line, none where nothing more is found, and whether the line is there
+-- the node after a line, none where nothing more is found, and whether the line is there
 pub record Behind : Type 0 where
   pub node : Option Node
   pub there : Bool
@@ -19,7 +19,7 @@ pub record Behind : Type 0 where
 abbrev pub nothing_more : Behind
 nothing_more = record { node = None; there = true }
 
--- behind an input that was missed, as the start that comes next finds the node, or taken
+-- after an input that was missed, as the start that comes next finds the node, or taken
 abbrev pub behind_either : Bool → Node → Node → Behind
 behind_either true before after = record { node = Some (restarted before); there = false }
 behind_either false before after = record { node = Some after; there = true }
@@ -27,7 +27,7 @@ behind_either false before after = record { node = Some after; there = true }
 abbrev pub behind_input : (Node → List ℕ) → Node → Input → Option (List ℕ) → Behind
 behind_input digest n i found = behind_either (is_missed digest n i found) n (step n i).node
 
--- behind a line of x, where the first start behind finds these files
+-- after a line of x, where the first start after it finds these files
 abbrev pub behind_line : (Node → List ℕ) → ℕ → ℕ → Node → Told → Option (List ℕ) → Behind
 behind_line digest nodes x n (Started files) found = record { node = Some (restarted n); there = true }
 behind_line digest nodes x n (Came bytes) found =

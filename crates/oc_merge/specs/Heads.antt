@@ -26,7 +26,7 @@ abbrev pub before_own : ℕ → List ToldLine → ℕ
 before_own x [] = 0
 before_own x (l ∷ ls) = if l.node == x then 0 else suc (before_own x ls)
 
--- the head of x: the place of its next line behind those that were taken, or behind all lines where there is none; and whether one was taken
+-- the head of x: the place of its next line after those that were taken, or after all lines where there is none; and whether one was taken
 pub record IsHeadOf (lines : List ToldLine) (taken : List Line) (x : ℕ) (h : Head) : Type 0 where
   pub within : h.place ≤ length lines
   pub own : before_own x (drop h.place lines) ≡ 0
@@ -64,12 +64,12 @@ abbrev pub IsNumberFor : List Message → ℕ → Message → Option ℕ → Typ
 IsNumberFor net x m None = m.to ≡ x → (k : ℕ) → message_at net k ≡ Some m → ⊥
 IsNumberFor net x m (Some k) = (m.to ≡ x) × IsNumberOf net m (Some k)
 
--- events lead from a world to another, and come behind those before
+-- events lead from a world to another, and come after those before
 pub record IsPlayedBy (es : List Event) (w v : World) (before after : List Event) : Type 0 where
   pub behind : after ≡ before ++ es
   pub leads : v ≡ world_after w es
 
--- a line leads from a world to another by events, which come behind those before
+-- a line leads from a world to another by events, which come after those before
 pub record IsTaken (nodes : ℕ) (w : World) (l : ToldLine) (v : World) (before after : List Event) : Type 0 where
   pub events : List Event
   pub of_line : AreEventsOf w l.node (entry_of nodes l.told) events
@@ -159,7 +159,7 @@ placed h = record h { way = None }
 abbrev pub AreSamePlaces : List Head → List Head → Type 0
 AreSamePlaces before after = map placed after ≡ map placed before
 
--- to whom the messages behind the first `sent` are
+-- to whom the messages after the first `sent` are
 abbrev pub receivers_behind : ℕ → List Message → List ℕ
 receivers_behind sent net = map (λ m. m.to) (drop sent net)
 
@@ -183,12 +183,12 @@ is_before place (Some c) = nat_lt place c.place
 
 -- Places
 
--- for each line the place of the next line of its node, or behind all lines where there is none
+-- for each line the place of the next line of its node, or after all lines where there is none
 abbrev pub AreNextPlaces : List ToldLine → List ℕ → Type 0
 AreNextPlaces lines next = (length next ≡ length lines)
     × ((place : ℕ) (l : ToldLine) → slice_get lines place ≡ Some l → get_or next place 0 ≡ place + 1 + before_own l.node (drop (place + 1) lines))
 
--- for each node the place of its first line from this place on, or behind all lines where there is none; and for each line from this place
+-- for each node the place of its first line from this place on, or after all lines where there is none; and for each line from this place
 -- on that of the next line of its node
 pub record ArePlacesFrom (nodes : ℕ) (lines : List ToldLine) (from : ℕ) (first next : List ℕ) : Type 0 where
   pub all_nodes : length first ≡ nodes
@@ -196,7 +196,7 @@ pub record ArePlacesFrom (nodes : ℕ) (lines : List ToldLine) (from : ℕ) (fir
   pub first_is : (x : ℕ) → IsNode nodes x → get_or first (x - 1) 0 ≡ from + before_own x (drop from lines)
   pub next_is : (place : ℕ) (l : ToldLine) → from ≤ place → slice_get lines place ≡ Some l → get_or next place 0 ≡ place + 1 + before_own l.node (drop (place + 1) lines)
 
--- how many lines come at or behind the heads, each counted for each node
+-- how many lines come at or after the heads, each counted for each node
 abbrev pub lines_left : ℕ → List Head → ℕ
 lines_left lines [] = 0
 lines_left lines (h ∷ hs) = (lines - h.place) + lines_left lines hs

@@ -40,9 +40,9 @@ abbrev pub IsNumberOf : List Message → Message → Option ℕ → Type 0
 IsNumberOf net m None = (k : ℕ) → message_at net k ≡ Some m → ⊥
 IsNumberOf net m (Some k) = (message_at net k ≡ Some m) × IsFirstOf net k
 
--- Lines that stand
+-- Lines that are left
 
--- the line at this place is next in the record of its node, behind those that were taken
+-- the line at this place is next in the record of its node, after those that were taken
 abbrev pub IsNextAt : Records → List Line → ℕ → ToldLine → Type 0
 IsNextAt r taken place l = (slice_get r.lines place ≡ Some l) × (length (own_told l.node (take place r.lines)) ≡ length (entries_of l.node taken))
 
@@ -64,7 +64,7 @@ NoneStands r taken is = (place : ℕ) (l : ToldLine) → IsNextAt r taken place 
 
 -- The whole
 
--- every line was taken; or the first start that stands; or, where no start does, the first line that does
+-- every line was taken; or the first start that is left; or, where no start is, the first line that is
 abbrev pub EndsAs : Records → List Line → MergeEnd → Type 0
 EndsAs r taken Whole = (x : ℕ) → IsNode r.header.nodes x → entries_of x taken ≡ entries_of x (map (line_of r.header.nodes) r.lines)
 EndsAs r taken (State number) = IsFirstStanding r taken is_start number

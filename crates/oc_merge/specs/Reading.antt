@@ -23,7 +23,7 @@ use Rattle.oc_merge.specs.Lines.{is_cut_off, is_comment, is_note, files_in, told
 use Rattle.oc_merge.specs.Told.{Records, published_in}
 
 -- what was read so far: the numbers of the first header, with the areas of the first that had a start, and whether one had; the areas
--- behind the last header; between which lines the reading is; and what the lines told
+-- after the last header; between which lines the reading is; and what the lines told
 pub record Reading : Type 0 where
   pub header : Option Header
   pub started : Bool
@@ -56,7 +56,7 @@ after_header r words = do
   first ← agreed r.header h
   Ok (record r { header = Some first; areas = h.areas; place = Opened })
 
--- a line `area N A` behind it
+-- a line `area N A` after it
 abbrev pub after_area : Reading → List (List ℕ) → Result Reading Why
 after_area r fields = do
   (node, area) ← area_in (nodes_of r.header) fields
@@ -108,7 +108,7 @@ with_files digits [] = []
 with_files digits (l ∷ []) = record l { told = with_digits digits l.told } ∷ []
 with_files digits (l ∷ ls) = l ∷ with_files digits ls
 
--- a comment, which may tell the files of the start behind which it stands
+-- a comment, which may tell the files of the start before it
 abbrev pub after_files : Reading → ℕ → Option (List ℕ) → Reading
 after_files r node None = r
 after_files r node (Some digits) = record r { place = Within node; lines = with_files digits r.lines }
@@ -131,7 +131,7 @@ after_inside r me i word fields =
     else if bytes_eq word (codes "overcast") then after_header r (word ∷ fields)
     else after_told r me i word fields
 
--- a line behind a header
+-- a line after a header
 abbrev pub after_opening : Reading → ℕ → List ℕ → List (List ℕ) → Result Reading Cause
 after_opening r i word fields =
     if bytes_eq word (codes "overcast") then because (after_header r (word ∷ fields))
@@ -160,7 +160,7 @@ within_limits r = if nat_lt MAX_RECORD_PUBLISHED (published_in r.lines) then Err
 abbrev pub limited : Result Reading RecordsFault → Result Reading RecordsFault
 limited read = read >>= within_limits
 
--- a line that is not skipped: its cause, and behind it that limit
+-- a line that is not skipped: its cause, and after it that limit
 abbrev pub read_statement : ℕ → Reading → List ℕ → List (List ℕ) → Result Reading RecordsFault
 read_statement i r word fields = limited (at_line i (after_words r.place r i word fields))
 
@@ -176,7 +176,7 @@ read_line i whole r line =
     else if not whole || is_cut_off line then Ok r
     else read_words i r line (words line)
 
--- the end of the text: without a header the line behind the last is refused
+-- the end of the text: without a header the line after the last is refused
 abbrev pub records_at_end : ℕ → Option Header → List ToldLine → Result Records RecordsFault
 records_at_end i None told = Err (Line i (Said causes.Header))
 records_at_end i (Some h) told = Ok (record { header = h; lines = told })

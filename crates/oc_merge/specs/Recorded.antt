@@ -54,7 +54,7 @@ abbrev pub are_files : (Node → List ℕ) → Option (List ℕ) → Node → Bo
 are_files digest None n = true
 are_files digest (Some digits) n = bytes_eq digits (digest n)
 
--- whether what the line of x behind these entries tells of files is so
+-- whether what the line of x after these entries tells of files is so
 abbrev pub fits : (Node → List ℕ) → Records → ℕ → List Entry → Bool
 fits digest r x past = are_files digest (found_in (slice_get (own_told x r.lines) (length past))) (after_entries (new_node r.header x) past)
 
@@ -63,7 +63,7 @@ recorded digest r = record { header = r.header; lines = map (line_of r.header.no
 
 -- Lines of inputs that were not taken
 
--- the digits of the files that the first start behind finds, where it tells them
+-- the digits of the files that the first start after it finds, where it tells them
 abbrev pub found_behind : List Told → Option (List ℕ)
 found_behind (Started None ∷ ts) = found_behind ts
 found_behind (Started (Some digits) ∷ ts) = Some digits
@@ -74,7 +74,7 @@ abbrev pub is_missed : (Node → List ℕ) → Node → Input → Option (List �
 is_missed digest n i None = false
 is_missed digest n i (Some digits) = not (bytes_eq digits (digest (step n i).node)) && bytes_eq digits (digest n)
 
--- of the lines of x, whether each is there: by these lines alone, from the node n on. Behind bytes that are no message for x each is
+-- of the lines of x, whether each is there: by these lines alone, from the node n on. After bytes that are no message for x each is
 abbrev pub own_there : (Node → List ℕ) → ℕ → ℕ → Node → List Told → List Bool
 own_there digest nodes x n [] = []
 own_there digest nodes x n (Started files ∷ ts) = true ∷ own_there digest nodes x (restarted n) ts

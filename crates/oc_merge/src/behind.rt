@@ -1,4 +1,4 @@
-/// A node behind a line of its record.
+/// A node after a line of its record.
 #[derive(Drop)]
 pub(crate) struct Behind<A> {
     /// None where nothing more is found of it.

@@ -1,7 +1,7 @@
 //! Records of running nodes, made into one schedule.
 //!
 //! A running node may write a record of itself: the header of its network, its start, and each input that
-//! it takes. Three calls make a schedule of such records, one behind the other:
+//! it takes. Three calls make a schedule of such records, one after another:
 //!
 //! - [`read`] gives what they tell as one text, exactly what `records_of` makes of any bytes, the [`Records`]
 //!   or the first fault, unless memory runs out. `specs/Reading` says how the lines follow one another and

@@ -67,7 +67,7 @@ fn is_of(starts: bool, told: &Told) -> bool
     !starts || matches!(told, Told::Started(_))
 }
 
-/// The place of the first line that stands, with one more head.
+/// The place of the first line that is left, with one more head.
 fn standing_with(
     lines: &[ToldLine],
     heads: &[Head],
@@ -91,7 +91,7 @@ fn standing_with(
     }
 }
 
-/// The place of the first line that stands, of those that are starts or of all; behind all lines where none does.
+/// The place of the first line that is left, of the starts or of all; after all lines where none is.
 fn first_standing(lines: &[ToldLine], heads: &[Head], starts: bool) -> usize
     ensures { IsFirstAtHeads lines.now heads.now starts (length heads.now) result }
 {
@@ -102,7 +102,7 @@ fn first_standing(lines: &[ToldLine], heads: &[Head], starts: bool) -> usize
     first
 }
 
-/// How a merge ends that stands at these heads.
+/// How a merge ends that is at these heads.
 fn end_at(lines: &[ToldLine], heads: &[Head]) -> MergeEnd
     ensures { EndsAt lines.now heads.now result }
 {
@@ -125,7 +125,7 @@ fn end_at(lines: &[ToldLine], heads: &[Head]) -> MergeEnd
 /// ends.
 ///
 /// Each time the line is taken that comes first in the input of those that can be taken, until none can. A
-/// line can be taken behind those of its node before it; a start, where the node then has the files that
+/// line can be taken after those of its node before it; a start, where the node then has the files that
 /// its record tells; a message, once it was sent to that node; and any other input always.
 pub fn merge<N: Nodes>(
     alloc: Global,

@@ -3,9 +3,9 @@
 pub enum Place {
     /// Before the first header.
     Outside,
-    /// Behind a header, with its areas.
+    /// After a header, with its areas.
     Opened,
-    /// Directly behind the start of this node.
+    /// Directly after the start of this node.
     Begun(u32),
     /// In the record of this node.
     Within(u32),

@@ -1,4 +1,4 @@
-//! Where the lines of each node stand among those of all.
+//! Where the lines of each node are among those of all.
 
 ghost use Rattle.std.specs.Prelude.{◌≡◌, IfOk};
 ghost use Rattle.std.specs.List.{AllByRecursion};
@@ -9,7 +9,7 @@ use crate::told::ToldLine;
 use oc_base::Memory;
 use std::alloc::Global;
 
-/// Where the lines of each node stand. What stands behind all lines stands for none.
+/// Where the lines of each node are. A place after all lines means that there is none.
 #[derive(Debug, Drop)]
 pub(crate) struct Places {
     /// The first line of each node, by its number.

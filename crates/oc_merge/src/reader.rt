@@ -14,7 +14,7 @@ pub(crate) struct Reader {
     pub network: Option<Network>,
     /// Whether a node has started.
     pub started: bool,
-    /// The areas behind the last header.
+    /// The areas after the last header.
     pub areas: Vec<u8>,
     pub place: Place,
     pub lines: Vec<ToldLine>,

@@ -267,8 +267,12 @@ impl Reader {
         match self.place {
             Place::Outside => self.with_header(alloc, number, line),
             Place::Opened => self.with_opening(alloc, number, line, word, fields),
-            Place::Begun(me) => { self.with_inside(alloc, number, NodeId(me), line, word, fields) }
-            Place::Within(me) => { self.with_inside(alloc, number, NodeId(me), line, word, fields) }
+            Place::Begun(me) => {
+                self.with_inside(alloc, number, NodeId(me), line, (word, fields))
+            }
+            Place::Within(me) => {
+                self.with_inside(alloc, number, NodeId(me), line, (word, fields))
+            }
         }
     }
 
@@ -406,19 +410,19 @@ impl Reader {
             .with_told(number, node, Told::Started(None))
     }
 
-    /// A line in the record of `me`.
+    /// A line in the record of `me`, in which this word and these fields were found.
     fn with_inside(
         self,
         alloc: Global,
         number: u32,
         me: NodeId,
         line: &[u8],
-        word: &[u8],
-        fields: &[u8],
+        found: (&[u8], &[u8]),
     ) -> Result<Reader, RecordsFault>
-        requires { words line.now ≡ word.now ∷ words fields.now }
-        ensures { GivesBy reading_of result (limited (at_line number (because (after_inside (reading_of self) me number word.now (words fields.now))))) }
+        requires { words line.now ≡ found.0.now ∷ words found.1.now }
+        ensures { GivesBy reading_of result (limited (at_line number (because (after_inside (reading_of self) me number found.entry.0.now (words found.entry.1.now))))) }
     {
+        let (word, fields) = found;
         if is_note(word) {
             Ok(self.within(me))
         } else if is(word, "overcast") {

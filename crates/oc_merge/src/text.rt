@@ -13,7 +13,7 @@ use std::alloc::Global;
 ///
 /// A text of too many bytes is refused before all else. Then each line is refused in this order: where
 /// there are too many lines, for the cause of the line, where too many bytes are published. A text without
-/// a header is refused at the line behind its last.
+/// a header is refused at the line after its last.
 pub fn read(alloc: Global, bytes: &[u8]) -> Result<Records, RecordsFault>
     ensures exact { Gives result (records_of bytes.now) }
 

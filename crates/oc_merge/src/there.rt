@@ -23,7 +23,7 @@ use oc_model::Input;
 use oc_wire::{WireFault, decode};
 use std::alloc::Global;
 
-/// The digits of the files that the first start behind a line finds, where it tells them.
+/// The digits of the files that the first start after a line finds, where it tells them.
 fn found_behind<'a>(lines: &'a [ToldLine], next: &[usize], place: usize) -> Option<&'a [u8]>
     requires next { AreNextPlaces lines.now next.now }
     requires place { place < length lines.now }
@@ -40,7 +40,7 @@ fn found_behind<'a>(lines: &'a [ToldLine], next: &[usize], place: usize) -> Opti
     None
 }
 
-/// The node behind an input that it took.
+/// The node after an input that it took.
 fn behind_taken<A: Alone>(one: A, input: &Input) -> Result<Behind<A>, Memory>
     requires { IsInput (A.node one).control.nodes (A.node one).control.me input.now }
     ensures { IfOk result (λ behind. view_of A.node behind ≡ record { node = Some (step (A.node one) input.now).node; there = true }) }
@@ -53,7 +53,7 @@ fn behind_taken<A: Alone>(one: A, input: &Input) -> Result<Behind<A>, Memory>
     })
 }
 
-/// The node behind an input, where the first start behind finds these files.
+/// The node after an input, where the first start after it finds these files.
 fn behind_input<A: Alone>(one: A, input: &Input, found: Option<&[u8]>) -> Result<Behind<A>, Memory>
     requires { IsInput (A.node one).control.nodes (A.node one).control.me input.now }
     ensures { IfOk result (λ behind. view_of A.node behind ≡ behind_input A.digest (A.node one) input.now (option_map (λ digits. digits.now) found.entry)) }
@@ -80,7 +80,7 @@ fn behind_input<A: Alone>(one: A, input: &Input, found: Option<&[u8]>) -> Result
     }
 }
 
-/// The node behind a line of which nothing more is found.
+/// The node after a line of which nothing more is found.
 fn behind_lost<A: Alone>() -> Behind<A>
     ensures { view_of A.node result ≡ nothing_more }
 {
@@ -90,7 +90,7 @@ fn behind_lost<A: Alone>() -> Behind<A>
     }
 }
 
-/// The node behind a message that came as these bytes.
+/// The node after a message that came as these bytes.
 fn behind_message<A: Alone>(
     alloc: Global,
     one: A,
@@ -115,7 +115,7 @@ fn behind_message<A: Alone>(
     }
 }
 
-/// The node behind bytes that are no message.
+/// The node after bytes that are no message.
 fn behind_fault<A: Alone>(fault: WireFault) -> Result<Behind<A>, Memory>
     ensures lost { IfOk result (λ behind. view_of A.node behind ≡ nothing_more) }
     ensures other { OnOk result (fault ≡ NoMemory → ⊥) }
@@ -126,7 +126,7 @@ fn behind_fault<A: Alone>(fault: WireFault) -> Result<Behind<A>, Memory>
     }
 }
 
-/// The node behind a line.
+/// The node after a line.
 fn behind_line<A: Alone>(
     alloc: Global,
     one: A,
@@ -236,8 +236,8 @@ fn picked(alloc: Global, there: &[bool], lines: Vec<ToldLine>) -> Result<Vec<Tol
 ///
 /// A running node writes the line of an input before it takes it, so the last line before a stop may tell of an input that
 /// was not taken. It did where the next start finds the files as they are without this input, and not as they are
-/// with it: so it is found from the lines of its node alone, from a new node on. Behind a message to another
-/// node, and behind bytes that are no message, nothing more is found of a node.
+/// with it: so it is found from the lines of its node alone, from a new node on. After a message to another
+/// node, and after bytes that are no message, nothing more is found of a node.
 pub fn without_missed<A: Alone>(alloc: Global, records: Records) -> Result<Records, Memory>
     requires { AreRecords records }
     ensures there { IfOk result (λ left. left ≡ records_there A.digest records) }

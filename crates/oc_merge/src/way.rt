@@ -163,7 +163,7 @@ fn restart<N: Nodes>(
     play(alloc, nodes, events, Event::Up(node))
 }
 
-/// A node starts, behind a crash where it is up.
+/// A node starts, after a crash where it is up.
 fn start<N: Nodes>(
     alloc: Global,
     nodes: &mut N,

@@ -112,7 +112,7 @@ opened nodes chain chunk areas = record { header = record { nodes = nodes; chain
 area_are_words : (nodes x a : ℕ) → nodes ≤ MAX_NODES → (1 ≤ x) × (x ≤ nodes) → a ≤ MAX_AREA → AreWords (area_words x a)
 area_are_words nodes x a few node small = (refl, ((node_word nodes x few node).0, (decimal_word a (omega (arith, small)), tt)))
 
-area_back : (nodes x a : ℕ) → nodes ≤ MAX_NODES → (1 ≤ x) × (x ≤ nodes) → a ≤ MAX_AREA → area_in nodes (decimal x ∷ decimal a ∷ []) ≡ Ok (x, a)
+pub area_back : (nodes x a : ℕ) → nodes ≤ MAX_NODES → (1 ≤ x) × (x ≤ nodes) → a ≤ MAX_AREA → area_in nodes (decimal x ∷ decimal a ∷ []) ≡ Ok (x, a)
 area_back nodes x a few node small =
     then (node_in nodes (decimal x)) _ x _ (node_back nodes x few node)
     (then (number_in 0 most_byte (decimal a)) _ a _ (number_back 0 most_byte a (omega (arith, small)) (omega arith) small) refl)
@@ -157,13 +157,13 @@ areas_read scale i x nodes chain chunk front (suc a ∷ areas) rest few at withi
 
 -- The header
 
-sizes_back : (n c b : ℕ) → 1 ≤ n → n ≤ MAX_NODES → 1 ≤ c → c ≤ MAX_CHAIN → c ≤ n → sizes_in (decimal n) (decimal c) b ≡ Ok (record { nodes = n; chain = c; chunk = b })
+pub sizes_back : (n c b : ℕ) → 1 ≤ n → n ≤ MAX_NODES → 1 ≤ c → c ≤ MAX_CHAIN → c ≤ n → sizes_in (decimal n) (decimal c) b ≡ Ok (record { nodes = n; chain = c; chunk = b })
 sizes_back n c b some few one short within =
     then (number_in 1 MAX_NODES (decimal n)) _ n _ (number_back 1 MAX_NODES n (omega (arith, few)) some few)
     (then (number_in 1 (min MAX_CHAIN n) (decimal c)) _ c _ (number_back 1 (min MAX_CHAIN n) c (omega (arith, short)) one (omega (arith, short, within))) refl)
 
 -- the number of a chunk, which is left out where it is the usual one
-chunk_back : (b : ℕ) → 1 ≤ b → b ≤ MAX_CHUNK_BYTES → chunk_in (chunk_words b) ≡ Ok b
+pub chunk_back : (b : ℕ) → 1 ≤ b → b ≤ MAX_CHUNK_BYTES → chunk_in (chunk_words b) ≡ Ok b
 chunk_back b some fits = by_test (b == USUAL_CHUNK_BYTES) refl where
   by_test : (t : Bool) → (b == USUAL_CHUNK_BYTES) ≡ t → chunk_in (cond t [] (codes "chunk" ∷ decimal b ∷ [])) ≡ Ok b
   by_test true e = ap Ok (sym (eqb-true b USUAL_CHUNK_BYTES e))

@@ -87,7 +87,7 @@ member_in id_word nodes_word chain_word = do
   id ← number_in 1 nodes id_word
   Ok (record { id = id; nodes = nodes; chain = chain })
 
--- a number of nodes has a length of the chain behind it, and no configuration
+-- a number of nodes has a length of the chain after it, and no configuration
 abbrev pub member_without : List ℕ → List ℕ → Option (List ℕ) → Option (List ℕ) → Result Member Why
 member_without id nodes chain (Some config) = Err Count
 member_without id nodes None None = Err Count

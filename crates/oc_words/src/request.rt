@@ -9,7 +9,7 @@ pub const MAX_EVENTS: u32 = 99_999;
 /// The most turns that one run of a node is asked for.
 pub const MAX_TURNS: u64 = 1_000_000_000;
 
-/// As many turns as no run comes to the end of: those of a node that serves until it is ended.
+/// More turns than any run comes to the end of: those of a node that serves until it is ended.
 pub const ENDLESS: u64 = u64::MAX;
 
 /// The most replies that one download is asked to follow.
@@ -214,7 +214,7 @@ pub struct Upload {
     pub address: Name,
     /// Where in the group the input goes.
     pub onto: Onto,
-    /// Whether the group is sealed behind it.
+    /// Whether the group is sealed after it.
     pub seals: bool,
     /// The file of the client's token.
     pub token_file: Option<Name>,
@@ -227,8 +227,8 @@ pub struct Upload {
 pub enum Onto {
     /// Into a group that has no bytes yet.
     New,
-    /// Behind what the group has.
+    /// After what the group has.
     Append,
-    /// The group has the first bytes of this very input, and the rest goes behind them.
+    /// The group has the first bytes of this very input, and the rest goes after them.
     Resume,
 }

@@ -252,7 +252,7 @@ pub fn places_ask()
         → asked (codes "check" ∷ id ∷ nodes ∷ chain ∷ codes "--dir" ∷ folder ∷ [])
         ≡ result_ok (asking (check_at (Some folder)) (member_in id nodes chain)) }
 
-    // A number of nodes has a length of the chain behind it, and no configuration.
+    // A number of nodes has a length of the chain after it, and no configuration.
     ensures unchained { (id nodes : Text) → IsNoFlag id → IsNoFlag nodes → asked (codes "check" ∷ id ∷ nodes ∷ []) ≡ None }
     ensures said_twice { (id nodes chain config : Text) → IsNoFlag id → IsNoFlag nodes → IsNoFlag chain → IsNoFlag config
         → asked (codes "check" ∷ id ∷ nodes ∷ chain ∷ codes "--config" ∷ config ∷ []) ≡ None }
@@ -271,7 +271,7 @@ pub fn clients_ask()
     ensures publishing_as { (url file : Text) → IsNoFlag url → IsNoFlag file
         → asked (codes "put" ∷ url ∷ codes "--token-file" ∷ file ∷ []) ≡ Some (put_at url New false (Some file) false) }
 
-    // An input goes behind what the group has, or has the group's bytes in front.
+    // An input goes after what the group has, or has the group's bytes in front.
     ensures said_both { (url : Text) → IsNoFlag url → asked (codes "put" ∷ url ∷ codes "--append" ∷ codes "--resume" ∷ []) ≡ None }
     ensures getting_from { (url start : Text) → IsNoFlag url → IsNoFlag start
         → asked (codes "get" ∷ url ∷ codes "--from" ∷ start ∷ [])

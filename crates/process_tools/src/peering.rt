@@ -15,7 +15,7 @@ const MOST_LOOKS: u32 = 1_500;
 
 const LOOK_MILLIS: u64 = 10;
 
-/// Plays the rows of a table of which each is a run of the program, and behind ` ^ ` what its peer does. `PEER` stands for
+/// Plays the rows of a table of which each is a run of the program, and after ` ^ ` what its peer does. `PEER` stands for
 /// the port at which the peer listens, and `PORT` for one on which nobody does.
 pub fn play_peers(rt: &HostRuntime, table: &str) -> io::Result<()> {
     let listener = TcpListener::bind(rt, "localhost:0")?;
@@ -60,7 +60,7 @@ fn play_beside(
     }
 }
 
-/// Takes the connections that come, one after the other. What is done on each begins with `accept`, and after it the
+/// Takes the connections that come, one after another. What is done on each begins with `accept`, and after it the
 /// connection is dropped: where not all that came was read, the system then sends a reset.
 fn play_peer(rt: &HostRuntime, listener: &TcpListener, steps: &str) -> io::Result<Option<String>> {
     let mut rest = steps.strip_prefix("accept ^ ").unwrap_or(steps);

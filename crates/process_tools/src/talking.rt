@@ -52,7 +52,7 @@ impl<'a> Step<'a> {
     }
 }
 
-/// Plays the rows of a table of conversations with a node, each on as many connections, one after the other, as it says.
+/// Plays the rows of a table of conversations with a node, each on as many connections, one after another, as it says.
 pub fn play_talks(rt: &HostRuntime, home: &Home, table: &str) -> io::Result<()> {
     let rows = fs::read_to_string(rt, table)?;
     for row in rows.lines() {

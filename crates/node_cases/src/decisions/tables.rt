@@ -133,18 +133,18 @@ fn put_leased(table: &Table, mut fields: RowFields<'_>, said: &mut String) -> Re
     put_shown(said, &table.leased_by(parent, fields.node()?))
 }
 
-/// Puts whether the second node is listed beneath the first.
+/// Puts whether the second node is listed below the first.
 fn put_is_listed(table: &Table, mut fields: RowFields<'_>, said: &mut String) -> Result<(), Fault> {
     let root = fields.node()?;
     put_shown(said, &table.is_listed(root, fields.node()?))
 }
 
-/// Puts who is listed beneath a root, each with its parent.
+/// Puts who is listed below a root, each with its parent.
 fn put_listed(table: &Table, mut fields: RowFields<'_>, said: &mut String) -> Result<(), Fault> {
     put_lines(&table.listed(fields.node()?)?, said)
 }
 
-/// Puts how many are listed beneath a root.
+/// Puts how many are listed below a root.
 fn put_count(table: &Table, mut fields: RowFields<'_>, said: &mut String) -> Result<(), Fault> {
     put_shown(said, &table.listed(fields.node()?)?.len())
 }

@@ -22,7 +22,7 @@ impl Scenes for EndingScenes {
     }
 }
 
-/// Puts the words of the connection that ends after each number of these bytes, with these steps behind it.
+/// Puts the words of the connection that ends after each number of these bytes, with these steps after it.
 fn put_all(
     alloc: Global,
     setting: &Setting,
@@ -37,7 +37,7 @@ fn put_all(
     Ok(())
 }
 
-/// The words of a connection that brings these bytes alone, with these steps behind it.
+/// The words of a connection that brings these bytes alone, with these steps after it.
 fn words_of_front(
     alloc: Global,
     setting: &Setting,

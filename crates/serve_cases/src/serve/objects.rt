@@ -30,13 +30,13 @@ struct Script {
 
 /// The link of a scene, and how many things happen there.
 ///
-/// - `come:TEXT` is a new connection, with the next number from 0, whose sending ends behind these bytes; `part:TEXT` one
+/// - `come:TEXT` is a new connection, with the next number from 0, whose sending ends after these bytes; `part:TEXT` one
 ///   that does not end, and `broken:TEXT` one that fails. Of the last one, or that of the last `on:N`, `more:TEXT` are
 ///   further bytes, `last:TEXT` are further bytes and then its end, and `again:N` has its end told N times more. `cut:N` has
 ///   the bytes of connections come N at a time from there on.
 /// - `room`, `gone` and `gave` tell of the same connection that it has room, that it failed, that it gave way.
 /// - `reply:TEXT` is what dial 0, or that of the last `dial:N`, is replied; `failed:TEXT` is the same where the dial fails
-///   behind these bytes.
+///   after these bytes.
 /// - `quiet` is nothing, and `fails` a failure of the link. `wait:N` has N milliseconds pass until the next of these.
 pub fn link_in(alloc: Global, scene: &str) -> Result<(MemLink, u32), Fault> {
     let mut script = Script {
@@ -83,7 +83,7 @@ impl Script {
         }
     }
 
-    /// Takes a step that says something of those behind it, if it is one.
+    /// Takes a step that says something of those after it, if it is one.
     fn set(&mut self, word: &str, said: &str) -> Result<(), Fault> {
         match word {
             "on" => self.connection = number_in(said)?,
@@ -100,7 +100,7 @@ impl Script {
         ConnectionId(self.connection)
     }
 
-    /// Bytes come on it: at once, or piece by piece with the end behind the last one.
+    /// Bytes come on it: at once, or piece by piece with the end after the last one.
     fn comes(&mut self, said: &str, coming: Coming) -> Result<(), Fault> {
         let bytes = spelled_in(self.alloc, said)?;
         if self.cut == 0 {

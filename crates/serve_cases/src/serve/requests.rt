@@ -42,13 +42,13 @@ impl Scenes for RequestScenes {
     }
 }
 
-/// The scene of a connection, with the steps behind it, whose bytes come `cut` at a time. Its end is told once more,
-/// as behind the permission to send a body.
+/// The scene of a connection, with the steps after it, whose bytes come `cut` at a time. Its end is told once more,
+/// as after the permission to send a body.
 pub fn scene_of(alloc: Global, text: &str, cut: usize) -> Result<String, Fault> {
     Ok(format!(in alloc; "cut:{cut} ^ come:{text} ^ again:1")?)
 }
 
-/// The connection of a row, and the steps behind it.
+/// The connection of a row, and the steps after it.
 pub fn split_connection(text: &str) -> (&str, &str) {
     text.split_once(" ^ ").unwrap_or((text, ""))
 }

@@ -6,7 +6,7 @@ use test_tools::{Fault, RowFields};
 /// More fields than a text of bytes has.
 const MOST_FIELDS: u32 = 1_000;
 
-/// The bytes of fields, one after the other: `7` is a number in eight bytes, `#7` in four, `.7` in one, and
+/// The bytes of fields, one after another: `7` is a number in eight bytes, `#7` in four, `.7` in one, and
 /// `x2f61` is bytes. A word that says what it is may come before a `#` and a `.`.
 pub fn spelled(alloc: Global, mut fields: RowFields<'_>) -> Result<Vec<u8>, Fault> {
     let mut bytes = Vec::new(alloc);

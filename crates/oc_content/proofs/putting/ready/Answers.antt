@@ -47,6 +47,6 @@ returns-clause-prepares g c =
       body = e.body;
       prepared =
           subst (λ (ss : List Shelf). IsReady ss (rooms y.tracks.items) (memory_of y) c.reserve.new.self.spare c.in_ok-piece.piece) (sym c.piece_for.ensures.keeps.lines)
-          (ready_put x.shelves.items (rooms y.tracks.items) (memory_of y) c.reserve.new.self.spare c.in_ok-piece.piece c.args.added.now.group.now c.args.added.now.start c.args.added.now.bytes.now c.args.added.now.last sized.short e.place e.none e.entry e.room (subst (λ (ss : List Shelf). HasGroupRoom (length ss) (memory_of y) c.in_ok-piece.piece.place) c.piece_for.ensures.keeps.lines e.groups) c.in_ok-reserve.ensures.room.spare);
+          (ready_put x.shelves.items (rooms y.tracks.items) (memory_of y) c.reserve.new.self.spare c.in_ok-piece.piece c.args.added.now.group.now c.args.added.now.start c.args.added.now.bytes.now c.args.added.now.last sized.short e.place e.none e.entry e.room.0 (subst (λ (ss : List Shelf). HasGroupRoom (length ss) (memory_of y) c.in_ok-piece.piece.place) c.piece_for.ensures.keeps.lines e.room.1) c.in_ok-reserve.ensures.room.spare);
       room = search rules;
     }

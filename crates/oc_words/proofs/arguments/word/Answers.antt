@@ -7,7 +7,7 @@ use Rattle.oc_base.specs.declared.why.Why.TheVariants.{Count}
 use Rattle.oc_words.specs.Arguments.{word_of}
 use Rattle.oc_words.proofs.arguments.word.Goals as goal
 
--- a word behind a reference is the word that was found
+-- a word after a reference is the word that was found
 found : (given : Option (Bor Text)) (word : Option Text) → option_map (λ w. w.now) given ≡ word
     → GivesFields (λ (w : Bor Text). w.now) (ok_or given Count) (ok_or word Count)
 found None word is = ap (λ o. ok_or o Count) (sym is)

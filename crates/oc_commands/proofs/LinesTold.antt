@@ -1,4 +1,4 @@
--- What lines tell of a client, one after the other.
+-- What lines tell of a client, one after another.
 use Rattle.std.proofs.Common.{◌≡◌, ◌∙◌, ℕ, Bool, true, false, List, ◌++◌, length, take, sym, ap, subst, inl, inr, arith}
 use Rattle.std.proofs.lemmas.List.{append_assoc, take-append-le, take_all}
 use Rattle.oc_fetch.specs.Lines.{Tells, lines_between}
@@ -25,7 +25,7 @@ module _ {E : Type 0} (writes breaks : E → List ℕ → E → Type 0) (faults 
   abbrev F : Counting E → List ℕ → Counting E → Type 0
   F = Fails breaks faults
 
-  -- lines behind lines
+  -- lines after lines
   tells_then : (a b c : Counting E) (p q r : Bool) (x y : List ℕ) → Tells T F a b p q x → Tells T F b c q r y → Tells T F a c p r (x ++ y)
   tells_then a b c false true r x y f s = absurd (let wrong : true ≡ false = f.1 in cc)
   tells_then a b c false false r x y f s = (s.0 ∙ f.0, s.1)

@@ -1,4 +1,4 @@
--- Parts of a text, taken one after the other.
+-- Parts of a text, taken one after another.
 use Rattle.std.proofs.Common.{◌≡◌, ℕ, suc, ◌+◌, ◌<◌, List, [], ◌∷◌, ◌++◌, length, take, drop, get_or, refl, sym, ap, ◌∙◌, arith, append_assoc}
 use Rattle.std.specs.Borrow.{Bor}
 use Rattle.std.proofs.lemmas.List.{take-append-le, take-append-drop, get_or_default}
@@ -6,7 +6,7 @@ use Rattle.std.proofs.Math.Seq.{drop-cons, take-append-add}
 use Rattle.std.specs.Prelude.{Result, Ok, Err, OnErr}
 use Rattle.oc_http.specs.Parts.{joined}
 
--- parts behind parts
+-- parts after parts
 joined-append : (xs ys : List (Bor (List ℕ))) → joined (xs ++ ys) ≡ joined xs ++ joined ys
 joined-append [] ys = refl
 joined-append (x ∷ xs) ys = ap (λ (l : List ℕ). x.now ++ l) (joined-append xs ys) ∙ sym (append_assoc x.now (joined xs) (joined ys))

@@ -41,7 +41,7 @@ use Rattle.oc_commands.proofs.Tokens.{untokened}
 same_service : (asked : Option Invocation) (v w : Service) (p q : Paths) → asked ≡ Some (Node v p) → asked ≡ Some (Node w q) → w ≡ v
 same_service asked v w p q is also = cc
 
-module _ {S D N : Type 0} (gives fails : S → List ℕ → S → Type 0) (ended : S → Type 0) (faulty : S → ℕ) (old new : S) (view : D → DiskView) (d e : Disks D) (story : N → Option (List Call)) (counts : N → LinkCounts) (link after : N) (output : Output)
+module _ {S D N K : Type 0} (gives fails : S → List ℕ → S → Type 0) (ended : S → Type 0) (faulty : S → ℕ) (old new : S) (view : D → DiskView) (d e : Disks D) (story : N → Option (List Call)) (counts : N → LinkCounts) (takes takes_less : K → List ℕ → K → Type 0) (link after : N) (sink written : K) (output : Output)
     (honest : AreHonest view d) (unfailed : OneRose view d e → ⊥) (waiting : Rose (counts link).listening (counts after).listening → ⊥) (sourced : Rose (faulty old) (faulty new) → ⊥) (sound : IsSound output) where
   -- a status, or that of want of memory
   abbrev OrMemory : (ℕ → Type 0) → ℕ → Type 0
@@ -58,7 +58,7 @@ module _ {S D N : Type 0} (gives fails : S → List ℕ → S → Type 0) (ended
   load_has s v error causes.Memory is node h = inr refl
 
   -- over the files of a node
-  run_has : (s : Settings) (v : Service) (end : NodeEnd) → HasNode s v → NodeEnds (at_run view story counts s (task_of v) d e link after) output.written output.cut_off (setting_of s (task_of v)) end
+  run_has : (s : Settings) (v : Service) (end : NodeEnd) → HasNode s v → NodeEnds (at_run view story counts takes takes_less s (task_of v) d e link after sink written) output.written output.cut_off (setting_of s (task_of v)) end
       → OrMemory (IsStatusOver view d s v) (number_of (status_of_run end))
   run_has s v (nodes.Load error) node h = load_has s v error (cause_of error) refl node h.0.0
   run_has s v (nodes.Turned turns.Served) node h = inl (inr (node, λ files. inl refl))
@@ -76,7 +76,7 @@ module _ {S D N : Type 0} (gives fails : S → List ℕ → S → Type 0) (ended
   told v said status bytes came whole line is (inl has) = inl (record { bytes = bytes; came = came; status_is = inl (whole, status_over view d v line bytes status (subst (λ r. IsStatusOf view d v r status) (sym is) has)) })
   told v said status bytes came whole line is (inr memory) = inr memory
 
-  service_has : (v : Service) (end : ServiceEnd) → HappenedAtNode (at_source gives fails ended faulty old new) (at_node view story counts d e link after) output v end
+  service_has : (v : Service) (end : ServiceEnd) → HappenedAtNode (at_source gives fails ended faulty old new) (at_node view story counts takes takes_less d e link after sink written) output v end
       → OrMemory (HasServiceStatus gives ended view d v old new) (number_of (status_of_service end))
   service_has v (services.Config configs.Source) h = absurd (sourced h.0.1)
   service_has v (services.Config configs.Long) h = let (bytes, came, long) = h.0 in inl (record { bytes = bytes; came = came; status_is = inr (long, refl) })
@@ -94,7 +94,7 @@ module _ {S D N : Type 0} (gives fails : S → List ℕ → S → Type 0) (ended
       told v (Ok s) (number_of (status_of_run end)) bytes whole.0 whole.1 is.line is.gives (run_has s v end rest.0 rest.1)
 
   pub served : (error : OnError) (stage : OnStage) (dialler : OnLink) (token : Input) (asked : Option Invocation) (v : Service) (p : Paths) (end : End) → asked ≡ Some (Node v p)
-      → Happened (record { asked = asked; input = at_source gives fails ended faulty old new; output = output; error = error; stage = stage; files = at_files view d e; link = dialler; token = token; node = at_node view story counts d e link after }) end
+      → Happened (record { asked = asked; input = at_source gives fails ended faulty old new; output = output; error = error; stage = stage; files = at_files view d e; link = dialler; token = token; node = at_node view story counts takes takes_less d e link after sink written }) end
       → HasServiceStatus gives ended view d v old new (number_of (status_of end)) ⊎ (number_of (status_of end) ≡ 4)
   served error stage dialler token asked v p Helped is h = let also = h.0 in cc
   served error stage dialler token asked v p HelpFailed is h = let also = h.0 in cc
@@ -113,4 +113,4 @@ module _ {S D N : Type 0} (gives fails : S → List ℕ → S → Type 0) (ended
   served error stage dialler token asked v p (Published end) is h = let also = h.0.1 in cc
   served error stage dialler token asked v p (Served end) is h =
       let (w, q, also, at) = h.0 in
-      service_has v end (subst (λ x. HappenedAtNode (at_source gives fails ended faulty old new) (at_node view story counts d e link after) output x end) (same_service asked v w p q is also) at)
+      service_has v end (subst (λ x. HappenedAtNode (at_source gives fails ended faulty old new) (at_node view story counts takes takes_less d e link after sink written) output x end) (same_service asked v w p q is also) at)

@@ -1,5 +1,5 @@
 -- What had happened, told of the outside in other words that follow.
-use Rattle.std.proofs.Common.{ℕ, Bool, true, false, List, length, Option, Some, None, Result, Ok, Err, inl, inr, take}
+use Rattle.std.proofs.Common.{◌≡◌, ℕ, Bool, true, false, List, length, Option, Some, None, Result, Ok, Err, inl, inr, subst, take}
 use Rattle.oc_config.specs.Settings.{Settings}
 use Rattle.oc_config.specs.declared.fault.ConfigFault.TheVariants as faults
 use Rattle.oc_fetch.specs.declared.end.GetEnd.{GetEnd}
@@ -29,13 +29,13 @@ use Rattle.oc_commands.specs.AtConfigured.{HappenedAtConfigured}
 use Rattle.oc_commands.specs.AtGen.{HappenedAtGen}
 use Rattle.oc_commands.specs.AtGet.{Downloaded, HappenedAtGet, Tells as GetTells, Wrote, is_done as is_got}
 use Rattle.oc_commands.specs.AtMerge.{HappenedAtMerge, PassesMost, TellsRecords}
-use Rattle.oc_commands.specs.AtNode.{HappenedAtNode, task_of}
+use Rattle.oc_commands.specs.AtNode.{HappenedAtNode, UnlessRan, task_of}
 use Rattle.oc_commands.specs.AtPut.{Came, CameSo, HappenedAtPut, Published as Posted, Tells as PutTells, is_done as is_put, plan_of}
 use Rattle.oc_commands.specs.AtReplay.{HappenedAtReplay, scale_of}
 use Rattle.oc_commands.specs.AtRules.{HappenedAtRules}
 use Rattle.oc_commands.specs.AtToken.{ReadsToken, TakesToken}
 use Rattle.oc_commands.specs.Lines.{version_line}
-use Rattle.oc_commands.specs.Outside.{Input, OnError, OnFiles, OnLink, OnNode, OnStage, Output, Outside}
+use Rattle.oc_commands.specs.Outside.{Input, OnError, OnFiles, OnLink, OnNode, OnStage, Output, Outside, at_node}
 use Rattle.oc_commands.specs.Run.{Happened, IsAlone, IsFileless, IsOffline, IsUnplayed}
 use Rattle.oc_commands.specs.declared.checking.CheckEnd.{CheckEnd}
 use Rattle.oc_commands.specs.declared.checking.CheckEnd.TheVariants as checks
@@ -57,6 +57,12 @@ use Rattle.oc_commands.specs.declared.token.TokenEnd.{TokenEnd}
 use Rattle.oc_commands.specs.declared.token.TokenEnd.TheVariants as tokens
 use Rattle.oc_server.specs.Deeds.{Setting}
 use Rattle.oc_service.specs.OnSite.{NodeEnds, OnRun, Stops, setting_of}
+use Rattle.oc_service.specs.declared.running.Task.{Task}
+use Rattle.oc_service.proofs.Retold.{TellsRun, run_retold}
+use Rattle.oc_io.specs.DiskView.{DiskView}
+use Rattle.oc_keep.specs.Files.{Disks}
+use Rattle.oc_link.specs.declared.call.Call.{Call}
+use Rattle.oc_link.specs.declared.counts.LinkCounts.{LinkCounts}
 use Rattle.oc_service.specs.declared.running.NodeEnd.{NodeEnd}
 use Rattle.oc_service.specs.declared.running.NodeEnd.TheVariants as nodes
 use Rattle.oc_server.specs.declared.ends.TurnEnd.{TurnEnd}
@@ -83,6 +89,30 @@ pub record TellsOutput (o p : Output) : Type 0 where
 pub record TellsError (d e : OnError) : Type 0 where
   pub told : (whole : Bool) (count : ℕ) → d.told whole count → e.told whole count
   pub silent : d.silent → e.silent
+
+-- and of a node
+pub record TellsNode (m n : OnNode) : Type 0 where
+  pub run : (s : Settings) (task : Task) → TellsRun (m.run s task) (n.run s task)
+  pub untouched : m.untouched → n.untouched
+
+-- what is told of a node whose output is seen as another one, from this state to that one
+module _ {D N K J : Type 0} (view : D → DiskView) (story : N → Option (List Call)) (counts : N → LinkCounts) (takes fails : K → List ℕ → K → Type 0) (adds adds_less : J → List ℕ → J → Type 0) (seen : K → J)
+    (added : (a b : K) (text : List ℕ) → takes a text b → adds (seen a) text (seen b)) (added_less : (a b : K) (text : List ℕ) → fails a text b → adds_less (seen a) text (seen b)) where
+  pub node_seen : (old new : Disks D) (link after : N) (sink written : K) (first last : J) → seen sink ≡ first → seen written ≡ last
+      → TellsNode (at_node view story counts takes fails old new link after sink written) (at_node view story counts adds adds_less old new link after first last)
+  node_seen old new link after sink written first last begins ends =
+      subst (λ (x : J). TellsNode (at_node view story counts takes fails old new link after sink written) (at_node view story counts adds adds_less old new link after x last)) begins
+      (subst (λ (y : J). TellsNode (at_node view story counts takes fails old new link after sink written) (at_node view story counts adds adds_less old new link after (seen sink) y)) ends
+      (record {
+        run = λ s task. run_retold view takes fails adds adds_less seen added added_less story counts s task old new link after sink written;
+        untouched = λ same. same;
+      }))
+
+-- unless the node was run
+unless_told : (a b : Type 0) → (a → b) → (end : ServiceEnd) → UnlessRan end a → UnlessRan end b
+unless_told a b tells (services.Config end) h = tells h
+unless_told a b tells services.Stranger h = tells h
+unless_told a b tells (services.Ran end) h = h
 
 module _ (i j : Input) (o p : Output) (d e : OnError) (stage : OnStage) (input : TellsInput i j) (output : TellsOutput o p) (error : TellsError d e) where
   -- at the end of a replay
@@ -228,49 +258,51 @@ module _ (i j : Input) (o p : Output) (d e : OnError) (stage : OnStage) (input :
   }
 
   -- at the end of `node`
-  stops_told : (run : OnRun) (s : Setting) (end : TurnEnd) → Stops run o.written o.cut_off s end → Stops run p.written p.cut_off s end
-  stops_told run s turns.Sink h = let (deeds, under, cut, stopped) = h in (deeds, under, (cut.0, cut.1, output.cut_off _ cut.2), stopped)
-  stops_told run s turns.Served h = let (deeds, under, written, stopped) = h in (deeds, under, output.written _ written, stopped)
-  stops_told run s turns.Quiet h = let (deeds, under, written, stopped) = h in (deeds, under, output.written _ written, stopped)
-  stops_told run s turns.Link h = let (deeds, under, written, stopped) = h in (deeds, under, output.written _ written, stopped)
-  stops_told run s turns.Disk h = let (deeds, under, written, stopped) = h in (deeds, under, output.written _ written, stopped)
-  stops_told run s turns.Full h = let (deeds, under, written, stopped) = h in (deeds, under, output.written _ written, stopped)
-  stops_told run s turns.Memory h = let (deeds, under, written, stopped) = h in (deeds, under, output.written _ written, stopped)
+  stops_told : (run other : OnRun) → TellsRun run other → (s : Setting) (end : TurnEnd) → Stops run o.written o.cut_off s end → Stops other p.written p.cut_off s end
+  stops_told run other tells s turns.Sink h = let (deeds, under, cut, stopped) = h in (deeds, under, (cut.0, cut.1, output.cut_off _ cut.2), tells.stopped turns.Sink deeds under stopped)
+  stops_told run other tells s turns.Served h = let (deeds, under, written, stopped) = h in (deeds, under, output.written _ written, tells.stopped turns.Served deeds under stopped)
+  stops_told run other tells s turns.Quiet h = let (deeds, under, written, stopped) = h in (deeds, under, output.written _ written, tells.stopped turns.Quiet deeds under stopped)
+  stops_told run other tells s turns.Link h = let (deeds, under, written, stopped) = h in (deeds, under, output.written _ written, tells.stopped turns.Link deeds under stopped)
+  stops_told run other tells s turns.Disk h = let (deeds, under, written, stopped) = h in (deeds, under, output.written _ written, tells.stopped turns.Disk deeds under stopped)
+  stops_told run other tells s turns.Full h = let (deeds, under, written, stopped) = h in (deeds, under, output.written _ written, tells.stopped turns.Full deeds under stopped)
+  stops_told run other tells s turns.Memory h = let (deeds, under, written, stopped) = h in (deeds, under, output.written _ written, tells.stopped turns.Memory deeds under stopped)
 
-  run_told : (run : OnRun) (s : Setting) (end : NodeEnd) → NodeEnds run o.written o.cut_off s end → NodeEnds run p.written p.cut_off s end
-  run_told run s (nodes.Load error) h = (h.0, output.written _ h.1)
-  run_told run s (nodes.Turned turns.Served) h = let (deeds, written, did) = h in (deeds, output.written _ written, did)
-  run_told run s (nodes.Turned turns.Quiet) h = h
-  run_told run s (nodes.Turned turns.Link) (inl h) = inl (output.written _ h.0, h.1)
-  run_told run s (nodes.Turned turns.Link) (inr h) = inr (stops_told run s turns.Link h)
-  run_told run s (nodes.Turned turns.Disk) h = stops_told run s turns.Disk h
-  run_told run s (nodes.Turned turns.Full) h = stops_told run s turns.Full h
-  run_told run s (nodes.Turned turns.Sink) h = stops_told run s turns.Sink h
-  run_told run s (nodes.Turned turns.Memory) h = stops_told run s turns.Memory h
+  run_told : (run other : OnRun) → TellsRun run other → (s : Setting) (end : NodeEnd) → NodeEnds run o.written o.cut_off s end → NodeEnds other p.written p.cut_off s end
+  run_told run other tells s (nodes.Load error) h = (tells.refused error h.0, output.written _ h.1)
+  run_told run other tells s (nodes.Turned turns.Served) h = let (deeds, written, did) = h in (deeds, output.written _ written, tells.did deeds did)
+  run_told run other tells s (nodes.Turned turns.Quiet) h = h
+  run_told run other tells s (nodes.Turned turns.Link) (inl h) = inl (output.written _ h.0, tells.deaf h.1)
+  run_told run other tells s (nodes.Turned turns.Link) (inr h) = inr (stops_told run other tells s turns.Link h)
+  run_told run other tells s (nodes.Turned turns.Disk) h = stops_told run other tells s turns.Disk h
+  run_told run other tells s (nodes.Turned turns.Full) h = stops_told run other tells s turns.Full h
+  run_told run other tells s (nodes.Turned turns.Sink) h = stops_told run other tells s turns.Sink h
+  run_told run other tells s (nodes.Turned turns.Memory) h = stops_told run other tells s turns.Memory h
 
-  node_told : (node : OnNode) (v : Service) (end : ServiceEnd) → HappenedAtNode i node o v end → HappenedAtNode j node p v end
-  node_told node v (services.Config end) h = (config_told (Err end) h.0, output.written _ h.1)
-  node_told node v services.Stranger h = let (settings, read, rest) = h in (settings, config_told (Ok settings) read, (rest.0, output.written _ rest.1))
-  node_told node v (services.Ran end) h = let (settings, read, rest) = h in (settings, config_told (Ok settings) read, (rest.0, run_told (node.run settings (task_of v)) (setting_of settings (task_of v)) end rest.1))
+  node_told : (node other : OnNode) → TellsNode node other → (v : Service) (end : ServiceEnd) → HappenedAtNode i node o v end → HappenedAtNode j other p v end
+  node_told node other tells v (services.Config end) h = (config_told (Err end) h.0, output.written _ h.1)
+  node_told node other tells v services.Stranger h = let (settings, read, rest) = h in (settings, config_told (Ok settings) read, (rest.0, output.written _ rest.1))
+  node_told node other tells v (services.Ran end) h =
+      let (settings, read, rest) = h in
+      (settings, config_told (Ok settings) read, (rest.0, run_told (node.run settings (task_of v)) (other.run settings (task_of v)) (tells.run settings (task_of v)) (setting_of settings (task_of v)) end rest.1))
 
-  module _ (asked : Option Invocation) (files : OnFiles) (link : OnLink) (node : OnNode) (t u : Input) (token : TellsInput t u) where
+  module _ (asked : Option Invocation) (files : OnFiles) (link : OnLink) (node other : OnNode) (t u : Input) (tells : TellsNode node other) (token : TellsInput t u) where
     abbrev before : Outside
     before = record { asked = asked; input = i; output = o; error = d; stage = stage; files = files; link = link; token = t; node = node }
 
     abbrev after : Outside
-    after = record { asked = asked; input = j; output = p; error = e; stage = stage; files = files; link = link; token = u; node = node }
+    after = record { asked = asked; input = j; output = p; error = e; stage = stage; files = files; link = link; token = u; node = other }
 
     unplayed_told : IsUnplayed before → IsUnplayed after
     unplayed_told n = record { input = input.unread n.input; stage = n.stage }
 
     alone_told : IsAlone before → IsAlone after
-    alone_told a = record { error = error.silent a.error; files = a.files; link = a.link; token = token.unread a.token; node = a.node }
+    alone_told a = record { error = error.silent a.error; files = a.files; link = a.link; token = token.unread a.token; node = tells.untouched a.node }
 
     offline_told : IsOffline before → IsOffline after
-    offline_told a = record { error = error.silent a.error; link = a.link; token = token.unread a.token; node = a.node }
+    offline_told a = record { error = error.silent a.error; link = a.link; token = token.unread a.token; node = tells.untouched a.node }
 
     fileless_told : IsFileless before → IsFileless after
-    fileless_told a = record { files = a.files; node = a.node }
+    fileless_told a = record { files = a.files; node = tells.untouched a.node }
 
     -- of a token
     token_told : (read : Result (List ℕ) TokenEnd) → ReadsToken t read → ReadsToken u read
@@ -303,4 +335,4 @@ module _ (i j : Input) (o p : Output) (d e : OnError) (stage : OnStage) (input :
     happened_told (NoToken end) h = let ((file, a, read), written, x, l, n, q) = h in ((file, a, token_told (Err end) read), output.written _ written, unplayed_told x, l, fileless_told n, error.silent q)
     happened_told (Got end) h = let ((download, a, bearer, took, at), x, n) = h in ((download, a, bearer, took_told download.token_file bearer took, get_told link download bearer end at), unplayed_told x, fileless_told n)
     happened_told (Published end) h = let ((upload, a, bearer, took, at), written, unplayed, n) = h in ((upload, a, bearer, took_told upload.token_file bearer took, put_told link upload bearer end at), output.written _ written, unplayed, fileless_told n)
-    happened_told (Served end) h = let ((service, paths, a, at), unplayed, f, l, k, c, q) = h in ((service, paths, a, node_told node service end at), unplayed, f, l, token.unread k, c, error.silent q)
+    happened_told (Served end) h = let ((service, paths, a, at), unplayed, f, l, k, c, q) = h in ((service, paths, a, node_told node other tells service end at), unplayed, f, l, token.unread k, unless_told node.untouched other.untouched tells.untouched end c, error.silent q)

@@ -108,7 +108,7 @@ pub record OnLink : Type 1 where
 
 -- of a node that runs on the files and on a link of its own
 pub record OnNode : Type 1 where
-  -- what can be said of its run, of this configuration and with this task
+  -- what can be said of its run, of this configuration and with this task, and of the output at each moment of it
   pub run : Settings → Task → OnRun
   -- its link is as it was
   pub untouched : Type 0
@@ -176,9 +176,9 @@ module _ {L : Type 0} (story : L → Option Story) (faults : L → ℕ) where
     untouched = new ≡ old;
   }
 
-module _ {D N : Type 0} (view : D → DiskView) (story : N → Option (List Call)) (counts : N → LinkCounts) where
-  abbrev pub at_node : Disks D → Disks D → N → N → OnNode
-  at_node old new link after = record {
-    run = λ s task. at_run view story counts s task old new link after;
+module _ {D N K : Type 0} (view : D → DiskView) (story : N → Option (List Call)) (counts : N → LinkCounts) (takes fails : K → List ℕ → K → Type 0) where
+  abbrev pub at_node : Disks D → Disks D → N → N → K → K → OnNode
+  at_node old new link after sink written = record {
+    run = λ s task. at_run view story counts takes fails s task old new link after sink written;
     untouched = after ≡ link;
   }

@@ -24,7 +24,7 @@ and touches no network.
 
 A schedule is text, with one event on a line. Its first line is
 `overcast 1 nodes N chain C`: N nodes, of which nodes 1 to C can act as root. With
-`chunk B` behind it, a message has at most B bytes of a group; else 4096.
+`chunk B` after it, a message has at most B bytes of a group; else 4096.
 Empty lines, and lines that begin with `#`, are skipped.
 
 Example: node 2 pulls from node 1 what was published there. The report says that
@@ -72,15 +72,15 @@ overcast merge: makes one schedule of the records of running nodes
 Usage: overcast merge < RECORDS > SCHEDULE
 
 A node that runs with `--log record` writes a record of what it takes. Give the
-records of all nodes of a network on standard input, one behind the other; those of
+records of all nodes of a network on standard input, one after another; those of
 one node in the order of its runs. The schedule that is written plays the same
-inputs at the same nodes in a replay, each message behind the event that sent it.
+inputs at the same nodes in a replay, each message after the event that sent it.
 
 A line that ends with `#`, and a last line that has no end, were cut off where a
 node was killed: they are skipped. Where a record tells what the files of a node
 held when it started, that is compared with what they hold at this point of the
-schedule. A line that can't be taken stops its node there, and what is behind it is
-left out; the schedule has all that can be taken.
+schedule. A line that can't be taken stops its node there, and what comes after it
+is left out; the schedule has all that can be taken.
 
 It reads at most 10000000 lines and 4294967296 bytes, of which the publish lines
 may bring as many. `replay --summary --large` plays what it writes.
@@ -219,9 +219,9 @@ Usage: overcast check ID [--config FILE] [--dir FOLDER]
        overcast check ID NODES CHAIN [--dir FOLDER]
 
 Loads `control.log`, `control.alt` and `content.log` as those of the node with
-this id, and writes how the node stands in the tree, its ancestors, its table of
-the nodes beneath it, and the listing of that table; then each group that it
-holds, with its bytes. The node must not be running. A file that is missing is
+this id, and writes the state of the node in the tree, its ancestors, its table of
+the nodes below it, and the listing of that table; then each group that it holds,
+with its bytes. The node must not be running. A file that is missing is
 made, with nothing in it.
 
   ID        the node, one of the configuration, or 1 to NODES
@@ -299,12 +299,12 @@ Usage: overcast put URL [--append | --resume] [--seal] [--token-file FILE]
                     [--progress] < CONTENT
 
 Sends what comes on standard input to the source, node 1, at
-`http://HOST:PORT/GROUP`, in pieces, each behind the one before. Where a piece has
+`http://HOST:PORT/GROUP`, in pieces, each after the one before. Where a piece has
 no answer it asks how long the group is, so that no piece is there twice; it tries
 again up to four times, a second apart. The group must have no bytes yet, and is
 made where the input is empty.
 
-  --append      publishes behind what the group has
+  --append      publishes after what the group has
   --resume      goes on where an earlier `put` of the same input ended: what the
                 group has is read of the input and not sent, and not compared
   --seal        then closes the group, so that nothing more goes into it
@@ -342,7 +342,7 @@ Usage: overcast rules [--config FILE]
 Reads a configuration, and writes a line for each of its access rules: its number,
 whether it allows or denies, the method, the prefix of the groups and the area of
 which it speaks, `any` for each that it leaves out. The first rule that matches a
-request decides. Behind a rule that can decide nothing stands the number of a rule
+request decides. After a rule that can decide nothing comes the number of a rule
 before it that matches all that it matches.
 
   --config  the file of the configuration; standard input where none is named

@@ -44,7 +44,7 @@ pub fn run_service<S: Source, D: Disk, L: Link, K: Sink>(
 ) -> Served<D, L, K>
     ensures happened { HappenedAtNode
         (at_source S.gives S.fails S.ended S.faults input.old input.new)
-        (at_node D.view L.story L.counts (disks_in site.files) (disks_in result.site.files) site.link result.site.link)
+        (at_node D.view L.story L.counts K.takes K.fails (disks_in site.files) (disks_in result.site.files) site.link result.site.link site.sink result.site.sink)
         (at_sink K.takes K.fails K.faults site.sink result.site.sink) service result.end }
     ensures files { UnlessRan result.end (disks_in result.site.files ≡ disks_in site.files) }
     ensures link { UnlessRan result.end (result.site.link ≡ site.link) }
@@ -69,7 +69,7 @@ fn serve_config<D: Disk, L: Link, K: Sink>(
 ) -> Served<D, L, K>
     requires { IsConfig config }
     ensures happened { RunsService
-        (at_node D.view L.story L.counts (disks_in site.files) (disks_in result.site.files) site.link result.site.link)
+        (at_node D.view L.story L.counts K.takes K.fails (disks_in site.files) (disks_in result.site.files) site.link result.site.link site.sink result.site.sink)
         (at_sink K.takes K.fails K.faults site.sink result.site.sink) config service result.end }
     ensures files { UnlessRan result.end (disks_in result.site.files ≡ disks_in site.files) }
     ensures link { UnlessRan result.end (result.site.link ≡ site.link) }

@@ -17,7 +17,7 @@ use crate::replaying::scale_of;
 use crate::texts::usage;
 use oc_io::{Failed, Sink, write_all};
 
-/// Has the sink take these parts, one after the other.
+/// Has the sink take these parts, one after another.
 pub(crate) fn write_parts<K: Sink>(sink: &mut K, parts: &[&[u8]]) -> Result<(), Failed>
     ensures told { IsWrittenOrCut K.takes K.fails K.faults sink.old sink.new (joined parts.now) }
     ensures takes { OnOk result (K.takes sink.old (joined parts.now) sink.new) }

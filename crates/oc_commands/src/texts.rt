@@ -41,7 +41,7 @@ fn program_help() -> &'static str
 overcast: multicast from one source over nodes that keep what they get
 
 Node 1 is the source, and publishes bytes in groups. The other nodes form a tree
-beneath it, and each passes on what it gets. Clients read groups over HTTP.
+below it, and each passes on what it gets. Clients read groups over HTTP.
 
 Usage: overcast node ID [--turns N] [--probe] [--log inputs|record|brief]
                      [--config FILE] [--dir FOLDER]

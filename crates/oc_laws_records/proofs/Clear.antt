@@ -3,7 +3,7 @@ use Rattle.std.proofs.Common.{◌≡◌, ℕ, zero, suc, ◌+◌, ◌-◌, ◌^�
 use Rattle.std.specs.Prelude.{nat_lt, slice_index}
 use Rattle.std.specs.Char.{is_ascii_digit}
 use Rattle.std.specs.List.{AllByRecursion, list_all, position, position_or_len}
-use Rattle.std.proofs.lemmas.Bool.{and_parts, cases_Bool, cases_lt, lt-ltb}
+use Rattle.std.proofs.lemmas.Bool.{and_parts, cases_Bool, cases_lt, lt-ltb, ltb-false, or_parts}
 use Rattle.std.proofs.lemmas.Bool.Decides.{nat_tests}
 use Rattle.std.proofs.lemmas.Fmt.{digits_decimal}
 use Rattle.std.proofs.lemmas.List.Sums.{list_all-from_AllPass}
@@ -116,6 +116,27 @@ named bytes name = first_of (position (λ b. not (is_name_byte b)) bytes) (is_pa
       | inr good ↦ rw good at name
     ]
 
+name_passes : (bytes : List ℕ) → IsGroupName bytes → list_all is_name_byte bytes ≡ true
+name_passes bytes name = all_pass is_name_byte bytes (none_first (λ b. not (is_name_byte b)) bytes (named bytes name))
+
 pub name_clear : (bytes : List ℕ) → IsGroupName bytes → IsClear bytes
-name_clear bytes name =
-    clear_from is_name_byte name_byte_clear bytes (all_pass is_name_byte bytes (none_first (λ b. not (is_name_byte b)) bytes (named bytes name)))
+name_clear bytes name = clear_from is_name_byte name_byte_clear bytes (name_passes bytes name)
+
+-- a name is short, and each of its bytes is one
+pub name_short : (bytes : List ℕ) → IsGroupName bytes → length bytes ≤ MAX_NAME_BYTES
+name_short bytes name = elim (cases_Bool (nat_lt (length bytes) MIN_NAME_BYTES || nat_lt MAX_NAME_BYTES (length bytes))) [
+  | inl bad ↦ let e = rw bad at name in absurd (cc e)
+  | inr good ↦ ltb-false _ _ (or_parts _ _ good).1
+]
+
+small_from : (bs : List ℕ) → list_all is_name_byte bs ≡ true → AllByRecursion (λ b. b < 256) bs
+small_from [] all = tt
+small_from (b ∷ bs) all =
+    let parts = and_parts (is_name_byte b) (list_all is_name_byte bs) all in
+    (name_byte_small b parts.0, small_from bs parts.1)
+  where
+    name_byte_small : (b : ℕ) → is_name_byte b ≡ true → b < 256
+    name_byte_small b h = grind (arith, nat_tests)
+
+pub name_small : (bytes : List ℕ) → IsGroupName bytes → AllByRecursion (λ b. b < 256) bytes
+name_small bytes name = small_from bytes (name_passes bytes name)

@@ -9,3 +9,17 @@ mod Replaying
 mod Written
 mod Stopping
 mod Stories
+mod OneLine
+mod SpellingBytes
+mod Plain
+mod Taken
+mod FewSends
+mod Totals
+mod Numbers
+mod WordsRead
+mod Prices
+mod TakenLines
+mod ScheduleCosts
+mod LinesRead
+mod ReadingCosts
+mod Bounded

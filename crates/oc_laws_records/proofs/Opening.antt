@@ -1,13 +1,12 @@
 -- How a record begins: its header and its areas.
-use Rattle.std.proofs.Common.{◌≡◌, ℕ, zero, suc, ◌+◌, ◌-◌, ◌^◌, ◌<◌, ◌≤◌, Bool, true, false, cond, ◌&&◌, ◌==◌, min, Option, Some, None, Ok, Err, List, [], ◌∷◌, ◌++◌, length, refl, ap, sym, subst, ◌∙◌, arith, codes, decimal, append_assoc, replicate, length-append}
+use Rattle.std.proofs.Common.{◌≡◌, ℕ, zero, suc, ◌+◌, ◌-◌, ◌^◌, ◌<◌, ◌≤◌, Bool, true, false, cond, ◌&&◌, ◌==◌, Option, Some, None, Ok, Err, List, [], ◌∷◌, ◌++◌, length, refl, ap, subst, ◌∙◌, arith, codes, decimal, append_assoc, replicate, length-append}
 use Rattle.std.specs.List.{AllByRecursion}
-use Rattle.std.proofs.lemmas.Bool.{cond_both, eq-eqb, eqb-true}
+use Rattle.std.proofs.lemmas.Bool.{cond_both, eq-eqb}
 use Rattle.std.proofs.lemmas.Bool.Decides.{nat_tests}
 use Rattle.std.proofs.lemmas.List.{set_at}
 use Rattle.oc_base.specs.Lawful.{IsNode}
 use Rattle.oc_base.specs.Steps.{◌>>=◌, with_fault}
-use Rattle.oc_base.specs.Words.{node_in, number_in}
-use Rattle.oc_base.specs.declared.limits.TheConstants.{MAX_AREA, MAX_CHAIN, MAX_CHUNK_BYTES, MAX_NODES, USUAL_CHUNK_BYTES}
+use Rattle.oc_base.specs.declared.limits.TheConstants.{MAX_AREA, MAX_NODES, USUAL_CHUNK_BYTES}
 use Rattle.oc_base.specs.declared.why.Why.TheVariants as causes
 use Rattle.oc_merge.specs.declared.fault.TheConstants.{MAX_RECORD_PUBLISHED}
 use Rattle.oc_merge.specs.declared.place.Place.{Place}
@@ -17,11 +16,11 @@ use Rattle.oc_merge.specs.Reading.{Reading, after_words, agreed, because}
 use Rattle.oc_merge.specs.Told.{published_in}
 use Rattle.oc_model.specs.Lawful.{IsHeader}
 use Rattle.oc_model.specs.Node.{Header}
-use Rattle.oc_schedule.proofs.ActsBack.{node_back, then}
-use Rattle.oc_schedule.proofs.FieldsBack.{decimal_word, number_back}
+use Rattle.oc_schedule.proofs.ActsBack.{then}
+use Rattle.oc_schedule.proofs.FieldsBack.{decimal_word}
 use Rattle.oc_schedule.proofs.LineBack.{AreWords}
-use Rattle.oc_schedule.specs.Acts.{most_byte}
-use Rattle.oc_schedule.specs.Lines.{area_in, area_words, chunk_in, chunk_words, header_in, header_words, opening_in, sizes_in, with_sizes}
+use Rattle.oc_schedule.proofs.Readback.{area_back, chunk_back, sizes_back}
+use Rattle.oc_schedule.specs.Lines.{area_in, area_words, chunk_in, chunk_words, header_in, header_words, opening_in, with_sizes}
 use Rattle.oc_schedule.specs.Printing.{areas_text}
 use Rattle.oc_schedule.specs.Texts.{line_text}
 use Rattle.oc_laws_records.proofs.Clear.{AreClear, IsClear, decimal_clear, letters_clear}
@@ -41,7 +40,7 @@ abbrev pub header_before : Bool → Header → Option Header
 header_before false h = None
 header_before true h = Some h
 
--- and behind it
+-- and after it
 abbrev pub header_behind : Bool → Header → Header
 header_behind false h = opened h
 header_behind true h = h
@@ -49,17 +48,6 @@ header_behind true h = h
 pub nodes_behind : (b : Bool) (h : Header) → (header_behind b h).nodes ≡ h.nodes
 nodes_behind true h = refl
 nodes_behind false h = refl
-
-sizes_back : (n c b : ℕ) → 1 ≤ n → n ≤ MAX_NODES → 1 ≤ c → c ≤ MAX_CHAIN → c ≤ n → sizes_in (decimal n) (decimal c) b ≡ Ok (record { nodes = n; chain = c; chunk = b })
-sizes_back n c b some few one short within =
-    then (number_in 1 MAX_NODES (decimal n)) _ n _ (number_back 1 MAX_NODES n (omega (arith, few)) some few)
-    (then (number_in 1 (min MAX_CHAIN n) (decimal c)) _ c _ (number_back 1 (min MAX_CHAIN n) c (omega (arith, short)) one (omega (arith, short, within))) refl)
-
-chunk_back : (b : ℕ) → 1 ≤ b → b ≤ MAX_CHUNK_BYTES → chunk_in (chunk_words b) ≡ Ok b
-chunk_back b some fits = by_test (b == USUAL_CHUNK_BYTES) refl where
-  by_test : (t : Bool) → (b == USUAL_CHUNK_BYTES) ≡ t → chunk_in (cond t [] (codes "chunk" ∷ decimal b ∷ [])) ≡ Ok b
-  by_test true e = ap Ok (sym (eqb-true b USUAL_CHUNK_BYTES e))
-  by_test false e = number_back 1 MAX_CHUNK_BYTES b (omega (arith, fits)) some fits
 
 header_back : (h : Header) → IsHeader h → header_in (header_words h.nodes h.chain h.chunk) ≡ Ok (opened h)
 header_back h is =
@@ -132,11 +120,6 @@ module _ (h : Header) (is : IsHeader h) (b : Bool) (areas : List ℕ) (told : Li
       words_lead ended i (reading (header_before b h) b areas place told) after (codes "overcast") fields rest fits follows header_are_words header_are_clear refl (header_says place i between) within
 
 -- Areas
-
-area_back : (nodes x a : ℕ) → nodes ≤ MAX_NODES → IsNode nodes x → a ≤ MAX_AREA → area_in nodes (decimal x ∷ decimal a ∷ []) ≡ Ok (x, a)
-area_back nodes x a few node small =
-    then (node_in nodes (decimal x)) _ x _ (node_back nodes x few node)
-    (then (number_in 0 most_byte (decimal a)) _ a _ (number_back 0 most_byte a (omega (arith, small)) (omega arith) small) refl)
 
 module _ (ended : Bool) (h : Header) (few : h.nodes ≤ MAX_NODES) (b : Bool) (told : List ToldLine) (within : published_in told ≤ MAX_RECORD_PUBLISHED) (rest : List ℕ) (follows : Follows ended rest) where
   abbrev at : List ℕ → Reading

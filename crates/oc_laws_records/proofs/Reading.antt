@@ -101,7 +101,7 @@ regrouped a b c d e f r =
     ∙ (append_assoc ((a ++ b) ++ c) d (e ++ (f ++ r))
     ∙ (append_assoc (a ++ b) c (d ++ (e ++ (f ++ r))) ∙ append_assoc a b (c ++ (d ++ (e ++ (f ++ r))))))))
 
--- what comes in the text of a run behind its first byte, up to what a kill left
+-- what comes in the text of a run after its first byte, up to what a kill left
 abbrev behind_mark : Header → Run → List ℕ → List ℕ
 behind_mark h run rest =
     10 ∷ (line_text (header_words h.nodes h.chain h.chunk)
@@ -146,7 +146,7 @@ ends_follow ended [] (run ∷ runs) ends = subst (Follows ended) (sym (run_parts
 
 -- Runs
 
--- what is read of the rest of a text is the network, and what these runs tell behind what was told before
+-- what is read of the rest of a text is the network, and what these runs tell after what was told before
 record IsTold (h : Header) (runs : List Run) (told : List ToldLine) (read : Result Records RecordsFault) : Type 0 where
   more : List ToldLine
   is : read ≡ Ok (record { header = h; lines = told ++ more })
@@ -310,7 +310,7 @@ no_mark e = let z : 0 ≡ 35 = e in absurd (omega (arith, z))
 none_published : (n : ℕ) → n ≤ MAX_RECORD_PUBLISHED → published_in [] + n ≤ MAX_RECORD_PUBLISHED
 none_published n h = let none : published_in [] ≡ 0 = refl in omega (arith, none, h)
 
--- the text behind the beginning of a run and its lines
+-- the text after the beginning of a run and its lines
 run_after : (front cut : List ℕ) (run : Run) (runs : List Run) → ((front ++ cut) ++ (record_head run.node.control (shelf run.node.groups) ++ record_text (number_of run) run.lines)) ++ (run.cut ++ runs_text runs) ≡ front ++ (cut ++ runs_text (run ∷ runs))
 run_after front cut run runs =
     let head = record_head run.node.control (shelf run.node.groups) in
@@ -350,7 +350,7 @@ lines_end nodes me front (Noted text ∷ ls) ends all =
     let note : EndsLine text = subst EndsLine (sym all.0.1) (codes "! " ++ all.0.0, refl) in
     subst EndsLine (append_assoc front text (record_text me ls)) (lines_end nodes me (front ++ text) ls (ends_after front text note) all.1)
 
--- the beginning of a record, and behind it its lines
+-- the beginning of a record, and after it its lines
 run_ends : (h : Header) (run : Run) → IsRun h run → EndsLine (record_head run.node.control (shelf run.node.groups) ++ record_text (number_of run) run.lines)
 run_ends h run is =
     let digits = digest_text run.node.control.kept (shelf run.node.groups) in

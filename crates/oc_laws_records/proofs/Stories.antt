@@ -22,7 +22,7 @@ use Rattle.oc_laws_records.specs.Runs.{Run, told_by, told_input}
 use Rattle.oc_laws_records.specs.Stories.{IsStoryOf, IsToldOf, told_of}
 use Rattle.oc_laws_records.proofs.There.{AreReadBack, runs_entries}
 
--- behind an input no start comes next
+-- after an input no start comes next
 found_none : (i : Input) (ts : List Told) → found_behind (told_input i ∷ ts) ≡ None
 found_none (inputs.Tick t) ts = refl
 found_none inputs.CheckNow ts = refl

@@ -10,12 +10,12 @@ use Rattle.oc_server.specs.Records.{record_head}
 use Rattle.oc_server.specs.declared.log.Log.TheVariants.{Record}
 use Rattle.oc_laws_records.specs.Written.{IsRunOf}
 
-inputs_append : (ls more : List RecordLine) → inputs_in (ls ++ more) ≡ inputs_in ls ++ inputs_in more
+pub inputs_append : (ls more : List RecordLine) → inputs_in (ls ++ more) ≡ inputs_in ls ++ inputs_in more
 inputs_append [] more = refl
 inputs_append (Taken i ∷ ls) more = ap (λ (is : List Input). i ∷ is) (inputs_append ls more)
 inputs_append (Noted text ∷ ls) more = inputs_append ls more
 
-next_inputs : (next : Option Input) → inputs_in (line_of_next next) ≡ with_input next []
+pub next_inputs : (next : Option Input) → inputs_in (line_of_next next) ≡ with_input next []
 next_inputs None = refl
 next_inputs (Some i) = refl
 

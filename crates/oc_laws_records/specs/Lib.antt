@@ -1,7 +1,9 @@
 pub mod Runs
 pub mod Lawful
+pub mod Kinds
 pub mod Read
 pub mod Replayed
 pub mod Written
 pub mod Examples
 pub mod Stories
+pub mod Bounds

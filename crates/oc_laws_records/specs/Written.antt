@@ -1,12 +1,12 @@
 -- What a running node writes as its record is the text of a run.
-use Rattle.std.specs.Prelude.{◌≡◌, ℕ, Option, List, [], ◌++◌}
+use Rattle.std.specs.Prelude.{◌≡◌, ℕ, IfSome, Option, List, [], ◌++◌}
 use Rattle.oc_base.specs.Groups.{shelf}
 use Rattle.oc_model.specs.declared.input.Input.{Input}
 use Rattle.oc_model.specs.Node.{Header, Node}
 use Rattle.oc_server.specs.Deeds.{Deed, Setting, inputs_of, lines, with_input}
-use Rattle.oc_server.specs.Recorded.{IsNext, RecordLine, inputs_in}
+use Rattle.oc_server.specs.Recorded.{IsNext, RecordLine, inputs_in, line_of_next}
 use Rattle.oc_server.specs.Records.{record_head}
-use Rattle.oc_laws_records.specs.Lawful.{IsRun}
+use Rattle.oc_laws_records.specs.Lawful.{IsRun, IsTaken}
 use Rattle.oc_laws_records.specs.Runs.{Run, run_text}
 
 -- A run of this node, whose text is what these deeds wrote: its inputs are those that they took, and perhaps one more, with which the deeds
@@ -18,6 +18,28 @@ pub record IsRunOf (s : Setting) (n : Node) (deeds behind : List Deed) : Type 0 
   pub text : lines s deeds ≡ run_text run
   pub inputs : inputs_in run.lines ≡ inputs_of deeds ++ with_input next []
   pub follows : IsNext next behind
+
+-- The whole text of these deeds is that of a lawful run of this network and this node, which tells the inputs that they took.
+pub record IsLawfulRunOf (h : Header) (s : Setting) (n : Node) (deeds : List Deed) : Type 0 where
+  pub is : IsRunOf s n deeds []
+  pub lawful : IsRun h is.run
+  pub all : inputs_in is.run.lines ≡ inputs_of deeds
+
+-- with the line of the input that is taken next, where it was written
+abbrev pub with_next : Run → Option Input → Run
+with_next run next = record run { lines = run.lines ++ line_of_next next }
+
+-- The same of deeds that were cut: of a lawful run, which tells the inputs that they took, and perhaps of the line of one more input, which the
+-- first deed behind takes. With that line too it is lawful where that input is.
+pub record IsCutRunOf (h : Header) (s : Setting) (n : Node) (deeds behind : List Deed) : Type 0 where
+  pub run : Run
+  pub next : Option Input
+  pub node : run.node ≡ n
+  pub lawful : IsRun h run
+  pub inputs : inputs_in run.lines ≡ inputs_of deeds
+  pub text : lines s deeds ≡ run_text (with_next run next)
+  pub follows : IsNext next behind
+  pub whole : IfSome next (IsTaken h.nodes s.me) → IsRun h (with_next run next)
 
 -- how the record of a run begins
 abbrev pub head_of : Run → List ℕ

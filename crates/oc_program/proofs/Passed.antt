@@ -1,8 +1,12 @@
 -- What passed through the adapters, over bytes in memory and over streams of which the counts are known.
-use Rattle.std.proofs.Common.{◌≡◌, ◌∙◌, ℕ, ◌+◌, ◌-◌, ◌^◌, ◌<◌, ◌≤◌, min, cond, refl, take, List, [], ◌++◌, length, Option, Some, None, Result, Err, ap, sym, subst, inl, inr, arith, append-nil, length-append}
+use Rattle.std.proofs.Common.{◌≡◌, ◌∙◌, ℕ, ◌+◌, ◌-◌, ◌^◌, ◌<◌, ◌≤◌, min, cond, refl, take, List, [], ◌++◌, length, Option, Some, None, Result, Err, ap, ap₂, sym, subst, inl, inr, arith, append-nil, length-append}
 use Rattle.std.proofs.lemmas.Bool.{lt-ltb}
 use Rattle.std.specs.Str.Lines.{lines}
 use Rattle.oc_io.specs.Counts.{Rises}
+use Rattle.oc_io.specs.DiskView.{DiskView}
+use Rattle.oc_keep.specs.Files.{Disks}
+use Rattle.oc_link.specs.declared.call.Call.{Call}
+use Rattle.oc_link.specs.declared.counts.LinkCounts.{LinkCounts}
 use Rattle.oc_io.specs.Readers as readers
 use Rattle.oc_io.specs.Writers as writers
 use Rattle.oc_io.specs.declared.reader_source.ReaderSource.{ReaderSource}
@@ -18,11 +22,11 @@ use Rattle.oc_schedule.specs.declared.fault.ScheduleFault.{ScheduleFault}
 use Rattle.oc_schedule.specs.declared.fault.ScheduleFault.TheVariants.{Limit}
 use Rattle.oc_schedule.specs.declared.fault.What.{What}
 use Rattle.oc_schedule.specs.declared.fault.What.TheVariants as limits
-use Rattle.oc_commands.specs.Outside.{at_sink, at_source}
+use Rattle.oc_commands.specs.Outside.{at_node, at_sink, at_source}
 use Rattle.oc_commands.specs.Run.{IsWrittenOrCut}
 use Rattle.oc_commands.specs.Telling.{at_error, progress_text}
-use Rattle.oc_program.specs.Streams.{HasFailed, IsCountBehind, IsCountOf, IsCountOfLineOrFront, IsFrontRead, IsLineOrFront, IsSoundCountOf, at_bytes, at_input, at_lines, at_output, at_text, at_told, no_traffic}
-use Rattle.oc_commands.proofs.Told.{TellsError, TellsInput, TellsOutput}
+use Rattle.oc_program.specs.Streams.{Grew, HasFailed, IsCountBehind, IsCountOf, IsCountOfLineOrFront, IsFrontRead, IsLineOrFront, IsSoundCountOf, WentOn, WentOnAndFailed, at_bytes, at_input, at_lines, at_output, at_text, at_told, no_traffic}
+use Rattle.oc_commands.proofs.Told.{TellsError, TellsInput, TellsNode, TellsOutput, node_seen}
 
 -- a counter that began at 0 and is a u64 is the number of the bytes, where a u64 has it
 count_is : (a n b : ℕ) → a ≡ 0 → b ≤ 2 ^ 64 - 1 → Rises a n b → b ≡ min n (2 ^ 64 - 1)
@@ -33,6 +37,15 @@ count_is a n b began fits (inr h) = omega (arith, began, fits, h.0, h.1)
 count_goes_on : (a n b : ℕ) → b ≤ 2 ^ 64 - 1 → Rises a n b → b ≡ min (min a (2 ^ 64 - 1) + n) (2 ^ 64 - 1)
 count_goes_on a n b fits (inl e) = omega (arith, fits, e)
 count_goes_on a n b fits (inr h) = omega (arith, fits, h.0, h.1)
+
+-- and where no count is a u64, told as far as one goes
+counted_on : (a n b : ℕ) → Rises a n b → min b (2 ^ 64 - 1) ≡ min (min a (2 ^ 64 - 1) + n) (2 ^ 64 - 1)
+counted_on a n b (inl e) = omega (arith, e)
+counted_on a n b (inr h) = omega (arith, h.0, h.1)
+
+-- one more is more than none
+one_counted : (a b : ℕ) → b ≡ min (a + 1) (2 ^ 64 - 1) → 0 < b
+one_counted a b is = omega (arith, is)
 
 count_begins : (a n b : ℕ) → a ≡ 0 → Rises a n b → min b (2 ^ 64 - 1) ≡ min (0 + n) (2 ^ 64 - 1)
 count_begins a n b began (inl e) = omega (arith, began, e)
@@ -132,6 +145,13 @@ module _ {W : Type 0} (old new : WriterSink W) (held : W → List ℕ) (began : 
     cut_off = λ text h. is_held text h.0.passed;
   }
 
+  -- what is told of a node with this output
+  pub node_in_text : {D N : Type 0} (view : D → DiskView) (story : N → Option (List Call)) (counts : N → LinkCounts) (d e : Disks D) (link after : N)
+      → TellsNode (at_node view story counts (writers.Went held_by) (writers.WentAndFailed held_by) d e link after old new) (at_node view story counts Grew Grew d e link after [] output)
+  node_in_text view story counts d e link after =
+      node_seen view story counts (writers.Went held_by) (writers.WentAndFailed held_by) Grew Grew (λ s. held s.writer) (λ a b text h. h.passed.known) (λ a b text h. h.passed.known)
+      d e link after old new [] output began (sym output_is)
+
 module _ {W : Type 0} (old mid new : WriterSink W) (held : W → List ℕ) (began : held old.writer ≡ []) (output : List ℕ) (output_is : output ≡ held new.writer) where
   abbrev told_by : W → Option (List ℕ)
   told_by w = Some (held w)
@@ -147,7 +167,7 @@ module _ {W : Type 0} (old mid new : WriterSink W) (held : W → List ℕ) (bega
     silent = λ same. ap (λ s. held s.writer) same ∙ began;
   }
 
-  -- and the line behind it
+  -- and the line after it
   pub line_told : (line : List ℕ) → IsWrittenOrCut (writers.Went told_by) (writers.WentAndFailed told_by) (λ s. s.faults) mid new line → IsLineOrFront output (held mid.writer) line
   line_told line (inl h) = inl (output_is ∙ h.passed.known)
   line_told line (inr h) = inr (h.0.0, output_is ∙ h.0.1.passed.known)
@@ -189,6 +209,28 @@ module _ {W : Type 0} (old new : WriterSink W) (contents : W → Option (List �
     cut_off = λ text h. (was_written text h.0.passed, has_failed h.1);
   }
 
+  abbrev traffic_of : WriterSink W → Traffic
+  traffic_of s = record { bytes = min s.passed (2 ^ 64 - 1); faults = s.faults }
+
+  first_traffic : traffic_of old ≡ no_traffic
+  first_traffic =
+      let none : min old.passed (2 ^ 64 - 1) ≡ 0 = omega (arith, began) in
+      ap₂ (λ (b f : ℕ). record { bytes = b; faults = f }) none sound
+
+  last_traffic : traffic_of new ≡ traffic
+  last_traffic =
+      let all : min new.passed (2 ^ 64 - 1) ≡ traffic.bytes = omega (arith, bytes_are, fits) in
+      ap₂ (λ (b f : ℕ). record { bytes = b; faults = f }) all (sym faults_are)
+
+  -- what is told of a node with this output
+  pub node_in_counts : {D N : Type 0} (view : D → DiskView) (story : N → Option (List Call)) (counts : N → LinkCounts) (d e : Disks D) (link after : N)
+      → TellsNode (at_node view story counts (writers.Went contents) (writers.WentAndFailed contents) d e link after old new) (at_node view story counts WentOn WentOnAndFailed d e link after no_traffic traffic)
+  node_in_counts view story counts d e link after =
+      node_seen view story counts (writers.Went contents) (writers.WentAndFailed contents) WentOn WentOnAndFailed traffic_of
+      (λ a b text h. (counted_on a.passed (length text) b.passed h.passed.counts, h.faults))
+      (λ a b text h. (counted_on a.passed (length text) b.passed h.passed.counts, one_counted a.faults b.faults h.faults))
+      d e link after old new no_traffic traffic first_traffic last_traffic
+
 module _ {W : Type 0} (old mid new : WriterSink W) (contents : W → Option (List ℕ)) (began : old.passed ≡ 0) (sound : old.faults ≡ 0)
     (traffic : Traffic) (bytes_are : traffic.bytes ≡ new.passed) (faults_are : traffic.faults ≡ new.faults) (fits : traffic.bytes ≤ 2 ^ 64 - 1) where
   -- what had passed before the line
@@ -211,7 +253,7 @@ module _ {W : Type 0} (old mid new : WriterSink W) (contents : W → Option (Lis
   was_behind : (text : List ℕ) → writers.Passed contents mid text new → IsCountBehind told_traffic traffic text
   was_behind text p = count_goes_on mid.passed (length text) traffic.bytes fits (subst (λ n. Rises mid.passed (length text) n) (sym bytes_are) p.counts)
 
-  -- and of the line behind it
+  -- and of the line after it
   pub count_told : (line : List ℕ) → IsWrittenOrCut (writers.Went contents) (writers.WentAndFailed contents) (λ s. s.faults) mid new line → IsCountOfLineOrFront told_traffic traffic line
   count_told line (inl h) = inl (was_behind line h.passed)
   count_told line (inr h) = inr ((h.0.0, was_behind _ h.0.1.passed), subst (λ n. 0 < n) (sym faults_are) (failed_since mid.faults new.faults h.1))

@@ -61,7 +61,7 @@ module _ {S K E T D L N P : Type 0} (gives gives_less : S → List ℕ → S →
   link = at_link dials dial_faults old.dialler new.dialler
 
   abbrev node : OnNode
-  node = at_node view calls counts before behind old.link new.link
+  node = at_node view calls counts takes takes_less before behind old.link new.link old.output new.output
 
   sound_of : OutputHeld gives ended input_faults output_faults view dials dial_faults counts old new → IsSound output
   sound_of held text cut = held cut.1
@@ -102,5 +102,5 @@ module _ {S K E T D L N P : Type 0} (gives gives_less : S → List ℕ → S →
   status_for (Some (Get download)) end h misused = get_for download download.times download.token_file end refl refl h
   status_for (Some (Put upload)) end h misused = tt
   status_for (Some (Node service paths)) end h misused = λ kept waiting came held.
-      served gives gives_less ended input_faults old.input new.input view before behind calls counts old.link new.link output kept.0 kept.1 waiting came (sound_of held)
+      served gives gives_less ended input_faults old.input new.input view before behind calls counts takes takes_less old.link new.link old.output new.output output kept.0 kept.1 waiting came (sound_of held)
       error stage link token (Some (Node service paths)) service paths end refl h

@@ -26,5 +26,5 @@ module _ {S K E T D L N P : Type 0} (gives gives_less : S → List ℕ → S →
     files = at_files view (disks_in old.files) (disks_in new.files);
     link = at_link dials dial_faults old.dialler new.dialler;
     token = at_source gives gives_less ended input_faults old.token new.token;
-    node = at_node view calls counts (disks_in old.files) (disks_in new.files) old.link new.link;
+    node = at_node view calls counts takes takes_less (disks_in old.files) (disks_in new.files) old.link new.link old.output new.output;
   }

@@ -14,7 +14,7 @@ use Rattle.oc_io.specs.declared.traffic.Traffic.{Traffic}
 use Rattle.oc_keep.specs.Files.{disks_in}
 use Rattle.oc_link.specs.Story.{Story}
 use Rattle.oc_model.specs.World.{World}
-use Rattle.oc_program.specs.Streams.{IsCountOfLineOrFront, at_input, at_output, at_told}
+use Rattle.oc_program.specs.Streams.{IsCountOfLineOrFront, WentOn, WentOnAndFailed, at_input, at_output, at_told, no_traffic}
 use Rattle.oc_program.specs.declared.streams.Things.{Things}
 use Rattle.oc_program.specs.declared.starting.Started.{Started}
 use Rattle.oc_words.specs.Status.{number_of}
@@ -34,10 +34,10 @@ module _ {T D L N P : Type 0} (world : T → World) (view : D → DiskView) (dia
     files = at_files view (disks_in first.files) (disks_in last.files);
     link = at_link dials dial_faults first.dialler last.dialler;
     token = at_input ran.token;
-    node = at_node view calls counts (disks_in first.files) (disks_in last.files) first.link last.link;
+    node = at_node view calls counts WentOn WentOnAndFailed (disks_in first.files) (disks_in last.files) first.link last.link no_traffic ran.output;
   }
 
--- how it ended: the status, the line on the error output behind what was told, and what had happened to things on whose links nothing had failed before; of the
+-- how it ended: the status, the line on the error output after what was told, and what had happened to things on whose links nothing had failed before; of the
 -- pause between tries nothing is said
 pub record HasRun {T D L N : Type 0} (world : T → World) (view : D → DiskView) (dials : L → Option Story) (dial_faults : L → ℕ) (calls : N → Option (List Call)) (counts : N → LinkCounts) (asked : Option Invocation) (ran : Started) : Type 0 where
   pub first : Things T D L N (Unit {0})

@@ -32,7 +32,11 @@ at_bytes bytes read = record {
 abbrev pub at_text : List ℕ → Output
 at_text output = record { written = λ text. output ≡ text; cut_off = λ text. output ≡ text }
 
--- the error output is what was told and behind it this line, or a prefix of it
+-- the text grew by these bytes
+abbrev pub Grew : List ℕ → List ℕ → List ℕ → Type 0
+Grew old bytes new = new ≡ old ++ bytes
+
+-- the error output is what was told and after it this line, or a prefix of it
 abbrev pub IsLineOrFront : List ℕ → List ℕ → List ℕ → Type 0
 IsLineOrFront output told line = (output ≡ told ++ line) ⊎ SomeFront line (λ front. output ≡ told ++ front)
 
@@ -81,6 +85,14 @@ at_output traffic = record {
 -- as many bytes more were written as these are
 abbrev pub IsCountBehind : Traffic → Traffic → List ℕ → Type 0
 IsCountBehind before traffic bytes = traffic.bytes ≡ min (before.bytes + length bytes) (2 ^ 64 - 1)
+
+-- they were, and no call failed
+abbrev pub WentOn : Traffic → List ℕ → Traffic → Type 0
+WentOn before bytes traffic = IsCountBehind before traffic bytes × (traffic.faults ≡ before.faults)
+
+-- they were, and then a call failed
+abbrev pub WentOnAndFailed : Traffic → List ℕ → Traffic → Type 0
+WentOnAndFailed before bytes traffic = IsCountBehind before traffic bytes × HasFailed traffic
 
 -- as many bytes more were written as the line has, or as a prefix of it, and then a call failed
 abbrev pub IsCountOfLineOrFront : Traffic → Traffic → List ℕ → Type 0

@@ -56,7 +56,7 @@ pub fn run_to_disks<S: Source, K: Sink, E: Sink, D: Disk, L: Dialler, N: Link, P
           files = at_files D.view (disks_in outside.files) (disks_in result.outside.files);
           link = at_link L.story L.faults outside.dialler result.outside.dialler;
           token = at_source S.gives S.fails S.ended S.faults outside.token result.outside.token;
-          node = at_node D.view N.story N.counts (disks_in outside.files) (disks_in result.outside.files) outside.link result.outside.link;
+          node = at_node D.view N.story N.counts K.takes K.fails (disks_in outside.files) (disks_in result.outside.files) outside.link result.outside.link outside.output result.outside.output;
         }) end
         × (IsSome result.disks ↔ IsNode (length (ids last.world)) node)
         × IfSome result.disks (λ left. let n = node_in last.world node in

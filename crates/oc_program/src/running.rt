@@ -38,14 +38,15 @@ use std::alloc::Global;
 /// of a node, and the links of a client and of a node. All of it comes back.
 ///
 /// The status is that of [`Status`](crate::Status); with each status other than 0 a line on the error output
-/// says why, behind those that tell how far a client came where they are wanted. What the words have no use for stays as
+/// says why, after those that tell how far a client came where they are wanted. What the words have no use for stays as
 /// it was.
 pub fn run<S: Source, K: Sink, E: Sink, T: Stage, D: Disk, L: Dialler, N: Link, P: Pause>(
     alloc: Global,
     words: &[String],
     outside: Outside<S, K, E, T, D, L, N, P>,
 ) -> Ended<S, K, E, T, D, L, N, P>
-    // How it ended: the status, the line on the error output behind what was told, and what had happened.
+    // How it ended: the status, the line on the error output behind what was told, and what had happened; of a node,
+    // at each moment of its run what was written and what every crash leaves.
     ensures ended { (end : End) × (usage : List ℕ) × (told : E)
         × (result.status ≡ number_of (status_of end))
         × IsWrittenOrCut E.takes E.fails E.faults told result.outside.error (line_of end (file_told (asked (texts_of words.now)) end) usage)
@@ -194,7 +195,7 @@ fn serve<S: Source, K: Sink, E: Sink, T: Stage, D: Disk, L: Dialler, N: Link, P:
 ) -> (ServiceEnd, Outside<S, K, E, T, D, L, N, P>)
     ensures happened { HappenedAtNode
         (at_source S.gives S.fails S.ended S.faults outside.input result.1.input)
-        (at_node D.view N.story N.counts (disks_in outside.files) (disks_in result.1.files) outside.link result.1.link)
+        (at_node D.view N.story N.counts K.takes K.fails (disks_in outside.files) (disks_in result.1.files) outside.link result.1.link outside.output result.1.output)
         (at_sink K.takes K.fails K.faults outside.output result.1.output) service result.0 }
     ensures files { UnlessRan result.0 (disks_in result.1.files ≡ disks_in outside.files) }
     ensures link { UnlessRan result.0 (result.1.link ≡ outside.link) }

@@ -1,7 +1,7 @@
 //! The program over readers and writers, through the adapters of `oc_io`: over bytes in memory,
 //! and over streams.
 
-ghost use Rattle.std.specs.Prelude.{◌≡◌, ℕ, Bool, ◌⊎◌, List, Option, Some};
+ghost use Rattle.std.specs.Prelude.{◌≡◌, ℕ, Bool, ◌⊎◌, List, [], Option, Some};
 ghost use Rattle.oc_commands.specs.AtReplay.{scale_of, status_for};
 ghost use Rattle.oc_keep.specs.Files.{disks_in};
 ghost use Rattle.oc_commands.specs.Ends.{status_of};
@@ -9,7 +9,7 @@ ghost use Rattle.oc_commands.specs.Lines.{file_told, line_of};
 ghost use Rattle.oc_commands.specs.Outside.{at_files, at_link, at_node, at_stage};
 ghost use Rattle.oc_commands.specs.Run.{Happened};
 ghost use Rattle.oc_words.specs.Status.{number_of};
-ghost use Rattle.oc_program.specs.Streams.{IsCountOfLineOrFront, IsLineOrFront, at_bytes, at_input, at_lines, at_output, at_text, at_told};
+ghost use Rattle.oc_program.specs.Streams.{Grew, IsCountOfLineOrFront, IsLineOrFront, WentOn, WentOnAndFailed, at_bytes, at_input, at_lines, at_output, at_text, at_told, no_traffic};
 ghost use Rattle.oc_words.specs.Words.{asked, texts_of};
 ghost use Rattle.oc_commands.specs.declared.ending.End.{End};
 ghost use Rattle.oc_schedule.specs.Schedule.{schedule_of};
@@ -82,7 +82,7 @@ pub fn run_in_memory<T: Stage, D: Disk, L: Dialler, N: Link, P: Pause>(
           stage = at_stage T.world things.stage result.things.stage;
           files = at_files D.view (disks_in things.files) (disks_in result.things.files);
           link = at_link L.story L.faults things.dialler result.things.dialler;
-          node = at_node D.view N.story N.counts (disks_in things.files) (disks_in result.things.files) things.link result.things.link;
+          node = at_node D.view N.story N.counts Grew Grew (disks_in things.files) (disks_in result.things.files) things.link result.things.link [] result.output.items;
         }) end }
 
     // The status of a replay is that of what these bytes say, or the output failed, or memory runs out.
@@ -140,8 +140,8 @@ pub struct StreamsRun<T: Stage, D: Disk, L: Dialler, N: Link, P: Pause> {
 /// [`run`] over streams. No contract can say
 /// which bytes pass there; how many, this one does: as
 /// many were read as some text has that says what the end tells, and exactly as many were written as the
-/// text that had to be written has, for `node` as many as the lines of its deeds have. Where
-/// no end blames the input or the output, no call on it failed.
+/// text that had to be written has, for `node` as many as the lines of its deeds have, and at each moment those of its
+/// deeds so far. Where no end blames the input or the output, no call on it failed.
 pub fn run_on_streams<R: Read + Drop, T: Stage, D: Disk, L: Dialler, N: Link, P: Pause>(
     alloc: Global,
     words: &[String],
@@ -160,7 +160,7 @@ pub fn run_on_streams<R: Read + Drop, T: Stage, D: Disk, L: Dialler, N: Link, P:
           stage = at_stage T.world things.stage result.things.stage;
           files = at_files D.view (disks_in things.files) (disks_in result.things.files);
           link = at_link L.story L.faults things.dialler result.things.dialler;
-          node = at_node D.view N.story N.counts (disks_in things.files) (disks_in result.things.files) things.link result.things.link;
+          node = at_node D.view N.story N.counts WentOn WentOnAndFailed (disks_in things.files) (disks_in result.things.files) things.link result.things.link no_traffic result.output;
         }) end }
 {
     let stdin = ReaderSource::new(streams.input);

@@ -3,6 +3,7 @@ pub mod Works
 pub mod Dials
 pub mod Outboxes
 pub mod Sending
+pub mod Within
 pub mod Looks
 pub mod Records
 pub mod Brief

@@ -29,6 +29,7 @@ use Rattle.oc_server.specs.Deeds.{Deed, Sees, Running, Setting, after_all, calls
 use Rattle.oc_server.specs.Looks.{LooksOn, LooksOnly, RunsSafely}
 use Rattle.oc_server.specs.Moments.{AtEachPrefix}
 use Rattle.oc_server.specs.Sending.{AreSendable}
+use Rattle.oc_server.specs.Within.{IsWithin}
 use Rattle.oc_server.specs.Works.{client_input}
 use Rattle.oc_server.specs.declared.dials.Dialling.{Dialling}
 use Rattle.oc_server.specs.declared.dials.Errand.{Errand}
@@ -88,12 +89,13 @@ pub record IsServing {D L K : Type 0} (s : Server D L K) : Type 0 where
 
 -- Deeds that were done
 
--- an input was taken into the files, none of which was full for it, with this outcome, whose messages can be sent; whatever the disks do, the
--- control state is that of the control step
+-- an input, within all ranges, was taken into the files, none of which was full for it, with this outcome, whose messages can be sent; whatever
+-- the disks do, the control state is that of the control step
 pub record KeepsOne {D : Type 0} (view : D → DiskView) (i : Input) (outcome : OutcomeView) (old new : KeptView D) : Type 0 where
   pub is_open : new.closed ≡ false
   pub same : IsSameNode old.node.control new.node.control
   pub goes_on : AllGoOn view (disks_of old) (disks_of new)
+  pub within : IsWithin old.node.control.nodes old.node.control.me i
   pub fits : ¬ IsFullAt old i
   pub control : new.node.control ≡ (control_step old i).node
   pub outcome_is : IsHonest view old → outcome ≡ told_of (step (node_of old) i)

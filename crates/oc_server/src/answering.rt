@@ -301,7 +301,7 @@ fn answer_to<D: Disk>(kept: &mut Kept<D>, input: Input) -> Result<Answer, TurnEn
     ensures looks { OnOk result (LooksOnly D.view kept.old kept.new) }
     ensures stops { IfErr result (λ end. LookStops D.view end kept.old kept.new) }
 {
-    match kept.ready(input) {
+    match kept.ready(&input) {
         Ok(ready) => Ok(ready.answer()),
         Err(error) => {
             kept.recovers();

@@ -1,6 +1,7 @@
 //! Inputs that are taken.
 
 ghost use Rattle.std.specs.Prelude.{◌≡◌, List, [], ◌∷◌, false, IfOk, IfErr, IfSome, OnOk};
+ghost use Rattle.hex.specs.Hex.{IsBytes};
 ghost use Rattle.oc_model.specs.Lawful.{IsInput};
 ghost use Rattle.oc_model.specs.Step.{step};
 ghost use Rattle.oc_keep.specs.KeptView.{IsHonest, node_of};
@@ -11,6 +12,7 @@ ghost use Rattle.oc_server.specs.Deeds as deeds;
 ghost use Rattle.oc_server.specs.Records.{told_ahead};
 ghost use Rattle.oc_server.specs.Scenes as scenes;
 ghost use Rattle.oc_server.specs.Scenes.{Breaks, Did, IsServing, KeepStops, KeepsOne, Taking};
+ghost use Rattle.oc_server.specs.Within.{BringsBytes, HasBytes};
 
 use crate::ends::TurnEnd;
 use crate::log::Log;
@@ -23,7 +25,7 @@ use oc_io::{Disk, Sink};
 use oc_keep::{KeepError, Kept, Outcome};
 use oc_laws_step::lawful_nodes_stay_lawful;
 use oc_link::Link;
-use oc_model::{Answer, Input, Message};
+use oc_model::{Answer, Body, Input, Message};
 use oc_routes::{put_input_line, split_reply};
 use oc_wire::spellings_are_read;
 use std::alloc::Global;
@@ -135,6 +137,7 @@ fn keep<D: Disk>(kept: &mut Kept<D>, input: Input) -> Result<Outcome, TurnEnd>
     lawful_nodes_stay_lawful();
     spellings_are_read();
     kept.recovers();
+    brings_bytes(&input);
     let nodes = kept.node().nodes();
     match kept.take(input) {
         Ok(outcome) => Ok(sendable(nodes, outcome)),
@@ -144,6 +147,30 @@ fn keep<D: Disk>(kept: &mut Kept<D>, input: Input) -> Result<Outcome, TurnEnd>
         }
     }
 }
+
+/// What an input brings is bytes, which the type of a slice says of its items.
+fn brings_bytes(input: &Input)
+    ensures { BringsBytes input.now }
+{
+    match input {
+        Input::Publish { bytes, .. } => are_bytes(bytes.items()),
+        Input::Delivered(message) => has_bytes(&message.body),
+        _ => {}
+    }
+}
+
+fn has_bytes(body: &Body)
+    ensures { HasBytes body.now }
+{
+    match body {
+        Body::Chunk { bytes, .. } => are_bytes(bytes.items()),
+        _ => {}
+    }
+}
+
+fn are_bytes(items: &[u8])
+    ensures { IsBytes items.now }
+{}
 
 /// Why an input is not taken.
 fn end_of(error: KeepError) -> TurnEnd

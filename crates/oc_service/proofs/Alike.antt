@@ -31,7 +31,7 @@ two_pieces : (b : Bool) (first more : List ℕ) → (if b then first else []) ++
 two_pieces true first more = sym (append_assoc first more [])
 two_pieces false first more = refl
 
--- two pieces of a request that came one after the other
+-- two pieces of a request that came one after another
 pub held_cut : (c d number next : ℕ) (permitted permits : Bool) (coming later : Coming) (calls : List Call) (first more : List ℕ)
     → held c (calls ++ (Next (Request (arrival d number permitted coming)) first ∷ Next (Request (arrival d next permits later)) more ∷ []))
     ≡ held c (calls ++ (Next (Request (arrival d next permits later)) (first ++ more) ∷ []))

@@ -406,7 +406,7 @@ front_of (x ∷ xs) ys (g ∷ gs) (suc k) is few =
     (more.0, ap (λ (y : Deed). y ∷ take k gs) first ∙ ap (λ (zs : List Deed). x ∷ zs) (more.1))
 
 -- the first of some deeds, no more than these and a few more, are a front of these and the few
-front_of_few : (xs ys ds es : List Deed) (k : ℕ) → ds ++ es ≡ xs ++ ys → length xs ≤ length ds + k → (rest : List Deed) × (ds ++ take k es ≡ xs ++ rest)
+pub front_of_few : (xs ys ds es : List Deed) (k : ℕ) → ds ++ es ≡ xs ++ ys → length xs ≤ length ds + k → (rest : List Deed) × (ds ++ take k es ≡ xs ++ rest)
 front_of_few [] ys ds es k is few = (ds ++ take k es, refl)
 front_of_few (x ∷ xs) ys [] es k is few = front_of (x ∷ xs) ys es k is (omega (arith, few))
 front_of_few (x ∷ xs) ys (d ∷ ds) es k is few =
@@ -421,7 +421,7 @@ mild_begin : (due : Option ℕ) (s : Setting) (t : Observation) (m : Machine) �
 mild_begin None s t m none = refl
 mild_begin (Some place) s t m none = let no : Some place ≡ None = none in absurd (cc no)
 
-due_or_none : (due : Option ℕ) → (due ≡ None) ⊎ ((place : ℕ) × (due ≡ Some place))
+pub due_or_none : (due : Option ℕ) → (due ≡ None) ⊎ ((place : ℕ) × (due ≡ Some place))
 due_or_none None = inl refl
 due_or_none (Some place) = inr (place, refl)
 

@@ -1,4 +1,4 @@
--- What a whole head asks, and the body behind it, are never refused as a call that failed.
+-- What a whole head asks, and the body after it, are never refused as a call that failed.
 use Rattle.std.proofs.Common.{ℕ, Bool, true, false, Option, Some, Result, Ok, Err, List}
 use Rattle.std.specs.Prelude.{◌==◌, if◌then◌else◌, length}
 use Rattle.oc_http.specs.declared.head.Head.{Head}

@@ -3,13 +3,14 @@ mod Machines
 mod Measured
 mod Replies
 mod HeadFaults
-mod BorneOut
+pub mod BorneOut
 mod Recorded
 mod Alike
-mod AtAnyMoment
+pub mod Retold
 mod Headers
 mod Places
 mod Probes
+mod Within
 mod Runs
 mod OnSite
 mod Unfailed

@@ -89,7 +89,7 @@ module _ {D L K : Type 0} (view : D → DiskView) (takes fails : K → List ℕ 
     calls = λ honest all follows. ap (λ (t : Turns D L K). until (story t.server.link) all) same;
   }
 
-  -- turns behind one
+  -- turns after one
   made_more : {served : Bool} (n : ℕ) (old at new : Turns D L K) → Turned view takes faults story counts served old at → Made n at new → Made (suc n) old new
   made_more n old at new turned made = record {
     told = turned.told ∷ made.told;

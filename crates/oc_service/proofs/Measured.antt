@@ -24,7 +24,7 @@ other_deeds s m is = ap (λ b. cond b (taken s m) []) (ne_eqb m.from s.me is)
 next_measure : (ms : List Measure) (i : ℕ) (m : Measure) → i < length ms → m ≡ get_or ms i m → drop i ms ≡ m ∷ drop (suc i) ms
 next_measure ms i m within is = drop-cons ms i m within ∙ ap (λ (x : Measure). x ∷ drop (suc i) ms) (sym is)
 
--- the deeds behind those of the measures before this place
+-- the deeds after those of the measures before this place
 pub measures_here : (s : Setting) (ms : List Measure) (i : ℕ) (m : Measure) (deeds : List Deed) → i < length ms → m ≡ get_or ms i m
     → deeds ++ own_measures s (drop i ms) ≡ own_measures s ms → own_measures s ms ≡ deeds ++ (own_measure s m ++ own_measures s (drop (suc i) ms))
 measures_here s ms i m deeds within is so_far = sym so_far ∙ ap (λ (l : List Measure). deeds ++ own_measures s l) (next_measure ms i m within is)

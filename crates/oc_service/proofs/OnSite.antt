@@ -1,5 +1,6 @@
 -- What a loaded node did, told of the files from which it was loaded, of its link and of its output.
 use Rattle.std.proofs.Common.{◌≡◌, ◌⊎◌, ◌∙◌, ℕ, ◌+◌, ◌<◌, false, Option, List, [], ◌∷◌, ◌++◌, length, inl, inr, refl, sym, ap, ap₂, subst}
+use Rattle.std.specs.List.{AllByRecursion}
 use Rattle.oc_content.specs.ContentFile.{groups_in}
 use Rattle.oc_config.specs.Settings.{Settings}
 use Rattle.oc_link.specs.Told.{AddsAll}
@@ -28,12 +29,13 @@ use Rattle.oc_server.specs.Parts.{Cuts}
 use Rattle.oc_server.specs.Runs.{reads_by}
 use Rattle.oc_server.specs.Scenes.{BreaksBehind, CountsAll, Did, EndsOn, HasCause, Idle, LeavesAt, LeavesUnder, Noting, Taking, Under, WritesAt, running, setting, under_line}
 use Rattle.oc_server.specs.Turns.{Observation}
+use Rattle.oc_server.specs.Within.{IsWithin}
 use Rattle.oc_server.specs.declared.ends.TurnEnd.{TurnEnd}
 use Rattle.oc_server.specs.declared.ends.TurnEnd.TheVariants as ends
 use Rattle.oc_server.specs.declared.log.Log.{Log}
 use Rattle.oc_server.specs.declared.server.Server.{Server}
 use Rattle.oc_server.specs.declared.turns.Turns.{Turns}
-use Rattle.oc_server.proofs.Scenes.{broken_cause, broken_leaves, broken_text, did_node, still_honest}
+use Rattle.oc_server.proofs.Scenes.{broken_cause, broken_leaves, broken_text, did_node, setting_stays, still_honest}
 use Rattle.oc_service.specs.OnSite.{DidOn, HasCauseOn, LeavesBehind, LeavesOne, NodeEnds, Stops, WasDeaf, Writes, at_run, header_of_settings, heard_before, machine_on, node_calls, setting_of, terms_in}
 use Rattle.oc_service.specs.AtAnyMoment.{AlwaysRecovers}
 use Rattle.oc_service.specs.Failures.{AreBorneOut}
@@ -46,11 +48,11 @@ use Rattle.oc_service.specs.WhatNodeGives.{ServesFrom}
 use Rattle.oc_service.specs.WhatNodeHears.{AreHeard, MayHear, all_calls_behind, until}
 use Rattle.oc_service.specs.declared.running.NodeEnd.TheVariants.{Turned}
 use Rattle.oc_service.specs.declared.running.Task.{Task}
-use Rattle.oc_service.proofs.AtAnyMoment.{prefix_of}
 use Rattle.oc_service.proofs.BorneOut.{front_borne, node_borne}
 use Rattle.oc_service.proofs.Recorded.{cut_record, node_record}
 use Rattle.oc_service.proofs.Replies.{front_answered, node_answered, serves_until}
 use Rattle.oc_service.proofs.Stories.{Follows, follows_adds, until_then}
+use Rattle.oc_service.proofs.Within.{kept_within}
 
 module _ {D L K : Type 0} (view : D → DiskView) (takes fails : K → List ℕ → K → Type 0) (faults : K → ℕ) (story : L → Option (List Call)) (counts : L → LinkCounts)
     (takes_nothing : (k : K) → takes k [] k) (takes_then : (a b c : K) (x y : List ℕ) → takes a x b → takes b y c → takes a (x ++ y) c)
@@ -157,14 +159,19 @@ module _ {D L K : Type 0} (view : D → DiskView) (takes fails : K → List ℕ 
         (subst (λ (x : Setting). ServesFrom x deeds (running first.server) (story link) (story last.server.link)) setting_is
         (serves (honest_kept honest) (ap (λ (x : Machine). x.running.works) (begins honest))))))
 
-    -- at each prefix of deeds, and behind them
+    -- the inputs of deeds
+    within_on : (deeds : List Deed) (at : Server D L K) → Did view takes faults story counts deeds l at → AllByRecursion (IsWithin h.nodes me) (inputs_of deeds)
+    within_on deeds at did = named (λ x y. AllByRecursion (IsWithin x.nodes y) (inputs_of deeds)) (kept_within view (inputs_of deeds) first.server.kept at.kept did.keeps)
+
+    -- at each prefix of deeds, and after them
     moments_on : AreHonest view d → (deeds : List Deed) (at : Server D L K) → Did view takes faults story counts deeds l at → (under : Under)
-        → EndsOn view (header_of at.kept.node.control) at.kept.node.control.me (node_of at.kept) under (disks_of at.kept) e → AlwaysRecovers view h me deeds under d e
+        → EndsOn view (header_of at.kept.node.control) at.kept.node.control.me (node_of at.kept) under (disks_of at.kept) e → AlwaysRecovers view h me takes (line (setting_of c task)) deeds under d e first.server.sink at.sink
     moments_on honest deeds at did under behind = record {
       loaded = disks_of first.server.kept;
       done = disks_of at.kept;
       load = record { goes_on = safely.goes_on; any_moment = safely.any_moment honest };
-      prefixes = prefix_of view h me takes (line (setting first.server)) deeds at_first_node (disks_of first.server.kept) first.server.sink (disks_of at.kept) at.sink
+      prefixes =
+          subst (λ (x : Setting). AtEachPrefix view h me takes (line x) deeds at_first_node (disks_of first.server.kept) first.server.sink (disks_of at.kept) at.sink) setting_is
           (subst (λ (n : Node). AtEachPrefix view h me takes (line (setting first.server)) deeds n (disks_of first.server.kept) first.server.sink (disks_of at.kept) at.sink) (loaded.node honest)
           (named (λ x y. AtEachPrefix view x y takes (line (setting first.server)) deeds (node_of first.server.kept) (disks_of first.server.kept) first.server.sink (disks_of at.kept) at.sink) (did.moments (honest_kept honest))));
       ends = subst (λ (n : Node). EndsOn view h me (after_inputs n (inputs_of deeds)) under (disks_of at.kept) e) (loaded.node honest)
@@ -189,7 +196,7 @@ module _ {D L K : Type 0} (view : D → DiskView) (takes fails : K → List ℕ 
         → (IsHonest view first.server.kept → deeds ≡ node_deeds (setting first.server) c.measures told (machine first))
         → (IsHonest view first.server.kept → AreHeard (setting first.server) (reads_by first.server) (until (story link) (story last.server.link)) told (begun (setting first.server) c.measures (machine first)))
         → ServesAll deeds
-        → DidOn view story counts c task deeds d e first.server.link last.server.link
+        → DidOn view story counts takes c task deeds d e first.server.link last.server.link first.server.sink last.server.sink
     did_on told deeds many did are heard serves = record {
       told = told;
       many = many;
@@ -204,6 +211,7 @@ module _ {D L K : Type 0} (view : D → DiskView) (takes fails : K → List ℕ 
           subst (λ (ds : List Deed). AreBorneOut Quiet ds) (sym (deeds_on honest told deeds are))
           (node_borne Quiet (terms_in c me) (heard_before c me (story first.server.link) (story last.server.link)) (setting_of c task) c.measures told m (heard_told honest told deeds did heard));
       recorded = λ honest. node_record (setting_of c task) c.measures told m deeds (deeds_on honest told deeds are);
+      within = within_on deeds last.server did;
       counted = subst (λ (x : LinkCounts). CountsAll deeds x (counts last.server.link)) listens.counted did.counted;
       goes_on = all_go_on_then view d (disks_of first.server.kept) e safely.goes_on did.goes_on;
       survives = λ honest.
@@ -269,9 +277,18 @@ module _ {D L K : Type 0} (view : D → DiskView) (takes fails : K → List ℕ 
           all_go_on_then view d (disks_of first.server.kept) e safely.goes_on
           (all_go_on_then view (disks_of first.server.kept) (disks_of at.kept) e did.goes_on breaks.goes_on)
 
-      moments_all : (end : TurnEnd) → BreaksBehind view takes fails faults story counts end deeds under l last.server → AreHonest view d → AlwaysRecovers view h me deeds under d e
+      within_all : (end : TurnEnd) → BreaksBehind view takes fails faults story counts end deeds under l last.server → AllByRecursion (IsWithin h.nodes me) (inputs_of deeds)
+      within_all end (at, did, breaks) = within_on deeds at did
+
+      moments_all : (end : TurnEnd) (breaks : BreaksBehind view takes fails faults story counts end deeds under l last.server) → AreHonest view d
+          → AlwaysRecovers view h me takes (line (setting_of c task)) deeds under d e first.server.sink breaks.0.sink
       moments_all end (at, did, breaks) honest =
           moments_on honest deeds at did under (breaks.moments (still_honest view takes fails faults story counts deeds l at did (honest_kept honest)))
+
+      -- what was written after the deeds
+      rest_on : (end : TurnEnd) (breaks : BreaksBehind view takes fails faults story counts end deeds under l last.server) → WritesAt takes fails breaks.0.sink last.server.sink end [] (under_line (setting_of c task) under)
+      rest_on end (at, did, breaks) =
+          subst (λ (x : Setting). WritesAt takes fails at.sink last.server.sink end [] (under_line x under)) (setting_stays view takes fails faults story counts l at did.same did.config did.log ∙ setting_is) breaks.text
 
       adds_all : (end : TurnEnd) → BreaksBehind view takes fails faults story counts end deeds under l last.server → AreHonest view d
           → AddsAll (calls_of (setting l) deeds (running l)) (story link) (story last.server.link)
@@ -296,7 +313,7 @@ module _ {D L K : Type 0} (view : D → DiskView) (takes fails : K → List ℕ 
             by_end ends.Memory cause text = text
 
   runs_on : Runs view takes faults story counts task.turns first last
-      → (deeds : List Deed) × takes first.server.sink (lines (setting_of c task) deeds) last.server.sink × DidOn view story counts c task deeds d e first.server.link last.server.link
+      → (deeds : List Deed) × takes first.server.sink (lines (setting_of c task) deeds) last.server.sink × DidOn view story counts takes c task deeds d e first.server.link last.server.link first.server.sink last.server.sink
   runs_on r =
       let link = r.listening.link in
       let listens = subst (λ (x : Server D L K). Listens story counts first.server x) r.listens.rest r.listens in
@@ -307,7 +324,7 @@ module _ {D L K : Type 0} (view : D → DiskView) (takes fails : K → List ℕ 
       )
 
   halts_on : (end : TurnEnd) → Halts view takes fails faults story counts task.turns end first last
-      → Stops (at_run view story counts c task d e first.server.link last.server.link) (λ text. takes first.server.sink text last.server.sink) (λ text. fails first.server.sink text last.server.sink × Rose (faults first.server.sink) (faults last.server.sink)) (setting_of c task) end
+      → Stops (at_run view story counts takes fails c task d e first.server.link last.server.link first.server.sink last.server.sink) (λ text. takes first.server.sink text last.server.sink) (λ text. fails first.server.sink text last.server.sink × Rose (faults first.server.sink) (faults last.server.sink)) (setting_of c task) end
   halts_on end r =
       let link = r.listening.link in
       let listens = subst (λ (x : Server D L K). Listens story counts first.server x) r.listens.rest r.listens in
@@ -338,16 +355,19 @@ module _ {D L K : Type 0} (view : D → DiskView) (takes fails : K → List ℕ 
               (all_calls_behind (setting_of c task) r.told (begun (setting_of c task) c.measures m) (heard_before c me (story first.server.link) (story last.server.link))) (cut honest).front
               (last_on link listens honest r.told r.last r.deeds (follows honest) (r.last_heard (honest_kept honest)));
           recorded = λ honest. cut_record (setting_of c task) c.measures r.told r.last m r.deeds r.under (cut honest);
+          within = within_all link listens r.deeds r.under end breaks;
           goes_on = goes_on_all link listens r.deeds r.under end breaks;
           leaves = λ honest.
               subst (λ (x : Node). LeavesBehind view h me e end (after_inputs x (inputs_of r.deeds)) r.under) (loaded.node honest)
               (behind_on link listens end _ r.under (broken_leaves view takes fails faults story counts r.deeds r.under end l last.server breaks (honest_kept honest)));
+          so_far = breaks.0.sink;
+          rest = rest_on link listens r.deeds r.under end breaks;
           moments = moments_all link listens r.deeds r.under end breaks;
           cause = cause_on link listens r.deeds r.under end r.under breaks (broken_cause view takes fails faults story counts r.deeds r.under end l last.server breaks);
         },
       )
 
-  deaf_on : IsDeaf story counts ends.Link first.server last.server → takes first.server.sink [] last.server.sink × WasDeaf view story counts c task d e first.server.link last.server.link
+  deaf_on : IsDeaf story counts ends.Link first.server last.server → takes first.server.sink [] last.server.sink × WasDeaf view story counts takes c task d e first.server.link last.server.link first.server.sink last.server.sink
   deaf_on deaf = (
     subst (λ (x : Server D L K). takes first.server.sink [] x.sink) (sym deaf.rest) (takes_nothing first.server.sink),
     record {
@@ -359,7 +379,7 @@ module _ {D L K : Type 0} (view : D → DiskView) (takes fails : K → List ℕ 
         loaded = disks_of first.server.kept;
         done = disks_of first.server.kept;
         load = record { goes_on = safely.goes_on; any_moment = safely.any_moment honest };
-        prefixes = (0, refl, refl);
+        prefixes = (0, refl, ap (λ (x : Server D L K). x.sink) deaf.rest);
         ends = (0, ap (λ (x : Server D L K). disks_of x.kept) deaf.rest);
       };
       calls = deaf.calls;
@@ -368,7 +388,7 @@ module _ {D L K : Type 0} (view : D → DiskView) (takes fails : K → List ℕ 
   )
 
   pub ends_on : (end : TurnEnd) → RunEnds view takes fails faults story counts task.turns end first last
-      → NodeEnds (at_run view story counts c task d e first.server.link last.server.link) (λ text. takes first.server.sink text last.server.sink) (λ text. fails first.server.sink text last.server.sink × Rose (faults first.server.sink) (faults last.server.sink)) (setting_of c task) (Turned end)
+      → NodeEnds (at_run view story counts takes fails c task d e first.server.link last.server.link first.server.sink last.server.sink) (λ text. takes first.server.sink text last.server.sink) (λ text. fails first.server.sink text last.server.sink × Rose (faults first.server.sink) (faults last.server.sink)) (setting_of c task) (Turned end)
   ends_on ends.Served r = runs_on r
   ends_on ends.Quiet r = absurd r
   ends_on ends.Link (inl deaf) = inl (deaf_on deaf)
@@ -381,7 +401,7 @@ module _ {D L K : Type 0} (view : D → DiskView) (takes fails : K → List ℕ 
 -- how it ended, of these files, links and outputs
 abbrev pub EndsAs : {D L K : Type 0} → (D → DiskView) → (K → List ℕ → K → Type 0) → (K → List ℕ → K → Type 0) → (K → ℕ) → (L → Option (List Call)) → (L → LinkCounts) → Settings → Task → Disks D → TurnEnd → Disks D → L → L → K → K → Type 0
 EndsAs view takes fails faults story counts s task d end e l m k j =
-    NodeEnds (at_run view story counts s task d e l m) (λ text. takes k text j) (λ text. fails k text j × Rose (faults k) (faults j)) (setting_of s task) (Turned end)
+    NodeEnds (at_run view story counts takes fails s task d e l m k j) (λ text. takes k text j) (λ text. fails k text j × Rose (faults k) (faults j)) (setting_of s task) (Turned end)
 
 -- the same of what it was handed and what came back
 pub told_of : {D L K : Type 0} (view : D → DiskView) (takes fails : K → List ℕ → K → Type 0) (faults : K → ℕ) (story : L → Option (List Call)) (counts : L → LinkCounts)

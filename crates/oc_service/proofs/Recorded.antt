@@ -35,14 +35,14 @@ module _ (s : Setting) (recorded : s.log ≡ logs.Record) where
   turns_whole (t ∷ ts) m =
       leads_then s None None None (turn_deeds s t m) (turns_deeds s ts (behind_turn s t m)) (leads_turn s recorded m.pace m.probing t m.running) (turns_whole ts (behind_turn s t m))
 
-  -- all that is done behind the beginning
+  -- all that is done after the beginning
   abbrev rest : List Measure → List Observation → Machine → List Deed
   rest ms ts m = own_measures s ms ++ turns_deeds s ts (begun s ms m)
 
   rest_whole : (ms : List Measure) (ts : List Observation) (m : Machine) → Whole (rest ms ts m)
   rest_whole ms ts m = leads_then s None None None (own_measures s ms) (turns_deeds s ts (begun s ms m)) (own_whole ms) (turns_whole ts (begun s ms m))
 
-  -- the beginning, and a front of what is done behind it
+  -- the beginning, and a front of what is done after it
   begun_record : (n : Node) (ds behind : List Deed) → Whole (ds ++ behind) → IsRecorded s (record_head n.control (shelf n.groups)) (Says (told_first s.log n.control (shelf n.groups)) ∷ ds) behind
   begun_record n ds behind whole =
       let front = leads_front s None None ds behind whole in

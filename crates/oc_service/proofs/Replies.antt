@@ -84,7 +84,7 @@ settled_with : (made : List Call) (ws : List Work) → ws ≡ [] → IsSettled m
 settled_with made ws none settled = subst (λ (x : List Work). IsSettled made x) (sym none) settled
 
 module _ (s : Setting) (own : List Deed) (a : Running) (quiet : AllQuiet own) (none : a.works ≡ []) where
-  -- deeds that touch no connection, and behind them deeds by which connections were served
+  -- deeds that touch no connection, and after them deeds by which connections were served
   behind_own : (made mid later : List Call) (ds : List Deed) (b : Running) → IsSettled made [] → mid ≡ made ++ calls_of s own a → b ≡ after_all own a → AreServed s mid later ds b
       → AreServed s made later (own ++ ds) a
   behind_own made mid later ds b settled calls is served =
@@ -98,7 +98,7 @@ module _ (s : Setting) (own : List Deed) (a : Running) (quiet : AllQuiet own) (n
       (subst (λ (r : Running). IsOrdered s (made ++ calls_of s own a) ds r) is
       (subst (λ (cs : List Call). IsOrdered s cs ds b) calls served.ordered)))
 
-  -- nothing is under way behind them
+  -- nothing is under way after them
   still_settled : (made mid : List Call) → IsSettled made [] → mid ≡ made ++ calls_of s own a → (after_all own a).works ≡ [] → IsSettled mid []
   still_settled made mid settled calls left =
       subst (λ (cs : List Call). IsSettled cs []) (sym calls)

@@ -1,5 +1,6 @@
 -- What the run of a node does to its three files, its link and its output.
 use Rattle.std.specs.Prelude.{◌≡◌, ◌⊎◌, ℕ, ◌+◌, ◌<◌, Bool, true, false, Option, Some, None, List, [], ◌∷◌, ◌++◌, length, replicate, take}
+use Rattle.std.specs.List.{AllByRecursion}
 use Rattle.std.specs.Option.{option_map}
 use Rattle.oc_config.specs.Settings.{Settings}
 use Rattle.oc_link.specs.Calls.{IsFront}
@@ -24,12 +25,13 @@ use Rattle.oc_probe.specs.Turns.{others}
 use Rattle.oc_probe.specs.declared.probing.Probing.{Probing}
 use Rattle.oc_routes.specs.Responses.{address_of}
 use Rattle.oc_routes.specs.Verdicts.{NodeTerms, terms_of}
-use Rattle.oc_server.specs.Deeds.{Deed, Setting, calls_of, inputs_of, lines}
+use Rattle.oc_server.specs.Deeds.{Deed, Setting, calls_of, inputs_of, line, lines}
 use Rattle.oc_server.specs.Parts.{Cuts}
 use Rattle.oc_server.specs.Recorded.{IsRecordOf}
 use Rattle.oc_server.specs.Records.{is_record}
-use Rattle.oc_server.specs.Scenes.{CountsAll, Idle, Taking, Under, under_line}
+use Rattle.oc_server.specs.Scenes.{CountsAll, Idle, Taking, Under, WritesAt, under_line}
 use Rattle.oc_server.specs.Turns.{Observation}
+use Rattle.oc_server.specs.Within.{IsWithin}
 use Rattle.oc_server.specs.declared.ends.TurnEnd.{TurnEnd}
 use Rattle.oc_server.specs.declared.ends.TurnEnd.TheVariants as ends
 use Rattle.oc_service.specs.AtAnyMoment.{AlwaysRecovers}
@@ -80,9 +82,9 @@ heard_before c me old new = option_map (λ (cs : List Call). cs ++ acts.Listen (
 -- All turns
 
 -- The deeds are those of what a node does, in this many turns, by what its link told. Each made its calls, each connection was given the
--- replies to its requests, a line of a failure was written only where its link told of one, a record tells their inputs, and every crash
--- leaves the node that took them, at every moment of the run those of a prefix.
-pub record DidOn {D L : Type 0} (view : D → DiskView) (story : L → Option (List Call)) (counts : L → LinkCounts) (c : Settings) (task : Task) (deeds : List Deed) (old new : Disks D) (link after : L) : Type 0 where
+-- replies to its requests, a line of a failure was written only where its link told of one, a record tells their inputs, which are within
+-- their ranges, and every crash leaves the node that took them, at every moment of the run those of a prefix, whose lines were written.
+pub record DidOn {D L K : Type 0} (view : D → DiskView) (story : L → Option (List Call)) (counts : L → LinkCounts) (takes : K → List ℕ → K → Type 0) (c : Settings) (task : Task) (deeds : List Deed) (old new : Disks D) (link after : L) (sink written : K) : Type 0 where
   pub told : List Observation
   pub many : length told ≡ task.turns
   pub are : AreHonest view old → deeds ≡ node_deeds (setting_of c task) c.measures told (machine_on view c task old)
@@ -92,10 +94,11 @@ pub record DidOn {D L : Type 0} (view : D → DiskView) (story : L → Option (L
   pub replies : AreHonest view old → GivesReplies (setting_of c task) deeds (machine_on view c task old).running (heard_before c task.me (story link) (story after)) (story after)
   pub failures : AreHonest view old → AreBorneOut Quiet deeds
   pub recorded : AreHonest view old → IsRecordOf (setting_of c task) (first_node view (header_of_settings c) task.me old) deeds []
+  pub within : AllByRecursion (IsWithin (length c.addresses) task.me) (inputs_of deeds)
   pub counted : CountsAll deeds (counts link) (counts after)
   pub goes_on : AllGoOn view old new
   pub survives : AreHonest view old → Survives view (header_of_settings c) task.me new (after_inputs (first_node view (header_of_settings c) task.me old) (inputs_of deeds))
-  pub moments : AreHonest view old → AlwaysRecovers view (header_of_settings c) task.me deeds Idle old new
+  pub moments : AreHonest view old → AlwaysRecovers view (header_of_settings c) task.me takes (line (setting_of c task)) deeds Idle old new sink written
 
 -- An early end
 
@@ -125,9 +128,10 @@ HasCauseOn view end under n old new before behind = Unit {0}
 
 -- It ended so after these deeds, a front of what a node does: after whole turns, in the midst of one that is told `last`, or before the
 -- first. What came in that one was read, where more was done in it than to ask the link. Each connection was given the replies to its requests
--- until then, and a line of a failure was written, or begun, only where its link told of one. A record tells the inputs of these deeds, and
--- perhaps the one that was to be taken next.
-pub record StoppedOn {D L : Type 0} (view : D → DiskView) (story : L → Option (List Call)) (counts : L → LinkCounts) (c : Settings) (task : Task) (end : TurnEnd) (deeds : List Deed) (under : Under) (old new : Disks D) (link after : L) : Type 0 where
+-- until then, and a line of a failure was written, or begun, only where its link told of one. A record tells the inputs of these deeds, which
+-- are within their ranges, and perhaps the one that was to be taken next. At every moment the lines of a prefix of the deeds were written, and
+-- every crash leaves its node.
+pub record StoppedOn {D L K : Type 0} (view : D → DiskView) (story : L → Option (List Call)) (counts : L → LinkCounts) (takes fails : K → List ℕ → K → Type 0) (c : Settings) (task : Task) (end : TurnEnd) (deeds : List Deed) (under : Under) (old new : Disks D) (link after : L) (sink written : K) : Type 0 where
   pub told : List Observation
   pub last : Observation
   pub few : length told < task.turns + 1
@@ -144,27 +148,31 @@ pub record StoppedOn {D L : Type 0} (view : D → DiskView) (story : L → Optio
   pub replies : AreHonest view old → GivesReplies (setting_of c task) deeds (machine_on view c task old).running (heard_before c task.me (story link) (story after)) (story after)
   pub failures : (honest : AreHonest view old) → AreBorneOut Quiet (deeds ++ take 1 (cut honest).behind)
   pub recorded : (honest : AreHonest view old) → IsRecordOf (setting_of c task) (first_node view (header_of_settings c) task.me old) deeds (cut honest).behind
+  pub within : AllByRecursion (IsWithin (length c.addresses) task.me) (inputs_of deeds)
   pub goes_on : AllGoOn view old new
   pub leaves : AreHonest view old → LeavesBehind view (header_of_settings c) task.me new end (after_inputs (first_node view (header_of_settings c) task.me old) (inputs_of deeds)) under
-  pub moments : AreHonest view old → AlwaysRecovers view (header_of_settings c) task.me deeds under old new
+  -- the output when its last deed was done; then, where the output failed, it took some prefix of the line under way, and else nothing more
+  pub so_far : K
+  pub rest : WritesAt takes fails so_far written end [] (under_line (setting_of c task) under)
+  pub moments : AreHonest view old → AlwaysRecovers view (header_of_settings c) task.me takes (line (setting_of c task)) deeds under old new sink so_far
   pub cause : HasCauseOn view end under (after_inputs (first_node view (header_of_settings c) task.me old) (inputs_of deeds)) old new (counts link) (counts after)
 
 -- its link could not wait where the node listens: nothing was done
-pub record WasDeaf {D L : Type 0} (view : D → DiskView) (story : L → Option (List Call)) (counts : L → LinkCounts) (c : Settings) (task : Task) (old new : Disks D) (link after : L) : Type 0 where
+pub record WasDeaf {D L K : Type 0} (view : D → DiskView) (story : L → Option (List Call)) (counts : L → LinkCounts) (takes : K → List ℕ → K → Type 0) (c : Settings) (task : Task) (old new : Disks D) (link after : L) (sink written : K) : Type 0 where
   pub goes_on : AllGoOn view old new
   pub survives : AreHonest view old → Survives view (header_of_settings c) task.me new (first_node view (header_of_settings c) task.me old)
-  pub moments : AreHonest view old → AlwaysRecovers view (header_of_settings c) task.me [] Idle old new
+  pub moments : AreHonest view old → AlwaysRecovers view (header_of_settings c) task.me takes (line (setting_of c task)) [] Idle old new sink written
   pub calls : story after ≡ story link
   pub counted : CountsFailure (counts link) (counts after)
 
 -- All ends
 
--- the lines of these deeds were written; where the output is to blame, some prefix of the one under way behind them, and then it failed
+-- the lines of these deeds were written; where the output is to blame, some prefix of the one under way after them, and then it failed
 abbrev pub Writes : (List ℕ → Type 0) → (List ℕ → Type 0) → Setting → TurnEnd → List Deed → Under → Type 0
 Writes written cut_off s ends.Sink deeds under = (front : List ℕ) × IsFront front (under_line s under) × cut_off (lines s deeds ++ front)
 Writes written cut_off s end deeds under = written (lines s deeds)
 
--- what can be said of the files and the link of a run
+-- what can be said of the files and the link of a run, and of its output at each moment
 pub record OnRun : Type 1 where
   -- the node was not loaded, for this cause, and nothing was done
   pub refused : KeepLoad → Type 0
@@ -175,12 +183,12 @@ pub record OnRun : Type 1 where
   -- its link could not wait where it listens
   pub deaf : Type 0
 
-abbrev pub at_run : {D L : Type 0} → (D → DiskView) → (L → Option (List Call)) → (L → LinkCounts) → Settings → Task → Disks D → Disks D → L → L → OnRun
-at_run view story counts c task old new link after = record {
+abbrev pub at_run : {D L K : Type 0} → (D → DiskView) → (L → Option (List Call)) → (L → LinkCounts) → (K → List ℕ → K → Type 0) → (K → List ℕ → K → Type 0) → Settings → Task → Disks D → Disks D → L → L → K → K → OnRun
+at_run view story counts takes fails c task old new link after sink written = record {
   refused = λ error. RefusesNode view (length c.addresses) old new error × LoadsSafely view (header_of_settings c) task.me old new × (after ≡ link);
-  did = λ deeds. DidOn view story counts c task deeds old new link after;
-  stopped = λ end deeds under. StoppedOn view story counts c task end deeds under old new link after;
-  deaf = WasDeaf view story counts c task old new link after;
+  did = λ deeds. DidOn view story counts takes c task deeds old new link after sink written;
+  stopped = λ end deeds under. StoppedOn view story counts takes fails c task end deeds under old new link after sink written;
+  deaf = WasDeaf view story counts takes c task old new link after sink written;
 }
 
 module _ (run : OnRun) (written cut_off : List ℕ → Type 0) (s : Setting) where

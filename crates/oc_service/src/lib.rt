@@ -6,7 +6,7 @@
 //!
 //! `specs/WhatNodeDoes` says on one page what a node does: a machine whose steps are turns, by what the link and the
 //! clock tell in each. The contract of [`run_node`] is that (`NodeEnds`): the lines that were written are those of the
-//! machine's deeds, the calls on the link are theirs, and every crash leaves the node behind them. Where it ended
+//! machine's deeds, the calls on the link are theirs, and every crash leaves the node after them. Where it ended
 //! before, a front of these deeds was done, perhaps with one more input under way. Either way each connection was given
 //! the replies to its requests (`specs/WhatNodeGives`, by the law of `oc_server`), a line `! source` or `! write` was
 //! written only where the link told of that failure (`specs/Failures`), and at each prefix of the deeds every crash at any

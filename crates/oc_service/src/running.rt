@@ -68,9 +68,9 @@ pub fn run_node<D: Disk, L: Link, K: Sink>(
 
     // What it did: with all its turns made, exactly what a node does in them. Where it ended before: a front of
     // that, and why. Where it was not loaded: which file is to blame. And what its connections were given, and what
-    // every crash leaves, at every moment.
+    // every crash leaves and what was written, at every moment.
     ensures ends { NodeEnds
-        (at_run D.view L.story L.counts config task (disks_in site.files) (disks_in result.site.files) site.link result.site.link)
+        (at_run D.view L.story L.counts K.takes K.fails config task (disks_in site.files) (disks_in result.site.files) site.link result.site.link site.sink result.site.sink)
         (λ text. K.takes site.sink text result.site.sink)
         (λ text. K.fails site.sink text result.site.sink × Rose (K.faults site.sink) (K.faults result.site.sink))
         (setting_of config task) result.end }

@@ -11,8 +11,8 @@ returns-in-Ok-clause-answer g c = λ honest. c.answer.ensures ∙ ap (λ (o : Ou
 pub returns-in-Ok-clause-looks : goal.returns-in-Ok-clause-looks
 returns-in-Ok-clause-looks g c = looked g.D.Disk.view c.args.kept.now c.ready.new.self c.requires.open (c.in-Ok.ensures.made.still ∙ c.requires.open) c.ready.ensures.same
 
-pub returns-in-Err-clause-stops : goal.returns-in-Err-clause-stops
-returns-in-Err-clause-stops g c =
+pub returns-clause-stops : goal.returns-clause-stops
+returns-clause-stops g c =
     let t = c.in-Err.ensures in
     rw c.end_of.ensures
     (ready_stops g.D.Disk.view (λ x h. g.met.D.Disk.consistent x h) c.args.kept.now c.ready.new.self c.in-Err.error c.args.input c.requires.open c.ready.ensures.same

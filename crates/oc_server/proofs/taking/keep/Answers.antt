@@ -15,6 +15,7 @@ returns-in-Ok-clause-kept g c =
       is_open = t.is_open;
       same = c.take.ensures.same.node;
       goes_on = c.take.ensures.same.goes_on;
+      within = record { lawful = c.requires.input; bytes = c.brings_bytes.ensures };
       fits = t.fits;
       control = t.control.control;
       outcome_is = λ honest.

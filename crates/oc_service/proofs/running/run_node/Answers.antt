@@ -25,4 +25,4 @@ returns-in-Ok-clause-unfailed g c = λ honest files sound asked written.
     let a = c.args.site.sink in
     let b = c.leave.result.sink in
     let sink : (text : List ℕ) → (g.K.Sink.fails a text b × Rose (g.K.Sink.faults a) (g.K.Sink.faults b)) → ⊥ = λ text cut. written cut.1 in
-    unfailed g.D.Disk.view g.L.Link.story g.L.Link.counts (λ text. g.K.Sink.takes a text b) (λ text. g.K.Sink.fails a text b × Rose (g.K.Sink.faults a) (g.K.Sink.faults b)) c.args.config c.args.task (disks_in c.args.site.files) (disks_in c.leave.result.files) c.args.site.link c.leave.result.link honest files sound asked sink (Turned c.run-end.result) (returns-in-Ok-clause-ends g c)
+    unfailed g.D.Disk.view g.L.Link.story g.L.Link.counts g.K.Sink.takes g.K.Sink.fails (λ text. g.K.Sink.takes a text b) (λ text. g.K.Sink.fails a text b × Rose (g.K.Sink.faults a) (g.K.Sink.faults b)) c.args.config c.args.task (disks_in c.args.site.files) (disks_in c.leave.result.files) c.args.site.link c.leave.result.link a b honest files sound asked sink (Turned c.run-end.result) (returns-in-Ok-clause-ends g c)

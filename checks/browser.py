@@ -105,7 +105,7 @@ class Browser:
         return [it["params"]["request"]["url"] for it in self.events if it.get("method") == "Network.requestWillBeSent"]
 
     def picture(self, path, most=2_600, scale=1):
-        """Writes a picture of the page, of at most so many lines, and this much smaller."""
+        """Writes a picture of the page, of at most this many lines, at this scale."""
         size = self.run("[document.documentElement.clientWidth, document.documentElement.scrollHeight]")
         clip = {"x": 0, "y": 0, "width": size[0], "height": min(size[1], most), "scale": scale}
         told = self.call("Page.captureScreenshot", format="png", captureBeyondViewport=True, clip=clip)

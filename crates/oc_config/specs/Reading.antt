@@ -9,10 +9,10 @@ use Rattle.toml.specs.View.{table_view}
 use Rattle.toml.specs.declared.value.Value.{Value as TomlValue}
 use Rattle.oc_base.specs.Steps.{◌>>=◌}
 use Rattle.oc_base.specs.declared.limits.TheConstants.{MAX_CHAIN, MAX_NODES}
-use Rattle.oc_mac.specs.Keys.{key_in}
 use Rattle.oc_updown.specs.MeasureLines as lines
 use Rattle.oc_updown.specs.declared.measure_fault.MeasureFault.{MeasureFault}
 use Rattle.oc_updown.specs.declared.measure_lines.Measure.{Measure}
+use Rattle.oc_policy.specs.Keys.{key_in}
 use Rattle.oc_policy.specs.declared.deciding.TheConstants.{MAX_RULES}
 use Rattle.oc_policy.specs.declared.rule.Rule.{Rule}
 use Rattle.oc_config.specs.AccessRules.{rules_from, rule_tables_in}

@@ -1,7 +1,6 @@
 ghost use Rattle.std.specs.Prelude.{◌≡◌};
 
-use oc_mac::Key;
-use oc_policy::Rule;
+use oc_policy::{Key, Rule};
 use oc_updown::Measure;
 use std::marker::Model;
 

@@ -15,7 +15,7 @@ use crate::section::Section;
 use crate::section_name::Kind;
 use crate::values::{tables, whole};
 use oc_base::{MAX_CHAIN, MAX_NODES};
-use oc_mac::Key as NodeKey;
+use oc_policy::Key as NodeKey;
 use oc_updown::{Measure, read_lines};
 use std::alloc::Global;
 use toml::{Table, Value, table_from_slice};

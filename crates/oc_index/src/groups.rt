@@ -1,12 +1,14 @@
 //! The groups of a node in memory, without a file.
 
-ghost use Rattle.std.specs.Prelude.{◌≡◌, ◌-◌, [], drop, MatchOption, IfOk, OnOk, OnErr};
+ghost use Rattle.std.specs.Prelude.{◌≡◌, IfOk, OnOk, OnErr};
 ghost use Rattle.oc_base.specs.Groups.{IsAscending, group_or_empty, shelf, shelf_of, with_group};
 ghost use Rattle.oc_keep.specs.Puts.{CanKeep};
 ghost use Rattle.oc_model.specs.Step.{grown, kept_at, piece_of};
 
 use oc_base::{Bytes, Group, GroupName, Lookup, Memory, Shelf, look_up};
-use oc_model::{Body, Input};
+use oc_content::past;
+use oc_keep::brought;
+use oc_model::Input;
 use std::alloc::Global;
 
 /// The line of a group: its length and its seal.
@@ -80,22 +82,6 @@ pub(crate) fn keep(
     }
 }
 
-/// The group and the bytes that an input brings, if it is one of those that do.
-fn brought(input: &Input) -> Option<(&GroupName, &[u8])>
-    ensures { MatchOption result (piece_of input.now ≡ record { group = []; bytes = [] })
-        (λ piece. piece_of input.now ≡ record { group = piece.0.now; bytes = piece.1.now }) }
-{
-    match input {
-        Input::Publish { group, bytes } => Some((group, bytes.items())),
-        Input::Seal { group } => Some((group, &[])),
-        Input::Delivered(message) => match &message.body {
-            Body::Chunk { group, bytes, .. } => Some((group, bytes.items())),
-            _ => None,
-        },
-        _ => None,
-    }
-}
-
 /// Puts bytes from an offset of a group on, of which those that it holds are left out, and perhaps closes it.
 #[tactic(auto, using(crate::proofs::GroupLists::put_found, crate::proofs::GroupLists::put_same, crate::proofs::GroupLists::put_free, crate::proofs::GroupLists::found_within, crate::proofs::GroupLists::free_within))]
 fn put(
@@ -137,12 +123,4 @@ fn grow(group: &mut Group, start: u64, bytes: &[u8], closes: bool) -> Result<(),
     group.bytes.append(past(bytes, held.saturating_sub(start)))?;
     group.sealed = group.sealed || closes;
     Ok(())
-}
-
-/// The bytes after the first `held_of_them`, which are held already.
-fn past(bytes: &[u8], held_of_them: u64) -> &[u8]
-    ensures { result.now ≡ drop held_of_them bytes.now }
-{
-    let skip = held_of_them.min(bytes.len() as u64) as usize;
-    &bytes[skip..]
 }

@@ -10,10 +10,10 @@ ghost use Rattle.oc_base.specs.declared.limits.TheConstants.{MAX_BASE_ACKED};
 
 use crate::groups::{copied, keep, lines_of};
 use oc_base::{Bytes, Group, MAX_BASE_ACKED, Memory, NodeId};
-use oc_digest::put_digest;
 use oc_keep::Node;
 use oc_merge::Alone;
 use oc_model::Input;
+use oc_replay::put_digest;
 use std::alloc::Global;
 use std::marker::Model;
 

@@ -13,7 +13,6 @@ use Rattle.oc_base.specs.declared.limits.TheConstants.{MAX_NODES}
 use Rattle.oc_base.specs.Groups.{shelf}
 use Rattle.oc_base.specs.Lawful.{IsNode}
 use Rattle.oc_base.specs.Steps.{◌>>=◌}
-use Rattle.oc_digest.specs.Digests.{digest_text, has_line}
 use Rattle.oc_merge.proofs.Own.{own-append}
 use Rattle.oc_merge.specs.declared.fault.Most.TheVariants as limits
 use Rattle.oc_merge.specs.declared.fault.RecordsFault.{RecordsFault}
@@ -33,6 +32,7 @@ use Rattle.hex.specs.Hex.{encode_lower}
 use Rattle.oc_model.specs.declared.event.Act.TheVariants.{At}
 use Rattle.oc_model.specs.declared.input.Input.{Input}
 use Rattle.oc_model.specs.declared.input.Input.TheVariants as inputs
+use Rattle.oc_replay.specs.Digests.{digest_text, has_line}
 use Rattle.oc_routes.specs.Inputs.{input_line}
 use Rattle.oc_schedule.specs.Acts.{act_words}
 use Rattle.oc_schedule.specs.Lines.{header_words}

@@ -18,7 +18,6 @@ use Rattle.oc_base.specs.Lawful.{IsNode}
 use Rattle.oc_base.specs.Steps.{◌>>=◌}
 use Rattle.oc_base.specs.Words.{words}
 use Rattle.oc_base.specs.declared.shelf.Shelf.{Shelf}
-use Rattle.oc_digest.specs.Digests.{digest_text, files_text, has_line}
 use Rattle.oc_merge.proofs.LastLine.{files_last}
 use Rattle.oc_merge.specs.declared.fault.Cause.TheVariants.{Areas}
 use Rattle.oc_merge.specs.declared.fault.TheConstants.{MAX_RECORD_PUBLISHED}
@@ -30,6 +29,7 @@ use Rattle.oc_merge.specs.Lines.{files_in, files_line, is_digest, is_digit, last
 use Rattle.oc_merge.specs.Reading.{Reading, after_files, after_words, because, read_words, starts}
 use Rattle.oc_merge.specs.Told.{published_by, published_in}
 use Rattle.oc_model.specs.Node.{Durable, Header}
+use Rattle.oc_replay.specs.Digests.{digest_text, files_text, has_line}
 use Rattle.oc_schedule.proofs.ActsBack.{node_back, node_word}
 use Rattle.oc_schedule.proofs.FieldsBack.{decimal_word}
 use Rattle.oc_schedule.proofs.LineBack.{AreWords, is_word, line_back, words_back}

@@ -111,7 +111,7 @@ module _ (h : Header) (s : Setting) (n : Node) (me : s.me ≡ n.control.me) (net
     whole = λ last. lawful_run ds is.next within plain last;
   }
 
-  -- where no deed is behind, no line of one more input was written
+  -- where no deed follows, no line of one more input was written
   whole_run_of : (ds : List Deed) → IsOfThis ds [] → AllByRecursion (IsWithin h.nodes s.me) (inputs_of ds) → ArePlain ds → IsLawfulRunOf h s n ds
   whole_run_of ds is within plain = by_next is.next refl
     where

@@ -1,13 +1,13 @@
 -- A worked example: two runs of two nodes, of which the first was killed within a line.
 use Rattle.std.specs.Prelude.{◌≡◌, ℕ, Some, List, [], ◌∷◌, ◌++◌, map, codes}
 use Rattle.oc_base.specs.Groups.{shelf}
-use Rattle.oc_digest.specs.Digests.{digest_text}
 use Rattle.oc_laws_world.specs.Merges.{Starts, Takes}
 use Rattle.oc_merge.specs.declared.told.Told.TheVariants.{Started, Came, Took}
 use Rattle.oc_model.specs.declared.input.Input.TheVariants.{Delivered, Publish, Tick}
 use Rattle.oc_model.specs.declared.message.Body.TheVariants.{Look}
 use Rattle.oc_model.specs.declared.message.Message.{Message}
 use Rattle.oc_model.specs.Node.{Header, Node, new_node}
+use Rattle.oc_replay.specs.Digests.{digest_text}
 use Rattle.oc_server.specs.Deeds.{note_line}
 use Rattle.oc_server.specs.Recorded.{Taken, Noted, record_text}
 use Rattle.oc_laws_records.specs.Replayed.{entries_there}

@@ -1,13 +1,13 @@
 -- Runs of nodes: what each of them writes as its record, and what the lines of a record tell.
 use Rattle.std.specs.Prelude.{ℕ, ◌==◌, if◌then◌else◌, Some, List, [], ◌∷◌, ◌++◌, map}
 use Rattle.oc_base.specs.Groups.{shelf}
-use Rattle.oc_digest.specs.Digests.{digest_text}
 use Rattle.oc_keep.specs.KeptView.{header_of}
 use Rattle.oc_merge.specs.declared.told.Told.{Told}
 use Rattle.oc_merge.specs.declared.told.Told.TheVariants.{Started, Came, Took}
 use Rattle.oc_model.specs.declared.input.Input.{Input}
 use Rattle.oc_model.specs.declared.input.Input.TheVariants.{Delivered}
 use Rattle.oc_model.specs.Node.{Header, Node}
+use Rattle.oc_replay.specs.Digests.{digest_text}
 use Rattle.oc_server.specs.Recorded.{RecordLine, inputs_in, record_text}
 use Rattle.oc_server.specs.Records.{record_head}
 use Rattle.oc_wire.specs.Spelling.{spelling}

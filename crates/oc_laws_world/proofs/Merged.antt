@@ -113,7 +113,7 @@ started_on h ls w x is k = record {
   net = sym (append-nil w.net);
 }
 
--- the same behind a crash
+-- the same after a crash
 restarted_on : (h : Header) (ls : List Line) (w : World) (x : ℕ) → IsNode h.nodes x → IsWorldOf h ls w → GoesOn h ls (line x Starts) w (again (again w x false) x true)
 restarted_on h ls w x is k = record {
   ids_stay = ids-with_process off.processes (anew off x true) ∙ off_ids;
@@ -129,7 +129,7 @@ restarted_on h ls w x is k = record {
   off_ids : ids off ≡ ids w
   off_ids = ids-with_process w.processes (anew w x false)
 
--- a start of a node that is down, and one behind a crash of a node that is up
+-- a start of a node that is down, and one after a crash of a node that is up
 start_down : (w : World) (x : ℕ) → is_up w x ≡ false → world_after w (Up x ∷ []) ≡ again w x true
 start_down w x off = rw off refl
 

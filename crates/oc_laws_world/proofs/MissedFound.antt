@@ -1,4 +1,4 @@
--- An input that was missed is found, or it makes no difference to the start behind it.
+-- An input that was missed is found, or it makes no difference to the start after it.
 use Rattle.std.proofs.Common.{◌≡◌, ℕ, ◌+◌, ◌-◌, Bool, true, false, Option, Some, None, List, [], ◌∷◌, ◌++◌, length, drop, Ordering, Less, Equal, Greater, nat_cmp, is_eq, refl, ap, sym, subst, ◌∙◌, arith, length-append, append-nil}
 use Rattle.std.specs.Cmp.Lexicographic.{slice_cmp}
 use Rattle.oc_base.specs.declared.group.Group.{Group}
@@ -73,7 +73,7 @@ restart_same : (a b : Node) → a.control.me ≡ b.control.me → a.control.node
     → a.control.areas ≡ b.control.areas → a.control.kept ≡ b.control.kept → a.groups ≡ b.groups → restarted a ≡ restarted b
 restart_same a b me nodes chain chunk areas kept groups = rw (me, nodes, chain, chunk, areas, kept, groups) refl
 
--- what a start finds behind an input that left the files is what it found before
+-- what a start finds after an input that left the files is what it found before
 pub start_still : (n : Node) (i : Input) → HaveSameFiles n (step n i).node → restarted (step n i).node ≡ restarted n
 start_still n i files =
     let same : IsSame n.control (step n i).node.control = (writes n.control (shelf n.groups) i).same in
@@ -96,7 +96,7 @@ module _ (digest : Node → List ℕ) where
   abbrev Folds : Node → List Deed → Type 0
   Folds n ds = after_entries n (without_missed digest n (record_of digest n (to_start ds))) ≡ after_deeds n (to_start ds)
 
-  -- an input that was missed, and the start behind it with all that follows
+  -- an input that was missed, and the start after it with all that follows
   missed_folds : (n : Node) (i : Input) (ts : List Told) → IsToldApart digest n i
       → after_entries n (without_missed digest n (Tells i ∷ Finds (digest n) ∷ ts)) ≡ after_entries n (without_missed digest n (Finds (digest n) ∷ ts))
   missed_folds n i ts apart = by_test (same_name (digest n) (digest (step n i).node)) refl where

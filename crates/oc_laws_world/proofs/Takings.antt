@@ -48,7 +48,7 @@ follow_wider : (h : Header) (a b : List Line) (x : ℕ) (e : Entry) → HaveAll 
 follow_wider h a b x Starts wider same can = tt
 follow_wider h a b x (Takes i) wider same can = (ap is_any (sym same) ∙ can.0, come_wider h a b x i wider can.1)
 
--- what can be taken behind fewer lines can be taken behind more, if none of them is of its node
+-- what can be taken after fewer lines can be taken after more, if none of them is of its node
 take_wider : (r : Records) (a b : List Line) (x : ℕ) (e : Entry) → HaveAll a b → entries_of x a ≡ entries_of x b → CanBeTaken r a x e → CanBeTaken r b x e
 take_wider r a b x e wider same can = (
   can.0,
@@ -94,7 +94,7 @@ taken_within r past (l ∷ ls) within taken x =
 -- The most
 
 module _ (r : Records) (most : List Line) (within : (x : ℕ) → IsBeginning (entries_of x most) (entries_of x r.lines)) (full : IsFull r most) where
-  -- a line that can be taken behind less than the most is next in it
+  -- a line that can be taken after less than the most is next in it
   next_in_most : (past : List Line) (l : Line) → HaveAll past most → CanBeTaken r past l.node l.entry → (rest : List Entry) × (entries_of l.node most ≡ entries_of l.node past ++ l.entry ∷ rest)
   next_in_most past l below can = by_rest (below l.node).0 (below l.node).1 where
     own : List Entry
@@ -115,7 +115,7 @@ module _ (r : Records) (most : List Line) (within : (x : ℕ) → IsBeginning (e
       subst (λ (ms : List Line). IsBeginning (entries_of x ms) (entries_of x most)) (append_assoc past (l ∷ []) ls)
       (takes_most (past ++ l ∷ []) ls (line_within past l (λ y. entries_of y most) below next.0 next.1) taken.1 x)
 
--- a taking behind which nothing can be taken has all that any other has
+-- a taking after which nothing can be taken has all that any other has
 pub full_most : (r : Records) (most other : List Line) → AreTaken r [] most → IsFull r most → AreTaken r [] other → (x : ℕ) → IsBeginning (entries_of x other) (entries_of x most)
 full_most r most other taken full tried = takes_most r most (taken_within r [] most (λ x. (entries_of x r.lines, refl)) taken) full [] other (λ x. (entries_of x most, refl)) tried
 
@@ -139,7 +139,7 @@ first_one r taken i j k l one other =
           let here : Some k ≡ Some l = sym one.can.0 ∙ (ap (slice_get r.lines) e ∙ other.can.0) in
           cc
 
--- so two such takings behind which nothing can be taken are one
+-- so two such takings after which nothing can be taken are one
 pub order_one : (r : Records) (past a b : List Line) → AreInOrder r past a → IsFull r (past ++ a) → AreInOrder r past b → IsFull r (past ++ b) → a ≡ b
 order_one r past [] [] first full_a second full_b = refl
 order_one r past [] (l ∷ ls) first full_a second full_b = absurd (full_a l.node l.entry (subst (λ (ms : List Line). CanBeTaken r ms l.node l.entry) (sym (append-nil past)) second.0.1.can.2))

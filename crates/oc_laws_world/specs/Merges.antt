@@ -70,17 +70,17 @@ HasStarted ls x = is_any (entries_of x ls) ≡ true
 abbrev pub WasSent : Header → List Line → Message → Type 0
 WasSent h ls m = (x : ℕ) × IsNode h.nodes x × IsAmong m (sent_by_all (new_node h x) (entries_of x ls))
 
--- an input can come to x behind these lines: a message was sent to it before
+-- an input can come to x after these lines: a message was sent to it before
 abbrev pub CanCome : Header → List Line → ℕ → Input → Type 0
 CanCome h ls x (Delivered m) = (m.to ≡ x) × WasSent h ls m
 CanCome h ls x i = Unit {0}
 
--- an entry of x can stand behind these lines: a start always, an input once x has started and it can come
+-- an entry of x can come after these lines: a start always, an input once x has started and it can come
 abbrev pub CanFollow : Header → List Line → ℕ → Entry → Type 0
 CanFollow h ls x Starts = Unit {0}
 CanFollow h ls x (Takes i) = HasStarted ls x × CanCome h ls x i
 
--- each of these lines is one of a node, and can stand behind those before it and the lines `past`
+-- each of these lines is one of a node, and can come after those before it and the lines `past`
 abbrev pub GoOn : Header → List Line → List Line → Type 0
 GoOn h past [] = Unit {0}
 GoOn h past (l ∷ ls) = IsNode h.nodes l.node × CanFollow h past l.node l.entry × GoOn h (past ++ l ∷ []) ls

@@ -38,7 +38,7 @@ abbrev pub record_of : (Node → List ℕ) → Node → List Deed → List Told
 record_of digest n [] = []
 record_of digest n (d ∷ ds) = told_of digest n d ∷ record_of digest (after_deed n d) ds
 
--- whether an input was missed: the start behind it found the files without it, and not those with it
+-- whether an input was missed: the start after it found the files without it, and not those with it
 abbrev pub is_missed : (Node → List ℕ) → Node → Input → List Told → Bool
 is_missed digest n i (Finds d ∷ ts) = not (same_name d (digest (step n i).node)) && same_name d (digest n)
 is_missed digest n i ts = false

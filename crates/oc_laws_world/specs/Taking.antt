@@ -5,22 +5,22 @@ use Rattle.oc_laws_world.specs.Merges.{Entry, Line, entries_of, CanFollow}
 
 -- Which lines of some records a merge takes.
 
--- the records of all nodes, one behind the other, and a test of an entry of a node by its own entries before it, such as whether a start
+-- the records of all nodes, one after another, and a test of an entry of a node by its own entries before it, such as whether a start
 -- finds the files of which the record tells
 pub record Records : Type 0 where
   pub header : Header
   pub lines : List Line
   pub fits : ℕ → List Entry → Entry → Bool
 
--- an entry is next in the record of x, behind those that were taken
+-- an entry is next in the record of x, after those that were taken
 abbrev pub IsNext : Records → List Line → ℕ → Entry → Type 0
 IsNext r taken x e = (rest : List Entry) × (entries_of x r.lines ≡ entries_of x taken ++ e ∷ rest)
 
--- it is next, it fits, and it can stand behind what was taken
+-- it is next, it fits, and it can come after what was taken
 abbrev pub CanBeTaken : Records → List Line → ℕ → Entry → Type 0
 CanBeTaken r taken x e = IsNode r.header.nodes x × IsNext r taken x e × (r.fits x (entries_of x taken) e ≡ true) × CanFollow r.header taken x e
 
--- each of these lines can be taken behind those before it and the lines `past`
+-- each of these lines can be taken after those before it and the lines `past`
 abbrev pub AreTaken : Records → List Line → List Line → Type 0
 AreTaken r past [] = Unit {0}
 AreTaken r past (l ∷ ls) = CanBeTaken r past l.node l.entry × AreTaken r (past ++ l ∷ []) ls

@@ -18,7 +18,7 @@ use std::alloc::Global;
 /// Where a merge is in the record of a node.
 #[derive(Clone, Copy, Debug)]
 pub(crate) struct Head {
-    /// The place of its next line, or behind all lines where there is none.
+    /// The place of its next line, or after all lines where there is none.
     pub place: usize,
     /// Whether a line of it was taken.
     pub started: bool,

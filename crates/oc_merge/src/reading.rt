@@ -1,4 +1,4 @@
-//! How each line is read, behind those before it.
+//! How each line is read, after those before it.
 
 ghost use Rattle.std.specs.Prelude.{◌≡◌, ◌≤◌, ◌∷◌, Ok, Some, OnOk, IfOk, length};
 ghost use Rattle.oc_base.specs.Words.{words};
@@ -166,7 +166,7 @@ impl Reader {
         }
     }
 
-    /// What the whole text tells, where the line behind the last has this number.
+    /// What the whole text tells, where the line after the last has this number.
     pub fn into_records(self, number: u32) -> Result<Records, RecordsFault>
         ensures { Gives result (records_at_end number (reading_of self).header (reading_of self).lines) }
     {
@@ -216,7 +216,7 @@ impl Reader {
         }
     }
 
-    /// A comment, which may tell the files of the start behind which it stands.
+    /// A comment, which may tell the files of the start that it follows.
     fn with_comment(self, alloc: Global, line: &[u8]) -> Result<Reader, RecordsFault>
         ensures { GivesBy reading_of result (Ok (after_comment (reading_of self).place (reading_of self) line.now)) }
     {
@@ -303,7 +303,7 @@ impl Reader {
         })
     }
 
-    /// A line behind a header.
+    /// A line after a header.
     fn with_opening(
         self,
         alloc: Global,
@@ -379,7 +379,7 @@ impl Reader {
         }
     }
 
-    /// The areas behind the last header are those of the network.
+    /// The areas after the last header are those of the network.
     fn with_areas(self, alloc: Global) -> Result<Reader, RecordsFault>
         ensures { GivesBy reading_of result (Ok (begun (reading_of self))) }
     {

@@ -73,7 +73,7 @@ FailedParent = told (header 5 1 (0 ∷ 0 ∷ 0 ∷ 0 ∷ 0 ∷ [])) failing 28 4
   shown = root_shown (rank 2 0) (dead 2 1 1 ∷ alive 3 2 1 ∷ alive 4 2 1 ∷ alive 5 2 1 ∷ []) (line 3 1 ∷ line 4 1 ∷ line 5 1 ∷ []) ∷ [];
 }
 
--- A certificate that waits goes up two seconds behind the last check-in, and not before.
+-- A certificate that waits goes up two seconds after the last check-in, and not before.
 
 abbrev telling : List Event
 telling =

@@ -4,3 +4,6 @@ pub mod Tokens
 pub mod Within
 pub mod Coverings
 pub mod Firsts
+mod Comparing
+mod Digits
+mod Spelled

@@ -5,3 +5,5 @@ pub mod Tokens
 pub mod Rules
 pub mod Covering
 pub mod Listing
+pub mod Hmac
+pub mod Keys

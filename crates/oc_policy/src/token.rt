@@ -2,8 +2,8 @@ ghost use Rattle.std.specs.Prelude.{◌≡◌, ◌≤◌, length, not, position,
 ghost use Rattle.oc_policy.specs.Tokens.{is_shown, is_token_byte, parsed_token, token_fault};
 ghost use Rattle.oc_policy.specs.declared.token.TheConstants.{MAX_TOKEN_BYTES};
 
+use crate::same::are_same;
 use oc_base::put_in_front;
-use oc_mac::are_same;
 use std::fmt;
 use std::marker::Model;
 

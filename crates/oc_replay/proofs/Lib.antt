@@ -6,3 +6,4 @@ pub mod Runs
 pub mod Written
 pub mod Shown
 pub mod Running
+pub mod Snapshots

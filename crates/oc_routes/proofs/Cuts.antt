@@ -1,4 +1,4 @@
--- The verdict on bytes with more behind them.
+-- The verdict on bytes with more after them.
 use Rattle.std.proofs.Common.{◌≡◌, ℕ, ◌+◌, ◌-◌, ◌≤◌, Bool, true, false, None, Result, Ok, Err, List, ◌++◌, length, take, refl, sym, ap, ◌∙◌, arith, length-append}
 use Rattle.std.specs.Prelude.{not, ◌&&◌, nat_lt, if◌then◌else◌}
 use Rattle.std.proofs.lemmas.Bool.{ltb-false, le-ltb, false≢true}
@@ -30,7 +30,7 @@ one_verdict t a bytes v w x y =
     ∙ ap (λ (answer : Result Head HttpFault). verdict_for t a bytes y.rest answer) (same.0)
     ∙ sym y.verdict
 
--- a front with more behind it
+-- a front with more after it
 front_more : (left bytes rest more : List ℕ) → left ≡ bytes ++ rest → left ++ more ≡ bytes ++ (rest ++ more)
 front_more left bytes rest more e = ap (λ (x : List ℕ). x ++ more) e ∙ append_assoc bytes rest more
 
@@ -103,7 +103,7 @@ not_ended : (t : NodeTerms) (c number : ℕ) (permitted : Bool) (bytes rest : Li
 not_ended t c number permitted bytes rest answer v is decided ended =
     decided (is ∙ ap (λ (x : Result Head HttpFault). verdict_for t (arrival c number permitted comings.Open) bytes rest x) ended)
 
--- what is said of bytes behind which more may come, and is not to wait, is said with more bytes too
+-- what is said of bytes after which more may come, and is not to wait, is said with more bytes too
 pub verdict_stays : (t : NodeTerms) (c number : ℕ) (permitted : Bool) (coming : Coming) (bytes more : List ℕ) (v : Verdict)
     → IsVerdict t (arrival c number permitted comings.Open) bytes v → (v ≡ Wait → ⊥) → IsVerdict t (arrival c number permitted coming) (bytes ++ more) v
 verdict_stays t c number permitted coming bytes more v x decided = record {

@@ -15,3 +15,7 @@ pub mod Sent
 pub mod SparedReplies
 pub mod Unread
 pub mod WaitLaws
+mod Marks
+mod PlainNames
+mod Counting
+mod Texts

@@ -10,9 +10,9 @@ use Rattle.oc_http.specs.Answers.{AnswersRequest}
 use Rattle.oc_http.specs.declared.fault.HttpFault.{HttpFault}
 use Rattle.oc_http.specs.declared.fault.HttpFault.TheVariants as http
 use Rattle.oc_http.specs.declared.head.Head.{Head}
-use Rattle.oc_mac.specs.Keys.{mac_digits}
 use Rattle.oc_model.specs.declared.input.Input.{Input}
 use Rattle.oc_model.specs.declared.input.Input.TheVariants as inputs
+use Rattle.oc_policy.specs.Keys.{mac_digits}
 use Rattle.oc_routes.specs.Connections.{awaits_continue, is_last}
 use Rattle.oc_routes.specs.Routes.{input_asked}
 use Rattle.oc_routes.specs.declared.fault.RouteFault.{RouteFault}

@@ -37,7 +37,7 @@ drop_twice zero b bytes = let more : b ≡ 0 + b = omega arith in ap (λ (n : �
 drop_twice (suc a) b [] = drop_none b ∙ sym (drop_none (suc a + b))
 drop_twice (suc a) b (x ∷ bytes) = let more : suc (a + b) ≡ suc a + b = omega arith in drop_twice a b bytes ∙ ap (λ (n : ℕ). drop n (x ∷ bytes)) more
 
--- some bytes of a group, and those behind them
+-- some bytes of a group, and those after them
 part_split : (g : List ℕ) (at w left : ℕ) (ks : List Group) → w ≤ left → part_of g at left ks ≡ part_of g at w ks ++ part_of g (at + w) (left - w) ks
 part_split g at w left ks few =
     take_split w left (drop at (bytes_of g ks)) few
@@ -53,7 +53,7 @@ last_piece : (chunked : Bool) (bytes piece : List ℕ) → bytes ≡ piece → c
 last_piece true bytes piece is = ap (λ (x : List ℕ). coded true x) is ∙ sym (append-nil (chunks piece ++ end_written))
 last_piece false bytes piece is = is ∙ sym (append-nil piece) ∙ sym (append-nil (piece ++ []))
 
--- a piece of whole chunks, and what is behind it
+-- a piece of whole chunks, and what is after it
 next_piece : (chunked : Bool) (bytes piece rest : List ℕ) → bytes ≡ piece ++ rest → length piece ≡ 64 * 4096 → coded chunked bytes ≡ (pieces chunked piece ++ ending chunked false) ++ coded chunked rest
 next_piece true bytes piece rest is long =
     ap (λ (x : List ℕ). chunks x ++ end_written) is
@@ -62,7 +62,7 @@ next_piece true bytes piece rest is long =
     ∙ ap (λ (x : List ℕ). x ++ (chunks rest ++ end_written)) (sym (append-nil (chunks piece)))
 next_piece false bytes piece rest is long = is ∙ ap (λ (x : List ℕ). x ++ rest) (sym (append-nil piece))
 
--- what is owed is the text of the next piece and what is owed behind it
+-- what is owed is the text of the next piece and what is owed after it
 pub piece_owed : (u : UnderWay) (ks : List Group) → IsThere u ks → owed_of u ks ≡ piece_text u (piece_of u ks) ++ owed (behind u (length (piece_of u ks))) ks
 piece_owed u ks fits = by_test (leb_tells u.end (u.at + length piece))
   where
@@ -147,7 +147,7 @@ split_grown u now later more grown =
     (part_grown u.group u.at (length (piece_of u now)) now later more held grown ∙ take_own (min PIECE_BYTES (u.end - u.at)) (drop u.at (bytes_of u.group now)))
     ∙ ap (λ (m : ℕ). piece_of u now ++ part_of u.group (u.at + length (piece_of u now)) m later) left
 
--- a plain piece, and what is behind it
+-- a plain piece, and what is after it
 plain_piece : (chunked : Bool) (bytes piece rest : List ℕ) → chunked ≡ false → bytes ≡ piece ++ rest → coded chunked bytes ≡ (pieces chunked piece ++ ending chunked false) ++ coded chunked rest
 plain_piece true bytes piece rest plain is = absurd (false≢true (sym plain))
 plain_piece false bytes piece rest plain is = is ∙ ap (λ (x : List ℕ). x ++ rest) (sym (append-nil piece))
@@ -175,7 +175,7 @@ chunked_owed u now later more there grown =
     piece_owed u later (omega (arith, there, long))
     ∙ ap (λ (x : List ℕ). piece_text u x ++ owed (behind u (length x)) later) same
 
--- whatever the group becomes, what is owed of it is the piece of now and what is owed behind that
+-- whatever the group becomes, what is owed of it is the piece of now and what is owed after that
 pub owed_then : (u : UnderWay) (now later : List Group) (more : List ℕ) → (u.chunked ≡ true → IsThere u now) → bytes_of u.group later ≡ bytes_of u.group now ++ more
     → owed_of u later ≡ piece_text u (piece_of u now) ++ owed (behind u (length (piece_of u now))) later
 owed_then u now later more there grown = by_coding u.chunked refl

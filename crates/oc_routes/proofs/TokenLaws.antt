@@ -15,7 +15,7 @@ use Rattle.oc_routes.specs.declared.routes.Operation.{Operation}
 use Rattle.oc_routes.specs.declared.routes.Resource.{Resource}
 use Rattle.oc_routes.specs.declared.routes.Resource.TheVariants.{Messages, Probe, Report, Group}
 
--- behind the same step, what is alike stays alike
+-- after the same step, what is alike stays alike
 alike_then : {A : Type 0} (r : Result A Refused) (f g : A → Result Operation Refused) → ((x : A) → AreAlike (f x) (g x)) → AreAlike (r >>= f) (r >>= g)
 alike_then (Ok x) f g h = h x
 alike_then (Err why) f g h = inl refl

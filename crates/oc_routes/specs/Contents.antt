@@ -42,11 +42,11 @@ owed (Some u) groups = owed_of u groups
 abbrev pub piece_of : UnderWay → List Group → List ℕ
 piece_of u groups = part_of u.group u.at (min PIECE_BYTES (u.end - u.at)) groups
 
--- nothing of it is left behind `count` bytes more
+-- nothing of it is left after `count` bytes more
 abbrev pub is_last : UnderWay → ℕ → Bool
 is_last u count = nat_le u.end (u.at + count)
 
--- what is under way behind `count` bytes more
+-- what is under way after `count` bytes more
 abbrev pub behind : UnderWay → ℕ → Option UnderWay
 behind u count = if is_last u count then None else Some (record u { at = u.at + count })
 

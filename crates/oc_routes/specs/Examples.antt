@@ -4,12 +4,12 @@ use Rattle.oc_http.specs.declared.framing.Persistence.TheVariants.{Close, Keep}
 use Rattle.oc_http.specs.declared.head.Head.{Head}
 use Rattle.oc_http.specs.declared.head.Method.{Method}
 use Rattle.oc_http.specs.declared.head.Method.TheVariants as methods
-use Rattle.oc_mac.specs.Keys.{mac_digits}
 use Rattle.oc_model.specs.declared.answer.Answer.{Answer}
 use Rattle.oc_model.specs.declared.answer.Answer.TheVariants as answers
 use Rattle.oc_model.specs.declared.input.Input.TheVariants as inputs
 use Rattle.oc_model.specs.declared.message.Body.TheVariants as bodies
 use Rattle.oc_model.specs.declared.message.Message.{Message}
+use Rattle.oc_policy.specs.Keys.{mac_digits}
 use Rattle.oc_policy.specs.declared.rule.Action.TheVariants.{Get, Post}
 use Rattle.oc_policy.specs.declared.rule.Rule.{Rule}
 use Rattle.oc_wire.specs.Spelling.{spelling}

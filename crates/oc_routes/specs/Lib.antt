@@ -15,6 +15,13 @@ pub mod Contents
 pub mod ReplyExamples
 pub mod Hints
 pub mod Macs
+pub mod Json
+pub mod Rows
+pub mod Status
+pub mod Metrics
+pub mod PlainNames
+pub mod Page
+pub mod StatusExamples
 pub mod Reports
 pub mod Shown
 pub mod Stillness

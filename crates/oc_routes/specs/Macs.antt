@@ -2,7 +2,7 @@
 use Rattle.std.specs.Prelude.{◌≡◌, ℕ, Bool, false, not, Option, Some, List, ◌++◌, take}
 use Rattle.oc_http.specs.Taking.{SaysRequest}
 use Rattle.oc_http.specs.declared.head.Head.{Head}
-use Rattle.oc_mac.specs.Keys.{mac_digits}
+use Rattle.oc_policy.specs.Keys.{mac_digits}
 use Rattle.oc_routes.specs.declared.routes.Operation.{Operation}
 use Rattle.oc_routes.specs.declared.routes.Operation.TheVariants as asks
 use Rattle.oc_wire.specs.Macs.{is_authentic}
@@ -12,7 +12,7 @@ abbrev pub is_forged : Option (List ℕ) → Operation → Option (List ℕ) →
 is_forged key asks.Message mac body = not (is_authentic key mac body)
 is_forged key other mac body = false
 
--- the bytes are a head and a body, with more behind them or nothing, and the head has the MAC of the body under this key
+-- the bytes are a head and a body, with more after them or nothing, and the head has the MAC of the body under this key
 pub record HaveMac (key bytes : List ℕ) : Type 0 where
   pub front : List ℕ
   pub rest : List ℕ

@@ -47,7 +47,7 @@ head method path query length = record { method = method; path = path; query = q
 abbrev open_terms : NodeTerms
 open_terms = terms_of 1 3 [] None
 
--- to node 1 a request came, with a head of 40 bytes, and these behind it
+-- to node 1 a request came, with a head of 40 bytes, and these after it
 abbrev came_open : Head → List ℕ → ℕ → Verdict → Type 0
 came_open head rest came verdict = asked_behind open_terms (arrival 7 1 false comings.Open) came head rest ≡ verdict
 

@@ -2,13 +2,13 @@
 use Rattle.std.specs.Prelude.{ℕ, List, []}
 use Rattle.oc_base.specs.declared.shelf.Shelf.{Shelf}
 use Rattle.oc_model.specs.Node.{Control}
+use Rattle.oc_routes.specs.Metrics.{metrics_text}
+use Rattle.oc_routes.specs.Page.{page_text}
+use Rattle.oc_routes.specs.Status.{status_text}
 use Rattle.oc_routes.specs.declared.report.Report.{Report}
 use Rattle.oc_routes.specs.declared.report.Report.TheVariants as reports
 use Rattle.oc_routes.specs.declared.routes.Operation.{Operation}
 use Rattle.oc_routes.specs.declared.routes.Operation.TheVariants as asks
-use Rattle.oc_status.specs.Metrics.{metrics_text}
-use Rattle.oc_status.specs.Page.{page_text}
-use Rattle.oc_status.specs.Status.{status_text}
 
 -- a node with this shelf, whose outbox has this many messages
 abbrev pub report_text : Report → Control → List Shelf → ℕ → List ℕ

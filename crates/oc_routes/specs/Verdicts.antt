@@ -70,7 +70,7 @@ whole t head request body =
     if is_forged t.key request.operation head.mac body then Refuse refusals.Mac
     else answered request (input_asked t.nodes t.me request.operation body)
 
--- a head that asks this, with what came behind it of the bytes that came
+-- a head that asks this, with what came after it of the bytes that came
 abbrev pub with_body : NodeTerms → Arrival → ℕ → Head → List ℕ → Asked → Verdict
 with_body t a came head rest said =
     if awaits_continue head && not a.permitted then Permit
@@ -87,7 +87,7 @@ abbrev pub routed : NodeTerms → Arrival → ℕ → Head → List ℕ → Resu
 routed t a came head rest (Ok said) = with_body t a came head rest said
 routed t a came head rest (Err why) = Refuse why
 
--- a whole head, with what came behind it
+-- a whole head, with what came after it
 abbrev pub asked_behind : NodeTerms → Arrival → ℕ → Head → List ℕ → Verdict
 asked_behind t a came head rest = routed t a came head rest (asked_with_hint head t.rules)
 

@@ -33,14 +33,14 @@ impl UnderWay {
         }
     }
 
-    /// Whether nothing of it is left behind `count` bytes more.
+    /// Whether nothing of it is left after `count` bytes more.
     pub fn is_last(&self, count: usize) -> bool
         ensures { result ≡ is_last self.now count }
     {
         self.end <= self.at.saturating_add(count as u64)
     }
 
-    /// What is under way behind `count` bytes more; `None` where all of it was given.
+    /// What is under way after `count` bytes more; `None` where all of it was given.
     pub fn behind(self, count: usize) -> Option<UnderWay>
         ensures { result ≡ behind self count }
     {

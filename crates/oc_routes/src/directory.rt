@@ -1,4 +1,4 @@
-use oc_mac::Key;
+use oc_policy::Key;
 
 /// What the replies of a node depend on of its network.
 #[derive(Clone, Copy, Drop)]

@@ -59,7 +59,7 @@ fn fault_met(fault: HttpFault) -> Option<RouteFault>
     }
 }
 
-/// The verdict behind a whole head, with the bytes that came behind it.
+/// The verdict after a whole head, with the bytes that came after it.
 fn behind_head(
     alloc: Global,
     terms: &Terms<'_>,

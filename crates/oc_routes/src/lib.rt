@@ -1,5 +1,6 @@
-//! What the bytes of a connection ask of a running node, what that gives the node, and what it is answered, piece by
-//! piece. No link, disk or clock is in it: functions over values.
+//! Requests and replies of a running node, and what a node tells of itself: what the bytes of a connection ask of it,
+//! what that gives the node, and what it is answered, piece by piece. No link, disk or clock is in it: functions over
+//! values.
 //!
 //! `src/routes.rt` and `specs/Routes` are the table of routes: which operation a head asks for under the
 //! access rules (`asked`), with its faults in their order, and which input results from it and the body
@@ -29,22 +30,36 @@
 //! request is answered for the answer of its step: a message by the one that goes back, a client by what it tells, one who
 //! asks what the node tells of itself by that ([`report_of`]).
 //!
+//! What a node tells of itself, to those who look after it, is `/!status` as JSON, `/!metrics` in the text format of
+//! Prometheus, and the page `/!` that draws the first. [`status`] is `status_text` of the node's control state and its
+//! shelf, and [`metrics`] is `metrics_text` of these and of the number of messages in the outbox. The two definitions
+//! (`specs/Status`, `specs/Metrics`) are the formats: who reads them needs nothing else. No byte of a group's name has
+//! to be escaped in either ([`names_are_plain`]), and the worked examples compute ([`examples_are_told`]). [`page`] is a
+//! text of this crate and nothing more: no contract speaks of what it draws.
+//!
 //! In a network with a key a message is read only from a body whose MAC came with it ([`a_message_has_its_mac`]).
 #![tactic(auto)]
 
 mod addresses;
+mod arrays;
 mod condition;
 mod connections;
 mod content;
+mod counts;
 mod directory;
 mod fault;
+mod gauges;
 mod hint;
 mod holding;
+mod html;
+mod json;
 mod judging;
 mod law;
+mod leased;
 mod lines;
 mod macs;
 mod manner;
+mod objects;
 mod query;
 mod refusals;
 mod refused;
@@ -56,9 +71,12 @@ mod response;
 mod responses;
 mod rest;
 mod routes;
+mod rows;
 mod seen;
 mod showing;
+mod status_law;
 mod step_outcome;
+mod telling;
 mod terms;
 mod verdict;
 mod waiting;
@@ -69,8 +87,10 @@ pub use connections::{CONTINUE, MAX_REQUESTS, awaits_continue, is_last};
 pub use content::{PIECE_BYTES, UnderWay};
 pub use directory::Directory;
 pub use fault::RouteFault;
+pub use gauges::metrics;
 pub use hint::{Asked, Hint, route_with_hint};
 pub use holding::Holding;
+pub use html::page;
 pub use judging::judge;
 pub use law::{a_token_tells_nothing, examples_compute, steps_answer_by_the_table};
 pub use lines::{put_input_line, put_refusal_line};
@@ -92,7 +112,9 @@ pub use responses::{Answered, respond};
 pub use routes::{Operation, input_of, route};
 pub use seen::Seen;
 pub use showing::{Shown, as_shown, respond_to};
+pub use status_law::{examples_are_told, names_are_plain};
 pub use step_outcome::StepOutcome;
+pub use telling::status;
 pub use terms::Terms;
 pub use verdict::{Request, Verdict};
 pub use waiting::{FOLLOW_MILLIS, Follower, IDLE_MILLIS, Prospect, is_to_wait, millis_left};

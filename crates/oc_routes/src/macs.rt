@@ -5,7 +5,7 @@ ghost use Rattle.oc_routes.specs.Macs.{is_forged};
 
 use crate::Operation;
 use oc_base::Text;
-use oc_mac::Key;
+use oc_policy::Key;
 use oc_wire::is_authentic;
 
 /// Whether it is asked to take a message whose body does not come with its MAC, where there is a key. `mac` is what the

@@ -1,13 +1,15 @@
 //! What a node tells of itself, as it is asked.
 
 ghost use Rattle.std.specs.Prelude.{◌≡◌, IfOk};
+ghost use Rattle.oc_routes.specs.Page.{page_text};
 ghost use Rattle.oc_routes.specs.Reports.{report_of, report_text};
-ghost use Rattle.oc_status.specs.Page.{page_text};
 
+use crate::gauges::metrics;
+use crate::html::page;
 use crate::seen::Seen;
+use crate::telling::status;
 use crate::{Operation, Report};
 use oc_base::{Memory, put};
-use oc_status::{metrics, page, status};
 use std::alloc::Global;
 
 /// What a node tells of itself where that is asked, and else nothing.

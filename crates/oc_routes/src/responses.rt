@@ -19,8 +19,8 @@ use oc_base::{Bytes, GroupName, Memory, NodeId, Text, put};
 use oc_http::{
     ContentType, Framing, Persistence, Reply, write_reply_head, write_response, write_response_head,
 };
-use oc_mac::Key;
 use oc_model::{Answer, Message};
+use oc_policy::Key;
 use oc_probe::PROBE_BYTES;
 use oc_updown::{follow_location, location};
 use oc_wire::{encode, length_with_chunk, mac_for, put_message};

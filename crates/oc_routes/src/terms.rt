@@ -1,6 +1,5 @@
 use oc_base::NodeId;
-use oc_mac::Key;
-use oc_policy::Rule;
+use oc_policy::{Key, Rule};
 
 /// By what a node reads requests.
 #[derive(Clone, Copy, Drop)]

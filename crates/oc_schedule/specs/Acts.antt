@@ -142,7 +142,7 @@ input_word (Seal group) = codes "seal"
 input_word (Client area start group) = codes "client"
 input_word (Delivered message) = codes "recv"
 
--- its fields behind the node
+-- its fields after the node
 abbrev pub input_fields : Input → List (List ℕ)
 input_fields (Tick now) = decimal now ∷ []
 input_fields CheckNow = []

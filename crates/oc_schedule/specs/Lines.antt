@@ -19,7 +19,7 @@ sizes_in n c chunk = do
   chain ← number_in 1 (min MAX_CHAIN nodes) c
   Ok (record { nodes = nodes; chain = chain; chunk = chunk })
 
--- the field behind this word, with which the fields begin, and the rest of them
+-- the field after this word, with which the fields begin, and the rest of them
 abbrev pub named_in : List ℕ → List (List ℕ) → Result (List ℕ × List (List ℕ)) Why
 named_in name (word ∷ field ∷ rest) = if bytes_eq word name then Ok (field, rest) else Err causes.Word
 named_in name fields = Err causes.Count

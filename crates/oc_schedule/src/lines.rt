@@ -37,7 +37,7 @@ pub struct Sizes {
     pub chunk: u32,
 }
 
-/// `overcast 1 nodes N chain C`, and behind it perhaps `chunk B`: the numbers of the network.
+/// `overcast 1 nodes N chain C`, and after it perhaps `chunk B`: the numbers of the network.
 pub fn opening(line: &[u8]) -> Result<Sizes, Why>
     ensures { result ≡ opening_in (words line.now) }
 {
@@ -52,7 +52,7 @@ pub fn opening(line: &[u8]) -> Result<Sizes, Why>
     }
 }
 
-/// The field behind this word, with which a line begins, and what follows both.
+/// The field after this word, with which a line begins, and what follows both.
 fn named<'a>(line: &'a [u8], name: &str) -> Result<(&'a [u8], &'a [u8]), Why>
     ensures { GivesFields (λ f. (f.0.now, words f.1.now)) result (named_in name.now (words line.now)) }
 {

@@ -6,7 +6,7 @@ use Rattle.std.specs.Str.{bytes_eq}
 use Rattle.std.proofs.lemmas.List.Sums.{list_all-from_AllPass}
 use Rattle.std.proofs.lemmas.Slice.Eq.{bytes_eq-Decides}
 use Rattle.oc_http.specs.Writing.{IsMac, is_mac_digit}
-use Rattle.oc_mac.specs.Keys.{mac_digits, AreLowerDigits}
+use Rattle.oc_policy.specs.Keys.{mac_digits, AreLowerDigits}
 use Rattle.oc_wire.specs.Macs.{mac_for}
 
 -- the MAC of a body is one for a head

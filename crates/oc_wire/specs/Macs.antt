@@ -2,8 +2,8 @@
 use Rattle.std.specs.Prelude.{ℕ, Bool, true, false, Option, Some, None, List, option_map}
 use Rattle.std.specs.Str.{bytes_eq}
 use Rattle.oc_http.specs.Writing.{request_with}
-use Rattle.oc_mac.specs.Keys.{mac_digits}
 use Rattle.oc_model.specs.declared.message.Message.{Message}
+use Rattle.oc_policy.specs.Keys.{mac_digits}
 use Rattle.oc_wire.specs.Spelling.{spelling}
 
 -- what a head says of a body under this key

@@ -112,6 +112,11 @@ fields_bytes (Chunk group start bytes last) = name_bytes group ++ eight start ++
 abbrev pub spelling : Message → List ℕ
 spelling m = four m.from ++ four m.to ++ code_of m.body ∷ fields_bytes m.body
 
+-- whether a body is that of a chunk
+abbrev pub brings_chunk : Body → Bool
+brings_chunk (Chunk group start bytes last) = true
+brings_chunk body = false
+
 -- each count fits in the bytes that it has
 abbrev pub HasSpelling : Body → Type 0
 HasSpelling (LookIs in_tree parent rate children) = length children < 2 ^ 16

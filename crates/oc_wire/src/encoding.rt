@@ -1,6 +1,6 @@
-ghost use Rattle.std.specs.Prelude.{◌≡◌, ◌+◌, ◌<◌, ◌^◌, ◌∷◌, ◌++◌, false, length, OnOk, IfOk, IfSome};
+ghost use Rattle.std.specs.Prelude.{◌≡◌, ◌+◌, ◌<◌, ◌^◌, ◌∷◌, ◌++◌, false, length, is_some, OnOk, IfOk, IfSome};
 ghost use Rattle.oc_base.specs.Spelling.{eight, flag, rank_bytes, ids_bytes};
-ghost use Rattle.oc_wire.specs.Spelling.{parent_bytes, rank_or_none_bytes, why_code, why_bytes, child_bytes, children_bytes, certs_bytes, name_bytes, line_bytes, have_bytes, is_large, length_bytes, text_bytes, code_of, fields_bytes, spelling, HasSpelling};
+ghost use Rattle.oc_wire.specs.Spelling.{parent_bytes, rank_or_none_bytes, why_code, why_bytes, child_bytes, children_bytes, certs_bytes, name_bytes, line_bytes, have_bytes, is_large, length_bytes, text_bytes, code_of, fields_bytes, spelling, brings_chunk, HasSpelling};
 
 use crate::{CODES, REFUSALS};
 use oc_base::writing::{put_cert, put_flag, put_id, put_ids, put_long, put_rank};
@@ -38,7 +38,8 @@ pub fn put_message(out: &mut Vec<u8>, message: &Message) -> Result<(), Memory>
 /// How many bytes the spelling of a message has that brings a chunk; of another message that is not told.
 pub fn length_with_chunk(message: &Message) -> Option<u64>
     requires { HasSpelling message.now.body }
-    ensures { IfSome result (λ count. count ≡ length (spelling message.now)) }
+    ensures told { is_some result ≡ brings_chunk message.now.body }
+    ensures exact { IfSome result (λ count. count ≡ length (spelling message.now)) }
 {
     match &message.body {
         Body::Chunk { group, bytes, .. } => Some(chunk_length(*group, bytes)),

@@ -230,7 +230,9 @@ pub(crate) fn chunk_bytes_at(
 {
     let (count, next) = chunk_length_at(large, bytes, at)?;
     let (chunk, next) = take_bytes(bytes, next, count as usize)?;
-    Ok((Bytes::of(chunk.to_vec(alloc)?), next))
+    let mut items = Vec::new(alloc);
+    items.extend_from_slice(chunk)?;
+    Ok((Bytes::of(items), next))
 }
 
 /// How many bytes a chunk has: more than two bytes can count, or no more.

@@ -18,8 +18,8 @@ use oc_http::{
     write_request,
 };
 use oc_io::MemSource;
-use oc_mac::{Key, mac_of, macs_are_digits};
 use oc_model::Message;
+use oc_policy::{Key, mac_of, macs_are_digits};
 use std::alloc::Global;
 
 /// The request that brings the message to `host`: a POST with the message's bytes as its body, and with their MAC

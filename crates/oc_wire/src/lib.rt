@@ -39,6 +39,6 @@ pub use law::{
     no_two_messages_have_one_spelling, requests_have_one_answer, spellings_are_read,
 };
 pub use macs::{is_authentic, mac_for};
-pub use oc_mac::Key;
 pub use oc_model::{Body, Message};
+pub use oc_policy::Key;
 pub use refusals::REFUSALS;

@@ -4,7 +4,7 @@ ghost use Rattle.std.specs.Prelude.{◌≡◌, IfOk, option_map};
 ghost use Rattle.oc_wire.specs.Macs.{is_authentic, mac_for};
 
 use oc_base::{Memory, Text};
-use oc_mac::{Key, is_mac_of, mac_of};
+use oc_policy::{Key, is_mac_of, mac_of};
 use std::alloc::Global;
 
 /// What the head of a message with this body has to say, as [`Reply`](oc_http::Reply) takes it: the MAC of the body under

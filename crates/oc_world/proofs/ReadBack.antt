@@ -51,7 +51,7 @@ spelled_read nodes bytes few is =
     let m = message_in nodes bytes in
     ap (decoded nodes) is.exact ∙ spelling_read nodes m few is.lawful
 
--- a fault where a message was to be given is one for want of memory
+-- a fault where a message was to be given is one for lack of memory
 pub given_err : (fault : WireFault) (m : Message) → Gives (Err fault) (Ok m) → fault ≡ faults.Memory
 given_err faults.Memory m given = refl
 given_err faults.Stranger m given = absurd cc

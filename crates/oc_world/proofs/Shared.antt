@@ -32,7 +32,7 @@ pub keeps_beside : (old : List (List ℕ)) (one : List ℕ) → KeepsPlaces old 
 keeps_beside old one p within =
     goes_on old (old ++ one ∷ []) p [] (omega (arith, length-append old (one ∷ []))) (get_or_append_left old (one ∷ []) [] p.pool within.there ∙ sym (append-nil (get_or old p.pool []))) within
 
--- bytes that are put behind a pool
+-- bytes that are put after a pool
 pub keeps_behind : (old new : List (List ℕ)) (at : ℕ) (more : List ℕ) → at < length old → new ≡ set old at (get_or old at [] ++ more) → KeepsPlaces old new
 keeps_behind old new at more there is p within = by_test (p.pool == at) refl where
   many : length old ≤ length new
@@ -54,7 +54,7 @@ keeps_behind old new at more there is p within = by_test (p.pool == at) refl whe
 pub all_behind : (held : List ℕ) (start : ℕ) → take (length held - start) (drop start held) ≡ drop start held
 all_behind held start = take_all (length held - start) (drop start held) (omega (arith, length-drop start held))
 
--- all are held, and nothing is put behind
+-- all are held, and nothing is put after them
 pub all_held : (held behind bytes : List ℕ) (start : ℕ) → start ≤ length held → behind ≡ drop start held → behind ≡ bytes ++ drop (length bytes) behind → IsKnown held start bytes (length bytes)
 all_held held behind bytes start within is begins =
     let more = drop (length bytes) bytes in
@@ -68,7 +68,7 @@ all_held held behind bytes start within is begins =
           ∙ ap (take (length bytes)) (sym is ∙ begins) ∙ take-append_seam bytes (drop (length bytes) behind);
     }
 
--- the first are held, and the others are put behind
+-- the first are held, and the others are put after them
 pub some_held : (held behind bytes : List ℕ) (start : ℕ) → start ≤ length held → behind ≡ drop start held → bytes ≡ behind ++ drop (length behind) bytes → IsKnown held start bytes (length behind)
 some_held held behind bytes start within is begins =
     let more = drop (length behind) bytes in

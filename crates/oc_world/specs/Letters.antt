@@ -22,7 +22,7 @@ pub record IsWithin (pools : List (List ℕ)) (p : PoolPart) : Type 0 where
 abbrev pub KeepsPlaces : List (List ℕ) → List (List ℕ) → Type 0
 KeepsPlaces old new = (p : PoolPart) → IsWithin old p → IsWithin new p × (piece new p ≡ piece old p)
 
--- the first of these bytes are held from an offset on, as many as are known; with the others behind all that is held, all are
+-- the first of these bytes are held from an offset on, as many as are known; with the others after all that is held, all are
 pub record IsKnown (held : List ℕ) (start : ℕ) (bytes : List ℕ) (known : ℕ) : Type 0 where
   pub few : known ≤ length bytes
   pub fits : start + length bytes ≤ length (held ++ drop known bytes)

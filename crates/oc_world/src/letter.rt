@@ -121,7 +121,7 @@ fn copied(alloc: Global, bytes: &[u8]) -> Result<Bytes, Memory>
     Ok(Bytes::of(bytes.to_vec(alloc)?))
 }
 
-/// Two pieces, one after the other.
+/// Two pieces, one after another.
 fn joined(alloc: Global, front: &[u8], back: &[u8]) -> Result<Vec<u8>, Memory>
     ensures { IfOk result (λ bytes. bytes.items ≡ front.now ++ back.now) }
 {

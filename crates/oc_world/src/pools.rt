@@ -56,7 +56,7 @@ impl Pools {
     }
 
     /// Where these bytes of a group are, which are in it from `start` on: where they were brought before, or put
-    /// behind what was. There is no place where they differ from what was brought, or bytes before them are missing.
+    /// after what was. There is no place where they differ from what was brought, or bytes before them are missing.
     pub(crate) fn place(
         &mut self,
         alloc: Global,
@@ -80,7 +80,7 @@ fn piece_in(pools: &[Pool], place: PoolPart) -> &[u8]
     &held[place.start..place.start + place.count]
 }
 
-/// The place of bytes of a group, which are put behind what was brought of it where they go on from there.
+/// The place of bytes of a group, which are put after what was brought of it where they go on from there.
 fn place_in(
     pools: &mut Vec<Pool>,
     alloc: Global,

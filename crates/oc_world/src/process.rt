@@ -4,7 +4,6 @@ ghost use Rattle.std.specs.Prelude.{◌≡◌, ◌≤◌, true, false, if◌then
 ghost use Rattle.std.specs.List.{AllByRecursion};
 ghost use Rattle.oc_base.specs.Groups.{shelf};
 ghost use Rattle.oc_base.specs.Lawful.{IsNode};
-ghost use Rattle.oc_digest.specs.Digests.{digest_text};
 ghost use Rattle.oc_keep.specs.Files.{Survives, disks};
 ghost use Rattle.oc_keep.specs.KeptView.{header, header_of, node_of};
 ghost use Rattle.oc_keep.specs.Promises.{IsSameNode};
@@ -17,6 +16,7 @@ ghost use Rattle.oc_model.specs.Step.{step};
 ghost use Rattle.oc_model.specs.World.{down};
 ghost use Rattle.oc_io.specs.MemDiskView.{view_of};
 ghost use Rattle.oc_model.specs.Status.{status_of};
+ghost use Rattle.oc_replay.specs.Digests.{digest_text};
 ghost use Rattle.oc_world.specs.ProcessView.{CanCommitTo, Renews, generation_of, resting};
 ghost use Rattle.oc_world.specs.ProcessState.{IsOpen, IsRunning};
 

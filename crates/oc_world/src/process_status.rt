@@ -2,14 +2,14 @@
 
 ghost use Rattle.std.specs.Prelude.{◌≡◌, IfOk};
 ghost use Rattle.oc_base.specs.Groups.{shelf};
-ghost use Rattle.oc_digest.specs.Digests.{digest_text};
 ghost use Rattle.oc_keep.specs.KeptView.{IsHonest, node_of};
 ghost use Rattle.oc_laws_step.specs.LawfulNode.{IsLawfulControl};
+ghost use Rattle.oc_replay.specs.Digests.{digest_text};
 
 use oc_base::{Memory, Shelf};
-use oc_digest::put_digest;
 use oc_io::Disk;
 use oc_keep::{Kept, Node};
+use oc_replay::put_digest;
 use std::alloc::Global;
 
 /// The node on these files, which is lawful.

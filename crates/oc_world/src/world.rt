@@ -9,7 +9,6 @@ ghost use Rattle.oc_journal.specs.JournalFile.{frames_of};
 ghost use Rattle.oc_keep.specs.Files.{Survives, disks};
 ghost use Rattle.oc_keep.specs.KeptView.{header, header_of};
 ghost use Rattle.oc_laws_step.specs.LawfulNode.{IsLawfulControl};
-ghost use Rattle.oc_digest.specs.Digests.{digest_text};
 ghost use Rattle.oc_model.specs.Lawful.{IsEvent, IsHeader, IsInput, IsMessage};
 ghost use Rattle.oc_model.specs.NextWorld.{crashed, next_world, started, stopped_at, word_of, word_of_act, word_of_stop};
 ghost use Rattle.oc_model.specs.Ready.{IsSettled};
@@ -18,6 +17,7 @@ ghost use Rattle.oc_model.specs.World.{acted, after_act, arrival as arrival_in, 
 ghost use Rattle.oc_model.specs.declared.event.Event.TheVariants.{Crash, Do, Stop, Up};
 ghost use Rattle.oc_io.specs.MemDiskView.{view_of};
 ghost use Rattle.oc_model.specs.Status.{status_in};
+ghost use Rattle.oc_replay.specs.Digests.{digest_text};
 ghost use Rattle.oc_replay.specs.Stage.{HasTimeFor, IsSaid};
 ghost use Rattle.oc_world.specs.Inside.{IsLeftBy};
 ghost use Rattle.oc_world.specs.Net.{IsTextOf};

@@ -4,7 +4,7 @@ use crate::service::requests::put_refusal;
 use oc_base::NodeId;
 use oc_http::HeadReader;
 use oc_link::{Arrival, Coming, ConnectionId};
-use oc_mac::Key;
+use oc_policy::Key;
 use oc_routes::{Hint, Operation, Report, Request, Terms, Verdict, judge};
 use std::alloc::Global;
 use test_tools::{Fault, RowFields, spelled_in};

@@ -1,7 +1,7 @@
 //! MACs of texts, and texts that are node keys.
 
 use crate::service::texts::bytes_in;
-use oc_mac::{Key, hmac_sha256, is_mac_of, mac_of};
+use oc_policy::{Key, hmac_sha256, is_mac_of, mac_of};
 use std::alloc::Global;
 use test_tools::{Fault, RowFields, put_hex, put_shown};
 

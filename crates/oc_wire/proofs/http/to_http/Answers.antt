@@ -1,7 +1,7 @@
 -- The request is that of the message's spelling.
 use Rattle.std.proofs.Common.{◌≡◌, ℕ, List, IfOk, ap, ◌∙◌, subst, None, Some, sym}
 use Rattle.oc_http.specs.Writing.{IsMac, request_with}
-use Rattle.oc_mac.specs.Keys.{mac_digits}
+use Rattle.oc_policy.specs.Keys.{mac_digits}
 use Rattle.oc_wire.specs.Spelling.{spelling}
 use Rattle.oc_wire.proofs.Authentic.{is_mac}
 use Rattle.oc_wire.proofs.http.to_http.Goals as goal

@@ -1,7 +1,7 @@
 use Rattle.std.proofs.Common.{◌≡◌, IfOk, subst}
 use Rattle.oc_base.specs.Groups.{shelf}
-use Rattle.oc_digest.specs.Digests.{digest_text}
 use Rattle.oc_model.specs.Node.{Node}
+use Rattle.oc_replay.specs.Digests.{digest_text}
 use Rattle.oc_world.proofs.process.Process.digest.Goals as goal
 
 pub returns-then-is_up : goal.returns-then-is_up

@@ -1,8 +1,8 @@
 use Rattle.std.proofs.Common.{◌≡◌, sym, ap, subst, ◌∙◌}
 use Rattle.oc_base.specs.Groups.{shelf}
-use Rattle.oc_digest.specs.Digests.{digest_text}
 use Rattle.oc_model.specs.World.{Process, World}
 use Rattle.oc_model.specs.World.{node as node_in}
+use Rattle.oc_replay.specs.Digests.{digest_text}
 use Rattle.oc_world.specs.World.{WorldView, processes_of}
 use Rattle.oc_world.proofs.Sites.{got}
 use Rattle.oc_world.proofs.Turns.{read_process, within_of}

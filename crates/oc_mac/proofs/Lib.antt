@@ -1,3 +1,0 @@
-mod Comparing
-mod Digits
-mod Spelled

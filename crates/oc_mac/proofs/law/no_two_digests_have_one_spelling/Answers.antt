@@ -1,5 +1,0 @@
-use Rattle.oc_mac.proofs.Digits.{same_spelling}
-use Rattle.oc_mac.proofs.law.no_two_digests_have_one_spelling.Goals as goal
-
-pub returns : goal.returns
-returns c = same_spelling

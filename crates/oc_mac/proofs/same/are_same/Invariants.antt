@@ -1,5 +1,0 @@
-use Rattle.std.proofs.Common.{◌≡◌, ◌↔◌, take}
-use Rattle.oc_mac.proofs.same.are_same.Given as goal
-
-abbrev pub invariant-bytes : goal.invariant-bytes
-invariant-bytes l = (l.differing ≡ 0) ↔ (take l.at l.first ≡ take l.at l.second)

@@ -1,0 +1,107 @@
+-- What a node tells of itself at `/!status`: one object of JSON, and a line's end.
+use Rattle.std.specs.Prelude.{ℕ, not, Option, Some, None, List, ◌++◌, codes, decimal}
+use Rattle.oc_base.specs.declared.cert.Cert.{Cert}
+use Rattle.oc_base.specs.declared.rank.Rank.{Rank}
+use Rattle.oc_base.specs.declared.shelf.Shelf.{Shelf}
+use Rattle.oc_model.specs.declared.mode.Mode.{Mode}
+use Rattle.oc_model.specs.declared.mode.Mode.TheVariants.{Idle, Asking, Joined, Acting}
+use Rattle.oc_model.specs.Node.{Control}
+use Rattle.oc_routes.specs.Json.{array_text, flag_text, number_text, or_null, quoted}
+use Rattle.oc_routes.specs.Rows.{leased_of, rows_of}
+use Rattle.oc_routes.specs.declared.leased.Leased.{Leased}
+use Rattle.oc_routes.specs.declared.rows.Row.{Row}
+
+abbrev pub mode_word : Mode → List ℕ
+mode_word Idle = codes "idle"
+mode_word (Asking p) = codes "asking"
+mode_word (Joined p) = codes "joined"
+mode_word Acting = codes "acting"
+
+-- the parent, or the node that is asked to be it
+abbrev pub peer_of : Mode → Option ℕ
+peer_of (Asking p) = Some p
+peer_of (Joined p) = Some p
+peer_of mode = None
+
+-- `"E.D"`
+abbrev pub rank_text : Rank → List ℕ
+rank_text rank = quoted (decimal rank.epoch ++ codes "." ++ decimal rank.depth)
+
+-- which node it is, and in which network
+abbrev pub network_text : Control → List ℕ
+network_text n =
+    codes "\"node\":" ++ number_text n.me
+    ++ codes ",\"nodes\":" ++ number_text n.nodes
+    ++ codes ",\"chain\":" ++ number_text n.chain
+    ++ codes ",\"chunk\":" ++ number_text n.chunk
+
+-- its place in the tree
+abbrev pub place_text : Control → List ℕ
+place_text n =
+    codes ",\"mode\":" ++ quoted (mode_word n.kept.mode)
+    ++ codes ",\"parent\":" ++ or_null number_text (peer_of n.kept.mode)
+    ++ codes ",\"seq\":" ++ number_text n.kept.seq
+    ++ codes ",\"rank\":" ++ or_null rank_text n.kept.rank
+
+-- its clock, its change log, its own number and count of clients
+abbrev pub counts_text : Control → List ℕ
+counts_text n =
+    codes ",\"clock\":" ++ number_text n.soft.clock
+    ++ codes ",\"log\":{\"length\":" ++ number_text n.kept.log.length
+    ++ codes ",\"acked\":" ++ number_text n.kept.log.acked
+    ++ codes "},\"number\":" ++ number_text n.kept.number
+    ++ codes ",\"clients\":" ++ number_text n.kept.clients
+
+-- what it holds of a group
+abbrev pub group_text : Shelf → List ℕ
+group_text line =
+    codes "{\"name\":" ++ quoted line.group
+    ++ codes ",\"bytes\":" ++ number_text line.held
+    ++ codes ",\"sealed\":" ++ flag_text line.sealed ++ codes "}"
+
+-- what a certificate says of its node: at which ask of which parent it is, and whether it is up
+unfoldable pub cert_text : Cert → List ℕ
+cert_text cert =
+    codes "{\"node\":" ++ number_text cert.subject
+    ++ codes ",\"parent\":" ++ number_text cert.parent
+    ++ codes ",\"seq\":" ++ number_text cert.seq
+    ++ codes ",\"up\":" ++ flag_text (not cert.dead)
+
+-- and what the node told of itself: its own number and count of clients
+unfoldable pub own_text : Cert → List ℕ
+own_text cert =
+    codes ",\"number\":" ++ number_text cert.number
+    ++ codes ",\"clients\":" ++ number_text cert.clients
+
+-- a row of its table
+abbrev pub row_text : Row → List ℕ
+row_text row = cert_text row.cert ++ own_text row.cert ++ codes ",\"listed\":" ++ flag_text row.listed ++ codes "}"
+
+-- a leased child: the second at which its lease ends, where one is set, and the rate that it told last
+abbrev pub child_text : Leased → List ℕ
+child_text leased =
+    codes "{\"node\":" ++ number_text leased.child.id
+    ++ codes ",\"lease\":" ++ or_null number_text leased.lease
+    ++ codes ",\"rate\":" ++ number_text leased.child.rate ++ codes "}"
+
+-- `,"NAME":[..]`, a list of items with these texts
+unfoldable pub list_text : {A : Type 0} → List ℕ → (A → List ℕ) → List A → List ℕ
+list_text name text xs = codes ",\"" ++ name ++ codes "\":" ++ array_text text xs
+
+-- the node's state: who it is, its place, its counts
+unfoldable pub state_text : Control → List ℕ
+state_text n = network_text n ++ place_text n ++ counts_text n
+
+-- the whole, with these rows of the node's table and these leased children: its state, the nodes above it, its groups, these
+abbrev pub told_text : Control → List Shelf → List Row → List Leased → List ℕ
+told_text n shelf rows leased =
+    codes "{" ++ state_text n
+    ++ list_text (codes "ancestors") number_text n.kept.ancestors
+    ++ list_text (codes "groups") group_text shelf
+    ++ list_text (codes "table") row_text rows
+    ++ list_text (codes "children") child_text leased
+    ++ codes "}\n"
+
+-- the whole, of a node with this shelf
+abbrev pub status_text : Control → List Shelf → List ℕ
+status_text n shelf = told_text n shelf (rows_of n.kept.table n.me) (leased_of n)

@@ -1,0 +1,56 @@
+//! Arrays of JSON, put at the end of a buffer.
+
+ghost use Rattle.std.specs.Prelude.{◌≡◌, ℕ, List, ◌++◌, OnOk};
+ghost use Rattle.oc_routes.specs.Json.{array_text, separated};
+ghost use Rattle.oc_routes.specs.Status.{list_text};
+
+use oc_base::{Memory, put};
+
+/// What an array contains.
+pub(crate) trait ArrayItem {
+    /// Its text.
+    ghost text: { Self → List ℕ };
+
+    /// Puts its text.
+    fn put(&self, out: &mut Vec<u8>) -> Result<(), Memory>
+        ensures { OnOk result (out.new.items ≡ out.old.items ++ text self.now) };
+}
+
+/// Puts `,"NAME":[..]`.
+#[tactic(auto, unfolding(crate::specs::Status::list_text))]
+pub(crate) fn put_list<I: ArrayItem>(
+    out: &mut Vec<u8>,
+    name: &str,
+    items: &[I],
+) -> Result<(), Memory>
+    ensures { OnOk result (out.new.items ≡ out.old.items ++ list_text name.now I.text items.now) }
+{
+    put(out, b",\"")?;
+    put(out, name.as_bytes())?;
+    put(out, b"\":")?;
+    put_array(out, items)
+}
+
+/// Puts an array.
+fn put_array<I: ArrayItem>(out: &mut Vec<u8>, items: &[I]) -> Result<(), Memory>
+    ensures { OnOk result (out.new.items ≡ out.old.items ++ array_text I.text items.now) }
+{
+    put(out, b"[")?;
+    put_separated(out, items)?;
+    put(out, b"]")
+}
+
+/// Puts the items, with a comma between each two.
+fn put_separated<I: ArrayItem>(out: &mut Vec<u8>, items: &[I]) -> Result<(), Memory>
+    ensures { OnOk result (out.new.items ≡ out.old.items ++ separated I.text items.now) }
+{
+    let Some((first, rest)) = items.split_first() else {
+        return Ok(());
+    };
+    first.put(out)?;
+    for item in rest {
+        put(out, b",")?;
+        item.put(out)?;
+    }
+    Ok(())
+}

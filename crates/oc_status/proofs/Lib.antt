@@ -1,4 +1,0 @@
-mod Marks
-mod Names
-mod Counting
-mod Texts

@@ -1,5 +1,0 @@
-use Rattle.oc_status.proofs.Names.{name_is_plain}
-use Rattle.oc_status.proofs.law.names_are_plain.Goals as goal
-
-pub returns : goal.returns
-returns c = name_is_plain

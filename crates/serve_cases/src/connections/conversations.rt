@@ -1,7 +1,7 @@
 //! Downloads over a link and onto a sink in memory.
 
 use crate::connections::texts::{put_text, text_in, texts_in};
-use oc_fetch::{FetchOptions, GetEnd, follow, get};
+use oc_client::{FetchOptions, GetEnd, follow, get};
 use oc_io::{MemSink, Sink};
 use oc_link::{Dialler, MemDialler};
 use std::alloc::Global;

@@ -2,10 +2,9 @@
 
 use crate::connections::conversations::link_in;
 use crate::connections::texts::{put_text, text_in};
-use oc_fetch::ProgressLines;
+use oc_client::{Aside, Destination, Pause, ProgressLines, Publication, PutEnd, WriteMode, put};
 use oc_io::{MemSink, MemSource};
 use oc_link::MemDialler;
-use oc_put::{Aside, Destination, Pause, Publication, PutEnd, WriteMode, put};
 use std::alloc::Global;
 use std::str;
 use test_tools::{Fault, RowFields, RowStep};

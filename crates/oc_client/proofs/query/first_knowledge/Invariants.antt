@@ -1,0 +1,13 @@
+use denote.Shadow.{shadow}
+use denote.Text.{Utf8}
+use Rattle.std.proofs.Common.{◌≡◌, length}
+use Rattle.oc_client.proofs.query.first_knowledge.Given as goal
+use Rattle.oc_client.specs.Queries.{first_knowledge}
+use Rattle.oc_http.specs.Queries.{parts}
+
+-- what the rest says is what the whole says
+abbrev pub invariant-parts : goal.invariant-parts
+invariant-parts l = (first_knowledge (parts l.rest) ≡ first_knowledge (parts l.fn.query)) × shadow (Utf8 l.rest)
+
+abbrev pub decreases-parts : goal.decreases-parts
+decreases-parts l = length l.rest

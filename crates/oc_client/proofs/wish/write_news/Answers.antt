@@ -1,0 +1,15 @@
+use Rattle.std.proofs.Common.{◌≡◌, ◌++◌, codes, option_map, ◌∙◌}
+use Rattle.oc_client.specs.Addresses.{host_of}
+use Rattle.oc_client.specs.Requests.{authorization_line, news_query, knowledge_at}
+use Rattle.oc_client.proofs.Texts.{get_joined}
+use Rattle.oc_client.proofs.wish.write_news.Goals as goal
+
+-- the parts are the request
+pub returns : goal.returns
+returns c =
+    let state = c.args.state.now in
+    let manner = c.args.manner.now in
+    let query = news_query state.start (option_map (λ a. a.now) c.args.area) (knowledge_at state.led state.target.query) in
+    let token = authorization_line manner.token in
+    let parts : c.into_bytes.result.items ≡ codes "GET " ++ (state.target.path ++ (query ++ (codes " HTTP/1.1\r\nHost: " ++ (host_of state.target ++ (codes "\r\n" ++ (token ++ codes "\r\n")))))) = cc (c.into_bytes.ensures.value, c.in_ok-text.ensures.ok, c.path-path.ensures.value, c.url-url.ensures, c.in_ok-query.ensures, c.knowledge_at-known.ensures, c.query.ensures.value, c.host-host.ensures, c.in_ok-authorization.ensures, c.shown_token.ensures) in
+    parts ∙ get_joined (codes "GET ") state.target.path query (codes " HTTP/1.1\r\nHost: ") (host_of state.target) (codes "\r\n") token (codes "\r\n")

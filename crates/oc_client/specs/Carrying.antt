@@ -1,0 +1,101 @@
+-- The steps of a publishing over a link and an input.
+use Rattle.std.specs.Prelude.{◌≡◌, ◌⊎◌, ℕ, Bool, true, Option, Result, Ok, Err, List, [], ◌∷◌, ◌++◌, map}
+use Rattle.std.specs.List.{AllByRecursion}
+use Rattle.oc_link.specs.Calls.{Told}
+use Rattle.oc_link.specs.Story.{Story}
+use Rattle.oc_client.specs.Publishing.{joined, IsFull, AreCut, Sends, Begins, Seals, DoesNotBegin, IsMissing, Refuses, Came}
+use Rattle.oc_client.specs.PutRequests.{Goal, bytes, seal}
+use Rattle.oc_client.specs.PutTurns.{PutTurn, Makes}
+use Rattle.oc_client.specs.declared.effort.Progress.{Progress}
+use Rattle.oc_client.specs.declared.put_end.PutEnd.{PutEnd}
+use Rattle.oc_client.specs.declared.load.Load.{Load}
+use Rattle.oc_client.specs.declared.publication.WriteMode.{WriteMode}
+
+-- this was sent, and is taken
+pub record IsSent (goal : Goal) (load : Load) (progress : Progress) (old new : Option Story) (reached : Progress) : Type 0 where
+  pub turns : List PutTurn
+  pub sends : Sends progress (load ∷ []) turns reached
+  pub made : Told (Makes goal turns) old new
+
+-- it is not taken
+pub record IsRefused (goal : Goal) (load : Load) (progress : Progress) (old new : Option Story) (end : PutEnd) : Type 0 where
+  pub turns : List PutTurn
+  pub refuses : Refuses load progress turns end
+  pub made : Told (Makes goal turns) old new
+
+-- the place is reached
+pub record IsAtPlace {S : Type 0} (gives : S → List ℕ → S → Type 0) (place : WriteMode) (length : ℕ) (old new : S) : Type 0 where
+  pub before : List ℕ
+  pub came : gives old before new
+  pub begins : Begins place length before
+
+-- it is not
+pub record IsOffPlace {S : Type 0} (gives fails : S → List ℕ → S → Type 0) (ended : S → Type 0) (place : WriteMode) (length : ℕ) (old new : S) (end : PutEnd) : Type 0 where
+  pub input : List ℕ
+  pub over : Bool
+  pub came : Came gives fails old input new end
+  pub is_over : over ≡ true → ended new
+  pub why : DoesNotBegin place length input over end
+
+abbrev pub IsPlaced : {S : Type 0} → (S → List ℕ → S → Type 0) → (S → List ℕ → S → Type 0) → (S → Type 0) → WriteMode → ℕ → S → S → Result (Unit {0}) PutEnd → Type 0
+IsPlaced gives fails ended place length old new (Ok done) = IsAtPlace gives place length old new
+IsPlaced gives fails ended place length old new (Err end) = IsOffPlace gives fails ended place length old new end
+
+-- these pieces came and are taken, all of them full
+pub record HasCarried {S : Type 0} (gives : S → List ℕ → S → Type 0) (goal : Goal) (found : Progress) (old new : Option Story) (before after : S) (reached : Progress) (pieces : List (List ℕ)) : Type 0 where
+  pub turns : List PutTurn
+  pub sends : Sends found (map bytes pieces) turns reached
+  pub full : AllByRecursion IsFull pieces
+  pub made : Told (Makes goal turns) old new
+  pub came : gives before (joined pieces) after
+
+-- the input came to its end, and all of it is taken
+pub record IsCarried {S : Type 0} (gives : S → List ℕ → S → Type 0) (ended : S → Type 0) (place : WriteMode) (goal : Goal) (found : Progress) (old new : Option Story) (before after : S) (reached : Progress) : Type 0 where
+  pub pieces : List (List ℕ)
+  pub turns : List PutTurn
+  pub sends : Sends found (map bytes pieces) turns reached
+  pub cut : AreCut place pieces
+  pub made : Told (Makes goal turns) old new
+  pub came : gives before (joined pieces) after
+  pub over : ended after
+
+-- after full pieces no further one comes
+pub record IsCutBetween {S : Type 0} (gives fails : S → List ℕ → S → Type 0) (goal : Goal) (found : Progress) (old new : Option Story) (before after : S) (end : PutEnd) : Type 0 where
+  pub pieces : List (List ℕ)
+  pub reached : Progress
+  pub turns : List PutTurn
+  pub part : List ℕ
+  pub sends : Sends found (map bytes pieces) turns reached
+  pub full : AllByRecursion IsFull pieces
+  pub made : Told (Makes goal turns) old new
+  pub came : Came gives fails before (joined pieces ++ part) after end
+  pub missing : IsMissing part end
+
+-- after full pieces the next one came, and is not taken
+pub record IsRefusedAt {S : Type 0} (gives : S → List ℕ → S → Type 0) (place : WriteMode) (goal : Goal) (found : Progress) (old new : Option Story) (before after : S) (end : PutEnd) : Type 0 where
+  pub pieces : List (List ℕ)
+  pub reached : Progress
+  pub piece : List ℕ
+  pub turns : List PutTurn
+  pub last : List PutTurn
+  pub sends : Sends found (map bytes pieces) turns reached
+  pub cut : AreCut place (pieces ++ piece ∷ [])
+  pub refuses : Refuses (bytes piece) reached last end
+  pub made : Told (Makes goal (turns ++ last)) old new
+  pub came : gives before (joined pieces ++ piece) after
+
+abbrev pub IsCarryStopped : {S : Type 0} → (S → List ℕ → S → Type 0) → (S → List ℕ → S → Type 0) → WriteMode → Goal → Progress → Option Story → Option Story → S → S → PutEnd → Type 0
+IsCarryStopped gives fails place goal found old new before after end =
+    IsCutBetween gives fails goal found old new before after end
+    ⊎ IsRefusedAt gives place goal found old new before after end
+
+-- the group is closed, where that is wanted
+pub record IsSealed (goal : Goal) (wanted : Bool) (reached : Progress) (old new : Option Story) : Type 0 where
+  pub turns : List PutTurn
+  pub seals : Seals wanted reached turns
+  pub made : Told (Makes goal turns) old new
+
+-- it is wanted, and is not closed
+pub record IsSealStopped (goal : Goal) (seals : Bool) (reached : Progress) (old new : Option Story) (end : PutEnd) : Type 0 where
+  pub wanted : seals ≡ true
+  pub refused : IsRefused goal seal reached old new end

@@ -1,0 +1,193 @@
+-- What a publishing does: which pieces of an input it sends, in which order, and how it ends.
+use Rattle.std.specs.Prelude.{◌≡◌, ◌≢◌, ◌⊎◌, ℕ, ◌<◌, ◌≤◌, Bool, true, false, Option, List, [], ◌∷◌, ◌++◌, length, map, ⊤}
+use Rattle.std.specs.List.{AllByRecursion}
+use Rattle.oc_base.specs.declared.limits.TheConstants.{MAX_GROUP_BYTES}
+use Rattle.oc_client.specs.Addresses.{IsAddressOf, IsBadAddress}
+use Rattle.oc_client.specs.Efforts.{LeadsTo, finding, begun}
+use Rattle.oc_client.specs.Places.{sends_empty}
+use Rattle.oc_client.specs.PutRequests.{Goal, bytes, nothing, seal}
+use Rattle.oc_client.specs.PutTurns.{PutTurn, Makes}
+use Rattle.oc_client.specs.declared.effort.Effort.{Effort}
+use Rattle.oc_client.specs.declared.effort.Next.TheVariants.{Again, Settled, Ended}
+use Rattle.oc_client.specs.declared.effort.Progress.{Progress}
+use Rattle.oc_client.specs.declared.input.TheConstants.{PUT_PIECE_BYTES}
+use Rattle.oc_client.specs.declared.load.Load.{Load}
+use Rattle.oc_client.specs.declared.publication.Publication.{Publication}
+use Rattle.oc_client.specs.declared.publication.WriteMode.{WriteMode}
+use Rattle.oc_client.specs.declared.publication.WriteMode.TheVariants.{New, Append, Resume}
+use Rattle.oc_client.specs.declared.put_end.PutEnd.{PutEnd}
+use Rattle.oc_client.specs.declared.put_end.PutEnd.TheVariants as ends
+use Rattle.oc_link.specs.Calls.{Told}
+use Rattle.oc_link.specs.Story.{Story}
+use Rattle.url.specs.Parts.{Parts}
+
+-- Pieces
+
+-- pieces, one after the other
+abbrev pub joined : List (List ℕ) → List ℕ
+joined [] = []
+joined (piece ∷ pieces) = piece ++ joined pieces
+
+-- a piece of the greatest length
+abbrev pub IsFull : List ℕ → Type 0
+IsFull piece = length piece ≡ PUT_PIECE_BYTES
+
+-- all are full, and the last may be shorter; none is empty
+abbrev pub AreSome : List (List ℕ) → Type 0
+AreSome [] = ⊤
+AreSome (piece ∷ []) = (0 < length piece) × (length piece ≤ PUT_PIECE_BYTES)
+AreSome (piece ∷ next ∷ pieces) = IsFull piece × AreSome (next ∷ pieces)
+
+-- the pieces in which bytes are sent: for no bytes one that is empty, where such an input is sent, and else none
+abbrev pub AreCut : WriteMode → List (List ℕ) → Type 0
+AreCut place pieces = (AreSome pieces × ((sends_empty place ≡ false) ⊎ (pieces ≢ []))) ⊎ ((pieces ≡ [] ∷ []) × (sends_empty place ≡ true))
+
+-- One after another
+
+-- each of these is sent after the one before, and taken
+abbrev pub Sends : Progress → List Load → List PutTurn → Progress → Type 0
+Sends progress [] turns reached = (turns ≡ []) × (reached ≡ progress)
+Sends progress (load ∷ loads) turns reached =
+    (progress.length ≤ MAX_GROUP_BYTES)
+    × ((first : List PutTurn) × (rest : List PutTurn) × (next : Progress) × (turns ≡ first ++ rest)
+    × LeadsTo load (begun progress load) first (Settled next) × Sends next loads rest reached)
+
+-- the length that was found, and what of the input is passed over
+abbrev pub Begins : WriteMode → ℕ → List ℕ → Type 0
+Begins New length_found before = (length_found ≡ 0) × (before ≡ [])
+Begins Append length_found before = before ≡ []
+Begins Resume length_found before = length before ≡ length_found
+
+-- the length was found, and these pieces were sent and taken
+pub record HasSent (place : WriteMode) (pieces : List (List ℕ)) (turns : List PutTurn) (input : List ℕ) (reached : Progress) : Type 0 where
+  pub found : Progress
+  pub before : List ℕ
+  pub asked : List PutTurn
+  pub sent : List PutTurn
+  pub finds : LeadsTo nothing finding asked (Settled found)
+  pub begins : Begins place found.length before
+  pub sends : Sends found (map bytes pieces) sent reached
+  pub turns_are : turns ≡ asked ++ sent
+  pub input_is : input ≡ before ++ joined pieces
+
+-- the group is closed, where that is wanted
+abbrev pub Seals : Bool → Progress → List PutTurn → Type 0
+Seals false progress turns = turns ≡ []
+Seals true progress turns = (reached : Progress) × Sends progress (seal ∷ []) turns reached
+
+-- the whole input was sent and taken, each piece once
+pub record IsDone (plan : Publication) (turns : List PutTurn) (input : List ℕ) : Type 0 where
+  pub pieces : List (List ℕ)
+  pub reached : Progress
+  pub through : List PutTurn
+  pub last : List PutTurn
+  pub sent : HasSent plan.place pieces through input reached
+  pub cut : AreCut plan.place pieces
+  pub seals : Seals plan.seal reached last
+  pub turns_are : turns ≡ through ++ last
+
+-- How it ends otherwise
+
+-- these turns led to an end, or memory ran out after them
+abbrev pub Ends : Load → Effort → List PutTurn → PutEnd → Type 0
+Ends load effort turns end =
+    LeadsTo load effort turns (Ended end)
+    ⊎ ((end ≡ ends.Memory) × ((further : Effort) × LeadsTo load effort turns (Again further)))
+
+-- with a group of this length nothing is sent
+abbrev pub DoesNotBegin : WriteMode → ℕ → List ℕ → Bool → PutEnd → Type 0
+DoesNotBegin New length_found input over (ends.Length told) = (input ≡ []) × (0 < length_found) × (told ≡ length_found)
+DoesNotBegin Resume length_found input over ends.Short = (length input < length_found) × (over ≡ true)
+DoesNotBegin Resume length_found input over ends.Input = length input < length_found
+DoesNotBegin place length_found input over end = ⊥
+
+-- the length was found, and nothing is sent
+pub record StopsBefore (place : WriteMode) (turns : List PutTurn) (input : List ℕ) (over : Bool) (end : PutEnd) : Type 0 where
+  pub found : Progress
+  pub finds : LeadsTo nothing finding turns (Settled found)
+  pub why : DoesNotBegin place found.length input over end
+
+-- the next piece does not come: a call on the input failed after some of it, or memory ran out
+abbrev pub IsMissing : List ℕ → PutEnd → Type 0
+IsMissing part ends.Input = ⊤
+IsMissing part ends.Memory = part ≡ []
+IsMissing part end = ⊥
+
+-- full pieces were sent, and the next one does not come
+pub record StopsBetween (place : WriteMode) (turns : List PutTurn) (input : List ℕ) (end : PutEnd) : Type 0 where
+  pub pieces : List (List ℕ)
+  pub reached : Progress
+  pub came : List ℕ
+  pub part : List ℕ
+  pub sent : HasSent place pieces turns came reached
+  pub full : AllByRecursion IsFull pieces
+  pub input_is : input ≡ came ++ part
+  pub missing : IsMissing part end
+
+-- what is sent next after these pieces
+abbrev pub IsNext : Publication → List (List ℕ) → Load → Type 0
+IsNext plan pieces load =
+    ((piece : List ℕ) × (load ≡ bytes piece) × AreCut plan.place (pieces ++ piece ∷ []))
+    ⊎ ((load ≡ seal) × (plan.seal ≡ true) × AreCut plan.place pieces)
+
+-- a group so long has no room for it, or sending it led to an end
+abbrev pub Refuses : Load → Progress → List PutTurn → PutEnd → Type 0
+Refuses load progress turns end =
+    ((MAX_GROUP_BYTES < progress.length) × (end ≡ ends.Length progress.length) × (turns ≡ []))
+    ⊎ ((progress.length ≤ MAX_GROUP_BYTES) × Ends load (begun progress load) turns end)
+
+-- pieces were sent, and the next one, or the seal, is not taken
+pub record StopsAt (plan : Publication) (turns : List PutTurn) (input : List ℕ) (end : PutEnd) : Type 0 where
+  pub pieces : List (List ℕ)
+  pub reached : Progress
+  pub came : List ℕ
+  pub load : Load
+  pub through : List PutTurn
+  pub last : List PutTurn
+  pub sent : HasSent plan.place pieces through came reached
+  pub next : IsNext plan pieces load
+  pub refuses : Refuses load reached last end
+  pub turns_are : turns ≡ through ++ last
+  pub input_is : input ≡ came ++ load.piece
+
+-- a publishing that is not done
+abbrev pub Stops : Publication → List PutTurn → List ℕ → Bool → PutEnd → Type 0
+Stops plan turns input over end =
+    (Ends nothing finding turns end × (input ≡ []))
+    ⊎ StopsBefore plan.place turns input over end
+    ⊎ StopsBetween plan.place turns input end
+    ⊎ StopsAt plan turns input end
+
+-- a publishing: its turns, what was read of the input, whether that ended, and the end
+abbrev pub Publishes : Publication → List PutTurn → List ℕ → Bool → PutEnd → Type 0
+Publishes plan turns input over ends.Done = IsDone plan turns input × (over ≡ true)
+Publishes plan turns input over end = Stops plan turns input over end
+
+-- Over a link and a source
+
+-- from the old input to the new one these bytes came, and with the end `Input` a call then failed
+abbrev pub Came : {S : Type 0} → (S → List ℕ → S → Type 0) → (S → List ℕ → S → Type 0) → S → List ℕ → S → PutEnd → Type 0
+Came gives fails old bytes_came new ends.Input = fails old bytes_came new
+Came gives fails old bytes_came new end = gives old bytes_came new
+
+-- a publishing at a URL
+pub record IsPublishedAt {S : Type 0} (gives fails : S → List ℕ → S → Type 0) (ended : S → Type 0) (plan : Publication) (goal : Goal) (old new : Option Story) (before after : S) (end : PutEnd) : Type 0 where
+  pub turns : List PutTurn
+  pub input : List ℕ
+  pub over : Bool
+  pub publishes : Publishes plan turns input over end
+  pub made : Told (Makes goal turns) old new
+  pub came : Came gives fails before input after end
+  pub is_over : over ≡ true → ended after
+
+-- how it ends where nothing is asked
+abbrev pub IsUnasked : List ℕ → PutEnd → Type 0
+IsUnasked address ends.BadUrl = IsBadAddress address
+IsUnasked address ends.Memory = ⊤
+IsUnasked address end = ⊥
+
+-- a publishing at an address, with this token, or nothing
+abbrev pub IsPublished : {S : Type 0} → (S → List ℕ → S → Type 0) → (S → List ℕ → S → Type 0) → (S → Type 0) → Publication → List ℕ → Option (List ℕ) → Option Story → Option Story → S → S → PutEnd → Type 0
+IsPublished gives fails ended plan address token old new before after end =
+    (IsUnasked address end × (new ≡ old) × (after ≡ before))
+    ⊎ ((url : Parts) × IsAddressOf address url × IsPublishedAt gives fails ended plan (record { url = url; token = token }) old new before after end)

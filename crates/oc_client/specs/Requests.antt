@@ -1,0 +1,46 @@
+-- The requests of a client that gets.
+use Rattle.std.specs.Prelude.{ℕ, Bool, true, false, Option, Some, None, List, [], ◌++◌, codes, decimal}
+use Rattle.oc_client.specs.Queries.{knowledge_of}
+use Rattle.oc_http.specs.Writing.{line_end, query_text, area_text}
+
+-- `Authorization: Bearer T`, where there is a token
+abbrev pub authorization_line : Option (List ℕ) → List ℕ
+authorization_line None = []
+authorization_line (Some token) = codes "Authorization: Bearer " ++ token ++ line_end
+
+-- a GET of a path with a query, with these last lines
+abbrev pub get_lines : List ℕ → List ℕ → List ℕ → Option (List ℕ) → List ℕ → List ℕ
+get_lines path query host token last =
+    codes "GET " ++ path ++ query ++ codes " HTTP/1.1\r\nHost: " ++ host ++ codes "\r\n" ++ authorization_line token ++ last
+
+-- after the reply the connection is closed
+abbrev pub close_lines : List ℕ
+close_lines = codes "Connection: close\r\n\r\n"
+
+-- or it is kept
+abbrev pub keep_lines : List ℕ
+keep_lines = codes "\r\n"
+
+-- `&` and more of a query, where there is more
+abbrev pub more_text : Option (List ℕ) → List ℕ
+more_text None = []
+more_text (Some more) = codes "&" ++ more
+
+-- what is asked for from a byte on, or from where the query itself says
+abbrev pub query_from : Option ℕ → Option (List ℕ) → List ℕ
+query_from None query = query_text query
+query_from (Some from) query = codes "?start=" ++ decimal from ++ more_text query
+
+-- what is new from a byte on, for an area, with what is known of the group
+abbrev pub news_query : ℕ → Option (List ℕ) → Option (List ℕ) → List ℕ
+news_query start area knowledge = codes "?start=" ++ decimal start ++ codes "&follow" ++ area_text area ++ more_text knowledge
+
+-- a Location says itself from which byte on
+abbrev pub from_at : Bool → Option ℕ → Option ℕ
+from_at true from = None
+from_at false from = from
+
+-- what is known of a group is told by a Location alone
+abbrev pub knowledge_at : Bool → Option (List ℕ) → Option (List ℕ)
+knowledge_at true query = knowledge_of query
+knowledge_at false query = None

@@ -1,0 +1,74 @@
+//! What a reply answers to a client that publishes.
+
+ghost use Rattle.std.specs.Prelude.{◌≡◌};
+ghost use Rattle.oc_client.specs.PutReplies.{answer_to_ask, answer_to_publish, as_length, failure_of};
+
+use oc_http::{HttpFault, Reply, ReplyHead};
+
+/// What a reply answers.
+#[derive(Clone, Copy)]
+pub(crate) enum PutAnswer {
+    /// What was sent is taken.
+    Taken,
+    /// The group has this many bytes.
+    Length(u64),
+    /// Another status.
+    Refused(u16),
+}
+
+/// Why there is no answer.
+#[derive(Clone, Copy)]
+pub(crate) enum Failure {
+    /// A call on the link failed.
+    Link,
+    /// What came is no reply.
+    Reply,
+    /// Memory ran out.
+    Memory,
+}
+
+impl From<HttpFault> for Failure {
+    ghost from_gives = { λ fault failure. failure ≡ failure_of fault };
+
+    fn from(fault: HttpFault) -> Failure {
+        match fault {
+            HttpFault::Source => Failure::Link,
+            HttpFault::Memory => Failure::Memory,
+            _ => Failure::Reply,
+        }
+    }
+}
+
+/// What the head of a reply to a question answers. Its body does not come; in chunks it could not (RFC 9110, section
+/// 9.3.2).
+pub(crate) fn answer_to_ask(head: &ReplyHead) -> Result<PutAnswer, Failure>
+    ensures { result ≡ answer_to_ask head.now }
+{
+    match head.status {
+        _ if head.chunked => Err(Failure::Reply),
+        200 => as_length(head.length),
+        404 => Ok(PutAnswer::Length(0)),
+        status => Ok(PutAnswer::Refused(status)),
+    }
+}
+
+/// What the reply to what was sent answers.
+pub(crate) fn answer_to_publish(reply: &Reply) -> Result<PutAnswer, Failure>
+    ensures { result ≡ answer_to_publish reply.now }
+{
+    match reply.status {
+        200 => Ok(PutAnswer::Taken),
+        409 => as_length(reply.group_length),
+        status => Ok(PutAnswer::Refused(status)),
+    }
+}
+
+/// A reply that has to tell a length.
+fn as_length(length: Option<u64>) -> Result<PutAnswer, Failure>
+    ensures { result ≡ as_length length }
+{
+    match length {
+        Some(length) => Ok(PutAnswer::Length(length)),
+        None => Err(Failure::Reply),
+    }
+}

@@ -1,5 +1,0 @@
-use Rattle.oc_put.proofs.Added.{added}
-use Rattle.oc_put.proofs.law.the_input_is_added_once.Goals as goal
-
-pub returns : goal.returns
-returns c = added

@@ -1,9 +1,0 @@
-use oc_fetch::ProgressLines;
-
-/// What a client does besides publishing: after a failure it pauses, and it tells how many bytes of the input are in the
-/// group.
-#[derive(Drop)]
-pub struct Aside<P, E> {
-    pub pause: P,
-    pub lines: ProgressLines<E>,
-}

@@ -1,1 +1,3 @@
+pub mod Extent
+pub mod Moved
 pub mod Untold

@@ -6,14 +6,11 @@ use oc_io::Failed;
 use std::alloc::Global;
 use std::io;
 
-/// The calls that failed.
+/// The calls that failed: how many, and the last of them.
 #[derive(Drop)]
 pub(crate) struct Failures {
-    /// How many.
     pub(crate) count: u64,
-    /// Where the last of them did, and why, if there was the memory to keep it.
-    place: String,
-    error: Option<io::Error>,
+    last: LastFailure,
 }
 
 impl Failures {
@@ -23,8 +20,7 @@ impl Failures {
     {
         Failures {
             count: 0,
-            place: String::new(alloc),
-            error: None,
+            last: LastFailure::none(alloc),
         }
     }
 
@@ -33,16 +29,43 @@ impl Failures {
         ensures count { NoFall self.old.count self.new.count }
         ensures cause { Rose self.old.count self.new.count }
     {
-        self.place.clear();
-        self.error = match self.place.push_str(address) {
-            Ok(()) => Some(error),
-            Err(_) => None,
-        };
+        self.last.keep(address, error);
         self.count = self.count.saturating_add(1);
         Failed
     }
 
     /// Why the last call that failed did, if it was kept.
+    pub(crate) fn trouble(&self) -> Option<Trouble<'_>> {
+        self.last.trouble()
+    }
+}
+
+/// At which address the last call that failed did, and why, if there was the memory to keep it.
+#[derive(Drop)]
+pub(crate) struct LastFailure {
+    place: String,
+    error: Option<io::Error>,
+}
+
+impl LastFailure {
+    /// No call has failed so far.
+    pub(crate) fn none(alloc: Global) -> LastFailure {
+        LastFailure {
+            place: String::new(alloc),
+            error: None,
+        }
+    }
+
+    /// Keeps where a call failed, and why.
+    pub(crate) fn keep(&mut self, address: &str, error: io::Error) {
+        self.place.clear();
+        self.error = match self.place.push_str(address) {
+            Ok(()) => Some(error),
+            Err(_) => None,
+        };
+    }
+
+    /// Why it failed, if it was kept.
     pub(crate) fn trouble(&self) -> Option<Trouble<'_>> {
         match self.error {
             Some(error) => Some(Trouble {

@@ -1,6 +1,7 @@
 ghost use Rattle.std.specs.Prelude.{◌≡◌, ◌-◌, ◌≤◌, min};
 ghost use Rattle.oc_io.specs.Faults.{Rose};
 
+use crate::limits::{MOST_PAGES, PAGE};
 use crate::trouble::Trouble;
 use oc_io::{Disk, Failed};
 use std::alloc::AllocError;
@@ -14,6 +15,9 @@ use std::rt::Files;
 /// The file is opened at the first call, and made where there is none; then its folder is synced, so that the
 /// file is still there after a crash. It is locked as long as it is open, so that two programs never write to
 /// one file. A call that cannot open or lock it fails, and the next one tries again.
+///
+/// After a sync that failed the system may hold what it could not write as if it were written, and the sync of a
+/// program that is started next would succeed. So those pages are written to again: that sync has to write them.
 #[derive(Drop)]
 pub struct FileDisk<'a, R> {
     rt: &'a R,
@@ -21,6 +25,9 @@ pub struct FileDisk<'a, R> {
     file: Option<File>,
     size: u64,
     faults: u64,
+    /// Where what was written since the last sync that succeeded begins and ends.
+    unsure_from: u64,
+    unsure_to: u64,
     /// Why the last call that failed did.
     error: Option<io::Error>,
 }
@@ -42,6 +49,8 @@ impl<'a, R: Files<File = File>> FileDisk<'a, R> {
             file: None,
             size: 0,
             faults: 0,
+            unsure_from: u64::MAX,
+            unsure_to: 0,
             error: None,
         }
     }
@@ -85,11 +94,15 @@ fn opened<'f, R: Files<File = File>>(
 }
 
 /// Opens the file and takes its lock; makes it where there is none. The folder is synced each time: an
-/// earlier program may have made the file and been stopped before it had done so.
+/// earlier program may have made the file and been stopped before it had done so. A device or a pipe is refused: the
+/// system tells no size of it, so that all it holds would seem to be gone at the next start.
 fn open_locked<R: Files<File = File>>(rt: &R, place: FilePlace<'_>) -> io::Result<File> {
     let mut how = OpenOptions::new();
     how.read(true).write(true).create(true);
     let file = how.open(rt, place.path)?;
+    if !file.metadata()?.is_file() {
+        return Err(io::Error::new(io::ErrorKind::InvalidInput, "not a regular file"));
+    }
     file.try_lock()?;
     File::open(rt, place.folder)?.sync_all()?;
     Ok(file)
@@ -131,6 +144,8 @@ impl<R: Files<File = File>> Disk for FileDisk<'_, R> {
         let Some(end) = at.checked_add(bytes.len() as u64) else {
             return Err(self.fault(io::Error::from(io::ErrorKind::FileTooLarge)));
         };
+        self.unsure_from = self.unsure_from.min(at);
+        self.unsure_to = self.unsure_to.max(end);
         match write_whole(self.rt, self.place, &mut self.file, at, bytes) {
             Ok(()) => {
                 self.size = self.size.max(end);
@@ -142,8 +157,17 @@ impl<R: Files<File = File>> Disk for FileDisk<'_, R> {
 
     fn sync(&mut self) -> Result<(), Failed> {
         match sync_data(self.rt, self.place, &mut self.file) {
-            Ok(()) => Ok(()),
-            Err(error) => Err(self.fault(error)),
+            Ok(()) => {
+                self.unsure_from = u64::MAX;
+                self.unsure_to = 0;
+                Ok(())
+            }
+            Err(error) => {
+                if let Some(file) = &self.file {
+                    touch_pages(file, self.unsure_from, self.unsure_to);
+                }
+                Err(self.fault(error))
+            }
         }
     }
 }
@@ -192,4 +216,20 @@ fn sync_data<R: Files<File = File>>(
     file: &mut Option<File>,
 ) -> io::Result<()> {
     opened(rt, place, file)?.sync_data()
+}
+
+/// Writes a byte of each page from one offset to another as it is, so that the system has to write these pages again.
+/// What can't be read or written is left.
+fn touch_pages(file: &File, from: u64, to: u64) {
+    let mut byte = [0u8];
+    let mut at = from;
+    for _ in 0..MOST_PAGES {
+        if at >= to {
+            return;
+        }
+        if file.read_exact_at(&mut byte, at).is_ok() {
+            let _touched = file.write_all_at(&byte, at).is_ok();
+        }
+        at = at.saturating_add(PAGE - at % PAGE);
+    }
 }

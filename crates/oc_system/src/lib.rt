@@ -1,20 +1,48 @@
-//! The real things that a program hands to the parts that are proved over any source, disk and link: files, and the
-//! sockets by which a client dials. Those of a node are in `oc_sockets`.
+//! The edge: the real things that a program hands to the parts that are proved over any source, disk and link. They
+//! are files as disks ([`FileDisk`]), a program's input ([`Input`]), the sockets by which a client dials
+//! ([`SocketDialler`]), and sockets as the link of a running node ([`SocketLink`]). All numbers, times and bounds
+//! are in `limits`.
 //!
-//! They are the trusted edge. Each counts its failures and makes interrupted calls again, and each tells no
-//! more than the system does: of a file its size, of a socket nothing. Each keeps why its last call failed
-//! ([`Trouble`]).
+//! The edge is trusted: each thing tells no more than the system does, of a file its size, of sockets counts and
+//! lengths alone, and no story. Each counts its failures, makes interrupted calls again, and keeps why its last call
+//! failed ([`Trouble`]).
+//!
+//! No socket of a node blocks: one thread and one wait serve the connections that come in, and the dials.
+//! [`SocketLink`] hands out one thing that happened, by turns over all connections and dials that have one; whatever
+//! it is told to send goes out as far as a socket takes it, and the rest as the socket has room. That the link is
+//! safe, that each of its calls ends, and that only `next` waits, and no longer than it may, is proved. Where a
+//! message ends is a pure function of its bytes, with an exact contract (`specs/Extent.antt`), and all that the link
+//! knows of HTTP.
 #![tactic(auto)]
 
 mod client_connection;
+mod closed_streams;
+mod connection;
+mod dial;
+mod extent;
 mod failures;
 mod file_disk;
+mod incoming;
 mod input;
+mod limits;
+mod link;
+mod names;
+mod places;
+mod poller;
+mod send_buffer;
+mod socket;
 mod socket_dialler;
+mod sockets;
 mod timed_stream;
+mod times;
+mod tools;
 mod trouble;
+mod turn_queue;
+mod unsent;
 
+pub use closed_streams::ClosedStreams;
 pub use file_disk::{FileDisk, FilePlace};
 pub use input::{Input, NamedFile};
+pub use link::SocketLink;
 pub use socket_dialler::SocketDialler;
 pub use trouble::Trouble;

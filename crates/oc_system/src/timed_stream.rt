@@ -1,22 +1,12 @@
 ghost use Rattle.std.specs.Prelude.{◌≡◌, ◌≤◌, length, IfOk};
 
+use crate::limits::{ADDRESS_MILLIS, CALL_MILLIS, MOST_TRIES, PIECE};
+use crate::times::Watch;
 use std::alloc::Global;
 use std::io::{self, ErrorKind, Read, Write};
 use std::net::{Net, TcpStream, ToSocketAddrs};
 use std::rt::Clock;
 use std::time::Duration;
-
-/// How long a call waits at most, in milliseconds. A node may keep one that follows waiting for ten seconds.
-const CALL_MILLIS: u64 = 40_000;
-
-/// How long one of the addresses of a name is tried at most, so that there is time for the next one.
-const ADDRESS_MILLIS: u64 = 10_000;
-
-/// How often a call is made at most, as long as it is interrupted or its bytes are not all written.
-const MOST_TRIES: u32 = 1_000_000;
-
-/// How much is read from the system at a time, in bytes.
-const PIECE: usize = 65_536;
 
 /// A connection that was made, whose calls wait for no longer than they may. What it reads comes in large
 /// pieces, however small those are that are asked for.
@@ -68,7 +58,7 @@ impl TimedStream {
     /// Writes a prefix of these bytes, until that time.
     fn write_some<R: Clock>(&mut self, rt: &R, bytes: &[u8], until: u64) -> io::Result<usize> {
         self.stream.set_write_timeout(Some(time_left(rt, until)?))?;
-        self.stream.write(bytes)
+        in_time(self.stream.write(bytes))
     }
 
     /// Gives what came and was not given yet; nothing where there is none.
@@ -96,7 +86,7 @@ impl TimedStream {
 
     fn read_piece<R: Clock>(&mut self, rt: &R, until: u64) -> io::Result<usize> {
         self.stream.set_read_timeout(Some(time_left(rt, until)?))?;
-        self.came = self.stream.read(&mut self.piece)?;
+        self.came = in_time(self.stream.read(&mut self.piece))?;
         Ok(self.came)
     }
 
@@ -126,12 +116,9 @@ fn deadline<R: Clock>(rt: &R) -> u64 {
     millis(rt).saturating_add(CALL_MILLIS)
 }
 
-/// The time in milliseconds, from a moment of the system's choice.
+/// The time in milliseconds, from a moment of the system's choice; 0 where the system does not tell it.
 fn millis<R: Clock>(rt: &R) -> u64 {
-    match rt.monotonic() {
-        Ok(time) => u64::try_from(time.as_millis()).unwrap_or(u64::MAX),
-        Err(_) => 0,
-    }
+    Watch::new().millis(rt)
 }
 
 /// How long a call may wait until that time in milliseconds. A call that has no time left fails.
@@ -141,6 +128,16 @@ fn time_left<R: Clock>(rt: &R, until: u64) -> io::Result<Duration> {
         return Err(io::Error::from(ErrorKind::TimedOut));
     }
     Ok(Duration::from_millis(left))
+}
+
+/// What a call answered. Of one that waited as long as it may the system says that it would have to wait: its time is over.
+fn in_time(answer: io::Result<usize>) -> io::Result<usize> {
+    match answer {
+        Err(error) if error.kind() == ErrorKind::WouldBlock => {
+            Err(io::Error::from(ErrorKind::TimedOut))
+        }
+        _ => answer,
+    }
 }
 
 /// Puts a prefix of the bytes at the front of the buffer, as many as fit.

@@ -8,13 +8,6 @@ pub struct Trouble<'a> {
     pub(crate) error: Error,
 }
 
-impl<'a> Trouble<'a> {
-    /// This error, at this place.
-    pub fn at(place: &'a str, error: Error) -> Trouble<'a> {
-        Trouble { place, error }
-    }
-}
-
 impl fmt::Display for Trouble<'_> {
     fn fmt<W: fmt::Write>(&self, f: &mut fmt::Formatter<W>) -> fmt::Result {
         let place = self.place;

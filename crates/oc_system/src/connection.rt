@@ -1,7 +1,7 @@
 use crate::incoming::Incoming;
 use crate::limits::{
-    BODY_MILLIS, BODY_PAUSE_MILLIS, HEAD_MILLIS, LARGE_BYTES, LINGER_BYTES, LINGER_MILLIS,
-    MOST_MESSAGE, MOST_READS, MOST_UNSENT, REPLY_PAUSE_MILLIS, SHORT_REPLY,
+    BODY_MILLIS, BODY_PAUSE_MILLIS, HEAD_MILLIS, LARGE_BYTES, LARGE_BYTES_A_MILLI, LINGER_MILLIS,
+    LINGER_PAUSE_MILLIS, MOST_MESSAGE, MOST_READS, MOST_UNSENT, REPLY_PAUSE_MILLIS, SHORT_REPLY,
 };
 use crate::socket::{Moved, read_some, write_some};
 use crate::times::Deadline;
@@ -70,8 +70,9 @@ pub(crate) struct Connection {
     /// Which request is awaited or answered.
     number: u64,
     pub(crate) incoming: Incoming,
-    /// Whether it has one of the places for large requests.
+    /// Whether it has one of the places for large requests, and since when.
     pub(crate) is_large: bool,
+    large_at: u64,
     /// Whether the request as it is was told.
     is_told: bool,
     /// Whether its time ran out.
@@ -87,8 +88,6 @@ pub(crate) struct Connection {
     is_all: bool,
     went: usize,
     unsent: Unsent,
-    /// How many bytes were dropped at its end.
-    dropped: usize,
     /// Since when it is at its stage, and until when it may be.
     since: u64,
     deadline: Deadline,
@@ -109,6 +108,7 @@ impl Connection {
             number: 1,
             incoming: Incoming::new(alloc),
             is_large: false,
+            large_at: now,
             is_told: false,
             is_late: false,
             is_fed: false,
@@ -118,7 +118,6 @@ impl Connection {
             is_all: false,
             went: 0,
             unsent: Unsent::new(alloc),
-            dropped: 0,
             since: now,
             deadline: Deadline::after(now, HEAD_MILLIS),
             is_readable: true,
@@ -156,7 +155,7 @@ impl Connection {
             _ => {}
         }
         if self.stage == ConnectionStage::Lingering {
-            self.drain(tools);
+            self.drain(tools, now);
         }
     }
 
@@ -192,6 +191,7 @@ impl Connection {
 
     fn begin_head(&mut self, now: u64) {
         self.since = now;
+        self.large_at = now;
         self.deadline = Deadline::after(now, HEAD_MILLIS);
         if self.incoming.outline.is_some() {
             self.begin_body(now);
@@ -227,6 +227,21 @@ impl Connection {
             && !self.is_large
             && self.incoming.len() >= LARGE_BYTES
             && !self.incoming.is_ripe(self.is_fed)
+    }
+
+    /// It has one of the places for large requests from now on.
+    pub(crate) fn enlarge(&mut self, now: u64) {
+        self.is_large = true;
+        self.large_at = now;
+    }
+
+    /// Whether it has had one of the places for large requests for longer than what has come is worth.
+    pub(crate) fn is_slow(&self, now: u64) -> bool {
+        let worth = self.incoming.len() as u64 / LARGE_BYTES_A_MILLI;
+        self.stage == ConnectionStage::Awaiting
+            && self.is_large
+            && !self.incoming.is_ripe(self.is_fed)
+            && now.saturating_sub(self.large_at) > HEAD_MILLIS.saturating_add(worth)
     }
 
     /// Gives it bytes to send: they go out at once as far as its socket takes them, and what is left is kept. A
@@ -328,7 +343,7 @@ impl Connection {
         }
         self.stage = ConnectionStage::Lingering;
         self.since = now;
-        self.deadline = Deadline::after(now, LINGER_MILLIS);
+        self.deadline = Deadline::after(now, LINGER_MILLIS).with_pause(now, LINGER_PAUSE_MILLIS);
         self.is_late = false;
         if self.stream.shutdown(Shutdown::Write).is_err() {
             self.stage = ConnectionStage::Over;
@@ -336,18 +351,13 @@ impl Connection {
     }
 
     /// Drops what has come, until the peer's end.
-    fn drain(&mut self, tools: &mut Tools) {
+    fn drain(&mut self, tools: &mut Tools, now: u64) {
         for _ in 0..MOST_READS {
             if !self.is_readable || self.stage != ConnectionStage::Lingering {
                 return;
             }
             match read_some(&mut self.stream, &mut tools.piece) {
-                Moved::Bytes(count) => {
-                    self.dropped = self.dropped.saturating_add(count);
-                    if self.dropped >= LINGER_BYTES {
-                        self.stage = ConnectionStage::Over;
-                    }
-                }
+                Moved::Bytes(_) => self.deadline.progress(now),
                 Moved::Nothing => self.is_readable = false,
                 Moved::End | Moved::Failed => self.stage = ConnectionStage::Over,
             }

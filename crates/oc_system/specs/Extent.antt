@@ -5,9 +5,9 @@ use Rattle.httparse.specs.Grammar.{RequestHead, ReadsRequest, HasNoRequest, Neve
 use Rattle.httparse.specs.Spans.{RequestExceeds, ResponseExceeds}
 use Rattle.oc_http.specs.Fields.{named, codings, is_length, is_present, lengths}
 use Rattle.oc_http.specs.Requests.{expects}
-use Rattle.oc_sockets.specs.declared.extent.HeadProgress.{HeadProgress}
-use Rattle.oc_sockets.specs.declared.extent.HeadProgress.TheVariants as progress
-use Rattle.oc_sockets.specs.declared.extent.Outline.{Outline}
+use Rattle.oc_system.specs.declared.extent.HeadProgress.{HeadProgress}
+use Rattle.oc_system.specs.declared.extent.HeadProgress.TheVariants as progress
+use Rattle.oc_system.specs.declared.extent.Outline.{Outline}
 
 -- the number of the first Content-Length, if there is one; 0 where it is no number
 abbrev pub body_length : List (List ℕ) → Option ℕ

@@ -98,6 +98,18 @@ impl ConnectionPlaces {
         Some(place)
     }
 
+    /// A place whose large request has had its time, if there is one.
+    pub(crate) fn slow_one(&self, now: u64) -> Option<usize> {
+        for place in 0..self.slots.len() {
+            if let Some(connection) = self.get(place) {
+                if connection.is_slow(now) {
+                    return Some(place);
+                }
+            }
+        }
+        None
+    }
+
     fn claim_at(&self, place: usize) -> Option<Claim> {
         self.get(place)?.claim()
     }

@@ -1,4 +1,4 @@
-//! The numbers of the sockets. No contract speaks of them. Times are in milliseconds.
+//! The numbers of the sockets and files. No contract speaks of them. Times are in milliseconds.
 
 use oc_base::{MAX_BODY_BYTES, MAX_HEAD_BYTES};
 
@@ -16,6 +16,10 @@ pub(crate) const LARGE_BYTES: usize = 65_536;
 
 pub(crate) const MOST_LARGE: usize = 64;
 
+/// A large request for whose place another one waits keeps it for `HEAD_MILLIS`, and a millisecond for each of so many
+/// bytes that have come. So who sends slowly holds no place for long, and 128 kbit/s are always enough.
+pub(crate) const LARGE_BYTES_A_MILLI: u64 = 16;
+
 /// The most bytes that a connection was given and that did not go out. Nothing that is given at once has many more, and
 /// what its socket takes at once is not counted.
 pub(crate) const MOST_UNSENT: usize = 524_288;
@@ -28,10 +32,11 @@ pub(crate) const SEND_BUFFER: i32 = 262_144;
 /// before it acknowledges anything.
 pub(crate) const SHORT_REPLY: usize = 16_384;
 
-/// How much is read and dropped on a connection that ends, and for how long.
-pub(crate) const LINGER_BYTES: usize = 1_048_576;
+/// For how long what still comes on a connection that ends is read and dropped: without progress, and in all. Whoever sends
+/// a body that is too long has a while to end it, and finds the reply then.
+pub(crate) const LINGER_PAUSE_MILLIS: u64 = 2_000;
 
-pub(crate) const LINGER_MILLIS: u64 = 2_000;
+pub(crate) const LINGER_MILLIS: u64 = 30_000;
 
 /// Until a head is whole, from the beginning of a connection or from the end of its last reply.
 pub(crate) const HEAD_MILLIS: u64 = 10_000;
@@ -44,8 +49,8 @@ pub(crate) const BODY_MILLIS: u64 = 300_000;
 /// For a reply, without progress.
 pub(crate) const REPLY_PAUSE_MILLIS: u64 = 120_000;
 
-/// For a dial: until it is connected, then without progress, until its reply begins, and in all. Between the last
-/// byte of its request and the first one of its reply no progress is asked for.
+/// For a dial: until it is connected to one address, then without progress, until its reply begins, and in all. Between
+/// the last byte of its request and the first one of its reply no progress is asked for.
 pub(crate) const CONNECT_MILLIS: u64 = 2_000;
 
 pub(crate) const DIAL_PAUSE_MILLIS: u64 = 10_000;
@@ -53,6 +58,15 @@ pub(crate) const DIAL_PAUSE_MILLIS: u64 = 10_000;
 pub(crate) const BEGIN_MILLIS: u64 = 25_000;
 
 pub(crate) const DIAL_MILLIS: u64 = 300_000;
+
+/// For a call of a client, in all: a node may keep one that follows waiting for ten seconds. And for one of the
+/// addresses of a name that it dials, so that there is time for the next one.
+pub(crate) const CALL_MILLIS: u64 = 40_000;
+
+pub(crate) const ADDRESS_MILLIS: u64 = 10_000;
+
+/// How many addresses of one name a dial of a node tries at most.
+pub(crate) const MOST_ADDRESSES: usize = 16;
 
 /// For how long what was given is sent on after the last turn of a run.
 pub(crate) const FINISH_MILLIS: u64 = 2_000;
@@ -73,16 +87,22 @@ pub(crate) const MOST_ACCEPTED: u32 = 64;
 /// How often one connection is read before others are looked at.
 pub(crate) const MOST_READS: u32 = 32;
 
-/// How often an interrupted call is made again at most, and a wait.
+/// How often a call is made at most, as long as it is interrupted or its bytes are not all written; and a wait.
 pub(crate) const MOST_TRIES: u32 = 1_000_000;
 
 /// The length of the block that is taken and given back before anything else (`warm_memory`), in bytes.
 pub(crate) const WARM_BYTES: usize = 16_777_216;
 
-/// How many events one wait gives, and the length of the buffer into which sockets are read, in bytes.
+/// How many events one wait gives, and the length of a buffer into which sockets are read, in bytes.
 pub(crate) const EVENTS: usize = 512;
 
 pub(crate) const PIECE: usize = 65_536;
 
 /// How many fields there is room for: more than `MAX_HEAD_BYTES` hold, since each takes three bytes.
 pub(crate) const FIELD_ROOM: usize = 2_731;
+
+/// The length of a page of a file, in bytes, or of a part of one; and how many are written to again after a sync that
+/// failed, which is more than what is written between two syncs has.
+pub(crate) const PAGE: u64 = 4_096;
+
+pub(crate) const MOST_PAGES: u32 = 4_096;

@@ -82,10 +82,12 @@ impl Dial {
         }
     }
 
-    /// This is the stream on which it is being connected.
-    pub(crate) fn begin(&mut self, stream: TcpStream) {
+    /// This is the stream on which it is being connected, for as long as one address may take.
+    pub(crate) fn begin(&mut self, stream: TcpStream, now: u64) {
         self.stream = Some(stream);
         self.stage = DialStage::Connecting;
+        let end = self.left(now, BEGIN_MILLIS).min(CONNECT_MILLIS);
+        self.deadline = Deadline::after(now, end);
         self.is_readable = false;
         self.is_writable = false;
     }
@@ -142,7 +144,11 @@ impl Dial {
             return;
         }
         match stream.peer_addr() {
-            Ok(_) => {
+            Ok(peer) => {
+                if is_own(stream, peer) {
+                    self.stage = DialStage::Refused;
+                    return;
+                }
                 // Without it a request that is written in two pieces may wait for an acknowledgement.
                 let _set = stream.set_nodelay(true).is_ok();
                 self.stage = DialStage::Asking;
@@ -275,9 +281,17 @@ impl Dial {
         self.stage != DialStage::Over && self.deadline.is_over(now)
     }
 
-    /// Ends it where its time has run out.
+    /// Ends it where its time has run out. Where nobody answered at one of its addresses, another one may be tried: a
+    /// name may have addresses that lead nowhere.
     pub(crate) fn expire(&mut self, now: u64) {
-        if self.is_due(now) {
+        if !self.is_due(now) {
+            return;
+        }
+        let is_apart = matches!(self.stage, DialStage::Connecting | DialStage::Refused);
+        if is_apart && self.left(now, BEGIN_MILLIS) > 0 {
+            self.stage = DialStage::Refused;
+            self.stream = None;
+        } else {
             self.end(Coming::Failed);
         }
     }
@@ -296,5 +310,14 @@ impl Dial {
     /// The stream, to be registered.
     pub(crate) fn stream_mut(&mut self) -> Option<&mut TcpStream> {
         self.stream.as_mut()
+    }
+}
+
+/// Whether a socket is connected with itself: of a port of this machine at which nobody listens, the system may have chosen
+/// the same port for this side, and the node whose port it is could not listen at it.
+fn is_own(stream: &TcpStream, peer: SocketAddr) -> bool {
+    match stream.local_addr() {
+        Ok(own) => own == peer,
+        Err(_) => false,
     }
 }

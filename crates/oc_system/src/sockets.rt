@@ -207,6 +207,11 @@ impl Sockets {
                 }
             }
         }
+        if self.large >= MOST_LARGE && !self.held.is_empty() {
+            if let Some(place) = self.places.slow_one(now) {
+                self.lose(place, Loss::GaveWay);
+            }
+        }
         // One that waited may be gone meanwhile, so a free place may not have been taken.
         for _ in self.large..MOST_LARGE {
             if let Some(place) = self.held.pop() {

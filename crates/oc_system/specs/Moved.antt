@@ -1,7 +1,7 @@
 -- How much a call on a socket moved.
 use Rattle.std.specs.Prelude.{ℕ, ◌≤◌, ⊤}
-use Rattle.oc_sockets.specs.declared.socket.Moved.{Moved}
-use Rattle.oc_sockets.specs.declared.socket.Moved.TheVariants as moved
+use Rattle.oc_system.specs.declared.socket.Moved.{Moved}
+use Rattle.oc_system.specs.declared.socket.Moved.TheVariants as moved
 
 -- no more bytes than this
 abbrev pub MovesAtMost : ℕ → Moved → Type 0

@@ -1,10 +1,12 @@
 ghost use Rattle.std.specs.Prelude.{◌≡◌};
 ghost use Rattle.oc_link.specs.Counts.{no_counts};
 
+use crate::failures::LastFailure;
 use crate::limits::FINISH_MILLIS;
 use crate::names::addresses_of;
 use crate::sockets::{SocketEvent, Sockets};
 use crate::times::Watch;
+use crate::trouble::Trouble;
 use oc_io::Failed;
 use oc_link::{Coming, ConnectionId, DialId, Ending, Link, LinkCounts, LinkEvent};
 use std::alloc::Global;
@@ -31,8 +33,7 @@ pub struct SocketLink<'a, R> {
     /// The node that waits for connections, if one does.
     node: Option<u64>,
     /// Where it could not wait, and why.
-    place: String,
-    error: Option<io::Error>,
+    failure: LastFailure,
 }
 
 impl<'a, R: Net<Stream = TcpStream> + Clock + Eprint> SocketLink<'a, R> {
@@ -50,17 +51,13 @@ impl<'a, R: Net<Stream = TcpStream> + Clock + Eprint> SocketLink<'a, R> {
             lender: None,
             counts: LinkCounts::none(),
             node,
-            place: String::new(alloc),
-            error: None,
+            failure: LastFailure::none(alloc),
         }
     }
 
     /// At which address it could not wait for connections, and why, if it could not.
-    pub fn trouble(&self) -> Option<(&str, io::Error)> {
-        match self.error {
-            Some(error) => Some((self.place.as_str(), error)),
-            None => None,
-        }
+    pub fn trouble(&self) -> Option<Trouble<'_>> {
+        self.failure.trouble()
     }
 
     /// Sends on what it was given and has not gone out, for a short time. Replies that were not given whole are
@@ -102,15 +99,6 @@ impl<'a, R: Net<Stream = TcpStream> + Clock + Eprint> SocketLink<'a, R> {
     }
 }
 
-/// Keeps where a call failed, and why, if there is the memory.
-fn keep(kept: &mut Option<io::Error>, place: &mut String, address: &str, error: io::Error) {
-    place.clear();
-    *kept = match place.push_str(address) {
-        Ok(()) => Some(error),
-        Err(_) => None,
-    };
-}
-
 /// Says on the error output where a node waits for connections. Where that fails, nothing else happens.
 fn announce<R: Eprint>(rt: &R, node: Option<u64>, address: &str) {
     if let Some(id) = node {
@@ -135,7 +123,7 @@ impl<R: Net<Stream = TcpStream> + Clock + Eprint> Link for SocketLink<'_, R> {
                 Ok(())
             }
             Err(error) => {
-                keep(&mut self.error, &mut self.place, address, error);
+                self.failure.keep(address, error);
                 self.counts = self.counts.with_failure();
                 Err(Failed)
             }

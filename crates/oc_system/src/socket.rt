@@ -1,7 +1,7 @@
 //! Single calls on a socket that does not block.
 
 ghost use Rattle.std.specs.Prelude.{◌≤◌, length};
-ghost use Rattle.oc_sockets.specs.Moved.{MovesAtMost};
+ghost use Rattle.oc_system.specs.Moved.{MovesAtMost};
 
 use crate::limits::MOST_TRIES;
 use mio::net::TcpStream;

@@ -41,7 +41,7 @@ impl Sockets {
             return None;
         }
         if connection.incoming.len() > LARGE_BYTES && !connection.is_large {
-            connection.is_large = true;
+            connection.enlarge(now);
             self.large = self.large.saturating_add(1);
         }
         match connection.fate() {

@@ -3,7 +3,7 @@
 
 ghost use Rattle.std.specs.Prelude.{◌≡◌, length};
 ghost use Rattle.oc_http.specs.Fields.{lengths};
-ghost use Rattle.oc_sockets.specs.Extent.{IsRequestExtent, IsResponseExtent, body_length, response_length};
+ghost use Rattle.oc_system.specs.Extent.{IsRequestExtent, IsResponseExtent, body_length, response_length};
 
 use httparse::spans::{HeaderSpan, parse_request, parse_response};
 use httparse::{Error, Status};

@@ -3,15 +3,12 @@
 use super::accepting::is_out_of_files;
 use super::{SocketEvent, Sockets, dial_at};
 use crate::dial::{Dial, DialStage};
-use crate::limits::PLACES;
+use crate::limits::{MOST_ADDRESSES, PLACES};
 use mio::net::TcpStream as Stream;
 use mio::{Interest, Token};
 use oc_link::{DialId, LinkEvent};
 use std::io;
 use std::net::{Net, SocketAddr, TcpStream};
-
-/// How many addresses of one name are tried at most.
-const MOST_ADDRESSES: usize = 16;
 
 impl Sockets {
     /// Begins a dial to the first of these addresses that takes it; false where there is no place for it.
@@ -31,13 +28,13 @@ impl Sockets {
             *place = Some(dial);
         }
         let place = PLACES.saturating_add(slot);
-        self.connect(rt, place);
+        self.connect(rt, place, now);
         self.turns.push(place);
         true
     }
 
     /// Begins to connect a dial to the next of its addresses, and fails it where there is no further one.
-    fn connect<R: Net<Stream = TcpStream>>(&mut self, rt: &R, place: usize) {
+    fn connect<R: Net<Stream = TcpStream>>(&mut self, rt: &R, place: usize, now: u64) {
         for _ in 0..MOST_ADDRESSES {
             let address = match dial_at(&mut self.dials, place) {
                 Some(dial) if dial.stage == DialStage::Refused => dial.next_address(),
@@ -47,7 +44,7 @@ impl Sockets {
                 break;
             };
             if let Ok(stream) = self.stream_to(rt, address) {
-                self.watch_dial(place, stream);
+                self.watch_dial(place, stream, now);
             }
         }
         if let Some(dial) = dial_at(&mut self.dials, place) {
@@ -73,11 +70,11 @@ impl Sockets {
     }
 
     /// Has the system tell when this socket of a dial is ready.
-    fn watch_dial(&mut self, place: usize, stream: Stream) {
+    fn watch_dial(&mut self, place: usize, stream: Stream, now: u64) {
         let Some(dial) = dial_at(&mut self.dials, place) else {
             return;
         };
-        dial.begin(stream);
+        dial.begin(stream, now);
         let both = Interest::READABLE | Interest::WRITABLE;
         let is_watched = match dial.stream_mut() {
             Some(stream) => self
@@ -101,11 +98,11 @@ impl Sockets {
     ) -> Option<SocketEvent> {
         let dial = dial_at(&mut self.dials, place)?;
         dial.advance(&mut self.tools, now);
+        dial.expire(now);
         if dial.stage == DialStage::Refused {
-            self.connect(rt, place);
+            self.connect(rt, place, now);
         }
         let dial = dial_at(&mut self.dials, place)?;
-        dial.expire(now);
         if dial.is_busy() {
             self.turns.push(place);
         }

@@ -33,6 +33,7 @@ mod track;
 
 pub use content::Content;
 pub use errors::{PutError, ReadError};
+pub use group_state::past;
 pub use law::{bodies_say_their_entry, groups_are_their_pieces};
 pub use oc_base::Shelf;
 pub use oc_journal::{AppendError, FileError};

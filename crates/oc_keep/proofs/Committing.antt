@@ -1,5 +1,6 @@
 -- What a commit leaves, at its end and at every moment of it.
 use Rattle.std.proofs.Common.{◌≡◌, ◌⊎◌, inl, inr, ℕ, ◌+◌, ◌≤◌, ◌<◌, ◌^◌, true, false, IsTrue, Bool, List, [], ◌∷◌, ◌++◌, length, Option, Some, None, option_map, unwrap_or, refl, sym, ap, subst, ◌∙◌, ⊎_elim, arith}
+use Rattle.std.proofs.lemmas.List.{append-nil}
 use Rattle.oc_base.specs.declared.group.Group.{Group}
 use Rattle.oc_base.specs.declared.limits.TheConstants.{MAX_BASE_ACKED, MAX_JOURNAL_BYTES, MAX_LOG_LENGTH}
 use Rattle.oc_base.specs.declared.shelf.Shelf.{Shelf}
@@ -39,7 +40,7 @@ use Rattle.oc_keep.specs.declared.ready.Write.{Write}
 use Rattle.oc_keep.specs.declared.ready.Write.TheVariants as writes
 use Rattle.oc_keep.specs.Files.{AllGoOn, AreLater, AreReliable, HadLeft, OneRose, SameAsEither, SameDurable, recovered}
 use Rattle.oc_keep.specs.KeptView.{AtAnyMoment, IsHonest, IsKept, KeptView, disks_of, header_of, node_of}
-use Rattle.oc_keep.specs.ReadyView.{CanWrite, groups_with, outcome_of}
+use Rattle.oc_keep.specs.ReadyView.{CanWrite, GrowsBy, groups_with, outcome_of}
 use Rattle.oc_keep.specs.Writing.{CanPutWrite, FailsToWrite, HasRoomFor, IsTooLong, Writes, WritesSafely}
 use Rattle.oc_keep.proofs.Growth.{log_grows}
 use Rattle.oc_keep.proofs.Sides.{honest_store, related_sides, reliable_store}
@@ -131,6 +132,22 @@ records_more reads n rs bodies frame few lawful spells folds =
     ap (folded (new_durable n.nodes)) (one_frame_more n.nodes bodies frame ∙ ap (λ (qs : List Record). records_of n.nodes bodies ++ qs) (ap (records_in n.nodes) spells ∙ reads n.nodes rs few lawful))
     ∙ folded-append (new_durable n.nodes) (records_of n.nodes bodies) rs
     ∙ ap (λ (d : Durable). folded d rs) (sym folds)
+
+-- The frames after a commit
+pub commit_grows : {D : Type 0} (view : D → DiskView) (k k2 : KeptView D) (w : Write) → Writes view w k.store k.content k2.store k2.content → WritesSafely view w k.store k.content k2.store k2.content
+    → IsHonest view k → GrowsBy w k k2
+commit_grows view k k2 writes.Nothing did safe honest = record {
+  control = ap (λ s. s.current.frames) safe.0 ∙ sym (append-nil k.store.current.frames);
+  content = ap (λ c. c.journal.frames) safe.1 ∙ sym (append-nil k.content.journal.frames);
+}
+commit_grows view k k2 (writes.Records frame) did safe honest = record {
+  control = did.appends.frames (honest_store view k.store honest.control honest.alternate).0;
+  content = ap (λ c. c.journal.frames) safe.1 ∙ sym (append-nil k.content.journal.frames);
+}
+commit_grows view k k2 (writes.Content piece) did safe honest = record {
+  control = ap (λ s. s.current.frames) safe.1 ∙ sym (append-nil k.store.current.frames);
+  content = did.1.appends.frames honest.content;
+}
 
 -- After a commit
 

@@ -1,7 +1,8 @@
 -- A take: an input that is made ready, and then committed.
-use Rattle.std.proofs.Common.{◌≡◌, ◌↔◌, Bool, true, false, IsTrue, IsErrOf, IsErrAnd, Result, Ok, Err, refl, ap, subst, sym, ◌∙◌}
+use Rattle.std.proofs.Common.{◌≡◌, ◌↔◌, ℕ, List, ◌++◌, Bool, true, false, IsTrue, IsErrOf, IsErrAnd, Result, Ok, Err, refl, ap, subst, sym, ◌∙◌}
 use Rattle.oc_io.specs.DiskView.{DiskView}
 use Rattle.oc_model.specs.declared.input.Input.{Input}
+use Rattle.oc_model.specs.NextWorld.{has_change}
 use Rattle.oc_model.specs.Node.{Control}
 use Rattle.oc_node.specs.OutcomeView.{OutcomeView}
 use Rattle.oc_node.specs.Planned.{control_after}
@@ -10,14 +11,15 @@ use Rattle.oc_keep.specs.declared.errors.CommitError.TheVariants as commits
 use Rattle.oc_keep.specs.declared.errors.KeepError.TheVariants as keeps
 use Rattle.oc_keep.specs.declared.errors.ReadyError.{ReadyError}
 use Rattle.oc_keep.specs.declared.errors.ReadyError.TheVariants as readies
-use Rattle.oc_keep.specs.Calls.{DoesNothing, FailsToCommit, FailsToReady, IsSameOnFiles, RefusesInput, StaysTheSame}
+use Rattle.oc_keep.specs.Calls.{DoesNothing, FailsToCommit, FailsToReady, GrowsFor, IsSameOnFiles, RefusesInput, StaysTheSame}
 use Rattle.oc_keep.specs.ControlStep.{AreSent, DoesControlStep, IsControlStep, control_step}
 use Rattle.oc_keep.specs.Errors.{of_commit, of_ready}
 use Rattle.oc_keep.specs.Files.{AllGoOn}
-use Rattle.oc_keep.specs.KeptView.{IsFullAt, KeptView, disks_of, header_of, node_of}
-use Rattle.oc_keep.specs.Promises.{Closes, IsSameNode}
-use Rattle.oc_keep.specs.ReadyView.{ReadyView, outcome_of, told_of}
+use Rattle.oc_keep.specs.KeptView.{IsFullAt, IsHonest, KeptView, disks_of, header_of, node_of}
+use Rattle.oc_keep.specs.Promises.{ChangesNothing, Closes, IsSameNode}
+use Rattle.oc_keep.specs.ReadyView.{GrowsBy, ReadyView, content_frames, control_frames, is_written, outcome_of, told_of}
 use Rattle.oc_keep.proofs.Runs.{all_go_on_then, one_rose_after}
+use Rattle.oc_keep.proofs.Sides.{honest_store}
 use Rattle.oc_keep.proofs.Stays.{all_honest}
 
 -- an error that was turned into another
@@ -58,6 +60,18 @@ pub closes_then : {D : Type 0} (view : D → DiskView) (old mid new : KeptView D
 closes_then view old mid new on closes = record { rose = one_rose_after view (disks_of old) (disks_of mid) (disks_of new) on closes.rose; closes = closes.closes }
 
 module _ {D : Type 0} (view : D → DiskView) where
+  -- the files grew as what was made ready was written
+  pub taken_growth : (old mid new : KeptView D) (i : Input) (r : ReadyView) → ChangesNothing view old mid → is_written r.write ≡ has_change (control_step old i) → IsHonest view old → GrowsBy r.write mid new
+      → GrowsFor i old new
+  taken_growth old mid new i r nothing exactly honest grows = record {
+    write = r.write;
+    exactly = exactly;
+    grows = record {
+      control = grows.control ∙ ap (λ (fs : List (List ℕ)). fs ++ control_frames r.write) (nothing.store.current.frames (honest_store view old.store honest.control honest.alternate).0);
+      content = grows.content ∙ ap (λ (fs : List (List ℕ)). fs ++ content_frames r.write) (nothing.content.journal.frames honest.content);
+    };
+  }
+
   -- making an input ready leaves the same node on the same files
   pub same_ready : (old new : KeptView D) → StaysTheSame view old new → IsSameOnFiles view old new
   same_ready old new same = record {

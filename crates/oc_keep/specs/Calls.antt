@@ -2,7 +2,7 @@
 use Rattle.std.specs.Prelude.{◌≡◌, ◌↔◌, Bool, true, false}
 use Rattle.oc_io.specs.DiskView.{DiskView}
 use Rattle.oc_model.specs.declared.input.Input.{Input}
-use Rattle.oc_model.specs.NextWorld.{writes}
+use Rattle.oc_model.specs.NextWorld.{has_change, writes}
 use Rattle.oc_model.specs.Step.{step}
 use Rattle.oc_node.specs.OutcomeView.{OutcomeView}
 use Rattle.oc_node.specs.Planned.{control_after}
@@ -18,7 +18,8 @@ use Rattle.oc_keep.specs.declared.errors.TidyError.TheVariants as tidies
 use Rattle.oc_keep.specs.Files.{AllGoOn, AreReliable, SameDurable}
 use Rattle.oc_keep.specs.KeptView.{AtAnyMoment, IsFullAt, IsHonest, KeptView, NodeSurvives, disks_of, node_of}
 use Rattle.oc_keep.specs.Promises.{ChangesNothing, Closes, IsSameNode, IsTurnedOver}
-use Rattle.oc_keep.specs.ReadyView.{CanCommit, IsFullToWrite, ReadyView, is_written, outcome_of, told_of}
+use Rattle.oc_keep.specs.declared.ready.Write.{Write}
+use Rattle.oc_keep.specs.ReadyView.{CanCommit, GrowsBy, IsFullToWrite, ReadyView, is_written, outcome_of, told_of}
 
 -- it is the same node on the same disks, in the same generation
 pub record IsSameOnFiles {D : Type 0} (view : D → DiskView) (old new : KeptView D) : Type 0 where
@@ -40,6 +41,12 @@ pub record DoesNothing {D : Type 0} (view : D → DiskView) (old new : KeptView 
 
 -- Taking an input
 
+-- the files have one frame more where the control step changes something durable, and else none
+pub record GrowsFor {D : Type 0} (i : Input) (old new : KeptView D) : Type 0 where
+  pub write : Write
+  pub exactly : is_written write ≡ has_change (control_step old i)
+  pub grows : GrowsBy write old new
+
 -- it was taken with this outcome: outcome and node are those of the step, every crash now leaves the node, and no file was full for it;
 -- whatever the disks do, control state and outcome are those of the control step, but for the bytes of a chunk
 pub record TakesInput {D : Type 0} (view : D → DiskView) (i : Input) (outcome : OutcomeView) (old new : KeptView D) : Type 0 where
@@ -48,6 +55,7 @@ pub record TakesInput {D : Type 0} (view : D → DiskView) (i : Input) (outcome 
   pub control : IsControlStep (control_step old i) new.node.control outcome
   pub outcome_is : IsHonest view old → outcome ≡ told_of (step (node_of old) i)
   pub node : IsHonest view old → node_of new ≡ (step (node_of old) i).node
+  pub grows : IsHonest view old → GrowsFor i old new
   pub survives : IsHonest view old → NodeSurvives view new (node_of new)
 
 -- why it was not taken, and what that left
@@ -88,6 +96,7 @@ pub record Commits {D : Type 0} (view : D → DiskView) (ready : ReadyView) (out
   pub control : new.node.control ≡ control_after old.node.control ready.plan
   pub outcome_is : outcome ≡ told_of (outcome_of (node_of old) ready)
   pub node : IsHonest view old → node_of new ≡ (outcome_of (node_of old) ready).node
+  pub grows : IsHonest view old → GrowsBy ready.write old new
   pub survives : IsHonest view old → NodeSurvives view new (node_of new)
 
 -- it was not: nothing changed, or a disk failed and the node is as it was

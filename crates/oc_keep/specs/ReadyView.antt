@@ -1,5 +1,5 @@
 -- An input made ready, as a contract sees it.
-use Rattle.std.specs.Prelude.{◌≡◌, ◌⊎◌, ◌<◌, Bool, true, false, List, [], length}
+use Rattle.std.specs.Prelude.{◌≡◌, ◌⊎◌, ℕ, ◌<◌, Bool, true, false, List, [], ◌∷◌, ◌++◌, length}
 use Rattle.oc_base.specs.declared.group.Group.{Group}
 use Rattle.oc_content.specs.ContentFile.{with_entry}
 use Rattle.oc_journal.specs.Stopped.{CanStop}
@@ -10,7 +10,8 @@ use Rattle.oc_node.specs.Planned.{PlanView, control_after}
 use Rattle.oc_io.specs.DiskView.{DiskView}
 use Rattle.oc_io.specs.MemDiskView.{MemDiskView, disk_of}
 use Rattle.oc_record.specs.Spelling.{records_bytes}
-use Rattle.oc_store.specs.ControlFiles.{begun_generation}
+use Rattle.oc_store.specs.ControlFiles.{at_side, begun_generation}
+use Rattle.oc_store.specs.declared.errors.Side.{Side}
 use Rattle.oc_keep.specs.declared.ready.Write.{Write}
 use Rattle.oc_keep.specs.declared.ready.Write.TheVariants as writes
 use Rattle.oc_keep.specs.Files.{Disks}
@@ -32,6 +33,21 @@ is_written (writes.Content piece) = true
 abbrev pub groups_with : Write → List Group → List Group
 groups_with (writes.Content piece) ks = with_entry piece.entry ks
 groups_with write ks = ks
+
+-- the frame that the current control file gets, if it gets one
+abbrev pub control_frames : Write → List (List ℕ)
+control_frames (writes.Records frame) = frame ∷ []
+control_frames write = []
+
+-- the same of the content file
+abbrev pub content_frames : Write → List (List ℕ)
+content_frames (writes.Content piece) = piece.body ∷ []
+content_frames write = []
+
+-- the files have the frame that was written, once and at the end, and no other one more
+pub record GrowsBy {D : Type 0} (write : Write) (old new : KeptView D) : Type 0 where
+  pub control : new.store.current.frames ≡ old.store.current.frames ++ control_frames write
+  pub content : new.content.journal.frames ≡ old.content.journal.frames ++ content_frames write
 
 -- what it does to a node
 abbrev pub outcome_of : Node → ReadyView → Outcome
@@ -78,3 +94,10 @@ pub record AreLeftAs (old new : Disks MemDiskView) : Type 0 where
   pub control : IsLeftAs old.control new.control
   pub alternate : IsLeftAs old.alternate new.alternate
   pub content : IsLeftAs old.content new.content
+
+-- the disks of the files that are not written are as they were, where the current control file is that of this side
+abbrev pub OthersStay : Write → Side → Disks MemDiskView → Disks MemDiskView → Type 0
+OthersStay writes.Nothing side old new = new ≡ old
+OthersStay (writes.Records frame) side old new =
+    (at_side side new.alternate new.control ≡ at_side side old.alternate old.control) × (new.content ≡ old.content)
+OthersStay (writes.Content piece) side old new = (new.control ≡ old.control) × (new.alternate ≡ old.alternate)

@@ -8,7 +8,7 @@ ghost use Rattle.oc_keep.specs.Errors.{IsOutOfMemory};
 ghost use Rattle.oc_keep.specs.Files.{AllGoOn, AreReliable, SameAsEither, disks_in, SameDurable, Survives, disks};
 ghost use Rattle.oc_keep.specs.KeptView.{AtAnyMoment, IsFullAt, IsFullOn, IsHonest, IsKept, IsRipe, NodeSurvives, disks_of, header_in, header_of, node_of};
 ghost use Rattle.oc_keep.specs.Promises.{ChangesNothing, Closes, HoldFiles, IsNodeOf, IsSameNode, IsTurnedOver, LeavesFiles, LoadsSafely, RefusesNode};
-ghost use Rattle.oc_keep.specs.ReadyView.{AreLeftAs, CanCommit, CanStopWrite, IsFullToWrite, is_written, outcome_of, told_of};
+ghost use Rattle.oc_keep.specs.ReadyView.{AreLeftAs, CanCommit, CanStopWrite, IsFullToWrite, OthersStay, is_written, outcome_of, told_of};
 ghost use Rattle.oc_laws_step.specs.LawfulNode.{IsLawfulNode};
 ghost use Rattle.oc_node.specs.NodeView.{IsReached};
 ghost use Rattle.oc_keep.specs.Calls.{Commits, FailsToCommit, FailsToReady, FailsToTidy, IsReadyFor, IsSameOnFiles, KeepsNode, RefusesInput, StaysTheSame, TakesInput, Tidies};
@@ -234,6 +234,9 @@ impl<D: Disk> Kept<D> {
         // The node is as it was, and at every moment a crash leaves it.
         ensures keeps { KeepsNode D.view self.old self.new }
 
+        // Where the current file is not long, nothing is done, and that takes no memory.
+        ensures idle { self.old.closed ≡ false → ¬ (DUE_BYTES < self.old.store.current.end) → IsOk result }
+
         // On reliable disks the files of an open node are turned over, if there is the memory.
         ensures works { self.old.closed ≡ false → AreReliable D.view (disks_of self.old)
             → IfErr result (λ error. error ≡ TidyError.Memory) }
@@ -380,6 +383,7 @@ impl Kept<MemDisk> {
 
         // The disk that is written is left new, without a stop or a fault, and the others as they are.
         ensures disks { AreLeftAs (disks_of self) (disks result.0 result.1 result.2) }
+        ensures others { OthersStay ready.write self.store.side (disks_of self) (disks result.0 result.1 result.2) }
     {
         frames_add_their_records();
         let (store, content, write) = files_of(self, ready);

@@ -41,3 +41,4 @@ pub use ready::Ready;
 pub use seat::Seat;
 pub use status::{status_of, status_recovered};
 pub use trials::trial;
+pub use writing::brought;

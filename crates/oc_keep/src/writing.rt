@@ -80,8 +80,8 @@ fn piece<D: Disk>(
     }
 }
 
-/// The group and the bytes that an input brings, if it is one of those that do.
-fn brought(input: &Input) -> Option<(&GroupName, &[u8])>
+/// The group and the bytes that an input brings, if it is one of those that do: a publish, a seal, or a chunk that is delivered.
+pub fn brought(input: &Input) -> Option<(&GroupName, &[u8])>
     ensures { MatchOption result (piece_of input.now ≡ record { group = []; bytes = [] })
         (λ piece. piece_of input.now ≡ record { group = piece.0.now; bytes = piece.1.now }) }
 {

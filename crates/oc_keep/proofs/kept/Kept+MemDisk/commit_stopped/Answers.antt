@@ -6,7 +6,7 @@ use Rattle.oc_store.specs.StoreView.{StoreView, first_disk, second_disk}
 use Rattle.oc_keep.specs.Files.{disks}
 use Rattle.oc_keep.specs.KeptView.{KeptView, disks_of}
 use Rattle.oc_keep.proofs.Leaving.{piece_files, records_files, unwritten_files}
-use Rattle.oc_keep.proofs.Stops.{stopped_disks, stopped_nothing, stopped_piece, stopped_records}
+use Rattle.oc_keep.proofs.Stops.{other_stays, stopped_disks, stopped_nothing, stopped_piece, stopped_records}
 use Rattle.oc_keep.proofs.kept.Kept+MemDisk.commit_stopped.Goals as goal
 
 -- the disks that a store and a content log hand back are those of the node that they were of
@@ -101,3 +101,29 @@ returns-in-Records-clause-disks c =
     let r = c.commit_stopped-control.result in
     let both = stopped_disks s.side s.current.disk s.other.disk r.0 r.1 (rw of.ensures.store at c.commit_stopped-control.ensures.current) (rw of.ensures.store at c.commit_stopped-control.ensures.other) in
     record { control = both.0; alternate = both.1; content = inl (c.into_disk-in-Records.ensures.disk ∙ ap (λ (l : ContentView MemDiskView). l.journal.disk) of.ensures.content) }
+
+pub returns-in-Nothing-clause-others : goal.returns-in-Nothing-clause-others
+returns-in-Nothing-clause-others c =
+    let k = c.args.self in
+    let of = c.files_of-store in
+    let r = c.into_disks-control.result in
+    rw (sym of.ensures.write ∙ c.in-Nothing.is)
+    (same_disks k of.result.0 of.result.1 r.0 r.1 c.into_disk.result of.ensures.store of.ensures.content c.into_disks-control.ensures.first c.into_disks-control.ensures.second c.into_disk.ensures.disk)
+
+pub returns-in-Records-clause-others : goal.returns-in-Records-clause-others
+returns-in-Records-clause-others c =
+    let s = c.args.self.store in
+    let of = c.files_of-store in
+    let r = c.commit_stopped-control.result in
+    rw (sym of.ensures.write ∙ c.in-Records.is) (
+      other_stays s.side s.current.disk s.other.disk r.0 r.1 (rw of.ensures.store at c.commit_stopped-control.ensures.other),
+      c.into_disk-in-Records.ensures.disk ∙ ap (λ (l : ContentView MemDiskView). l.journal.disk) of.ensures.content,
+    )
+
+pub returns-in-Content-clause-others : goal.returns-in-Content-clause-others
+returns-in-Content-clause-others c =
+    let of = c.files_of-store in
+    rw (sym of.ensures.write ∙ c.in-Content.is) (
+      c.into_disks-control-in-Content.ensures.first ∙ ap (λ (s : StoreView MemDiskView). first_disk s) of.ensures.store,
+      c.into_disks-control-in-Content.ensures.second ∙ ap (λ (s : StoreView MemDiskView). second_disk s) of.ensures.store,
+    )

@@ -4,7 +4,7 @@ use Rattle.oc_model.specs.Node.{Control}
 use Rattle.oc_keep.specs.declared.errors.CommitError.{CommitError}
 use Rattle.oc_keep.specs.declared.errors.CommitError.TheVariants.{Disk}
 use Rattle.oc_keep.specs.KeptView.{KeptView, disks_of, header_of, kept_of}
-use Rattle.oc_keep.proofs.Committing.{can_put, commit_generation, commit_kept, commit_moments, commit_node, failed_generation, failed_groups, failed_kept, failed_rose, fits_file, has_room, write_goes_on}
+use Rattle.oc_keep.proofs.Committing.{can_put, commit_generation, commit_grows, commit_kept, commit_moments, commit_node, failed_generation, failed_groups, failed_kept, failed_rose, fits_file, has_room, write_goes_on}
 use Rattle.oc_keep.proofs.Ends.{commit_unfull, done}
 use Rattle.oc_keep.proofs.Stays.{all_honest, kept_survives}
 use Rattle.oc_keep.proofs.kept.Kept.commit.Goals as goal
@@ -120,6 +120,7 @@ returns-in-Ok-clause-committed g c =
       control = c.apply.ensures.control;
       outcome_is = c.apply.ensures.outcome;
       node = commit_node g.D.Disk.view c.frames_add_their_records.ensures.read k c.self.invariant was_open k2 c.into_parts-plan.result.plan c.into_parts-plan.result.write c.in-Ok.ensures.writes c.put.ensures.safely c.apply.ensures.control;
+      grows = commit_grows g.D.Disk.view k k2 c.into_parts-plan.result.write c.in-Ok.ensures.writes c.put.ensures.safely;
       survives = λ honest.
           kept_survives g.D.Disk.view k2 (invariant_of-self g c) was_open
           (all_honest g.D.Disk.view (disks_of k) (disks_of k2) (write_goes_on g.D.Disk.view k k2 c.into_parts-plan.result.write c.put.ensures.safely) honest);

@@ -7,7 +7,7 @@ use Rattle.oc_keep.specs.ReadyView.{IsFullToWrite, outcome_of, told_of}
 use Rattle.oc_keep.proofs.Ends.{done, shut_open}
 use Rattle.oc_keep.proofs.Runs.{all_reliable}
 use Rattle.oc_keep.proofs.Stays.{all_honest, ready_moments, unready_moments}
-use Rattle.oc_keep.proofs.Taking.{err_is, same_ready, same_taken, taken_control, uncommitted, uncommitted_closed, unready, unready_closed, unshut}
+use Rattle.oc_keep.proofs.Taking.{err_is, same_ready, same_taken, taken_control, taken_growth, uncommitted, uncommitted_closed, unready, unready_closed, unshut}
 use Rattle.oc_keep.proofs.kept.Kept.take.Goals as goal
 
 pub ready-made-requires : goal.ready-made-requires
@@ -107,6 +107,7 @@ returns-clause-took g c =
       fits = λ full. absurd (done _ _ (c.in_ok-commit.ensures.full.1 (made.full.1 full)));
       outcome_is = λ honest. committed.outcome_is ∙ ap (λ (n : Node). told_of (outcome_of n c.in_ok-ready.ready)) (same.node honest) ∙ ap told_of (made.step_is honest);
       node = λ honest. committed.node (later honest) ∙ ap (λ (n : Node). (outcome_of n c.in_ok-ready.ready).node) (same.node honest) ∙ ap (λ (o : Outcome). o.node) (made.step_is honest);
+      grows = λ honest. taken_growth g.D.Disk.view c.args.self.now c.ready-made.new.self c.commit.new.self c.args.input c.in_ok-ready.ready same.nothing made.control.writes honest (committed.grows (later honest));
       survives = λ honest. committed.survives (later honest);
     }
 

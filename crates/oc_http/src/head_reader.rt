@@ -73,7 +73,7 @@ impl HeadReader {
         ensures count { NoFall (S.faults source.old) (S.faults source.new) }
         ensures cause { IsErrOf result HttpFault.Source → Rose (S.faults source.old) (S.faults source.new) }
     {
-        let head = self.read_start(source)?;
+        let head = self.read_response_start(source)?;
         let length = body_length(&head);
         let body = take_content(self.alloc, source, length)?;
         Ok(Reply {
@@ -87,8 +87,9 @@ impl HeadReader {
         })
     }
 
-    /// The head of a response whose body is read too.
-    fn read_start<S: Source>(&mut self, source: &mut S) -> Result<ReplyHead, HttpFault>
+    /// The head of a response whose body is read too, by [`HeadReader::read_response`] or by the caller, who finds
+    /// [`body_length`] bytes after it.
+    pub fn read_response_start<S: Source>(&mut self, source: &mut S) -> Result<ReplyHead, HttpFault>
         ensures read { IfOk result (λ head. (bytes : List ℕ) × S.gives source.old bytes source.new × SaysReplyStart bytes head) }
         ensures refused { IfErr result (λ fault. (bytes : List ℕ) × Took S.gives S.fails source.old bytes source.new fault
             × RefusesReplyStart bytes (S.ended source.new) fault) }

@@ -57,6 +57,7 @@ pub use messages::{read_body, read_head, read_response, read_response_head};
 pub use oc_base::Text;
 pub use paths::{MESSAGE_PATH, PROBE_PATH};
 pub use reply::{Reply, ReplyHead};
+pub use responses::body_length;
 pub use target::path_and_query;
 pub use text::length_of;
 pub use writing_replies::{write_reply_head, write_response, write_response_head};

@@ -45,8 +45,8 @@ pub(crate) fn whole_fault(head: &ReplyHead) -> Option<HttpFault>
     }
 }
 
-/// How many bytes the body has, `None` where it goes to the end of the source (RFC 9112, section 6.3).
-pub(crate) fn body_length(head: &ReplyHead) -> Option<u64>
+/// How many bytes the body has, `None` where it goes to the end of the source (RFC 9112, section 6.3). A 204 has none.
+pub fn body_length(head: &ReplyHead) -> Option<u64>
     ensures { result ≡ body_length head.now }
 {
     if head.status == 204 {

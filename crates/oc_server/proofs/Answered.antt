@@ -73,7 +73,7 @@ silent_all : (answer : Answer) (back : Option Message) (s : Setting) (ds : List 
 silent_all answer back s [] a silent = tt
 silent_all answer back s (d ∷ ds) a silent = (silent_one answer back s d a (silent.0), silent_all (answer_of answer d a) (back_of back d a) s ds (after d a) (silent.1))
 
--- behind those that answer
+-- after those that answer
 answered_then : (answer : Answer) (back : Option Message) (s : Setting) (ds es : List Deed) (a : Running) → AreAnsweredBy answer back s ds a → AreSilent es → AreAnsweredBy answer back s (ds ++ es) a
 answered_then answer back s [] es a first second = silent_all answer back s es a second
 answered_then answer back s (d ∷ ds) es a first second = (first.0, answered_then (answer_of answer d a) (back_of back d a) s ds es (after d a) (first.1) second)

@@ -1,4 +1,4 @@
--- What a connection that stands so was given, beside the replies to its requests.
+-- What a connection in this state was given, beside the replies to its requests.
 use Rattle.std.proofs.Common.{◌≡◌, ℕ, ◌+◌, Bool, true, false, Option, None, Some, List, [], ◌∷◌, ◌++◌, length, refl, sym, ap, subst, ◌∙◌, arith, length-append}
 use Rattle.std.specs.Prelude.{◌==◌, if◌then◌else◌}
 use Rattle.std.specs.Option.{option_map}
@@ -97,7 +97,7 @@ rest_givable p t now there =
     subst (λ (o : Option UnderWay). IsGivable o now) (sym (left_behind p t (behind p.content (length (piece_of p.content now)))))
     (behind_givable p.content (length (piece_of p.content now)) now there)
 
--- what is owed of a content is its next piece, and what is owed behind that
+-- what is owed of a content is its next piece, and what is owed after that
 pub piece_given : (p : Transfer) (t : ℕ) (now later : List Group) → Grows now later → IsGivable (Some p.content) now
     → owed (Some p.content) later ≡ piece p now ++ owed (content_left (rest p t now)) later
 piece_given p t now later grows there =
@@ -126,7 +126,7 @@ first_givable r response t None now there = tt
 first_givable r response t (Some u) now there =
     rest_givable (record { connection = r.connection; content = u; keeps = keeps response.connection; told = r.told; since = t }) t now there
 
--- Behind what was given
+-- After what was given
 
 -- what is under way is what is left
 abbrev pub works_left : Option Transfer → List Work

@@ -34,7 +34,7 @@ module _ {X : Type 0} (P : X → Type 0) where
   all_take (suc n) [] all = tt
   all_take (suc n) (x ∷ xs) all = (all.0, all_take n xs all.1)
 
-  -- those behind them
+  -- those after them
   all_drop : (n : ℕ) (xs : List X) → AllByRecursion P xs → AllByRecursion P (drop n xs)
   all_drop zero xs all = all
   all_drop (suc n) [] all = tt

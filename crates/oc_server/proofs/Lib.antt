@@ -30,3 +30,4 @@ pub mod Settled
 pub mod PartsOrdered
 pub mod TurnsOrdered
 pub mod Answered
+pub mod InPlace

@@ -76,7 +76,6 @@ module _ {D : Type 0} (view : D → DiskView) where
   look_cause ends.Disk a b c p cause = one_rose_after view (disks_of a) (disks_of b) (disks_of c) p.goes_on cause
   look_cause ends.Memory a b c p cause = tt
   look_cause ends.Served a b c p cause = cause
-  look_cause ends.Quiet a b c p cause = cause
   look_cause ends.Link a b c p cause = cause
   look_cause ends.Full a b c p cause = cause
   look_cause ends.Sink a b c p cause = cause

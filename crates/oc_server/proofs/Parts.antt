@@ -1,4 +1,4 @@
--- Parts of a turn, one after the other.
+-- Parts of a turn, one after another.
 use Rattle.std.proofs.Common.{◌≡◌, ℕ, false, Option, List, [], ◌∷◌, ◌++◌, refl, sym, ap, subst, ◌∙◌}
 use Rattle.std.proofs.lemmas.List.{append_assoc}
 use Rattle.oc_link.specs.declared.call.Call.{Call}
@@ -14,7 +14,7 @@ use Rattle.oc_server.proofs.Scenes.{breaks_first, breaks_then, did_none, did_the
 
 -- Fronts of lists of deeds
 
--- what is under way is so with more deeds behind
+-- what is under way is so with more deeds after it
 under_more : (u : Under) (ds more : List Deed) → IsUnder u ds → IsUnder u (ds ++ more)
 under_more Idle ds more is = tt
 under_more (Taking i) [] more is = absurd is
@@ -22,7 +22,7 @@ under_more (Taking i) (d ∷ ds) more is = is
 under_more (Noting line) [] more is = absurd is
 under_more (Noting line) (d ∷ ds) more is = is
 
--- a front of deeds is one of these with more behind
+-- a front of deeds is one of these with more after it
 pub cuts_more : (whole more deeds : List Deed) (u : Under) → Cuts whole deeds u → Cuts (whole ++ more) deeds u
 cuts_more whole more deeds u cut = record {
   behind = cut.behind ++ more;

@@ -307,7 +307,7 @@ has_input t x bytes v is = subst HasInput (sym is.verdict) (verdict_input t x by
 
 -- What came
 
--- after what came its connection stands as it says
+-- after what came its connection is in the state that it says
 abbrev pub IsReadyFor : Came → List Call → List Work → Type 0
 IsReadyFor (comes.Request c count v) made ws = IsSettled made ws × (phase_on c made ≡ Awaiting) × HasInput v
 IsReadyFor (comes.Gone c loss) made ws = IsLeft c made ws

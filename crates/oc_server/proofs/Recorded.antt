@@ -67,12 +67,12 @@ abbrev pub Leads : Setting → Option Input → List Deed → Option Input → T
 Leads s p [] q = p ≡ q
 Leads s p (d ∷ ds) q = (next : Option Input) × Moves s p d next × Leads s next ds q
 
--- deeds behind deeds
+-- deeds after deeds
 pub leads_then : (s : Setting) (p q r : Option Input) (ds es : List Deed) → Leads s p ds q → Leads s q es r → Leads s p (ds ++ es) r
 leads_then s p q r [] es is more = subst (λ (o : Option Input). Leads s o es r) (sym is) more
 leads_then s p q r (d ∷ ds) es (next, moves, rest) more = (next, moves, leads_then s next q r ds es rest more)
 
--- a front of deeds, and what is behind it
+-- a front of deeds, and what is after it
 pub leads_front : (s : Setting) (p r : Option Input) (ds es : List Deed) → Leads s p (ds ++ es) r → (q : Option Input) × Leads s p ds q × Leads s q es r
 leads_front s p r [] es all = (p, refl, all)
 leads_front s p r (d ∷ ds) es (next, moves, rest) =
@@ -131,7 +131,7 @@ text_next : (me : ℕ) (o : Option Input) → line_next me o ++ [] ≡ record_te
 text_next me None = refl
 text_next me (Some i) = refl
 
--- the lines of deeds, behind the line of an input that is to be taken next
+-- the lines of deeds, after the line of an input that is to be taken next
 pub leads_text : (s : Setting) → s.log ≡ logs.Record → (p q : Option Input) (ds : List Deed) → Leads s p ds q → line_next s.me p ++ lines s ds ≡ record_text s.me (record_lines ds ++ line_of_next q)
 leads_text s is p q [] leads = subst (λ (o : Option Input). line_next s.me p ++ [] ≡ record_text s.me (line_of_next o)) leads (text_next s.me p)
 leads_text s is None q (Says text ∷ ds) (next, moves, rest) = ap (λ (t : List ℕ). t ++ lines s ds) moves ∙ leads_text s is next q ds rest

@@ -33,7 +33,7 @@ use Rattle.oc_server.specs.declared.work.Work.TheVariants as works
 pub phase_here : (c d : ℕ) (made : List Call) (phase : Phase) → (d == c) ≡ true → phase_on d made ≡ phase → phase_on c made ≡ phase
 phase_here c d made phase own is = ap (λ (x : ℕ). phase_on x made) (sym (eqb-true d c own)) ∙ is
 
--- what was given, with more behind it
+-- what was given, with more after it
 more_given : (g w text : List ℕ) → w ≡ g → w ++ text ≡ g ++ text
 more_given g w text is = ap (λ (x : List ℕ). x ++ text) is
 
@@ -108,7 +108,7 @@ first_at b c r response t (Some u) now is =
     let p : Transfer = record { connection = r.connection; content = u; keeps = keeps response.connection; told = r.told; since = t } in
     rest_at b c p t (behind u (length (piece_of u now))) is
 
--- what is under way on a connection behind a piece
+-- what is under way on a connection after a piece
 pub left_on : (c : ℕ) (ws : List Work) (left : Option Transfer) → works_on c ws ≡ [] → IsAt true c left → works_on c (with_content left ws) ≡ works_left left
 left_on c ws None none own = none
 left_on c ws (Some p) none own = own_pushed c ws (works.Content p) own ∙ ap (λ (x : List Work). x ++ works.Content p ∷ []) none
@@ -129,7 +129,7 @@ finish_other : (c d : ℕ) (keep watched : Bool) (left : Option Transfer) (st : 
 finish_other c d keep watched None st apart = rw apart refl
 finish_other c d keep watched (Some p) st apart = refl
 
--- Holds behind a text and what is left
+-- Holds after a text and what is left
 pub text_given : (c d : ℕ) (text : List ℕ) (keep watched : Bool) (left : Option Transfer) (st : Standing) (ws : List Work) (now later : List Group) (g w : List ℕ)
     → (d == c) ≡ true → st.phase ≡ Answering → ws ≡ works_left left → IsGivable (content_left left) now → w ≡ (g ++ text) ++ owed (content_left left) later
     → Holds (stands_after c (acts.Give d text ∷ finish d keep watched left) st).phase ws now later (g ++ given c (acts.Give d text ∷ finish d keep watched left)) w

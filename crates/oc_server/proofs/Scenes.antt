@@ -73,7 +73,7 @@ module _ {D L K : Type 0} (view : D → DiskView) (takes fails : K → List ℕ 
       ∙ ap (λ (c : Settings). record { me = a.kept.node.control.me; addresses = c.addresses; key = c.key; log = b.log }) config
       ∙ ap (λ (x : Log). record { me = a.kept.node.control.me; addresses = a.config.addresses; key = a.config.key; log = x }) log
 
-  -- the lines behind lines, told of the same node
+  -- the lines after lines, told of the same node
   text_then : (takes_then : (a b c : K) (x y : List ℕ) → takes a x b → takes b y c → takes a (x ++ y) c) (s other : Setting) (ds es : List Deed) (a b c : K)
       → other ≡ s → takes a (lines s ds) b → takes b (lines other es) c → takes a (lines s (ds ++ es)) c
   text_then takes_then s other ds es a b c same first second =
@@ -135,17 +135,17 @@ module _ {D L K : Type 0} (view : D → DiskView) (takes fails : K → List ℕ 
 
   -- It ended so after deeds
 
-  -- behind one list of deeds
+  -- after one list of deeds
   pub breaks_behind : (ds : List Deed) (under : Under) (end : TurnEnd) (a b c : Server D L K)
       → Did view takes faults story counts ds a b → Breaks view takes fails faults story counts end under b c → BreaksBehind view takes fails faults story counts end ds under a c
   breaks_behind ds under end a b c did breaks = (b, did, breaks)
 
-  -- behind none
+  -- after none
   pub breaks_first : (takes_nothing : (k : K) → takes k [] k) (under : Under) (end : TurnEnd) (a c : Server D L K)
       → a.kept.closed ≡ false → Breaks view takes fails faults story counts end under a c → BreaksBehind view takes fails faults story counts end [] under a c
   breaks_first takes_nothing under end a c is_open breaks = (a, did_none takes_nothing a is_open, breaks)
 
-  -- behind further ones
+  -- after further ones
   pub breaks_then : (takes_then : (a b c : K) (x y : List ℕ) → takes a x b → takes b y c → takes a (x ++ y) c) (ds es : List Deed) (under : Under) (end : TurnEnd) (a b c : Server D L K)
       → Did view takes faults story counts ds a b → BreaksBehind view takes fails faults story counts end es under b c → BreaksBehind view takes fails faults story counts end (ds ++ es) under a c
   breaks_then takes_then ds es under end a b c did (at, more, breaks) = (at, did_then takes_then ds es a b at did more, breaks)
@@ -194,7 +194,6 @@ module _ {D L K : Type 0} (view : D → DiskView) (takes fails : K → List ℕ 
   cause_of a b c ends.Link under x y z p q r on few same cause = subst (λ (n : ℕ). Rose n r.listening) same cause
   cause_of a b c ends.Memory under x y z p q r on few same cause = tt
   cause_of a b c ends.Served under x y z p q r on few same cause = cause
-  cause_of a b c ends.Quiet under x y z p q r on few same cause = cause
 
   -- why it ended: a count rose, or a file is full
   pub broken_cause : (ds : List Deed) (under : Under) (end : TurnEnd) (a c : Server D L K) → BreaksBehind view takes fails faults story counts end ds under a c

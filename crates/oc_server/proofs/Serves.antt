@@ -24,7 +24,6 @@ module _ {D L K : Type 0} (view : D → DiskView) (takes fails : K → List ℕ 
   -- fewer than most, and then one that ended so
   pub serve_ends : (most : ℕ) (end : TurnEnd) (a c : Turns D L K) → ServesUpTo view takes fails faults story counts most end a c → ServeEnds view takes fails faults story counts most end a c
   serve_ends most ends.Served a c up = absurd up.stops.stops.breaks.2.cause
-  serve_ends most ends.Quiet a c up = absurd up.stops.stops.breaks.2.cause
   serve_ends most ends.Link a c up = up
   serve_ends most ends.Disk a c up = up
   serve_ends most ends.Full a c up = up

@@ -56,7 +56,7 @@ orderly_then s made (d ∷ ds) es a first second =
     })
     (subst (λ (cs : List Call). IsOrderly s cs es (after_all ds (after d a))) (sym (append_assoc made (calls s d a) (calls_of s ds (after d a)))) second))
 
--- deeds in order behind others
+-- deeds in order after others
 pub ordered_then : (s : Setting) (made : List Call) (ds es : List Deed) (a : Running) → IsOrdered s made ds a → IsOrdered s (made ++ calls_of s ds a) es (after_all ds a) → IsOrdered s made (ds ++ es) a
 ordered_then s made [] es a first second = subst (λ (cs : List Call). IsOrdered s cs es a) (append-nil made) second
 ordered_then s made (d ∷ ds) es a first second = (
@@ -75,7 +75,7 @@ ordered_front s made (d ∷ ds) es a ordered = (ordered.0, ordered_front s (made
 pub settled_by : (made more : List Call) (ws : List Work) → ((c : ℕ) → Fits (stands_after c more (standing_of c made)).phase (works_on c ws)) → IsSettled (made ++ more) ws
 settled_by made more ws fits = λ c. subst (λ (x : Standing). Fits x.phase (works_on c ws)) (sym (stands-then c made more untouched)) (fits c)
 
--- behind the first work of a connection there is none
+-- after the first work of a connection there is none
 pub one_at_most : (phase : Phase) (ws : List Work) → Fits phase ws → drop 1 ws ≡ []
 one_at_most Awaiting ws fits = ap (λ (x : List Work). drop 1 x) fits
 one_at_most Answering ws fits = ap (λ (x : List Work). drop 1 x) (fits.1)

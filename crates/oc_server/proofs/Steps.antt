@@ -156,7 +156,6 @@ module _ {D L K : Type 0} (view : D → DiskView) (takes fails : K → List ℕ 
     counted = counted;
   }
   look_breaks takes_nothing ends.Served old new sink told counted stops = absurd stops.cause
-  look_breaks takes_nothing ends.Quiet old new sink told counted stops = absurd stops.cause
   look_breaks takes_nothing ends.Link old new sink told counted stops = absurd stops.cause
   look_breaks takes_nothing ends.Full old new sink told counted stops = absurd stops.cause
   look_breaks takes_nothing ends.Sink old new sink told counted stops = absurd stops.cause
@@ -167,7 +166,6 @@ module _ {D L K : Type 0} (view : D → DiskView) (takes fails : K → List ℕ 
   look_breaks_by takes_nothing ends.Memory old new sink told counted stops = look_breaks takes_nothing ends.Memory old new sink told counted stops
   look_breaks_by takes_nothing ends.Disk old new sink told counted stops = look_breaks takes_nothing ends.Disk old new sink told counted stops
   look_breaks_by takes_nothing ends.Served old new sink told counted stops = absurd stops.cause
-  look_breaks_by takes_nothing ends.Quiet old new sink told counted stops = absurd stops.cause
   look_breaks_by takes_nothing ends.Link old new sink told counted stops = absurd stops.cause
   look_breaks_by takes_nothing ends.Full old new sink told counted stops = absurd stops.cause
   look_breaks_by takes_nothing ends.Sink old new sink told counted stops = absurd stops.cause
@@ -207,7 +205,6 @@ module _ {D L K : Type 0} (view : D → DiskView) (takes fails : K → List ℕ 
   }
   line_breaks ends.Memory text old new kept told counted stops survives = absurd stops
   line_breaks ends.Served text old new kept told counted stops survives = absurd stops
-  line_breaks ends.Quiet text old new kept told counted stops survives = absurd stops
   line_breaks ends.Link text old new kept told counted stops survives = absurd stops
   line_breaks ends.Disk text old new kept told counted stops survives = absurd stops
   line_breaks ends.Full text old new kept told counted stops survives = absurd stops

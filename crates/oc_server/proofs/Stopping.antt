@@ -29,7 +29,6 @@ module _ {D L K : Type 0} (view : D → DiskView) (takes fails : K → List ℕ 
   look_only ends.Full a c breaks = absurd breaks
   look_only ends.Link a c breaks = absurd breaks
   look_only ends.Served a c breaks = absurd breaks
-  look_only ends.Quiet a c breaks = absurd breaks
 
   -- in a look
   pub look_stops : (end : TurnEnd) (p : Part) (a c : Server D L K) → a.kept.closed ≡ false
@@ -40,7 +39,6 @@ module _ {D L K : Type 0} (view : D → DiskView) (takes fails : K → List ℕ 
   look_stops ends.Full p a c is_open breaks = absurd breaks
   look_stops ends.Link p a c is_open breaks = absurd breaks
   look_stops ends.Served p a c is_open breaks = absurd breaks
-  look_stops ends.Quiet p a c is_open breaks = absurd breaks
 
   -- with what its only deed has under way
   pub stops_deed : (end : TurnEnd) (under : Under) (d : Deed) (p : Part) (a c : Server D L K) → a.kept.closed ≡ false
@@ -59,7 +57,6 @@ module _ {D L K : Type 0} (view : D → DiskView) (takes fails : K → List ℕ 
   note_stops ends.Full line d p a c is_open is next breaks = absurd breaks
   note_stops ends.Link line d p a c is_open is next breaks = absurd breaks
   note_stops ends.Served line d p a c is_open is next breaks = absurd breaks
-  note_stops ends.Quiet line d p a c is_open is next breaks = absurd breaks
 
   -- in its input
   pub takes_stops : (end : TurnEnd) (i : Input) (p : Part) (a c : Server D L K) → a.kept.closed ≡ false

@@ -83,7 +83,7 @@ module _ {D : Type 0} (view : D → DiskView) (law : Law view) (old new : KeptVi
     any_moment = moments;
     goes_on = same.goes_on;
     cause = full_still refused.why.1.nothing refused.why.0;
-    meets = (refused.why.0, refused.why.1.nothing);
+    meets = (refused.why.0, refused.why.1);
   }
   keep_stops keeps.Disk is_open same closed refused moments survives = record {
     leaves = λ honest. leaves_now view (header_of old.node.control) old.node.control.me (disks_of old) (disks_of new) (SameAsEither (node_of old) (step (node_of old) i).node) law (all_honest view (disks_of old) (disks_of new) same.goes_on honest) (moments honest);
@@ -165,7 +165,6 @@ module _ {D L K : Type 0} (view : D → DiskView) (takes fails : K → List ℕ 
   keep_breaks takes_nothing ends.Memory i old new sink told counted stops =
       record { text = subst (λ (k : K). takes old.sink [] k) (sym sink) (takes_nothing old.sink); leaves = stops.leaves; moments = λ honest. inl (record { goes_on = stops.goes_on; any_moment = stops.any_moment honest }); goes_on = stops.goes_on; cause = tt; meets = tt; told = told; counted = counted }
   keep_breaks takes_nothing ends.Served i old new sink told counted stops = absurd stops.cause
-  keep_breaks takes_nothing ends.Quiet i old new sink told counted stops = absurd stops.cause
   keep_breaks takes_nothing ends.Link i old new sink told counted stops = absurd stops.cause
   keep_breaks takes_nothing ends.Sink i old new sink told counted stops = absurd stops.cause
 
@@ -195,7 +194,6 @@ module _ {D L K : Type 0} (view : D → DiskView) (takes fails : K → List ℕ 
   }
   write_breaks ends.Memory i outcome old new told counted kept stops = absurd stops
   write_breaks ends.Served i outcome old new told counted kept stops = absurd stops
-  write_breaks ends.Quiet i outcome old new told counted kept stops = absurd stops
   write_breaks ends.Link i outcome old new told counted kept stops = absurd stops
   write_breaks ends.Disk i outcome old new told counted kept stops = absurd stops
   write_breaks ends.Full i outcome old new told counted kept stops = absurd stops

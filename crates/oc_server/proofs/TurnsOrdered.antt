@@ -164,7 +164,7 @@ module _ {D L K : Type 0} (view : D → DiskView) (takes fails : K → List ℕ 
             (whole_turn old new turned.told made later before behind (turned.read honest) settled);
       }
 
-  -- a turn does its deeds in order, and the works fit each connection behind it
+  -- a turn does its deeds in order, and the works fit each connection after it
   pub turned_ordered : (served : Bool) (old new : Turns D L K) (made later : List Call) → (turned : Turned view takes faults story counts served old new) → IsHonest view old.server.kept
       → story old.server.link ≡ Some made → story new.server.link ≡ Some later → IsSettled made old.server.works
       → IsOrdered (setting old.server) made (turn_of old turned.told) (running old.server) × IsSettled later new.server.works
@@ -283,7 +283,6 @@ module _ {D L K : Type 0} (view : D → DiskView) (takes fails : K → List ℕ 
       → IsSettled made old.server.works → (ended : ServeEnds view takes fails faults story counts most end old new)
       → AreServed (setting old.server) made later (deeds_until view takes fails faults story counts most end old new ended) (running old.server)
   ends_served most ends.Served old new made later honest before behind none settled served = all_served most old new made later honest before behind none settled served
-  ends_served most ends.Quiet old new made later honest before behind none settled served = absurd served
   ends_served most ends.Link old new made later honest before behind none settled served = up_to_served most ends.Link old new made later honest before behind none settled served
   ends_served most ends.Disk old new made later honest before behind none settled served = up_to_served most ends.Disk old new made later honest before behind none settled served
   ends_served most ends.Full old new made later honest before behind none settled served = up_to_served most ends.Full old new made later honest before behind none settled served

@@ -32,7 +32,7 @@ less_next n m =
       | inr most ↦ le-ltb (1 + n) (suc m) (omega (arith, most)) ∙ sym (le-ltb n m most)
     ]
 
--- the place of the first one that passes: the head, or behind it
+-- the place of the first one that passes: the head, or after it
 position_first : (q : Work → Bool) (w : Work) (ws : List Work) → q w ≡ true → position q (w ∷ ws) ≡ Some 0
 position_first q w ws is =
     let at : position_or_len q (w ∷ ws) ≡ 0 = ap (λ (b : Bool). cond (not b) (1 + position_or_len q ws) 0) is in

@@ -2,6 +2,7 @@
 use Rattle.std.specs.Prelude.{ℕ, Bool, false, ◌==◌, ◌&&◌, if◌then◌else◌, Option, Some, None, Result, Ok, Err, List, ◌++◌, length}
 use Rattle.oc_link.specs.ArrivedView.{ArrivedView, FailsBehind, GivesFront, IsAtEnd, arrived}
 use Rattle.oc_link.specs.declared.event.Coming.{Coming}
+use Rattle.oc_http.specs.Responses.{reply_of}
 use Rattle.oc_http.specs.Taking.{RefusesReply, SaysReply, Took}
 use Rattle.oc_http.specs.declared.fault.HttpFault.{HttpFault}
 use Rattle.oc_http.specs.declared.fault.HttpFault.TheVariants as https
@@ -20,6 +21,7 @@ use Rattle.oc_server.specs.declared.came.Came.{Came}
 use Rattle.oc_server.specs.declared.came.Came.TheVariants as comes
 use Rattle.oc_server.specs.declared.dials.Errand.{Errand}
 use Rattle.oc_server.specs.declared.dials.Errand.TheVariants as errands
+use Rattle.oc_server.specs.declared.reply_in_place.ReplyInPlace.{ReplyInPlace}
 
 -- What is read
 
@@ -27,6 +29,14 @@ use Rattle.oc_server.specs.declared.dials.Errand.TheVariants as errands
 abbrev pub IsReading : List ℕ → Coming → Result Reply HttpFault → Type 0
 IsReading bytes coming (Ok reply) = (head body : List ℕ) × (end : ArrivedView) × GivesFront (arrived bytes coming) (head ++ body) end × SaysReply head body (IsAtEnd end) reply
 IsReading bytes coming (Err fault) = (front : List ℕ) × (end : ArrivedView) × Took GivesFront FailsBehind (arrived bytes coming) front end fault × RefusesReply front (IsAtEnd end) fault
+
+-- a response where it lies among the bytes that came, as a value
+abbrev pub reply_in : ReplyInPlace → Reply
+reply_in reply = reply_of reply.head reply.body.now
+
+abbrev pub reading : Result ReplyInPlace HttpFault → Result Reply HttpFault
+reading (Ok reply) = Ok (reply_in reply)
+reading (Err fault) = Err fault
 
 -- there was memory to read it
 abbrev pub HadMemory : Result Reply HttpFault → Type 0

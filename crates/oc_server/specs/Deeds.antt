@@ -66,11 +66,11 @@ pub data Deed : Type 0 where
   Reads : ℕ → Deed
   -- the clock gave this number of seconds
   Tells : ℕ → Deed
-  -- an input was taken, and its line was written, where each has one behind its frame; its messages go to the outbox
+  -- an input was taken, and its line was written, where each has one after its frame; its messages go to the outbox
   Takes : Input → Deed
   -- the same for the input of a request: a message back to its sender is the reply
   Accepts : Input → Deed
-  -- what is told before an input or behind it was written: these lines, or none
+  -- what is told before an input or after it was written: these lines, or none
   Says : List ℕ → Deed
   -- the line `! WHY` was written
   Notes : List ℕ → Deed
@@ -105,7 +105,7 @@ note_line why = codes "! " ++ why ++ codes "\n"
 abbrev pub drop_line : Bool → List ℕ
 drop_line told = if told then note_line (codes "write") else []
 
--- the line of an input that is written behind its frame; that of a record is written before it
+-- the line of an input that is written after its frame; that of a record is written before it
 abbrev pub taken_line : Log → ℕ → Input → List ℕ
 taken_line Inputs me i = input_line me i
 taken_line Record me i = []
@@ -127,7 +127,7 @@ line s d = []
 abbrev pub piece : Transfer → List Group → List ℕ
 piece p groups = piece_text p.content (piece_of p.content groups)
 
--- the content behind it, if anything is left
+-- the content after it, if anything is left
 abbrev pub place_behind : Transfer → ℕ → ℕ → Option Transfer
 place_behind p now count = option_map (λ (u : UnderWay). record p { content = u; since = now }) (behind p.content count)
 

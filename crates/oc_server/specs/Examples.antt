@@ -47,7 +47,7 @@ pending c count operation = record { connection = c; count = count; asked = reco
 abbrev response : List ℕ → Option GroupRange → Persistence → Response
 response text content connection = record { text = text; content = content; connection = connection }
 
--- these bytes are published behind those of the group
+-- these bytes are published after those of the group
 abbrev publishes : List ℕ → Deed
 publishes bytes = Accepts (inputs.Publish (codes "/a") bytes)
 
@@ -67,7 +67,7 @@ six_bytes = record { start = 0; count = 6; chunked = false }
 abbrev head_deed : Deed
 head_deed = Replies (pending 8 40 (asks.Client (codes "/a") 0 0 Once)) (response (codes "200:") (Some six_bytes) Keep) 5
 
--- what is left behind the first three
+-- what is left after the first three
 abbrev left : Transfer
 left = record { connection = 8; content = record { group = codes "/a"; at = 3; end = 6; chunked = false }; keeps = true; told = true; since = 5 }
 

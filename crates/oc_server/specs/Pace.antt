@@ -30,7 +30,7 @@ abbrev pub has_passed : Option ℕ → ℕ → Bool
 has_passed None seconds = true
 has_passed (Some second) seconds = nat_lt second seconds
 
--- the second that the clock has to pass, behind a tick at this one
+-- the second that the clock has to pass, after a tick at this one
 abbrev pub second_of : Bool → ℕ → Option ℕ
 second_of true seconds = Some seconds
 second_of false seconds = None

@@ -47,7 +47,7 @@ IsUnder Idle ds = Unit {0}
 IsUnder under [] = ⊥
 IsUnder under (d ∷ ds) = under ≡ under_of d
 
--- a front of these deeds was done, and this was under way behind it
+-- a front of these deeds was done, and this was under way after it
 pub record Cuts (whole deeds : List Deed) (under : Under) : Type 0 where
   pub behind : List Deed
   pub front : whole ≡ deeds ++ behind

@@ -9,7 +9,7 @@ use Rattle.oc_server.specs.Deeds.{Accepts, Deed, Drops, Notes, Refuses, Setting,
 use Rattle.oc_server.specs.Records.{record_head}
 use Rattle.oc_server.specs.declared.log.Log.TheVariants.{Record}
 
--- a line behind the beginning: that of an input, or one that begins with `!`
+-- a line after the beginning: that of an input, or one that begins with `!`
 pub data RecordLine : Type 0 where
   Taken : Input → RecordLine
   Noted : List ℕ → RecordLine
@@ -61,7 +61,7 @@ IsNext None ds = Unit {0}
 IsNext (Some i) [] = ⊥
 IsNext (Some i) (d ∷ ds) = input_of d ≡ Some i
 
--- Behind the beginning of a record come the lines of these deeds, and perhaps the line of one more input, which the deeds behind begin with.
+-- After the beginning of a record come the lines of these deeds, and perhaps the line of one more input, which the deeds after it begin with.
 pub record IsRecorded (s : Setting) (head : List ℕ) (deeds behind : List Deed) : Type 0 where
   pub next : Option Input
   pub follows : IsNext next behind

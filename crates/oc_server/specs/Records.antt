@@ -1,11 +1,11 @@
--- A record: what a node writes that a schedule can be made of. Its beginning says among which nodes it is and which files it has, and behind
+-- A record: what a node writes that a schedule can be made of. Its beginning says among which nodes it is and which files it has, and after
 -- that there is a line for each input, written before its frame.
 use Rattle.std.specs.Prelude.{ℕ, Bool, true, false, List, [], ◌++◌, codes, decimal}
 use Rattle.oc_base.specs.declared.shelf.Shelf.{Shelf}
-use Rattle.oc_digest.specs.Digests.{has_line}
 use Rattle.oc_keep.specs.KeptView.{header_of}
 use Rattle.oc_model.specs.declared.input.Input.{Input}
 use Rattle.oc_model.specs.Node.{Control, Header}
+use Rattle.oc_replay.specs.Digests.{has_line}
 use Rattle.oc_routes.specs.Inputs.{input_line}
 use Rattle.oc_schedule.specs.Printing.{script_text}
 use Rattle.oc_server.specs.declared.log.Log.{Log}

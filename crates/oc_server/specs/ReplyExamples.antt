@@ -31,7 +31,7 @@ head_of_six = Replies
     (record { text = codes "200:"; content = Some (record { start = 0; count = 6; chunked = false }); connection = Keep })
     5
 
--- what is left of them behind the first three
+-- what is left of them after the first three
 abbrev other_three : Transfer
 other_three = record { connection = 8; content = record { group = codes "/a"; at = 3; end = 6; chunked = false }; keeps = true; told = true; since = 5 }
 

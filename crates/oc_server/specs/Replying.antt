@@ -28,7 +28,7 @@ use Rattle.oc_server.specs.declared.work.Work.TheVariants as works
 
 -- Which deeds may be done, after these calls
 
--- how a connection stands
+-- the state of a connection
 abbrev pub phase_on : ℕ → List Call → Phase
 phase_on c made = (standing_of c made).phase
 
@@ -62,7 +62,7 @@ MayDo (LaysAside p) made a = HasContent p made a.works
 MayDo (Drops c told) made a = phase_on c made ≡ Gone
 MayDo d made a = Unit {0}
 
--- each deed may be done behind those before it
+-- each deed may be done after those before it
 abbrev pub IsOrdered : Setting → List Call → List Deed → Running → Type 0
 IsOrdered s made [] a = Unit {0}
 IsOrdered s made (d ∷ ds) a = MayDo d made a × IsOrdered s (made ++ calls s d a) ds (after d a)

@@ -168,5 +168,4 @@ pub record ServesUpTo {D L K : Type 0} (view : D → DiskView) (takes fails : K 
 -- this many turns ended so
 abbrev pub ServeEnds : {D L K : Type 0} → (D → DiskView) → (K → List ℕ → K → Type 0) → (K → List ℕ → K → Type 0) → (K → ℕ) → (L → Option (List Call)) → (L → LinkCounts) → ℕ → TurnEnd → Turns D L K → Turns D L K → Type 0
 ServeEnds view takes fails faults story counts most ends.Served old new = Serves view takes faults story counts most old new
-ServeEnds view takes fails faults story counts most ends.Quiet old new = ⊥
 ServeEnds view takes fails faults story counts most end old new = ServesUpTo view takes fails faults story counts most end old new

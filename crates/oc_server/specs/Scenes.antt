@@ -10,10 +10,11 @@ use Rattle.oc_link.specs.declared.counts.LinkCounts.{LinkCounts}
 use Rattle.oc_http.specs.Writing.{IsHost}
 use Rattle.oc_io.specs.DiskView.{DiskView}
 use Rattle.oc_io.specs.Faults.{NoFall, Rose}
+use Rattle.oc_keep.specs.Calls.{DoesNothing}
 use Rattle.oc_keep.specs.ControlStep.{control_step}
 use Rattle.oc_keep.specs.Files.{Disks, AllGoOn, Leaves, OneRose, SameAsEither, Survives}
 use Rattle.oc_keep.specs.KeptView.{AtAnyMoment, IsFullAt, IsHonest, KeptView, NodeSurvives, disks_of, header_of, node_of}
-use Rattle.oc_keep.specs.Promises.{ChangesNothing, IsSameNode}
+use Rattle.oc_keep.specs.Promises.{IsSameNode}
 use Rattle.oc_keep.specs.ReadyView.{told_of}
 use Rattle.oc_keep.specs.declared.errors.KeepError.{KeepError}
 use Rattle.oc_keep.specs.declared.errors.KeepError.TheVariants as keeps
@@ -182,11 +183,10 @@ HasCause view faults ends.Full under old new sink after before behind = ⊥
 HasCause view faults ends.Link under old new sink after before behind = Rose before.listening behind.listening
 HasCause view faults ends.Memory under old new sink after before behind = Unit {0}
 HasCause view faults ends.Served under old new sink after before behind = ⊥
-HasCause view faults ends.Quiet under old new sink after before behind = ⊥
 
--- A file is full for the input that was under way exactly where it ended so, and then nothing changed.
+-- A file is full for the input that was under way exactly where it ended so, and then nothing was done, and no disk failed.
 abbrev pub MeetsFull : {D : Type 0} → (D → DiskView) → TurnEnd → Under → KeptView D → KeptView D → Type 0
-MeetsFull view ends.Full (Taking i) old new = IsFullAt old i × ChangesNothing view old new
+MeetsFull view ends.Full (Taking i) old new = IsFullAt old i × DoesNothing view old new
 MeetsFull view ends.Full under old new = ⊥
 MeetsFull view ends.Disk (Taking i) old new = ¬ IsFullAt old i
 MeetsFull view ends.Sink (Taking i) old new = ¬ IsFullAt old i

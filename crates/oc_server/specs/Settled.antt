@@ -26,7 +26,7 @@ IsSettled made ws = (c : ℕ) → Fits (phase_on c made) (works_on c ws)
 
 -- What was done over turns
 
--- the deeds of this many turns, one after the other
+-- the deeds of this many turns, one after another
 abbrev pub deeds_of : {D L K : Type 0} (view : D → DiskView) (takes : K → List ℕ → K → Type 0) (faults : K → ℕ) (story : L → Option (List Call)) (counts : L → LinkCounts) (n : ℕ) (old new : Turns D L K)
     → Serves view takes faults story counts n old new → List Deed
 deeds_of view takes faults story counts zero old new same = []
@@ -41,7 +41,6 @@ deeds_up_to view takes fails faults story counts most end old new up = deeds_of 
 abbrev pub deeds_until : {D L K : Type 0} (view : D → DiskView) (takes fails : K → List ℕ → K → Type 0) (faults : K → ℕ) (story : L → Option (List Call)) (counts : L → LinkCounts) (most : ℕ) (end : TurnEnd) (old new : Turns D L K)
     → ServeEnds view takes fails faults story counts most end old new → List Deed
 deeds_until view takes fails faults story counts most ends.Served old new ended = deeds_of view takes faults story counts most old new ended
-deeds_until view takes fails faults story counts most ends.Quiet old new ended = []
 deeds_until view takes fails faults story counts most ends.Link old new ended = deeds_up_to view takes fails faults story counts most ends.Link old new ended
 deeds_until view takes fails faults story counts most ends.Disk old new ended = deeds_up_to view takes fails faults story counts most ends.Disk old new ended
 deeds_until view takes fails faults story counts most ends.Full old new ended = deeds_up_to view takes fails faults story counts most ends.Full old new ended

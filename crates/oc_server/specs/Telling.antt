@@ -15,11 +15,11 @@ use Rattle.oc_server.specs.declared.brief.Before.{Before}
 abbrev pub says_ahead : Input → Part
 says_ahead i s a = Says (told_ahead s.log s.me i) ∷ []
 
--- an input is taken, of which nothing is told behind it
+-- an input is taken, of which nothing is told after it
 abbrev pub takes_ahead : Input → Part
 takes_ahead i s a = Says (told_ahead s.log s.me i) ∷ Takes i ∷ []
 
--- an input is taken, and what is told behind it is said
+-- an input is taken, and what is told after it is said
 abbrev pub takes_told : Input → Part
 takes_told i s a = Takes i ∷ Says (told_of s.log a.node i) ∷ []
 
@@ -27,7 +27,7 @@ takes_told i s a = Takes i ∷ Says (told_of s.log a.node i) ∷ []
 abbrev pub accepts_told : Input → Part
 accepts_told i s a = Accepts i ∷ Says (told_of s.log a.node i) ∷ []
 
--- an input is taken, and what is told of it is said, before it and behind it
+-- an input is taken, and what is told of it is said, before it and after it
 abbrev pub takes_in : Input → Part
 takes_in i = says_ahead i >> takes_told i
 
@@ -49,7 +49,7 @@ IsBefore logs.Record n i before = before ≡ None
 IsBefore logs.Brief n i None = ⊥
 IsBefore logs.Brief n i (Some b) = IsNoted n i b
 
--- what is told by that, of a node that is so behind the input and answered so
+-- what is told by that, of a node that is so after the input and answered so
 abbrev pub told_behind : Option Before → Control → Answer → List ℕ
 told_behind None n answer = []
 told_behind (Some b) n answer = asked_line b.told.items answer ++ lost_lines n b.leased.items ++ moved_line b.mode n

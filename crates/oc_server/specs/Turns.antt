@@ -83,7 +83,7 @@ probe_note peer fault = codes "probe " ++ decimal peer ++ fault_word fault
 abbrev pub notes_fault : ℕ → ProbeFault → Part
 notes_fault peer fault s a = Notes (probe_note peer fault) ∷ []
 
--- a rate is taken with the hops of the last record; nothing is told behind it
+-- a rate is taken with the hops of the last record; nothing is told after it
 abbrev pub measured : ℕ → ℕ → Part
 measured peer rate s a = takes_ahead (inputs.Measured peer rate (reading_of a.node.control.kept.measures peer).hops) s a
 
@@ -173,7 +173,7 @@ takes_one pace probing t s a = takes_at (due_place a.works (shelf a.node.groups)
 abbrev pub turn : Pace → Option Probing → Observation → Part
 turn pace probing t = one (Reads t.before) >> takes_one pace probing t
 
--- Behind a turn
+-- After a turn
 
 abbrev pub paced : Pace → ℕ → ℕ → Pace
 paced pace now seconds = if wait_until pace now == 0 then looked now seconds pace else pace

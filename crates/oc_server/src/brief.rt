@@ -104,7 +104,7 @@ fn at_stake(alloc: Global, node: &Node, input: &Input) -> Result<Vec<Child>, Mem
     }
 }
 
-// Behind it
+// After it
 
 /// What is told of an input that was taken, by what was known before it.
 pub(crate) fn behind(

@@ -6,10 +6,8 @@ use oc_base::Memory;
 /// How a turn ended, or turns did.
 #[derive(Clone, Copy, Debug, PartialEq, Eq)]
 pub enum TurnEnd {
-    /// A connection was served; or all turns were.
+    /// All turns were made.
     Served,
-    /// No connection waited.
-    Quiet,
     /// The link failed to say whether a connection waited.
     Link,
     /// A disk failed. The files recover the node before the input that was under way or after it.

@@ -204,7 +204,7 @@ fn finish<L: Link>(link: &mut L, connection: ConnectionId, ending: Ending, left:
     }
 }
 
-/// One text behind another; none where the second is empty, and the first is the whole.
+/// One text after another; none where the second is empty, and the first is the whole.
 fn joined(alloc: Global, first: &[u8], more: &[u8]) -> Result<Option<Vec<u8>>, Memory>
     ensures { IfOk result (λ both. unwrap_or (option_map (λ text. text.items) both) first.now ≡ first.now ++ more.now) }
 {

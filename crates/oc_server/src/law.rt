@@ -25,7 +25,7 @@ pub fn examples_compute()
 {}
 
 /// Whatever a running node does from a moment at which nothing is under way: each connection was given a beginning of the
-/// replies to its requests, one after the other, and all of them where its next request is awaited or its last reply is
+/// replies to its requests, one after another, and all of them where its next request is awaited or its last reply is
 /// whole.
 pub fn connections_are_given_their_replies()
     ensures front { (s : Setting) (made : List Call) (deeds : List Deed) (a : Running) (c : ℕ)

@@ -7,7 +7,7 @@
 //! (`specs/Scenes`). While deeds are done every crash at any moment leaves the node of a prefix of them
 //! (`specs/Moments`). What holds between any two calls is `IsServing`.
 //!
-//! What a node writes of its inputs goes by its [`Log`]: a line for each, behind its frame or, in a record, before it
+//! What a node writes of its inputs goes by its [`Log`]: a line for each, after its frame or, in a record, before it
 //! (`specs/Records`), or what people and log collectors are told of it (`specs/Brief`).
 //!
 //! A content under way is a place in a group and not bytes ([`Transfer`]): each piece is read when it is given, so nothing
@@ -16,7 +16,7 @@
 //!
 //! Which deeds make a turn is a function: `specs/Turns` says what a running node does in a turn by what the link and the
 //! clock tell ([`Turns::turn`], and [`Turns::serve`] for one turn after another). The contract of a turn says that these
-//! deeds were done, or that a front of them was done, what was under way behind it, and how it ended (`specs/Runs`). What
+//! deeds were done, or that a front of them was done, what was under way after it, and how it ended (`specs/Runs`). What
 //! came is what the bytes of the link say, read by the definitions of `oc_routes` and `oc_http`. Turns do their deeds in the
 //! order that the replies ask for, however many are done and wherever the last one ends ([`turns_are_in_order`]).
 #![tactic(auto)]
@@ -39,6 +39,7 @@ mod outbox;
 mod pace;
 mod reading;
 mod record;
+mod reply_in_place;
 mod sendable;
 mod sending;
 mod server;

@@ -5,18 +5,19 @@ ghost use Rattle.oc_base.specs.Lawful.{IsNode};
 ghost use Rattle.oc_http.specs.declared.fault.HttpFault.{HttpFault};
 ghost use Rattle.oc_http.specs.declared.reply.Reply.{Reply};
 ghost use Rattle.oc_model.specs.Lawful.{IsInput};
-ghost use Rattle.oc_server.specs.Brought.{HadMemory, IsReading, brings_message, comes_back, delivered_or, fault_of, input_of, input_of_reply, is_answer, is_taken, message_in, message_to};
+ghost use Rattle.oc_server.specs.Brought.{HadMemory, IsReading, brings_message, comes_back, delivered_or, fault_of, input_of, input_of_reply, is_answer, is_taken, message_in, message_to, reading, reply_in};
 ghost use Rattle.oc_server.specs.Lawful.{IsLawfulCame};
 ghost use Rattle.oc_server.specs.Scenes.{IsLawfulErrand};
 ghost use Rattle.oc_wire.specs.MessageReading.{decoded};
 
 use crate::came::Came;
 use crate::dials::Errand;
+use crate::reply_in_place::{ReplyInPlace, read_in_place};
 use oc_base::{Memory, NodeId};
-use oc_http::{HeadReader, HttpFault, Reply};
-use oc_link::{Arrived, Coming};
-use oc_mac::Key;
+use oc_http::{HeadReader, HttpFault};
+use oc_link::Coming;
 use oc_model::{Input, Message};
+use oc_policy::Key;
 use oc_probe::{PROBE_BYTES, ProbeFault};
 use oc_wire::{WireFault, decode, is_authentic};
 use std::alloc::Global;
@@ -43,7 +44,7 @@ pub(crate) fn comes_back(
         × HadMemory reading × (came ≡ comes_back hearer.now.me hearer.now.nodes (option_map (λ k. k.now) hearer.now.key) errand reading)) }
     ensures lawful { IfOk result (IsLawfulCame hearer.now.nodes hearer.now.me) }
 {
-    let reply = reply_in(heads, bytes, coming);
+    let reply = read_in_place(heads, bytes, coming);
     match errand {
         Errand::Message { to, .. } => {
             let taken = is_taken(hearer.key, &reply);
@@ -57,17 +58,9 @@ pub(crate) fn comes_back(
     }
 }
 
-/// The response that these bytes are, which end so.
-fn reply_in(heads: &mut HeadReader, bytes: &[u8], coming: Coming) -> Result<Reply, HttpFault>
-    ensures { IsReading bytes.now coming result }
-{
-    let mut source = Arrived::new(bytes, coming);
-    heads.read_response(&mut source)
-}
-
 /// Whether what was read is a response of 200 that has its MAC.
-fn is_taken(key: Option<&Key>, reply: &Result<Reply, HttpFault>) -> bool
-    ensures { result ≡ is_taken (option_map (λ k. k.now) key.entry) reply.now }
+fn is_taken(key: Option<&Key>, reply: &Result<ReplyInPlace, HttpFault>) -> bool
+    ensures { result ≡ is_taken (option_map (λ k. k.now) key.entry) (reading reply.now) }
 {
     match reply {
         Ok(reply) => brings_message(key, reply),
@@ -76,10 +69,10 @@ fn is_taken(key: Option<&Key>, reply: &Result<Reply, HttpFault>) -> bool
 }
 
 /// Whether a response has the status 200, and the MAC of its body where the network has a key.
-fn brings_message(key: Option<&Key>, reply: &Reply) -> bool
-    ensures { result ≡ brings_message (option_map (λ k. k.now) key.entry) reply.now }
+fn brings_message(key: Option<&Key>, reply: &ReplyInPlace) -> bool
+    ensures { result ≡ brings_message (option_map (λ k. k.now) key.entry) (reply_in reply.now) }
 {
-    reply.status == 200 && is_authentic(key, reply.mac.as_ref(), reply.body.items())
+    reply.head.status == 200 && is_authentic(key, reply.head.mac.as_ref(), reply.body)
 }
 
 /// The input that results from what a peer replied to a message. `taken` is whether it is a response of 200 that has its MAC,
@@ -88,13 +81,13 @@ fn input_of(
     alloc: Global,
     hearer: &Hearer<'_>,
     peer: NodeId,
-    reply: Result<Reply, HttpFault>,
+    reply: Result<ReplyInPlace, HttpFault>,
     taken: bool,
 ) -> Result<Option<Input>, Memory>
     requires peer { IsNode hearer.now.nodes peer }
-    requires taken { taken ≡ is_taken (option_map (λ k. k.now) hearer.now.key) reply }
-    ensures input { IfOk result (λ input. input ≡ input_of hearer.now.me hearer.now.nodes (option_map (λ k. k.now) hearer.now.key) peer reply) }
-    ensures memory { OnOk result (HadMemory reply) }
+    requires taken { taken ≡ is_taken (option_map (λ k. k.now) hearer.now.key) (reading reply) }
+    ensures input { IfOk result (λ input. input ≡ input_of hearer.now.me hearer.now.nodes (option_map (λ k. k.now) hearer.now.key) peer (reading reply.entry)) }
+    ensures memory { OnOk result (HadMemory (reading reply.entry)) }
     ensures lawful { IfOk result (λ input. IfSome input (IsInput hearer.now.nodes hearer.now.me)) }
 {
     match reply {
@@ -109,15 +102,15 @@ fn input_of_reply(
     alloc: Global,
     hearer: &Hearer<'_>,
     peer: NodeId,
-    reply: &Reply,
+    reply: &ReplyInPlace,
     brings: bool,
 ) -> Result<Option<Input>, Memory>
     requires peer { IsNode hearer.now.nodes peer }
-    requires brings { brings ≡ brings_message (option_map (λ k. k.now) hearer.now.key) reply.now }
-    ensures input { IfOk result (λ input. input ≡ input_of_reply hearer.now.me hearer.now.nodes (option_map (λ k. k.now) hearer.now.key) peer reply.now) }
+    requires brings { brings ≡ brings_message (option_map (λ k. k.now) hearer.now.key) (reply_in reply.now) }
+    ensures input { IfOk result (λ input. input ≡ input_of_reply hearer.now.me hearer.now.nodes (option_map (λ k. k.now) hearer.now.key) peer (reply_in reply.now)) }
     ensures lawful { IfOk result (λ input. IfSome input (IsInput hearer.now.nodes hearer.now.me)) }
 {
-    if reply.status == 204 {
+    if reply.head.status == 204 {
         return Ok(None);
     }
     let message = message_in(alloc, hearer, reply, brings)?;
@@ -138,15 +131,15 @@ fn delivered_or(peer: NodeId, message: Option<Message>) -> Input
 fn message_in(
     alloc: Global,
     hearer: &Hearer<'_>,
-    reply: &Reply,
+    reply: &ReplyInPlace,
     brings: bool,
 ) -> Result<Option<Message>, Memory>
-    requires { brings ≡ brings_message (option_map (λ k. k.now) hearer.now.key) reply.now }
-    ensures message { IfOk result (λ message. message ≡ message_in hearer.now.me hearer.now.nodes (option_map (λ k. k.now) hearer.now.key) reply.now) }
+    requires { brings ≡ brings_message (option_map (λ k. k.now) hearer.now.key) (reply_in reply.now) }
+    ensures message { IfOk result (λ message. message ≡ message_in hearer.now.me hearer.now.nodes (option_map (λ k. k.now) hearer.now.key) (reply_in reply.now)) }
     ensures lawful { IfOk result (λ message. IfSome message (λ m. IsInput hearer.now.nodes hearer.now.me (Input.Delivered m))) }
 {
     if brings {
-        message_to(alloc, hearer, reply.body.items())
+        message_to(alloc, hearer, reply.body)
     } else {
         Ok(None)
     }
@@ -171,8 +164,8 @@ fn message_to(alloc: Global, hearer: &Hearer<'_>, bytes: &[u8]) -> Result<Option
 }
 
 /// Why what came is no answer to a probe, if it is none.
-fn fault_of(reply: Result<Reply, HttpFault>) -> Option<ProbeFault>
-    ensures { result ≡ fault_of reply }
+fn fault_of(reply: Result<ReplyInPlace, HttpFault>) -> Option<ProbeFault>
+    ensures { result ≡ fault_of (reading reply.entry) }
 {
     match reply {
         Ok(reply) => {
@@ -187,8 +180,8 @@ fn fault_of(reply: Result<Reply, HttpFault>) -> Option<ProbeFault>
 }
 
 /// Whether a response answers a probe.
-fn is_answer(reply: &Reply) -> bool
-    ensures { result ≡ is_answer reply.now }
+fn is_answer(reply: &ReplyInPlace) -> bool
+    ensures { result ≡ is_answer (reply_in reply.now) }
 {
-    reply.status == 200 && reply.body.items().len() as u64 == PROBE_BYTES
+    reply.head.status == 200 && reply.body.len() as u64 == PROBE_BYTES
 }

@@ -10,8 +10,8 @@ use crate::brief::put_place;
 use crate::log::Log;
 use oc_base::{Memory, NodeId, Shelf, put, put_with_number};
 use oc_config::Config;
-use oc_digest::put_has_line;
 use oc_node::Node;
+use oc_replay::put_has_line;
 use oc_schedule::{EventList, Schedule, print};
 use std::alloc::Global;
 

@@ -82,7 +82,7 @@ impl<D: Disk, L: Link, K: Sink> Server<D, L, K> {
     }
 }
 
-/// The line of an input of this node that is written behind its frame; none where not each input has one there.
+/// The line of an input of this node that is written after its frame; none where not each input has one there.
 fn line_of<D: Disk>(
     alloc: Global,
     log: Log,
@@ -159,6 +159,7 @@ fn brings_bytes(input: &Input)
     }
 }
 
+/// What the body of a message brings is bytes, too.
 fn has_bytes(body: &Body)
     ensures { HasBytes body.now }
 {
@@ -168,6 +169,7 @@ fn has_bytes(body: &Body)
     }
 }
 
+/// The items of a slice of bytes are bytes.
 fn are_bytes(items: &[u8])
     ensures { IsBytes items.now }
 {}

@@ -24,7 +24,7 @@ use oc_link::Link;
 use oc_model::{Answer, Input};
 
 impl<D: Disk, L: Link, K: Sink> Server<D, L, K> {
-    /// Takes an input, and writes what is told of it, before it and behind it.
+    /// Takes an input, and writes what is told of it, before it and after it.
     pub fn takes_in(&mut self, input: Input) -> Result<(), TurnEnd>
         requires serving { IsServing self.old }
         requires input { IsInput self.old.kept.node.control.nodes self.old.kept.node.control.me input }
@@ -35,7 +35,7 @@ impl<D: Disk, L: Link, K: Sink> Server<D, L, K> {
         self.takes_told(input)
     }
 
-    /// Takes the input of a request, and writes what is told of it, before it and behind it.
+    /// Takes the input of a request, and writes what is told of it, before it and after it.
     pub fn accepts_in(&mut self, input: Input) -> Result<Accepted, TurnEnd>
         requires serving { IsServing self.old }
         requires input { IsInput self.old.kept.node.control.nodes self.old.kept.node.control.me input }
@@ -49,7 +49,7 @@ impl<D: Disk, L: Link, K: Sink> Server<D, L, K> {
         self.accepts_told(input)
     }
 
-    /// Takes an input of which nothing is told behind it, and writes before it what is told there.
+    /// Takes an input of which nothing is told after it, and writes before it what is told there.
     pub fn takes_ahead(&mut self, input: Input) -> Result<(), TurnEnd>
         requires serving { IsServing self.old }
         requires input { IsInput self.old.kept.node.control.nodes self.old.kept.node.control.me input }
@@ -73,7 +73,7 @@ impl<D: Disk, L: Link, K: Sink> Server<D, L, K> {
         self.says(&line)
     }
 
-    /// Takes an input, and writes what is told behind it.
+    /// Takes an input, and writes what is told after it.
     fn takes_told(&mut self, input: Input) -> Result<(), TurnEnd>
         requires serving { IsServing self.old }
         requires input { IsInput self.old.kept.node.control.nodes self.old.kept.node.control.me input }
@@ -86,7 +86,7 @@ impl<D: Disk, L: Link, K: Sink> Server<D, L, K> {
         self.says_behind(before, answer)
     }
 
-    /// Takes the input of a request, and writes what is told behind it.
+    /// Takes the input of a request, and writes what is told after it.
     fn accepts_told(&mut self, input: Input) -> Result<Accepted, TurnEnd>
         requires serving { IsServing self.old }
         requires input { IsInput self.old.kept.node.control.nodes self.old.kept.node.control.me input }

@@ -14,7 +14,7 @@ use Rattle.oc_io.specs.Faults.{Rose}
 use Rattle.oc_keep.proofs.Runs.{all_go_on_then, one_rose_after}
 use Rattle.oc_keep.proofs.Stays.{all_honest}
 use Rattle.oc_keep.specs.Files.{Disks, AllGoOn, AreHonest, Leaves, SameAsEither, Survives, disks_in}
-use Rattle.oc_keep.specs.KeptView.{IsFullAt, IsHonest, KeptView, NodeSurvives, disks_of, header_of, node_of}
+use Rattle.oc_keep.specs.KeptView.{IsFullAt, IsFullOn, IsHonest, KeptView, NodeSurvives, disks_of, header_of, node_of}
 use Rattle.oc_keep.specs.Promises.{ChangesNothing, IsNodeOf, LoadsSafely}
 use Rattle.oc_keep.specs.Trials.{after_inputs, first_node}
 use Rattle.oc_model.specs.declared.input.Input.{Input}
@@ -36,7 +36,7 @@ use Rattle.oc_server.specs.declared.log.Log.{Log}
 use Rattle.oc_server.specs.declared.server.Server.{Server}
 use Rattle.oc_server.specs.declared.turns.Turns.{Turns}
 use Rattle.oc_server.proofs.Scenes.{broken_cause, broken_leaves, broken_text, did_node, setting_stays, still_honest}
-use Rattle.oc_service.specs.OnSite.{DidOn, HasCauseOn, LeavesBehind, LeavesOne, NodeEnds, Stops, WasDeaf, Writes, at_run, header_of_settings, heard_before, machine_on, node_calls, setting_of, terms_in}
+use Rattle.oc_service.specs.OnSite.{CountsUntil, DidOn, HasCauseOn, IsFullFor, LeavesBehind, LeavesOne, NodeEnds, Stops, WasDeaf, Writes, at_run, header_of_settings, heard_before, machine_on, node_calls, setting_of, terms_in}
 use Rattle.oc_service.specs.AtAnyMoment.{AlwaysRecovers}
 use Rattle.oc_service.specs.Failures.{AreBorneOut}
 use Rattle.oc_service.specs.Loading.{IsLoaded}
@@ -44,6 +44,7 @@ use Rattle.oc_service.specs.declared.site.Site.{Site}
 use Rattle.oc_service.proofs.Loaded.{loaded_machine}
 use Rattle.oc_service.specs.Running.{Halts, IsDeaf, Listens, RunEnds, Runs, machine}
 use Rattle.oc_service.specs.WhatNodeDoes.{Machine, begun, due_at, node_behind, node_deeds, turn_deeds}
+use Rattle.oc_service.specs.WhatNodeDoes as machines
 use Rattle.oc_service.specs.WhatNodeGives.{ServesFrom}
 use Rattle.oc_service.specs.WhatNodeHears.{AreHeard, MayHear, all_calls_behind, until}
 use Rattle.oc_service.specs.declared.running.NodeEnd.TheVariants.{Turned}
@@ -61,7 +62,8 @@ module _ {D L K : Type 0} (view : D → DiskView) (takes fails : K → List ℕ 
     (loaded : IsNodeOf view (header_of_settings first.server.config) task.me d first.server.kept)
     (safely : LoadsSafely view (header_of_settings first.server.config) task.me d (disks_of first.server.kept))
     (log : first.server.log ≡ task.log) (begins : AreHonest view d → machine first ≡ machine_on view first.server.config task d)
-    (recovers : last.server.kept.closed ≡ false → IsHonest view last.server.kept → NodeSurvives view last.server.kept (node_of last.server.kept)) where
+    (recovers : last.server.kept.closed ≡ false → IsHonest view last.server.kept → NodeSurvives view last.server.kept (node_of last.server.kept))
+    (full : last.server.kept.closed ≡ false → IsHonest view last.server.kept → (i : Input) → IsFullAt last.server.kept i → IsFullOn view (disks_of last.server.kept) (node_of last.server.kept) i) where
   abbrev c : Settings
   c = first.server.config
 
@@ -96,6 +98,20 @@ module _ {D L K : Type 0} (view : D → DiskView) (takes fails : K → List ℕ 
   -- what is said of every crash under its own name is said under that of the files
   named : (P : Header → ℕ → Type 0) → P (header_of first.server.kept.node.control) first.server.kept.node.control.me → P h me
   named P p = subst (λ (x : Header). P x me) loaded.header (subst (λ (x : ℕ). P (header_of first.server.kept.node.control) x) loaded.id p)
+
+  -- Turns before the last one
+
+  begins_on_site : (deeds : List Deed) (under : Under) → AreHonest view d → Cuts (machines.begins (setting first.server) c.measures (node_of first.server.kept)) deeds under
+      → Cuts (machines.begins (setting_of c task) c.measures at_first_node) deeds under
+  begins_on_site deeds under honest front =
+      subst (λ (n : Node). Cuts (machines.begins (setting_of c task) c.measures n) deeds under) (loaded.node honest)
+      (subst (λ (x : Setting). Cuts (machines.begins x c.measures (node_of first.server.kept)) deeds under) setting_is front)
+
+  few_on : (told : List Observation) (deeds : List Deed) (under : Under)
+      → (length told < task.turns) ⊎ (IsHonest view first.server.kept → Cuts (machines.begins (setting first.server) c.measures (node_of first.server.kept)) deeds under)
+      → (length told < task.turns) ⊎ (AreHonest view d → Cuts (machines.begins (setting_of c task) c.measures at_first_node) deeds under)
+  few_on told deeds under (inl few) = inl few
+  few_on told deeds under (inr early) = inr (λ honest. begins_on_site deeds under honest (early (honest_kept honest)))
 
   -- The server that listens, by its link
 
@@ -235,7 +251,6 @@ module _ {D L K : Type 0} (view : D → DiskView) (takes fails : K → List ℕ 
     behind_on ends.Disk n under p = one_on n under p
     behind_on ends.Sink n under p = one_on n under p
     behind_on ends.Served n under p = one_on n Idle p
-    behind_on ends.Quiet n under p = one_on n Idle p
     behind_on ends.Link n under p = one_on n Idle p
     behind_on ends.Full n under p = one_on n Idle p
     behind_on ends.Memory n under p = one_on n Idle p
@@ -246,18 +261,16 @@ module _ {D L K : Type 0} (view : D → DiskView) (takes fails : K → List ℕ 
       n = after_inputs at_first_node (inputs_of deeds)
 
       -- a file is full for the input under way at a node that nothing changed
-      full_on : (i : Input) → BreaksBehind view takes fails faults story counts ends.Full deeds (Taking i) l last.server
-          → (k : KeptView D) × (disks_of k ≡ e) × IsFullAt k i × (AreHonest view d → node_of k ≡ n)
-      full_on i (at, did, breaks) = (
-        last.server.kept,
-        refl,
-        breaks.cause,
-        λ honest. unchanged at.kept last.server.kept (all_honest view (disks_of first.server.kept) (disks_of at.kept) did.goes_on (honest_kept honest)) breaks.meets.1
-            ∙ did_node view takes fails faults story counts deeds l at did (honest_kept honest)
-            ∙ ap (λ (x : Node). after_inputs x (inputs_of deeds)) (loaded.node honest),
-      ) where
-        unchanged : (a b : KeptView D) → IsHonest view a → ChangesNothing view a b → node_of b ≡ node_of a
-        unchanged a b honest same = ap₂ (λ (x : Control) (y : List (List ℕ)). record { control = x; groups = groups_in y }) same.control (same.content.journal.frames honest.content)
+      full_on : (i : Input) → BreaksBehind view takes fails faults story counts ends.Full deeds (Taking i) l last.server → IsFullFor view i n d e
+      full_on i (at, did, breaks) = λ honest.
+          let before = all_honest view (disks_of first.server.kept) (disks_of at.kept) did.goes_on (honest_kept honest) in
+          subst (λ (x : Node). IsFullOn view e x i)
+          (unchanged at.kept last.server.kept before breaks.meets.1.nothing
+          ∙ did_node view takes fails faults story counts deeds l at did (honest_kept honest)
+          ∙ ap (λ (x : Node). after_inputs x (inputs_of deeds)) (loaded.node honest))
+          (full (breaks.meets.1.still ∙ did.is_open) (all_honest view (disks_of at.kept) e breaks.goes_on before) i breaks.cause) where
+            unchanged : (a b : KeptView D) → IsHonest view a → ChangesNothing view a b → node_of b ≡ node_of a
+            unchanged a b honest same = ap₂ (λ (x : Control) (y : List (List ℕ)). record { control = x; groups = groups_in y }) same.control (same.content.journal.frames honest.content)
 
       cause_on : (end : TurnEnd) (u : Under) → BreaksBehind view takes fails faults story counts end deeds u l last.server
           → HasCause view faults end u first.server.kept last.server.kept first.server.sink last.server.sink (counts link) (counts last.server.link)
@@ -269,7 +282,6 @@ module _ {D L K : Type 0} (view : D → DiskView) (takes fails : K → List ℕ 
       cause_on ends.Full Idle breaks cause = cause
       cause_on ends.Full (Noting line) breaks cause = cause
       cause_on ends.Served u breaks cause = cause
-      cause_on ends.Quiet u breaks cause = cause
       cause_on ends.Memory u breaks cause = tt
 
       goes_on_all : (end : TurnEnd) → BreaksBehind view takes fails faults story counts end deeds under l last.server → AllGoOn view d e
@@ -279,6 +291,9 @@ module _ {D L K : Type 0} (view : D → DiskView) (takes fails : K → List ℕ 
 
       within_all : (end : TurnEnd) → BreaksBehind view takes fails faults story counts end deeds under l last.server → AllByRecursion (IsWithin h.nodes me) (inputs_of deeds)
       within_all end (at, did, breaks) = within_on deeds at did
+
+      counted_all : (end : TurnEnd) → BreaksBehind view takes fails faults story counts end deeds under l last.server → CountsUntil end deeds (counts first.server.link) (counts last.server.link)
+      counted_all end (at, did, breaks) = (counts at.link, subst (λ (x : LinkCounts). CountsAll deeds x (counts at.link)) listens.counted did.counted, breaks.counted)
 
       moments_all : (end : TurnEnd) (breaks : BreaksBehind view takes fails faults story counts end deeds under l last.server) → AreHonest view d
           → AlwaysRecovers view h me takes (line (setting_of c task)) deeds under d e first.server.sink breaks.0.sink
@@ -306,7 +321,6 @@ module _ {D L K : Type 0} (view : D → DiskView) (takes fails : K → List ℕ 
                 → Writes (λ text. takes first.server.sink text last.server.sink) (λ text. fails first.server.sink text last.server.sink × Rose (faults first.server.sink) (faults last.server.sink)) (setting_of c task) x deeds under
             by_end ends.Sink cause text = (text.0, text.1, (text.2, cause))
             by_end ends.Served cause text = text
-            by_end ends.Quiet cause text = text
             by_end ends.Link cause text = text
             by_end ends.Disk cause text = text
             by_end ends.Full cause text = text
@@ -340,7 +354,7 @@ module _ {D L K : Type 0} (view : D → DiskView) (takes fails : K → List ℕ 
         record {
           told = r.told;
           last = r.last;
-          few = r.few;
+          few = few_on r.told r.deeds r.under r.few;
           cut = cut;
           heard = λ honest. heard_on link listens honest r.told (follows honest) (r.heard (honest_kept honest));
           last_heard = λ honest. last_on link listens honest r.told r.last r.deeds (follows honest) (r.last_heard (honest_kept honest));
@@ -356,6 +370,7 @@ module _ {D L K : Type 0} (view : D → DiskView) (takes fails : K → List ℕ 
               (last_on link listens honest r.told r.last r.deeds (follows honest) (r.last_heard (honest_kept honest)));
           recorded = λ honest. cut_record (setting_of c task) c.measures r.told r.last m r.deeds r.under (cut honest);
           within = within_all link listens r.deeds r.under end breaks;
+          counted = counted_all link listens r.deeds r.under end breaks;
           goes_on = goes_on_all link listens r.deeds r.under end breaks;
           leaves = λ honest.
               subst (λ (x : Node). LeavesBehind view h me e end (after_inputs x (inputs_of r.deeds)) r.under) (loaded.node honest)
@@ -390,7 +405,6 @@ module _ {D L K : Type 0} (view : D → DiskView) (takes fails : K → List ℕ 
   pub ends_on : (end : TurnEnd) → RunEnds view takes fails faults story counts task.turns end first last
       → NodeEnds (at_run view story counts takes fails c task d e first.server.link last.server.link first.server.sink last.server.sink) (λ text. takes first.server.sink text last.server.sink) (λ text. fails first.server.sink text last.server.sink × Rose (faults first.server.sink) (faults last.server.sink)) (setting_of c task) (Turned end)
   ends_on ends.Served r = runs_on r
-  ends_on ends.Quiet r = absurd r
   ends_on ends.Link (inl deaf) = inl (deaf_on deaf)
   ends_on ends.Link (inr r) = inr (halts_on ends.Link r)
   ends_on ends.Disk r = halts_on ends.Disk r
@@ -410,13 +424,14 @@ pub told_of : {D L K : Type 0} (view : D → DiskView) (takes fails : K → List
     (s : Settings) (task : Task) (site back : Site D L K) (first last : Turns D L K) → IsLoaded view s task site first
     → disks_in back.files ≡ disks_of last.server.kept → back.link ≡ last.server.link → back.sink ≡ last.server.sink
     → (last.server.kept.closed ≡ false → IsHonest view last.server.kept → NodeSurvives view last.server.kept (node_of last.server.kept))
+    → (last.server.kept.closed ≡ false → IsHonest view last.server.kept → (i : Input) → IsFullAt last.server.kept i → IsFullOn view (disks_of last.server.kept) (node_of last.server.kept) i)
     → (end : TurnEnd) → RunEnds view takes fails faults story counts task.turns end first last
     → EndsAs view takes fails faults story counts s task (disks_in site.files) end (disks_in back.files) site.link back.link site.sink back.sink
-told_of {D} {L} {K} view takes fails faults story counts takes_nothing takes_then takes_fails s task site back first last loaded files link sink recovers end ends =
+told_of {D} {L} {K} view takes fails faults story counts takes_nothing takes_then takes_fails s task site back first last loaded files link sink recovers full end ends =
     let d = disks_in site.files in
     let e = disks_of last.server.kept in
     let own = subst (λ (x : Settings). IsLoaded view x task site first) (sym loaded.config) loaded in
-    let told = ends_on view takes fails faults story counts takes_nothing takes_then takes_fails task d first last own.node own.safely own.log (loaded_machine view first.server.config task site first own) recovers end ends in
+    let told = ends_on view takes fails faults story counts takes_nothing takes_then takes_fails task d first last own.node own.safely own.log (loaded_machine view first.server.config task site first own) recovers full end ends in
     subst (λ (j : K). EndsAs view takes fails faults story counts s task d end (disks_in back.files) site.link back.link site.sink j) (sym sink)
     (subst (λ (k : K). EndsAs view takes fails faults story counts s task d end (disks_in back.files) site.link back.link k last.server.sink) loaded.sink
     (subst (λ (m : L). EndsAs view takes fails faults story counts s task d end (disks_in back.files) site.link m first.server.sink last.server.sink) (sym link)

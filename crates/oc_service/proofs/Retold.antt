@@ -48,7 +48,6 @@ module _ {D K J : Type 0} (view : D → DiskView) (takes fails : K → List ℕ 
   rest_retold : (s t : K) (end : TurnEnd) (text line : List ℕ) → WritesAt takes fails s t end text line → WritesAt adds adds_less (seen s) (seen t) end text line
   rest_retold s t ends.Sink text line (front, is, cut) = (front, is, added_less s t _ cut)
   rest_retold s t ends.Served text line h = added s t text h
-  rest_retold s t ends.Quiet text line h = added s t text h
   rest_retold s t ends.Link text line h = added s t text h
   rest_retold s t ends.Disk text line h = added s t text h
   rest_retold s t ends.Full text line h = added s t text h
@@ -86,6 +85,7 @@ module _ {D K J : Type 0} (view : D → DiskView) (takes fails : K → List ℕ 
       failures = stopped.failures;
       recorded = stopped.recorded;
       within = stopped.within;
+      counted = stopped.counted;
       goes_on = stopped.goes_on;
       leaves = stopped.leaves;
       so_far = seen stopped.so_far;

@@ -259,9 +259,9 @@ module _ {D L K : Type 0} (view : D → DiskView) (takes fails : K → List ℕ 
           listens = listens;
           told = turns.told;
           last = last_told;
-          few = omega (arith, few, turns.many);
           deeds = all_deeds ++ stop_deeds;
           under = turn_stops.stops.under;
+          few = inl (omega (arith, few, turns.many));
           breaks = breaks_then view takes fails faults story counts takes_then all_deeds stop_deeds turn_stops.stops.under end listening last.server new.server did_all turn_stops.stops.breaks;
           cut = cut_all;
           heard = λ honest. heard_all honest (story new.server.link) (follows_last honest);
@@ -283,7 +283,6 @@ module _ {D L K : Type 0} (view : D → DiskView) (takes fails : K → List ℕ 
     serve_ends ends.Served new h served =
         runs most new (made view takes fails faults story counts takes_nothing takes_then most first new did.is_open h) refl
         (subst (λ (ds : List Deed). IsServedSince at ds (story new.server.link)) (sym (made_deeds view takes fails faults story counts takes_nothing takes_then most first new did.is_open h)) served)
-    serve_ends ends.Quiet new h served = absurd h
     serve_ends ends.Link new h served = inr (halts_of ends.Link new h served)
     serve_ends ends.Disk new h served = halts_of ends.Disk new h served
     serve_ends ends.Full new h served = halts_of ends.Full new h served
@@ -315,9 +314,9 @@ module _ {D L K : Type 0} (view : D → DiskView) (takes fails : K → List ℕ 
       listens = listens;
       told = [];
       last = no_told;
-      few = omega arith;
       deeds = stops.deeds;
       under = stops.under;
+      few = inr front;
       breaks = stops.breaks;
       cut = λ honest.
           cuts_more (own_told ++ []) (turn_deeds s no_told (node_behind s old.server.config.measures [] (machine old))) stops.deeds stops.under
@@ -331,7 +330,6 @@ module _ {D L K : Type 0} (view : D → DiskView) (takes fails : K → List ℕ 
   pub early_ends : (end : TurnEnd) (new : Turns D L K) → Stops view takes fails faults story counts end (begins_with old.server.config.measures) listening new.server
       → RunEnds view takes fails faults story counts most end old new
   early_ends ends.Served new stops = absurd stops.breaks.2.cause
-  early_ends ends.Quiet new stops = absurd stops.breaks.2.cause
   early_ends ends.Link new stops = inr (early ends.Link new stops)
   early_ends ends.Disk new stops = early ends.Disk new stops
   early_ends ends.Full new stops = early ends.Full new stops

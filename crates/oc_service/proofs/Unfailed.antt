@@ -20,7 +20,6 @@ module _ {D L K : Type 0} (view : D → DiskView) (story : L → Option (List Ca
   pub unfailed : (end : NodeEnd) → NodeEnds (at_run view story counts takes fails c task old new link after first last) written cut_off (setting_of c task) end → EndsUnfailed end
   unfailed (Load error) h = only_memory view (length c.addresses) old new honest files sound error h.0.0
   unfailed (Turned ends.Served) h = tt
-  unfailed (Turned ends.Quiet) h = absurd h
   unfailed (Turned ends.Link) (inl h) = absurd (asked h.1.counted.listening)
   unfailed (Turned ends.Link) (inr h) = absurd (asked h.3.cause)
   unfailed (Turned ends.Disk) h = absurd (sound h.3.cause)

@@ -13,7 +13,7 @@ use Rattle.oc_link.specs.declared.event.LinkEvent.TheVariants.{Quiet}
 use Rattle.oc_io.specs.DiskView.{DiskView}
 use Rattle.oc_io.specs.Faults.{Rose}
 use Rattle.oc_keep.specs.Files.{Disks, AllGoOn, AreHonest, Leaves, OneRose, SameAsEither, Survives}
-use Rattle.oc_keep.specs.KeptView.{IsFullAt, KeptView, disks_of, header, node_of}
+use Rattle.oc_keep.specs.KeptView.{IsFullOn, header}
 use Rattle.oc_keep.specs.Promises.{LoadsSafely, RefusesNode}
 use Rattle.oc_keep.specs.Trials.{after_inputs, first_node}
 use Rattle.oc_keep.specs.Errors.{IsOutOfMemory}
@@ -29,14 +29,14 @@ use Rattle.oc_server.specs.Deeds.{Deed, Setting, calls_of, inputs_of, line, line
 use Rattle.oc_server.specs.Parts.{Cuts}
 use Rattle.oc_server.specs.Recorded.{IsRecordOf}
 use Rattle.oc_server.specs.Records.{is_record}
-use Rattle.oc_server.specs.Scenes.{CountsAll, Idle, Taking, Under, WritesAt, under_line}
+use Rattle.oc_server.specs.Scenes.{CountsAll, CountsAt, Idle, Taking, Under, WritesAt, under_line}
 use Rattle.oc_server.specs.Turns.{Observation}
 use Rattle.oc_server.specs.Within.{IsWithin}
 use Rattle.oc_server.specs.declared.ends.TurnEnd.{TurnEnd}
 use Rattle.oc_server.specs.declared.ends.TurnEnd.TheVariants as ends
 use Rattle.oc_service.specs.AtAnyMoment.{AlwaysRecovers}
 use Rattle.oc_service.specs.Failures.{AreBorneOut}
-use Rattle.oc_service.specs.WhatNodeDoes.{Machine, at_first, begun, due_at, node_behind, node_deeds, turn_deeds}
+use Rattle.oc_service.specs.WhatNodeDoes.{Machine, at_first, begins, begun, due_at, node_behind, node_deeds, turn_deeds}
 use Rattle.oc_service.specs.WhatNodeGives.{GivesReplies}
 use Rattle.oc_service.specs.WhatNodeHears.{AreHeard, MayHear, all_calls_behind, until}
 use Rattle.oc_service.specs.declared.running.NodeEnd.{NodeEnd}
@@ -112,9 +112,9 @@ LeavesBehind view h me d ends.Disk n under = LeavesOne view h me d n under
 LeavesBehind view h me d ends.Sink n under = LeavesOne view h me d n under
 LeavesBehind view h me d end n under = LeavesOne view h me d n Idle
 
--- the file of this input would pass its limit, at the node n as it is kept on these disks
+-- the file of this input would pass its limit, at the node n, with the files that any crash of the new disks leaves
 abbrev pub IsFullFor : {D : Type 0} → (D → DiskView) → Input → Node → Disks D → Disks D → Type 0
-IsFullFor {D} view i n old new = (k : KeptView D) × (disks_of k ≡ new) × IsFullAt k i × (AreHonest view old → node_of k ≡ n)
+IsFullFor view i n old new = AreHonest view old → IsFullOn view new n i
 
 -- why it ended, where its output is not to blame: a file is full for the input that is under way, and for nothing else
 abbrev pub HasCauseOn : {D : Type 0} → (D → DiskView) → TurnEnd → Under → Node → Disks D → Disks D → LinkCounts → LinkCounts → Type 0
@@ -123,8 +123,11 @@ HasCauseOn view ends.Link under n old new before behind = Rose before.listening 
 HasCauseOn view ends.Full (Taking i) n old new before behind = IsFullFor view i n old new
 HasCauseOn view ends.Full under n old new before behind = ⊥
 HasCauseOn view ends.Served under n old new before behind = ⊥
-HasCauseOn view ends.Quiet under n old new before behind = ⊥
 HasCauseOn view end under n old new before behind = Unit {0}
+
+-- how the counts of the link change over these deeds, after which it ended so
+abbrev pub CountsUntil : TurnEnd → List Deed → LinkCounts → LinkCounts → Type 0
+CountsUntil end deeds old new = (at : LinkCounts) × CountsAll deeds old at × CountsAt end at new
 
 -- It ended so after these deeds, a front of what a node does: after whole turns, in the midst of one that is told `last`, or before the
 -- first. What came in that one was read, where more was done in it than to ask the link. Each connection was given the replies to its requests
@@ -134,7 +137,8 @@ HasCauseOn view end under n old new before behind = Unit {0}
 pub record StoppedOn {D L K : Type 0} (view : D → DiskView) (story : L → Option (List Call)) (counts : L → LinkCounts) (takes fails : K → List ℕ → K → Type 0) (c : Settings) (task : Task) (end : TurnEnd) (deeds : List Deed) (under : Under) (old new : Disks D) (link after : L) (sink written : K) : Type 0 where
   pub told : List Observation
   pub last : Observation
-  pub few : length told < task.turns + 1
+  -- fewer turns than it was asked for come before the last one, or it ended before the first
+  pub few : (length told < task.turns) ⊎ (AreHonest view old → Cuts (begins (setting_of c task) c.measures (first_node view (header_of_settings c) task.me old)) deeds under)
   pub cut : AreHonest view old
       → Cuts (node_deeds (setting_of c task) c.measures told (machine_on view c task old) ++ turn_deeds (setting_of c task) last (node_behind (setting_of c task) c.measures told (machine_on view c task old))) deeds under
   pub heard : AreHonest view old
@@ -149,6 +153,7 @@ pub record StoppedOn {D L K : Type 0} (view : D → DiskView) (story : L → Opt
   pub failures : (honest : AreHonest view old) → AreBorneOut Quiet (deeds ++ take 1 (cut honest).behind)
   pub recorded : (honest : AreHonest view old) → IsRecordOf (setting_of c task) (first_node view (header_of_settings c) task.me old) deeds (cut honest).behind
   pub within : AllByRecursion (IsWithin (length c.addresses) task.me) (inputs_of deeds)
+  pub counted : CountsUntil end deeds (counts link) (counts after)
   pub goes_on : AllGoOn view old new
   pub leaves : AreHonest view old → LeavesBehind view (header_of_settings c) task.me new end (after_inputs (first_node view (header_of_settings c) task.me old) (inputs_of deeds)) under
   -- the output when its last deed was done; then, where the output failed, it took some prefix of the line under way, and else nothing more
@@ -199,7 +204,6 @@ module _ (run : OnRun) (written cut_off : List ℕ → Type 0) (s : Setting) whe
   abbrev pub NodeEnds : NodeEnd → Type 0
   NodeEnds (Load error) = run.refused error × written []
   NodeEnds (Turned ends.Served) = (deeds : List Deed) × written (lines s deeds) × run.did deeds
-  NodeEnds (Turned ends.Quiet) = ⊥
   NodeEnds (Turned ends.Link) = (written [] × run.deaf) ⊎ Stops ends.Link
   NodeEnds (Turned end) = Stops end
 

@@ -6,7 +6,7 @@ use Rattle.oc_link.specs.declared.call.Call.{Call}
 use Rattle.oc_link.specs.declared.call.Call.TheVariants as acts
 use Rattle.oc_link.specs.declared.counts.LinkCounts.{LinkCounts}
 use Rattle.oc_io.specs.DiskView.{DiskView}
-use Rattle.oc_keep.specs.KeptView.{IsHonest}
+use Rattle.oc_keep.specs.KeptView.{IsHonest, node_of}
 use Rattle.oc_routes.specs.Responses.{address_of}
 use Rattle.oc_server.specs.Deeds.{Deed}
 use Rattle.oc_server.specs.Parts.{Cuts}
@@ -17,7 +17,7 @@ use Rattle.oc_server.specs.declared.ends.TurnEnd.{TurnEnd}
 use Rattle.oc_server.specs.declared.ends.TurnEnd.TheVariants as ends
 use Rattle.oc_server.specs.declared.server.Server.{Server}
 use Rattle.oc_server.specs.declared.turns.Turns.{Turns}
-use Rattle.oc_service.specs.WhatNodeDoes.{Machine, begun, due_at, node_behind, node_deeds, turn_deeds}
+use Rattle.oc_service.specs.WhatNodeDoes.{Machine, begins, begun, due_at, node_behind, node_deeds, turn_deeds}
 use Rattle.oc_service.specs.WhatNodeGives.{ServesFrom}
 use Rattle.oc_service.specs.WhatNodeHears.{AreHeard, MayHear, all_calls_behind, until}
 
@@ -58,9 +58,10 @@ pub record Halts {D L K : Type 0} (view : D → DiskView) (takes fails : K → L
   pub listens : Listens story counts old.server listening
   pub told : List Observation
   pub last : Observation
-  pub few : length told < most + 1
   pub deeds : List Deed
   pub under : Under
+  -- fewer turns than `most` come before the last one, or it ended before the first
+  pub few : (length told < most) ⊎ (IsHonest view old.server.kept → Cuts (begins (setting old.server) old.server.config.measures (node_of old.server.kept)) deeds under)
   pub breaks : BreaksBehind view takes fails faults story counts end deeds under listening new.server
   pub cut : IsHonest view old.server.kept
       → Cuts (node_deeds (setting old.server) old.server.config.measures told (machine old) ++ turn_deeds (setting old.server) last (node_behind (setting old.server) old.server.config.measures told (machine old))) deeds under
@@ -76,6 +77,5 @@ pub record Halts {D L K : Type 0} (view : D → DiskView) (takes fails : K → L
 -- how a loaded node ran
 abbrev pub RunEnds : {D L K : Type 0} → (D → DiskView) → (K → List ℕ → K → Type 0) → (K → List ℕ → K → Type 0) → (K → ℕ) → (L → Option (List Call)) → (L → LinkCounts) → ℕ → TurnEnd → Turns D L K → Turns D L K → Type 0
 RunEnds view takes fails faults story counts most ends.Served old new = Runs view takes faults story counts most old new
-RunEnds view takes fails faults story counts most ends.Quiet old new = ⊥
 RunEnds view takes fails faults story counts most ends.Link old new = IsDeaf story counts ends.Link old.server new.server ⊎ Halts view takes fails faults story counts most ends.Link old new
 RunEnds view takes fails faults story counts most end old new = Halts view takes fails faults story counts most end old new

@@ -5,8 +5,9 @@ ghost use Rattle.oc_base.specs.Lawful.{IsNode};
 ghost use Rattle.oc_config.specs.Reading.{IsConfig};
 ghost use Rattle.oc_io.specs.Faults.{NoFall, Rose};
 ghost use Rattle.oc_keep.specs.Files.{AreHonest, OneRose, disks_in};
-ghost use Rattle.oc_keep.specs.KeptView.{IsHonest, NodeSurvives, disks_of, node_of};
+ghost use Rattle.oc_keep.specs.KeptView.{IsFullAt, IsFullOn, IsHonest, NodeSurvives, disks_of, node_of};
 ghost use Rattle.oc_keep.specs.Promises.{HoldFiles};
+ghost use Rattle.oc_model.specs.declared.input.Input.{Input};
 ghost use Rattle.oc_routes.specs.Responses.{address_of};
 ghost use Rattle.oc_server.specs.Lawful.{IsReady};
 ghost use Rattle.oc_server.specs.Scenes.{IsServing};
@@ -149,9 +150,11 @@ fn leave<D: Disk, L: Link, K: Sink>(turns: Turns<D, L, K>) -> Site<D, L, K>
     ensures link { result.link ≡ turns.server.link }
     ensures sink { result.sink ≡ turns.server.sink }
 
-    // While no disk failed, every crash leaves the node.
+    // While no disk failed, every crash leaves the node, and files that are full for the same inputs.
     ensures survives { turns.server.kept.closed ≡ false → IsHonest D.view turns.server.kept
         → NodeSurvives D.view turns.server.kept (node_of turns.server.kept) }
+    ensures full { turns.server.kept.closed ≡ false → IsHonest D.view turns.server.kept
+        → (i : Input) → IsFullAt turns.server.kept i → IsFullOn D.view (disks_of turns.server.kept) (node_of turns.server.kept) i }
 {
     turns.server.kept.recovers();
     let Turns {

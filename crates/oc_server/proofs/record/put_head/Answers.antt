@@ -1,13 +1,13 @@
 use Rattle.std.proofs.Common.{◌≡◌, ◌∙◌, ◌++◌, List, ℕ, ap}
 use Rattle.std.specs.Prelude.{codes}
 use Rattle.std.proofs.lemmas.List.{append_assoc}
-use Rattle.oc_digest.specs.Digests.{has_line}
 use Rattle.oc_keep.specs.KeptView.{header_of}
+use Rattle.oc_replay.specs.Digests.{has_line}
 use Rattle.oc_server.specs.Records.{network_text, up_line}
 use Rattle.oc_server.proofs.Results.{done_then}
 use Rattle.oc_server.proofs.record.put_head.Goals as goal
 
--- one text behind others
+-- one text after others
 more : (a b c x y : List ℕ) → b ≡ a ++ x → c ≡ b ++ y → c ≡ a ++ (x ++ y)
 more a b c x y front last = last ∙ ap (λ (t : List ℕ). t ++ y) front ∙ append_assoc a x y
 

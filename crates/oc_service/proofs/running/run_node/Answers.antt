@@ -18,7 +18,7 @@ returns-in-Ok-clause-ends g c =
     let task = c.args.task in
     let loaded = c.in-Ok.ensures.loaded in
     told_of g.D.Disk.view g.K.Sink.takes g.K.Sink.fails g.K.Sink.faults g.L.Link.story g.L.Link.counts g.met.K.Sink.takes_nothing g.met.K.Sink.takes_then g.met.K.Sink.takes_fails
-    s task site c.leave.result c.in-Ok.turns c.run-end.new.turns loaded c.leave.ensures.files c.leave.ensures.link c.leave.ensures.sink c.leave.ensures.survives c.run-end.result c.run-end.ensures
+    s task site c.leave.result c.in-Ok.turns c.run-end.new.turns loaded c.leave.ensures.files c.leave.ensures.link c.leave.ensures.sink c.leave.ensures.survives c.leave.ensures.full c.run-end.result c.run-end.ensures
 
 pub returns-in-Ok-clause-unfailed : goal.returns-in-Ok-clause-unfailed
 returns-in-Ok-clause-unfailed g c = λ honest files sound asked written.

@@ -13,7 +13,7 @@ returns-in_err-body-clause-refused g c =
     let head = c.in_ok-head.ensures.read in
     let stopped = rw c.body_length-length.ensures at c.in_err-body.ensures.refused in
     let fault = c.in_err-body.field-0.0 in
-    let took = took_then joins c.args.source.now c.read_start.new.source c.take_content.new.source head.0 stopped.0 head.1 fault stopped.1 in
+    let took = took_then joins c.args.source.now c.read_response_start.new.source c.take_content.new.source head.0 stopped.0 head.1 fault stopped.1 in
     rw (p.1, p.2) (head.0 ++ stopped.0, took, inr (head.0, stopped.0, refl, record { head = c.in_ok-head.head; says = head.2; stops = stopped.2 }))
 
 pub returns-in_err-head-clause-cause : goal.returns-in_err-head-clause-cause
@@ -22,7 +22,7 @@ returns-in_err-head-clause-cause g c =
     rw (p.1, p.2) (same_cause _ _ c.in_err-head.ensures.cause)
 
 pub returns-in_err-head-clause-count : goal.returns-in_err-head-clause-count
-returns-in_err-head-clause-count g c = c.read_start.ensures.count
+returns-in_err-head-clause-count g c = c.read_response_start.ensures.count
 
 pub returns-in_err-head-clause-refused : goal.returns-in_err-head-clause-refused
 returns-in_err-head-clause-refused g c =
@@ -31,15 +31,15 @@ returns-in_err-head-clause-refused g c =
     rw (p.1, p.2) (stopped.0, stopped.1, inl stopped.2)
 
 pub returns-in_err-body-clause-count : goal.returns-in_err-body-clause-count
-returns-in_err-body-clause-count g c = omega (arith, c.read_start.ensures.count, c.take_content.ensures.count)
+returns-in_err-body-clause-count g c = omega (arith, c.read_response_start.ensures.count, c.take_content.ensures.count)
 
 pub returns-in_err-body-clause-cause : goal.returns-in_err-body-clause-cause
 returns-in_err-body-clause-cause g c =
     let p = err_from_is_err_and c.from_residual-in_err-body.result c.from_residual-in_err-body.ensures.1 in
-    rw (p.1, p.2) (λ is. Rose-later _ _ _ c.read_start.ensures.count (same_cause _ _ c.in_err-body.ensures.cause is))
+    rw (p.1, p.2) (λ is. Rose-later _ _ _ c.read_response_start.ensures.count (same_cause _ _ c.in_err-body.ensures.cause is))
 
 pub returns-clause-count : goal.returns-clause-count
-returns-clause-count g c = omega (arith, c.read_start.ensures.count, c.take_content.ensures.count)
+returns-clause-count g c = omega (arith, c.read_response_start.ensures.count, c.take_content.ensures.count)
 
 -- the head, and the body after it
 pub returns-clause-read : goal.returns-clause-read
@@ -47,4 +47,4 @@ returns-clause-read g c =
     let head = c.in_ok-head.ensures.read in
     let body = c.in_ok-body.body.items in
     let told = rw c.body_length-length.ensures at c.in_ok-body.ensures in
-    (head.0, body, g.met.S.Source.gives_then c.args.source.now c.read_start.new.source c.take_content.new.source head.0 body head.1 c.in_ok-body.ensures.gives, record { head = c.in_ok-head.head; says = head.2; long = told.long; whole = told.end; reply_is = rw c.of.ensures })
+    (head.0, body, g.met.S.Source.gives_then c.args.source.now c.read_response_start.new.source c.take_content.new.source head.0 body head.1 c.in_ok-body.ensures.gives, record { head = c.in_ok-head.head; says = head.2; long = told.long; whole = told.end; reply_is = rw c.of.ensures })

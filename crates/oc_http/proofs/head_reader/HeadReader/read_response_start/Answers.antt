@@ -3,7 +3,7 @@ use Rattle.std.proofs.Common.{sym}
 use Rattle.std.proofs.lemmas.Result.{err_from_is_err_and}
 use Rattle.oc_http.proofs.Faults.{same_cause}
 use Rattle.oc_http.proofs.Wholes.{start_refuses, start_says, start_stops, left_never_source}
-use Rattle.oc_http.proofs.head_reader.HeadReader.read_start.Goals as goal
+use Rattle.oc_http.proofs.head_reader.HeadReader.read_response_start.Goals as goal
 
 pub returns-in_err-head-clause-refused : goal.returns-in_err-head-clause-refused
 returns-in_err-head-clause-refused g c =

@@ -1,9 +1,9 @@
 -- What had happened leaves no other end to a command that has what it needs.
 use Rattle.std.proofs.Common.{◌≡◌, ℕ, Bool, inl, inr, refl, subst, ap, List, Option, Some, None}
 use Rattle.oc_keep.proofs.Complete.{only_memory}
-use Rattle.oc_fetch.specs.Completeness.{Completes, IsUnrefused}
-use Rattle.oc_fetch.specs.declared.end.GetEnd.{GetEnd}
-use Rattle.oc_fetch.specs.declared.end.GetEnd.TheVariants as gets
+use Rattle.oc_client.specs.Completeness.{Completes, IsUnrefused}
+use Rattle.oc_client.specs.declared.end.GetEnd.{GetEnd}
+use Rattle.oc_client.specs.declared.end.GetEnd.TheVariants as gets
 use Rattle.oc_keep.specs.Files.{Disks, AreHonest, OneRose}
 use Rattle.oc_keep.specs.Promises.{HoldFiles}
 use Rattle.oc_io.specs.DiskView.{DiskView}

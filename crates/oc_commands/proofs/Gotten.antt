@@ -1,16 +1,16 @@
 -- What a download did, told of a link and an output.
 use Rattle.std.proofs.Common.{◌≡◌, ℕ, Bool, true, false, Option, Some, None, List, ◌++◌, length, refl, subst, sym}
-use Rattle.oc_fetch.specs.Addresses.{IsAddressOf, IsBadAddress}
-use Rattle.oc_fetch.specs.Downloads.{Downloads, IsUnasked, content_of, news_of}
-use Rattle.oc_fetch.specs.Lines.{Tells}
-use Rattle.oc_fetch.specs.FetchOptions.{FetchOptions}
-use Rattle.oc_fetch.specs.Metered.{Goes}
-use Rattle.oc_fetch.specs.Passing.{IsTalked, Sent}
-use Rattle.oc_fetch.specs.declared.end.GetEnd.{GetEnd}
-use Rattle.oc_fetch.specs.ProgressLines.{Grows}
-use Rattle.oc_fetch.specs.declared.end.GetEnd.TheVariants as gets
-use Rattle.oc_fetch.specs.declared.metered.Metered.{Metered}
-use Rattle.oc_fetch.specs.declared.progress_lines.ProgressLines.{ProgressLines}
+use Rattle.oc_client.specs.Addresses.{IsAddressOf, IsBadAddress}
+use Rattle.oc_client.specs.Downloads.{Downloads, IsUnasked, content_of, news_of}
+use Rattle.oc_client.specs.Lines.{Tells}
+use Rattle.oc_client.specs.FetchOptions.{FetchOptions}
+use Rattle.oc_client.specs.Metered.{Goes}
+use Rattle.oc_client.specs.Passing.{IsTalked, Sent}
+use Rattle.oc_client.specs.declared.end.GetEnd.{GetEnd}
+use Rattle.oc_client.specs.ProgressLines.{Grows}
+use Rattle.oc_client.specs.declared.end.GetEnd.TheVariants as gets
+use Rattle.oc_client.specs.declared.metered.Metered.{Metered}
+use Rattle.oc_client.specs.declared.progress_lines.ProgressLines.{ProgressLines}
 use Rattle.oc_io.specs.Faults.{NoFall, Rose}
 use Rattle.oc_link.specs.Story.{Story}
 use Rattle.oc_words.specs.declared.request.Download.{Download}

@@ -1,9 +1,9 @@
 -- What lines tell of a client, one after another.
 use Rattle.std.proofs.Common.{◌≡◌, ◌∙◌, ℕ, Bool, true, false, List, ◌++◌, length, take, sym, ap, subst, inl, inr, arith}
 use Rattle.std.proofs.lemmas.List.{append_assoc, take-append-le, take_all}
-use Rattle.oc_fetch.specs.Lines.{Tells, lines_between}
-use Rattle.oc_fetch.specs.ProgressLines.{Grows}
-use Rattle.oc_fetch.specs.declared.progress_lines.ProgressLines.{ProgressLines}
+use Rattle.oc_client.specs.Lines.{Tells, lines_between}
+use Rattle.oc_client.specs.ProgressLines.{Grows}
+use Rattle.oc_client.specs.declared.progress_lines.ProgressLines.{ProgressLines}
 use Rattle.oc_io.specs.Counts.{Rises}
 use Rattle.oc_io.specs.Faults.{NoFall}
 use Rattle.oc_link.specs.Calls.{IsFront}

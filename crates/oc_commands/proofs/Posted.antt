@@ -1,15 +1,15 @@
 -- What a publishing did, told of a link and an input.
 use Rattle.std.proofs.Common.{◌≡◌, ℕ, Bool, true, false, Option, List, ◌++◌, length, refl, subst, inl, inr}
-use Rattle.oc_fetch.specs.Addresses.{IsBadAddress}
-use Rattle.oc_fetch.specs.Lines.{Tells}
-use Rattle.oc_fetch.specs.ProgressLines.{Grows}
-use Rattle.oc_fetch.specs.declared.progress_lines.ProgressLines.{ProgressLines}
+use Rattle.oc_client.specs.Addresses.{IsBadAddress}
+use Rattle.oc_client.specs.Lines.{Tells}
+use Rattle.oc_client.specs.ProgressLines.{Grows}
+use Rattle.oc_client.specs.declared.progress_lines.ProgressLines.{ProgressLines}
+use Rattle.oc_client.specs.Publishing.{Came as CameOf, IsPublished, IsUnasked}
+use Rattle.oc_client.specs.declared.put_end.PutEnd.{PutEnd}
+use Rattle.oc_client.specs.declared.put_end.PutEnd.TheVariants as puts
+use Rattle.oc_client.specs.declared.publication.Publication.{Publication}
 use Rattle.oc_io.specs.Faults.{Rose}
 use Rattle.oc_link.specs.Story.{Story}
-use Rattle.oc_put.specs.Publishing.{Came as CameOf, IsPublished, IsUnasked}
-use Rattle.oc_put.specs.declared.end.PutEnd.{PutEnd}
-use Rattle.oc_put.specs.declared.end.PutEnd.TheVariants as puts
-use Rattle.oc_put.specs.declared.publication.Publication.{Publication}
 use Rattle.oc_words.specs.declared.request.Upload.{Upload}
 use Rattle.oc_commands.specs.AtPut.{Blames, Came, CameSo, HappenedAtPut, Published, is_done, plan_of}
 use Rattle.oc_commands.specs.AtPut as posted_at

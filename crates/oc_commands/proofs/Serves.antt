@@ -43,7 +43,7 @@ same_service asked v w p q is also = cc
 
 module _ {S D N K : Type 0} (gives fails : S → List ℕ → S → Type 0) (ended : S → Type 0) (faulty : S → ℕ) (old new : S) (view : D → DiskView) (d e : Disks D) (story : N → Option (List Call)) (counts : N → LinkCounts) (takes takes_less : K → List ℕ → K → Type 0) (link after : N) (sink written : K) (output : Output)
     (honest : AreHonest view d) (unfailed : OneRose view d e → ⊥) (waiting : Rose (counts link).listening (counts after).listening → ⊥) (sourced : Rose (faulty old) (faulty new) → ⊥) (sound : IsSound output) where
-  -- a status, or that of want of memory
+  -- a status, or that of lack of memory
   abbrev OrMemory : (ℕ → Type 0) → ℕ → Type 0
   OrMemory P status = P status ⊎ (status ≡ 4)
 
@@ -62,7 +62,6 @@ module _ {S D N K : Type 0} (gives fails : S → List ℕ → S → Type 0) (end
       → OrMemory (IsStatusOver view d s v) (number_of (status_of_run end))
   run_has s v (nodes.Load error) node h = load_has s v error (cause_of error) refl node h.0.0
   run_has s v (nodes.Turned turns.Served) node h = inl (inr (node, λ files. inl refl))
-  run_has s v (nodes.Turned turns.Quiet) node h = absurd h
   run_has s v (nodes.Turned turns.Link) node (inl h) = absurd (waiting h.1.counted.listening)
   run_has s v (nodes.Turned turns.Link) node (inr h) = absurd (waiting h.3.cause)
   run_has s v (nodes.Turned turns.Disk) node h = absurd (unfailed h.3.cause)

@@ -3,14 +3,14 @@ use Rattle.std.proofs.Common.{◌≡◌, None, arith}
 use Rattle.oc_replay.specs.declared.end.ReplayEnd.{ReplayEnd}
 use Rattle.oc_replay.specs.declared.end.ReplayEnd.TheVariants as replays
 use Rattle.oc_config.specs.declared.fault.ConfigFault.TheVariants as faults
-use Rattle.oc_fetch.specs.declared.end.GetEnd.{GetEnd}
-use Rattle.oc_fetch.specs.declared.end.GetEnd.TheVariants as gets
+use Rattle.oc_client.specs.declared.end.GetEnd.{GetEnd}
+use Rattle.oc_client.specs.declared.end.GetEnd.TheVariants as gets
+use Rattle.oc_client.specs.declared.put_end.PutEnd.{PutEnd}
+use Rattle.oc_client.specs.declared.put_end.PutEnd.TheVariants as puts
 use Rattle.oc_keep.specs.FileError.{FileError}
 use Rattle.oc_keep.specs.FileError.TheVariants as causes
 use Rattle.oc_keep.specs.Errors.{cause_of}
 use Rattle.oc_merge.specs.declared.merge_end.MergeEnd.TheVariants as merges
-use Rattle.oc_put.specs.declared.end.PutEnd.{PutEnd}
-use Rattle.oc_put.specs.declared.end.PutEnd.TheVariants as puts
 use Rattle.oc_commands.specs.Ends.{status_of, status_of_cause, status_of_check, status_of_configured, status_of_gen, status_of_get, status_of_put, status_of_records, status_of_replay, status_of_rules, status_of_service, status_of_token, status_of_turns}
 use Rattle.oc_commands.specs.Outside.{Outside}
 use Rattle.oc_commands.specs.Run.{Happened}
@@ -128,7 +128,6 @@ put_is_other puts.Memory is = absurd (omega (arith, is))
 -- and `node`
 turns_are_other : (end : TurnEnd) → number_of (status_of_turns end) ≡ 2 → ⊥
 turns_are_other turns.Served is = absurd (omega (arith, is))
-turns_are_other turns.Quiet is = absurd (omega (arith, is))
 turns_are_other turns.Link is = absurd (omega (arith, is))
 turns_are_other turns.Disk is = absurd (omega (arith, is))
 turns_are_other turns.Full is = absurd (omega (arith, is))

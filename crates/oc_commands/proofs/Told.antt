@@ -2,15 +2,15 @@
 use Rattle.std.proofs.Common.{◌≡◌, ℕ, Bool, true, false, List, length, Option, Some, None, Result, Ok, Err, inl, inr, subst, take}
 use Rattle.oc_config.specs.Settings.{Settings}
 use Rattle.oc_config.specs.declared.fault.ConfigFault.TheVariants as faults
-use Rattle.oc_fetch.specs.declared.end.GetEnd.{GetEnd}
-use Rattle.oc_fetch.specs.declared.end.GetEnd.TheVariants as gets
+use Rattle.oc_client.specs.declared.end.GetEnd.{GetEnd}
+use Rattle.oc_client.specs.declared.end.GetEnd.TheVariants as gets
+use Rattle.oc_client.specs.declared.put_end.PutEnd.{PutEnd}
+use Rattle.oc_client.specs.declared.put_end.PutEnd.TheVariants as puts
+use Rattle.oc_client.specs.declared.publication.Publication.{Publication}
 use Rattle.oc_merge.specs.Told.{Records}
 use Rattle.oc_merge.specs.declared.fault.Most.{Most}
 use Rattle.oc_merge.specs.declared.fault.Most.TheVariants as mosts
 use Rattle.oc_merge.specs.declared.fault.RecordsFault.{RecordsFault}
-use Rattle.oc_put.specs.declared.end.PutEnd.{PutEnd}
-use Rattle.oc_put.specs.declared.end.PutEnd.TheVariants as puts
-use Rattle.oc_put.specs.declared.publication.Publication.{Publication}
 use Rattle.oc_replay.specs.declared.end.ReplayEnd.{ReplayEnd}
 use Rattle.oc_replay.specs.declared.end.ReplayEnd.TheVariants as replays
 use Rattle.oc_schedule.specs.Script.{Script}
@@ -261,7 +261,6 @@ module _ (i j : Input) (o p : Output) (d e : OnError) (stage : OnStage) (input :
   stops_told : (run other : OnRun) → TellsRun run other → (s : Setting) (end : TurnEnd) → Stops run o.written o.cut_off s end → Stops other p.written p.cut_off s end
   stops_told run other tells s turns.Sink h = let (deeds, under, cut, stopped) = h in (deeds, under, (cut.0, cut.1, output.cut_off _ cut.2), tells.stopped turns.Sink deeds under stopped)
   stops_told run other tells s turns.Served h = let (deeds, under, written, stopped) = h in (deeds, under, output.written _ written, tells.stopped turns.Served deeds under stopped)
-  stops_told run other tells s turns.Quiet h = let (deeds, under, written, stopped) = h in (deeds, under, output.written _ written, tells.stopped turns.Quiet deeds under stopped)
   stops_told run other tells s turns.Link h = let (deeds, under, written, stopped) = h in (deeds, under, output.written _ written, tells.stopped turns.Link deeds under stopped)
   stops_told run other tells s turns.Disk h = let (deeds, under, written, stopped) = h in (deeds, under, output.written _ written, tells.stopped turns.Disk deeds under stopped)
   stops_told run other tells s turns.Full h = let (deeds, under, written, stopped) = h in (deeds, under, output.written _ written, tells.stopped turns.Full deeds under stopped)
@@ -270,7 +269,6 @@ module _ (i j : Input) (o p : Output) (d e : OnError) (stage : OnStage) (input :
   run_told : (run other : OnRun) → TellsRun run other → (s : Setting) (end : NodeEnd) → NodeEnds run o.written o.cut_off s end → NodeEnds other p.written p.cut_off s end
   run_told run other tells s (nodes.Load error) h = (tells.refused error h.0, output.written _ h.1)
   run_told run other tells s (nodes.Turned turns.Served) h = let (deeds, written, did) = h in (deeds, output.written _ written, tells.did deeds did)
-  run_told run other tells s (nodes.Turned turns.Quiet) h = h
   run_told run other tells s (nodes.Turned turns.Link) (inl h) = inl (output.written _ h.0, tells.deaf h.1)
   run_told run other tells s (nodes.Turned turns.Link) (inr h) = inr (stops_told run other tells s turns.Link h)
   run_told run other tells s (nodes.Turned turns.Disk) h = stops_told run other tells s turns.Disk h

@@ -1,4 +1,4 @@
--- What had happened leaves no other end to `--help`, to `--version`, to `gen`, to `replay`, to `merge` and to `rules` than their work, or want of memory.
+-- What had happened leaves no other end to `--help`, to `--version`, to `gen`, to `replay`, to `merge` and to `rules` than their work, or lack of memory.
 use Rattle.std.proofs.Common.{◌≡◌, ℕ, ◌≤◌, ◌<◌, ◌⊎◌, Bool, cond, List, length, Option, Some, None, Result, Ok, Err, inl, inr, refl, sym, subst, ap}
 use Rattle.std.specs.Str.Lines.{lines}
 use Rattle.std.proofs.lemmas.Bool.{lt-ltb}

@@ -1,12 +1,12 @@
 -- What had happened at each end of `get`, with a token or without.
 use Rattle.std.specs.Prelude.{ℕ, Bool, true, false, Option, Some, None, List, length, ⊤}
-use Rattle.oc_fetch.specs.Addresses.{IsAddressOf, IsBadAddress}
-use Rattle.oc_fetch.specs.Downloads.{Downloads, IsUnasked, content_of, news_of}
-use Rattle.oc_fetch.specs.FetchOptions.{FetchOptions}
-use Rattle.oc_fetch.specs.Turns.{Turn}
-use Rattle.oc_fetch.specs.Wishes.{Wish}
-use Rattle.oc_fetch.specs.declared.end.GetEnd.{GetEnd}
-use Rattle.oc_fetch.specs.declared.end.GetEnd.TheVariants as ends
+use Rattle.oc_client.specs.Addresses.{IsAddressOf, IsBadAddress}
+use Rattle.oc_client.specs.Downloads.{Downloads, IsUnasked, content_of, news_of}
+use Rattle.oc_client.specs.FetchOptions.{FetchOptions}
+use Rattle.oc_client.specs.Turns.{Turn}
+use Rattle.oc_client.specs.Wishes.{Wish}
+use Rattle.oc_client.specs.declared.end.GetEnd.{GetEnd}
+use Rattle.oc_client.specs.declared.end.GetEnd.TheVariants as ends
 use Rattle.oc_words.specs.declared.request.Download.{Download}
 use Rattle.oc_commands.specs.Outside.{OnError, OnLink, Output}
 use Rattle.url.specs.Parts.{Parts}

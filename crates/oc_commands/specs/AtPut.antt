@@ -1,14 +1,14 @@
 -- What had happened at each end of `put`, with a token or without.
 use Rattle.std.specs.Prelude.{◌≡◌, ◌⊎◌, ℕ, Bool, true, false, Option, List, length, ⊤}
-use Rattle.oc_fetch.specs.Addresses.{IsAddressOf, IsBadAddress}
-use Rattle.oc_put.specs.Publishing.{IsUnasked, Publishes}
-use Rattle.oc_put.specs.Requests.{Goal}
-use Rattle.oc_put.specs.Turns.{Turn}
-use Rattle.oc_put.specs.declared.end.PutEnd.{PutEnd}
-use Rattle.oc_put.specs.declared.end.PutEnd.TheVariants as ends
-use Rattle.oc_put.specs.declared.publication.WriteMode.{WriteMode}
-use Rattle.oc_put.specs.declared.publication.WriteMode.TheVariants as places
-use Rattle.oc_put.specs.declared.publication.Publication.{Publication}
+use Rattle.oc_client.specs.Addresses.{IsAddressOf, IsBadAddress}
+use Rattle.oc_client.specs.Publishing.{IsUnasked, Publishes}
+use Rattle.oc_client.specs.PutRequests.{Goal}
+use Rattle.oc_client.specs.PutTurns.{PutTurn}
+use Rattle.oc_client.specs.declared.put_end.PutEnd.{PutEnd}
+use Rattle.oc_client.specs.declared.put_end.PutEnd.TheVariants as ends
+use Rattle.oc_client.specs.declared.publication.WriteMode.{WriteMode}
+use Rattle.oc_client.specs.declared.publication.WriteMode.TheVariants as places
+use Rattle.oc_client.specs.declared.publication.Publication.{Publication}
 use Rattle.oc_words.specs.declared.request.Onto.{Onto}
 use Rattle.oc_words.specs.declared.request.Onto.TheVariants.{New, Append, Resume}
 use Rattle.oc_words.specs.declared.request.Upload.{Upload}
@@ -41,7 +41,7 @@ Blames link end = ⊤
 
 -- the turns with the source there, and what was read of the input
 pub record PublishedAt (link : OnLink) (input : Input) (plan : Publication) (goal : Goal) (end : PutEnd) : Type 0 where
-  pub turns : List Turn
+  pub turns : List PutTurn
   pub bytes : List ℕ
   pub over : Bool
   pub publishes : Publishes plan turns bytes over end

@@ -1,9 +1,9 @@
 -- When a command can only do its work, or run out of memory.
 use Rattle.std.specs.Prelude.{◌≡◌, ◌⊎◌, ℕ, Bool, Option, Some, None, List, ◌++◌, map}
-use Rattle.oc_fetch.specs.Addresses.{IsAddressOf}
-use Rattle.oc_fetch.specs.Completeness.{LeadToContent, text_of}
-use Rattle.oc_fetch.specs.Downloads.{first_state}
-use Rattle.oc_fetch.specs.FetchOptions.{FetchOptions}
+use Rattle.oc_client.specs.Addresses.{IsAddressOf}
+use Rattle.oc_client.specs.Completeness.{LeadToContent, text_of}
+use Rattle.oc_client.specs.Downloads.{first_state}
+use Rattle.oc_client.specs.FetchOptions.{FetchOptions}
 use Rattle.oc_link.specs.Story.{Dial, Story, dials}
 use Rattle.url.specs.Parts.{Parts}
 use Rattle.oc_words.specs.declared.request.Download.{Download}

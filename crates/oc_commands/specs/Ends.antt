@@ -2,15 +2,15 @@
 use Rattle.std.specs.Prelude.{Bool, true, false}
 use Rattle.oc_config.specs.declared.fault.ConfigFault.{ConfigFault}
 use Rattle.oc_config.specs.declared.fault.ConfigFault.TheVariants as faults
-use Rattle.oc_fetch.specs.declared.end.GetEnd.{GetEnd}
-use Rattle.oc_fetch.specs.declared.end.GetEnd.TheVariants as gets
+use Rattle.oc_client.specs.declared.end.GetEnd.{GetEnd}
+use Rattle.oc_client.specs.declared.end.GetEnd.TheVariants as gets
+use Rattle.oc_client.specs.declared.put_end.PutEnd.{PutEnd}
+use Rattle.oc_client.specs.declared.put_end.PutEnd.TheVariants as puts
 use Rattle.oc_keep.specs.FileError.{FileError}
 use Rattle.oc_keep.specs.FileError.TheVariants as causes
 use Rattle.oc_keep.specs.Errors.{cause_of}
 use Rattle.oc_keep.specs.declared.errors.KeepLoad.{KeepLoad}
 use Rattle.oc_merge.specs.declared.merge_end.MergeEnd.TheVariants as merges
-use Rattle.oc_put.specs.declared.end.PutEnd.{PutEnd}
-use Rattle.oc_put.specs.declared.end.PutEnd.TheVariants as puts
 use Rattle.oc_replay.specs.declared.end.ReplayEnd.{ReplayEnd}
 use Rattle.oc_replay.specs.declared.end.ReplayEnd.TheVariants as replays
 use Rattle.oc_service.specs.declared.running.NodeEnd.{NodeEnd}
@@ -124,7 +124,6 @@ status_of_put puts.Memory = statuses.Memory
 
 abbrev pub status_of_turns : TurnEnd → Status
 status_of_turns turns.Served = statuses.Done
-status_of_turns turns.Quiet = statuses.Done
 status_of_turns turns.Link = statuses.Failed
 status_of_turns turns.Disk = statuses.Failed
 status_of_turns turns.Full = statuses.Limit

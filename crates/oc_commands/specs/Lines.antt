@@ -8,8 +8,10 @@ use Rattle.oc_config.specs.declared.section_name.SectionName.{SectionName}
 use Rattle.oc_config.specs.declared.section_name.SectionName.TheVariants as places
 use Rattle.oc_config.specs.declared.fault.ConfigFault.{ConfigFault}
 use Rattle.oc_config.specs.declared.fault.ConfigFault.TheVariants as faults
-use Rattle.oc_fetch.specs.declared.end.GetEnd.{GetEnd}
-use Rattle.oc_fetch.specs.declared.end.GetEnd.TheVariants as gets
+use Rattle.oc_client.specs.declared.end.GetEnd.{GetEnd}
+use Rattle.oc_client.specs.declared.end.GetEnd.TheVariants as gets
+use Rattle.oc_client.specs.declared.put_end.PutEnd.{PutEnd}
+use Rattle.oc_client.specs.declared.put_end.PutEnd.TheVariants as puts
 use Rattle.oc_keep.specs.Errors.{cause_of}
 use Rattle.oc_keep.specs.FileError.{FileError}
 use Rattle.oc_keep.specs.FileError.TheVariants as causes
@@ -22,8 +24,6 @@ use Rattle.oc_merge.specs.declared.fault.Cause.{Cause}
 use Rattle.oc_merge.specs.declared.fault.Cause.TheVariants.{Said, Areas}
 use Rattle.oc_merge.specs.declared.merge_end.MergeEnd.{MergeEnd}
 use Rattle.oc_merge.specs.declared.merge_end.MergeEnd.TheVariants as merges
-use Rattle.oc_put.specs.declared.end.PutEnd.{PutEnd}
-use Rattle.oc_put.specs.declared.end.PutEnd.TheVariants as puts
 use Rattle.oc_replay.specs.declared.end.ReplayEnd.{ReplayEnd}
 use Rattle.oc_replay.specs.declared.end.ReplayEnd.TheVariants as replays
 use Rattle.oc_schedule.specs.Limits.{most_of, what_text}
@@ -229,7 +229,6 @@ line_of_put puts.Memory = out_of_memory
 
 abbrev pub line_of_turns : TurnEnd → List ℕ
 line_of_turns turns.Served = []
-line_of_turns turns.Quiet = []
 line_of_turns turns.Link = link_failed
 line_of_turns turns.Disk = disk_failed
 line_of_turns turns.Full = short_line (codes "overcast: limit journal 281474976710656")

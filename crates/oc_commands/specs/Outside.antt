@@ -12,10 +12,12 @@ use Rattle.oc_commands.specs.Checks.{Shows}
 use Rattle.oc_config.specs.Settings.{Settings}
 use Rattle.oc_link.specs.declared.call.Call.{Call}
 use Rattle.oc_link.specs.declared.counts.LinkCounts.{LinkCounts}
-use Rattle.oc_fetch.specs.Completeness.{Completes}
-use Rattle.oc_fetch.specs.FetchOptions.{FetchOptions}
-use Rattle.oc_fetch.specs.Turns.{Makes, Turn}
-use Rattle.oc_fetch.specs.declared.end.GetEnd.{GetEnd}
+use Rattle.oc_client.specs.Completeness.{Completes}
+use Rattle.oc_client.specs.FetchOptions.{FetchOptions}
+use Rattle.oc_client.specs.Turns.{Makes, Turn}
+use Rattle.oc_client.specs.declared.end.GetEnd.{GetEnd}
+use Rattle.oc_client.specs.PutRequests.{Goal}
+use Rattle.oc_client.specs.PutTurns.{Makes as Publishes, PutTurn}
 use Rattle.oc_keep.specs.Files.{Disks}
 use Rattle.oc_keep.specs.Promises.{LoadsSafely, RefusesNode}
 use Rattle.oc_keep.specs.declared.errors.KeepLoad.{KeepLoad}
@@ -26,8 +28,6 @@ use Rattle.oc_io.specs.DiskView.{DiskView}
 use Rattle.oc_io.specs.Faults.{Rose}
 use Rattle.oc_link.specs.Calls.{Told}
 use Rattle.oc_link.specs.Story.{Story}
-use Rattle.oc_put.specs.Requests.{Goal}
-use Rattle.oc_put.specs.Turns.{Makes as Publishes, Turn as Sent}
 use Rattle.oc_replay.specs.Replay.{IsInput, PassesLimit, world_at}
 use Rattle.oc_schedule.specs.Script.{Script}
 use Rattle.oc_schedule.specs.declared.fault.ScheduleFault.{ScheduleFault}
@@ -100,7 +100,7 @@ pub record OnLink : Type 1 where
   -- if the replies of the dials, from a URL on, led to a whole content, a download with this end was not refused
   pub completes : FetchOptions → Parts → GetEnd → Type 0
   -- a client that publishes there made these turns on it, and nothing else was done
-  pub publishes : Goal → List Sent → Type 0
+  pub publishes : Goal → List PutTurn → Type 0
   -- nothing was done on it
   pub silent : Type 0
   -- it is as it was

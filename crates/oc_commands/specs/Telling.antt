@@ -1,6 +1,6 @@
 -- The lines that tell on the error output how far a client came.
 use Rattle.std.specs.Prelude.{◌≡◌, ℕ, Bool, if◌then◌else◌, List, [], ◌++◌}
-use Rattle.oc_fetch.specs.Lines.{lines_between, progress_line}
+use Rattle.oc_client.specs.Lines.{lines_between, progress_line}
 use Rattle.oc_io.specs.Counts.{Rises}
 use Rattle.oc_commands.specs.Outside.{OnError}
 use Rattle.oc_commands.specs.Run.{IsWrittenOrCut}

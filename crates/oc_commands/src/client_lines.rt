@@ -5,8 +5,7 @@ ghost use Rattle.oc_commands.specs.Lines.{line_of_get, line_of_put, line_of_toke
 
 use crate::lines::{Digits, ErrorLine, input_failed, limit_line, no_line, short_line, with_word};
 use crate::token::TokenEnd;
-use oc_fetch::GetEnd;
-use oc_put::PutEnd;
+use oc_client::{GetEnd, PutEnd};
 use oc_schedule::{Scale, What};
 
 /// The line where a client has no token.

@@ -11,11 +11,10 @@ use crate::listing::RulesEnd;
 use crate::merging::RecordsEnd;
 use crate::serving::ServiceEnd;
 use crate::token::TokenEnd;
+use oc_client::{GetEnd, PutEnd};
 use oc_config::ConfigFault;
-use oc_fetch::GetEnd;
 use oc_keep::{FileError, KeepLoad};
 use oc_merge::MergeEnd;
-use oc_put::PutEnd;
 use oc_replay::ReplayEnd;
 use oc_service::{NodeEnd, TurnEnd};
 use oc_words::Status;
@@ -242,7 +241,7 @@ fn turns_status(end: TurnEnd) -> Status
     ensures { result ≡ status_of_turns end }
 {
     match end {
-        TurnEnd::Served | TurnEnd::Quiet => Status::Done,
+        TurnEnd::Served => Status::Done,
         TurnEnd::Link | TurnEnd::Disk | TurnEnd::Sink => Status::Failed,
         TurnEnd::Full => Status::Limit,
         TurnEnd::Memory => Status::Memory,

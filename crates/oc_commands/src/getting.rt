@@ -6,7 +6,7 @@ ghost use Rattle.oc_commands.specs.Outside.{at_link, at_sink};
 ghost use Rattle.oc_commands.specs.Telling.{at_error};
 
 use crate::progress::{Counting, finish};
-use oc_fetch::{FetchOptions, GetEnd, Metered, follow, get};
+use oc_client::{FetchOptions, GetEnd, Metered, follow, get};
 use oc_io::Sink;
 use oc_link::Dialler;
 use oc_words::{Download, Name, text_of};

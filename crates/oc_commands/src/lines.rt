@@ -464,7 +464,7 @@ fn line_of_turns<'a>(end: TurnEnd) -> ErrorLine<'a>
     ensures { text_of result ≡ line_of_turns end }
 {
     match end {
-        TurnEnd::Served | TurnEnd::Quiet => no_line(),
+        TurnEnd::Served => no_line(),
         TurnEnd::Link => short_line("overcast: link failed"),
         TurnEnd::Disk => short_line("overcast: disk failed"),
         TurnEnd::Full => short_line("overcast: limit journal 281474976710656"),

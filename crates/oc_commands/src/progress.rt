@@ -1,11 +1,11 @@
 //! Lines that tell on the error output how far a client came.
 
 ghost use Rattle.std.specs.Prelude.{◌≡◌};
-ghost use Rattle.oc_fetch.specs.Lines.{Tells};
+ghost use Rattle.oc_client.specs.Lines.{Tells};
 ghost use Rattle.oc_commands.specs.Telling.{last_line};
 ghost use Rattle.oc_commands.specs.TellingExamples.{AreTold};
 
-use oc_fetch::ProgressLines;
+use oc_client::ProgressLines;
 use oc_io::{Failed, Sink};
 
 /// A sink whose relations speak of its count of faults too.

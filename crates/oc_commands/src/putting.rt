@@ -6,9 +6,9 @@ ghost use Rattle.oc_commands.specs.Outside.{at_link, at_source};
 ghost use Rattle.oc_commands.specs.Telling.{at_error};
 
 use crate::progress::{Counting, finish};
+use oc_client::{Aside, Destination, Pause, Publication, PutEnd, WriteMode, put};
 use oc_io::{Sink, Source};
 use oc_link::Dialler;
-use oc_put::{Aside, Destination, Pause, Publication, PutEnd, WriteMode, put};
 use oc_words::{Name, Onto, Upload, text_of};
 use std::alloc::Global;
 

@@ -88,7 +88,9 @@ With each status but 0, one line on standard error says why.
 }
 
 /// The text after the line `overcast: usage`, which says what the words may be.
-pub fn usage() -> &'static str {
+pub fn usage() -> &'static str
+    ensures { 0 < length result.now }
+{
     "\
 Usage: overcast node ID [--turns N] [--probe] [--log inputs|record|brief]
                      [--config FILE] [--dir FOLDER]

@@ -18,9 +18,9 @@ ghost use Rattle.oc_world.specs.World.{WorldView};
 
 use crate::{Ended, Outside, run};
 use oc_base::NodeId;
+use oc_client::Pause;
 use oc_io::{Disk, MemDisk, Sink, Source};
 use oc_link::{Dialler, Link};
-use oc_put::Pause;
 use oc_world::World;
 use std::alloc::Global;
 

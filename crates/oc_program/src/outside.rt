@@ -1,9 +1,9 @@
 //! All that a run reaches.
 
+use oc_client::Pause;
 use oc_io::{Disk, Sink, Source};
 use oc_keep::Files;
 use oc_link::{Dialler, Link};
-use oc_put::Pause;
 use oc_replay::Stage;
 
 /// All that a run reaches. The input is the file that the words name, or else the standard input; the three files are

@@ -20,15 +20,14 @@ ghost use Rattle.oc_words.specs.Status.{number_of};
 ghost use Rattle.oc_words.specs.Words.{Answers, IsPlain, IsRequest, asked, texts_of};
 
 use crate::outside::{Ended, Outside};
+use oc_client::{Aside, GetEnd, Metered, Pause, PutEnd};
 use oc_commands::{
     CheckEnd, ConfiguredEnd, End, Served, ServiceEnd, check_configured, check_files, download,
     error_of, list_rules, merge_input, progress_on, publish, replay_input, run_service, scale_of,
     take_token, tell, write_help, write_sample, write_version,
 };
-use oc_fetch::{GetEnd, Metered};
 use oc_io::{Disk, Sink, Source};
 use oc_link::{Dialler, Link};
-use oc_put::{Aside, Pause, PutEnd};
 use oc_replay::Stage;
 use oc_service::Site;
 use oc_words::{Download, Invocation, Member, Name, Service, Upload, WordsFault, read_words};
@@ -45,7 +44,7 @@ pub fn run<S: Source, K: Sink, E: Sink, T: Stage, D: Disk, L: Dialler, N: Link, 
     words: &[String],
     outside: Outside<S, K, E, T, D, L, N, P>,
 ) -> Ended<S, K, E, T, D, L, N, P>
-    // How it ended: the status, the line on the error output behind what was told, and what had happened; of a node,
+    // How it ended: the status, the line on the error output after what was told, and what had happened; of a node,
     // at each moment of its run what was written and what every crash leaves.
     ensures ended { (end : End) × (usage : List ℕ) × (told : E)
         × (result.status ≡ number_of (status_of end))

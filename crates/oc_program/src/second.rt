@@ -1,4 +1,4 @@
-use oc_put::Pause;
+use oc_client::Pause;
 use std::rt::Clock;
 use std::thread;
 use std::time::Duration;

@@ -1,21 +1,27 @@
 //! A run over the real things.
 
-ghost use Rattle.std.specs.Prelude.{◌≡◌, IfErr, IfOk};
+ghost use Rattle.std.specs.Prelude.{◌≡◌, ◌⊎◌, IfErr, IfOk};
+ghost use Rattle.oc_commands.specs.Ends.{status_of};
 ghost use Rattle.oc_program.specs.Started.{HasRun};
+ghost use Rattle.oc_words.specs.Status.{number_of};
 ghost use Rattle.oc_words.specs.Words.{asked, texts_of};
 
 use crate::places::Places;
 use crate::second::Second;
 use crate::{End, Status, Streams, StreamsRun, Things, Traffic, WriterSink, run_on_streams, tell};
 use oc_keep::Files;
-use oc_sockets::SocketLink;
-use oc_system::{FileDisk, Input, NamedFile, SocketDialler, Trouble};
+use oc_system::{ClosedStreams, FileDisk, Input, NamedFile, SocketDialler, SocketLink, Trouble};
 use oc_words::tip;
 use oc_world::World;
-use std::io;
 
 /// Runs the program on these words, and gives its status. Where there is no memory to read them, the line says so.
-pub fn run_words(rt: &HostRuntime, words: &[String]) -> u8 {
+pub fn run_words(rt: &HostRuntime, words: &[String]) -> u8
+    // It is that of a run of these words, or nothing was run for want of memory.
+    ensures { ((ran : Started) × HasRun ⟦<World as oc_replay::Stage>⟧.world ⟦<FileDisk<'static, HostRuntime> as oc_io::Disk>⟧.view
+        ⟦<SocketDialler<'static, HostRuntime> as oc_link::Dialler>⟧.story ⟦<SocketDialler<'static, HostRuntime> as oc_link::Dialler>⟧.faults
+        ⟦<SocketLink<'static, HostRuntime> as oc_link::Link>⟧.story ⟦<SocketLink<'static, HostRuntime> as oc_link::Link>⟧.counts
+        (asked (texts_of words.now)) ran × (result ≡ ran.status)) ⊎ (result ≡ number_of Status.Memory) }
+{
     match start(rt, words) {
         Ok(ran) => ran.status,
         Err(end) => end_early(rt, end),
@@ -23,7 +29,9 @@ pub fn run_words(rt: &HostRuntime, words: &[String]) -> u8 {
 }
 
 /// Writes the line of an end that came before a run, and gives its status.
-pub fn end_early(rt: &HostRuntime, end: End) -> u8 {
+pub fn end_early(rt: &HostRuntime, end: End) -> u8
+    ensures { result ≡ number_of (status_of end) }
+{
     tell(&mut WriterSink::new(rt.stderr()), &end, None);
     end.status().number()
 }
@@ -71,6 +79,7 @@ fn start_at(rt: &HostRuntime, words: &[String], places: &Places) -> Started
         (asked (texts_of words.now)) result }
 {
     let alloc = rt.alloc();
+    let _held = ClosedStreams::hold(rt);
     let mut input = match &places.input {
         Some(path) => Input::Named(NamedFile::new(rt, path.as_str())),
         None => Input::Standard(rt.stdin()),
@@ -123,7 +132,7 @@ fn start_at(rt: &HostRuntime, words: &[String], places: &Places) -> Started
         tell_trouble(rt, things.files.alternate.trouble());
         tell_trouble(rt, things.files.content.trouble());
         tell_trouble(rt, things.dialler.trouble());
-        tell_link_trouble(rt, things.link.trouble());
+        tell_trouble(rt, things.link.trouble());
     }
     Started {
         status,
@@ -145,12 +154,5 @@ fn tell_tip(rt: &HostRuntime, words: &[String]) {
 fn tell_trouble(rt: &HostRuntime, trouble: Option<Trouble<'_>>) {
     if let Some(trouble) = trouble {
         let _ = eprintln!(rt; "overcast: {trouble}");
-    }
-}
-
-/// The same of the link of a node: at which address it failed, and why.
-fn tell_link_trouble(rt: &HostRuntime, trouble: Option<(&str, io::Error)>) {
-    if let Some((address, error)) = trouble {
-        tell_trouble(rt, Some(Trouble::at(address, error)));
     }
 }

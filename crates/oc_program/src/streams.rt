@@ -16,10 +16,10 @@ ghost use Rattle.oc_schedule.specs.Schedule.{schedule_of};
 
 use crate::outside::{Ended, Outside};
 use crate::running::run;
+use oc_client::Pause;
 use oc_io::{Disk, ReaderSource, Traffic, WriterSink};
 use oc_keep::Files;
 use oc_link::{Dialler, Link};
-use oc_put::Pause;
 use oc_replay::Stage;
 use oc_words::Invocation;
 use std::alloc::Global;

@@ -1,12 +1,16 @@
 //! The words that the process was given.
 
+ghost use Rattle.std.specs.Prelude.{◌≡◌, ◌⊎◌, IfErr};
+
 use crate::End;
 use std::rt::Env;
 use std::{env, io};
 
 /// The words after the program's name; or how the program ends where they cannot be read. A word that is not
 /// text is no word of the program.
-pub fn given_words<R: Env + AllocGlobal>(rt: &R) -> Result<Vec<String>, End> {
+pub fn given_words<R: Env + AllocGlobal>(rt: &R) -> Result<Vec<String>, End>
+    ensures { IfErr result (λ end. (end ≡ End.NoMemory) ⊎ (end ≡ End.Misused)) }
+{
     let given = match env::args(rt) {
         Ok(given) => given,
         Err(error) if error.kind() == io::ErrorKind::OutOfMemory => return Err(End::NoMemory),

@@ -1,5 +1,5 @@
 use Rattle.std.proofs.Common.{Bool, subst}
-use Rattle.oc_fetch.specs.Lines.{Tells}
+use Rattle.oc_client.specs.Lines.{Tells}
 use Rattle.oc_commands.specs.Counting.{Fails, Takes}
 use Rattle.oc_commands.specs.Outside.{at_link}
 use Rattle.oc_commands.specs.Telling.{last_line}

@@ -1,5 +1,5 @@
 use Rattle.std.proofs.Common.{Bool, ap, subst}
-use Rattle.oc_fetch.specs.Lines.{Tells}
+use Rattle.oc_client.specs.Lines.{Tells}
 use Rattle.oc_commands.specs.Counting.{Fails, Takes}
 use Rattle.oc_commands.specs.Telling.{at_error, last_line}
 use Rattle.oc_commands.proofs.Posted.{posted, tells_of}

@@ -7,6 +7,8 @@ pub mod Halving
 pub mod Causes
 pub mod Others
 pub mod Views
+pub mod Aheads
+pub mod Growing
 pub mod Puts
 pub mod Loading
 pub mod LoadErrors

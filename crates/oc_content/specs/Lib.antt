@@ -6,6 +6,8 @@ pub mod Pieces
 pub mod Indexes
 pub mod Founds
 pub mod ContentView
+pub mod Aheads
+pub mod Fetching
 pub mod Promises
 pub mod Entries
 pub mod Headings

@@ -1,4 +1,4 @@
-ghost use Rattle.std.specs.Prelude.{◌≡◌, ◌≢◌, ◌↔◌, ℕ, ◌+◌, ◌<◌, ◌≤◌, false, length, take, drop, All, None, Some, IsTrue, IsSome, IsOk, IsErrOf, IfNone, OnOk, IfOk, IfErr, IfSome};
+ghost use Rattle.std.specs.Prelude.{◌≡◌, ◌≢◌, ◌↔◌, ℕ, ◌+◌, ◌-◌, ◌<◌, ◌≤◌, false, length, take, drop, All, None, Some, IsTrue, IsSome, IsOk, IsErrOf, IfNone, OnOk, OnErr, IfOk, IfErr, IfSome};
 ghost use Rattle.oc_base.specs.Names.{IsGroupName};
 ghost use Rattle.oc_base.specs.Shelves.{held_of, IsHeldAt, IsShelf, AreLinesAscending};
 ghost use Rattle.oc_io.specs.DiskView.{CannotFail, StaysAsItWas};
@@ -13,8 +13,9 @@ ghost use Rattle.oc_content.specs.Founds.{IsSpot};
 ghost use Rattle.oc_content.specs.Promises.{IsContentOf, RefusesContent, PutsNothing, Prepares, Commits, ClosesByCommit};
 ghost use Rattle.oc_content.specs.Putting.{group_state_in, fault_of};
 
+use crate::ahead::{self, Ahead, Stretch};
 use crate::committing::append;
-use crate::errors::{PutError, ReadError};
+use crate::errors::{FetchError, PutError, ReadError};
 use crate::frame_reads::read_group;
 use crate::index::Index;
 use crate::indexing::index_frames;
@@ -22,7 +23,7 @@ use crate::piece::Piece;
 use crate::putting::{NewBytes, ready};
 use crate::spot::Spot;
 use oc_base::{GroupName, MAX_GROUP_BYTES, MAX_GROUPS, MAX_PUBLISH_BYTES, Shelf};
-use oc_io::{Disk, MemDisk};
+use oc_io::{Disk, Failed, MemDisk};
 use oc_journal::{AppendError, FileError, Journal};
 use std::alloc::Global;
 use std::marker::Model;
@@ -33,16 +34,18 @@ use std::marker::Model;
 pub struct Content<D: Disk> {
     journal: Journal<D>,
     index: Index,
+    ahead: Ahead,
 }
 
 impl<D: Disk> Model for Content<D> {
-    ghost use Rattle.oc_content.specs.ContentView.{ContentView, IsIndexed, content_with};
+    ghost use Rattle.oc_content.specs.ContentView.{ContentView, content_with};
+    ghost use Rattle.oc_content.specs.Aheads.{IsContent};
 
     ghost Value = { ContentView D };
 
     ghost view = { λ c. content_with c.journal c.index };
 
-    ghost invariant = { λ c. IsIndexed D.view c.journal c.index };
+    ghost invariant = { λ c. IsContent D.view c.journal c.index c.ahead };
 }
 
 impl<D: Disk> Content<D> {
@@ -176,6 +179,59 @@ impl<D: Disk> Content<D> {
         read_group(&mut self.journal, &self.index, group, start, buf)
     }
 
+    /// Reads `count` bytes of a group from an offset on, into a buffer of their own. It is that long also where the
+    /// group has fewer there; what comes after them says nothing then. Bytes that were read ahead are handed out
+    /// without a read. After `Disk` each commit answers `Closed`.
+    pub fn fetch(
+        &mut self,
+        alloc: Global,
+        group: &GroupName,
+        start: u64,
+        count: usize,
+    ) -> Result<Vec<u8>, FetchError>
+        ensures long { IfOk result (λ bytes. length bytes.items ≡ count) }
+        ensures bytes { IfOk result (λ bytes. IsTrue (D.view self.old.journal.disk).honest
+            → take (length (bytes_in group.now self.old.journal.frames) - start) bytes.items
+            ≡ take count (drop start (bytes_in group.now self.old.journal.frames))) }
+        ensures no_group { IsErrOf result FetchError.NoGroup ↔ (held_of group.now self.old.shelves ≡ None) }
+        ensures disk { IsErrOf result FetchError.Disk
+            → ClosesByRead D.view self.old.journal self.new.journal }
+        ensures none_failed { ¬ IsErrOf result FetchError.Disk
+            → NoneFailed D.view self.old.journal self.new.journal }
+        ensures same { PutsNothing D.view self.old self.new }
+
+        // On a reliable disk a group that is held is read, if there is the memory.
+        ensures works { IsTrue (D.view self.old.journal.disk).reliable
+            → IfErr result (λ error. error ≢ FetchError.Disk) }
+    {
+        let asked = Stretch {
+            group: *group,
+            start,
+            count,
+        };
+        ahead::fetch(
+            alloc,
+            &mut self.journal,
+            &self.index,
+            &mut self.ahead,
+            &asked,
+        )
+    }
+
+    /// Reads what the next `fetch` is likely to ask for, once: the bytes right after those of the last one, if that,
+    /// too, went on where the one before had ended. It does nothing where there is no memory, or where the group has
+    /// not that many bytes yet. After an error each commit answers `Closed`.
+    pub fn read_ahead(&mut self, alloc: Global) -> Result<(), Failed>
+        ensures disk { OnErr result (ClosesByRead D.view self.old.journal self.new.journal) }
+        ensures none_failed { OnOk result (NoneFailed D.view self.old.journal self.new.journal) }
+        ensures same { PutsNothing D.view self.old self.new }
+
+        // On a reliable disk it works.
+        ensures works { IsTrue (D.view self.old.journal.disk).reliable → IsOk result }
+    {
+        ahead::read_ahead(alloc, &mut self.journal, &self.index, &mut self.ahead)
+    }
+
     /// Hands back the disk.
     pub fn into_disk(self) -> D
         ensures disk { result ≡ self.journal.disk }
@@ -196,7 +252,11 @@ fn indexed<D: Disk>(alloc: Global, mut journal: Journal<D>) -> Result<Content<D>
         (λ refused. RefusesIndex (D.view journal.disk) (D.view refused.0) journal.frames refused.1) }
 {
     match index_frames(alloc, &mut journal) {
-        Ok(index) => Ok(Content { journal, index }),
+        Ok(index) => Ok(Content {
+            journal,
+            index,
+            ahead: Ahead::new(),
+        }),
         Err(error) => Err((journal.into_disk(), error)),
     }
 }
@@ -219,7 +279,11 @@ impl Content<MemDisk> {
         ensures journal { ¬ IsNoJournal result.bytes }
         ensures fresh { result ≡ disk_of result.bytes }
     {
-        let Content { journal, index: _ } = self;
+        let Content {
+            journal,
+            index: _,
+            ahead: _,
+        } = self;
         journal.append_stopped(piece.frame(), calls, image)
     }
 }

@@ -1,6 +1,8 @@
 ghost use Rattle.std.specs.Prelude.{◌≡◌};
 ghost use Rattle.oc_content.specs.declared.errors.PutError.TheVariants.{Memory as PutMemory};
+ghost use Rattle.oc_content.specs.declared.errors.FetchError.TheVariants.{Memory as FetchMemory};
 ghost use Rattle.oc_content.specs.declared.errors.ReadError.TheVariants.{Disk as ReadDisk};
+ghost use Rattle.oc_content.specs.Fetching.{of_read};
 
 use oc_base::Memory;
 use oc_io::Failed;
@@ -30,6 +32,17 @@ pub enum ReadError {
     Disk,
 }
 
+/// Why bytes were not fetched.
+#[derive(Clone, Copy, Debug, PartialEq, Eq)]
+pub enum FetchError {
+    /// There is no such group.
+    NoGroup,
+    /// A call on the disk failed.
+    Disk,
+    /// Memory ran out.
+    Memory,
+}
+
 impl From<AllocError> for PutError {
     ghost from_gives = { λ _ error. error ≡ PutMemory };
 
@@ -51,5 +64,24 @@ impl From<Failed> for ReadError {
 
     fn from(_failed: Failed) -> ReadError {
         ReadError::Disk
+    }
+}
+
+impl From<AllocError> for FetchError {
+    ghost from_gives = { λ _ error. error ≡ FetchMemory };
+
+    fn from(_error: AllocError) -> FetchError {
+        FetchError::Memory
+    }
+}
+
+impl From<ReadError> for FetchError {
+    ghost from_gives = { λ error made. made ≡ of_read error };
+
+    fn from(error: ReadError) -> FetchError {
+        match error {
+            ReadError::NoGroup => FetchError::NoGroup,
+            ReadError::Disk => FetchError::Disk,
+        }
     }
 }

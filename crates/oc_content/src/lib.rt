@@ -14,8 +14,12 @@
 //!
 //! The index has, for each group, the frames that hold its bytes. [`Content::spot`] finds a byte by
 //! halving, and `read` makes one read of the disk for each frame that it touches.
+//!
+//! Who copies a group asks for one piece of it after another. [`Content::fetch`] hands such pieces out, each
+//! in a buffer of its own, and [`Content::read_ahead`] reads the next one before it is asked for.
 #![tactic(auto)]
 
+mod ahead;
 mod committing;
 mod content;
 mod entry_lines;
@@ -32,7 +36,7 @@ mod spot;
 mod track;
 
 pub use content::Content;
-pub use errors::{PutError, ReadError};
+pub use errors::{FetchError, PutError, ReadError};
 pub use group_state::past;
 pub use law::{bodies_say_their_entry, groups_are_their_pieces};
 pub use oc_base::Shelf;

@@ -1,7 +1,7 @@
 -- An input made ready is its step.
-use Rattle.std.proofs.Common.{◌≡◌, ◌↔◌, ℕ, zero, suc, ◌+◌, ◌≤◌, ◌<◌, ◌^◌, Bool, true, false, not, IsTrue, List, [], ◌∷◌, length, take, drop, get_or, Option, Some, None, is_some, option_map, unwrap_or, refl, sym, ap, subst, ◌∙◌, arith}
+use Rattle.std.proofs.Common.{◌≡◌, ◌↔◌, ℕ, zero, suc, ◌+◌, ◌-◌, ◌≤◌, ◌<◌, ◌^◌, Bool, true, false, not, IsTrue, List, [], ◌∷◌, length, take, drop, get_or, Option, Some, None, is_some, option_map, unwrap_or, refl, sym, ap, subst, ◌∙◌, arith}
 use Rattle.std.specs.List.{AllByRecursion}
-use Rattle.std.proofs.lemmas.List.{length-take, length-drop, take_all}
+use Rattle.std.proofs.lemmas.List.{take_all}
 use Rattle.oc_base.specs.declared.group.Group.{Group}
 use Rattle.oc_base.specs.declared.named.Lookup.{Lookup}
 use Rattle.oc_base.specs.declared.named.Lookup.TheVariants.{Found, Free}
@@ -93,12 +93,10 @@ put_as view law c c2 of at closes piece can same made = record {
 
 -- Bytes that are read
 
--- as many bytes as were asked for fill the buffer
-pub read_whole : (new whole : List ℕ) (count n start : ℕ) → length new ≡ count → n ≤ count → start + count ≤ length whole → take n new ≡ take count (drop start whole) → new ≡ take count (drop start whole)
-read_whole new whole count n start long within there read =
-    let same = ap length read in
-    let all : length new ≤ n = omega (arith, same, long, within, there, length-take n new, length-take count (drop start whole), length-drop start whole) in
-    sym (take_all n new all) ∙ read
+-- bytes that are all there are those that were asked for
+pub fetched_whole : (new whole : List ℕ) (count start : ℕ) → length new ≡ count → start + count ≤ length whole → take (length whole - start) new ≡ take count (drop start whole) → new ≡ take count (drop start whole)
+fetched_whole new whole count start long within read =
+    sym (take_all (length whole - start) new (omega (arith, long, within))) ∙ read
 
 -- the length of a line is that of its group's bytes
 pub held_there : (g : List ℕ) (ks : List Group) (l : Shelf) → line_of g (shelf ks) ≡ Some l → l.held ≡ length (bytes_of g ks)

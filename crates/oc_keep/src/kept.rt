@@ -1,4 +1,4 @@
-ghost use Rattle.std.specs.Prelude.{◌≡◌, ◌≢◌, ◌↔◌, ◌&&◌, if◌then◌else◌, ℕ, ◌+◌, ◌-◌, ◌<◌, ◌≤◌, ◌^◌, false, true, length, take, drop, None, IsTrue, IsOk, IsErrOf, OnOk, OnErr, IfOk, IfErr};
+ghost use Rattle.std.specs.Prelude.{◌≡◌, ◌≢◌, ◌↔◌, ◌⊎◌, ◌&&◌, if◌then◌else◌, ℕ, ◌+◌, ◌-◌, ◌<◌, ◌≤◌, ◌^◌, false, true, length, take, drop, None, IsTrue, IsOk, IsErrOf, OnOk, OnErr, IfOk, IfErr};
 ghost use Rattle.oc_base.specs.Groups.{bytes_of, shelf};
 ghost use Rattle.oc_base.specs.Lawful.{IsNode};
 ghost use Rattle.oc_base.specs.Shelves.{held_of};
@@ -27,7 +27,7 @@ use crate::turning::{replace, turning_failed};
 use crate::writing::put;
 use oc_base::{GroupName, Memory, NodeId, Shelf};
 use oc_content::{Content, ReadError};
-use oc_io::{Disk, MemDisk};
+use oc_io::{Disk, Failed, MemDisk};
 use oc_laws_step::snapshots_stand_for_all;
 use oc_model::Input;
 use oc_node::{Node, Outcome};
@@ -284,6 +284,32 @@ impl<D: Disk> Kept<D> {
             Err(ReadError::Disk) => {
                 self.closed = true;
                 Err(KeptRead::Disk)
+            }
+        }
+    }
+
+    /// Reads what a child is likely to ask for next, so that it is handed out without a read. After an error the node
+    /// is closed.
+    pub fn read_ahead(&mut self) -> Result<(), Failed>
+        // Nothing changes, and every crash leaves the same node.
+        ensures same { StaysTheSame D.view self.old self.new }
+
+        // It fails where the node was closed, and where a disk fails now.
+        ensures open { OnOk result ((self.old.closed ≡ false) × (self.new.closed ≡ false)) }
+        ensures failed { OnErr result
+            ((IsTrue self.old.closed × (self.new ≡ self.old)) ⊎ Closes D.view self.old self.new) }
+
+        // On reliable disks an open node does it.
+        ensures works { self.old.closed ≡ false → AreReliable D.view (disks_of self.old) → IsOk result }
+    {
+        if self.closed {
+            return Err(Failed);
+        }
+        match self.content.read_ahead(self.alloc) {
+            Ok(()) => Ok(()),
+            Err(failed) => {
+                self.closed = true;
+                Err(failed)
             }
         }
     }

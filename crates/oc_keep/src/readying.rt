@@ -20,7 +20,7 @@ use crate::law::prepare_refuses_nothing_that_is_kept;
 use crate::ready::Ready;
 use crate::writing::writing;
 use oc_base::Memory;
-use oc_content::{Content, ReadError};
+use oc_content::{Content, FetchError};
 use oc_io::Disk;
 use oc_laws_step::folding_is_stepping;
 use oc_model::Input;
@@ -79,7 +79,7 @@ pub fn making_failed(made: &Result<Ready, ReadyError>) -> bool
     matches!(made, Err(ReadyError::Disk))
 }
 
-/// Reads the bytes that a plan wants, and puts them into its chunk.
+/// Fetches the bytes that a plan wants, and puts them into its chunk.
 fn fetch<D: Disk>(
     alloc: Global,
     content: &mut Content<D>,
@@ -100,14 +100,14 @@ fn fetch<D: Disk>(
     let Some(want) = plan.wants() else {
         return Ok(());
     };
-    let mut bytes = vec![in alloc; 0; want.count as usize]?;
-    match content.read(&want.group, want.start, &mut bytes) {
-        Ok(_) => {
+    match content.fetch(alloc, &want.group, want.start, want.count as usize) {
+        Ok(bytes) => {
             plan.fill(bytes);
             Ok(())
         }
-        Err(ReadError::Disk) => Err(ReadyError::Disk),
+        Err(FetchError::Disk) => Err(ReadyError::Disk),
+        Err(FetchError::Memory) => Err(ReadyError::Memory),
         // What is wanted is of a group that is held.
-        Err(ReadError::NoGroup) => unreachable!(),
+        Err(FetchError::NoGroup) => unreachable!(),
     }
 }

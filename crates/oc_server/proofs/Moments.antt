@@ -1,5 +1,5 @@
 -- Moments after moments.
-use Rattle.std.proofs.Common.{◌≡◌, ◌∙◌, ℕ, zero, suc, Option, None, Some, List, [], ◌∷◌, ◌++◌, refl, sym, ap, subst}
+use Rattle.std.proofs.Common.{◌≡◌, ◌∙◌, ℕ, zero, suc, Option, None, Some, List, [], ◌∷◌, ◌++◌, refl, subst}
 use Rattle.oc_io.specs.DiskView.{DiskView}
 use Rattle.oc_keep.specs.Files.{Disks, AllGoOn, AlwaysLeaves, SameDurable}
 use Rattle.oc_keep.specs.Trials.{after_inputs}

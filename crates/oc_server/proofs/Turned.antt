@@ -1,5 +1,5 @@
 -- The files are turned over, or not.
-use Rattle.std.proofs.Common.{◌≡◌, IsTrue, false, true, Bool, refl, ap, subst, ◌∙◌, arith}
+use Rattle.std.proofs.Common.{◌≡◌, ◌⊎◌, inl, inr, IsTrue, false, true, Bool, refl, ap, subst, ◌∙◌, arith}
 use Rattle.oc_content.specs.ContentFile.{groups_in}
 use Rattle.oc_content.specs.ContentView.{ContentView}
 use Rattle.oc_keep.specs.Files.{AllGoOn, SameDurable, Survives}
@@ -87,6 +87,12 @@ module _ {D : Type 0} (view : D → DiskView) (law : Law view) (old new : KeptVi
     moments = λ honest. looked_once same.goes_on (same.any_moment is_open honest);
     cause = closes.rose;
   }
+
+  -- the same of a call that failed, if not since the node was closed before
+  pub failed_stops : old.closed ≡ false → StaysTheSame view old new → (IsTrue old.closed × (new ≡ old)) ⊎ Closes view old new → LookStops view ends.Disk old new
+  failed_stops is_open same (inl (closed, none)) =
+      let yes : old.closed ≡ true = closed in let no = is_open in absurd cc
+  failed_stops is_open same (inr closes) = read_stops is_open same closes
 
   -- the same of an input that was not made ready
   pub ready_stops : (error : ReadyError) (i : Input) → old.closed ≡ false → StaysTheSame view old new → (error ≡ readies.Closed → IsTrue old.closed) → FailsToReady view error i old new

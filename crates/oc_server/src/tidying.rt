@@ -1,4 +1,4 @@
-//! The files of a node, turned over.
+//! What a turn does before anything else: the files of a node are turned over, and read ahead.
 
 ghost use Rattle.std.specs.Prelude.{◌≡◌, ◌+◌, IfErr, OnOk, [], false};
 ghost use Rattle.oc_keep.specs.KeptView.{IsRipe};
@@ -7,12 +7,13 @@ ghost use Rattle.oc_server.specs.Scenes.{Breaks, Did, IsServing, Idle};
 
 use crate::ends::TurnEnd;
 use crate::server::Server;
-use oc_io::{Disk, Sink};
+use oc_io::{Disk, Failed, Sink};
 use oc_keep::{Kept, TidyError};
 use oc_link::Link;
 
 impl<D: Disk, L: Link, K: Sink> Server<D, L, K> {
-    /// Turns the control files over, where they are ripe.
+    /// Turns the control files over, where they are ripe, and reads what a child is likely to ask for next: by now the
+    /// reply of the turn before is on its way.
     pub fn tidies(&mut self) -> Result<(), TurnEnd>
         requires { IsServing self.old }
         ensures did { OnOk result (Did D.view K.takes K.faults L.story L.counts [] self.old self.new) }
@@ -25,8 +26,19 @@ impl<D: Disk, L: Link, K: Sink> Server<D, L, K> {
     }
 }
 
-/// Turns the control files over, where they are ripe.
+/// Turns the control files over, where they are ripe, and reads ahead.
 fn tidy<D: Disk>(kept: &mut Kept<D>) -> Result<(), TurnEnd>
+    requires open { kept.old.closed ≡ false }
+    ensures looks { OnOk result (LooksOnly D.view kept.old kept.new) }
+    ensures stops { IfErr result (λ end. LookStops D.view end kept.old kept.new) }
+    ensures ripe { OnOk result (IsRipe kept.old → kept.new.store.generation ≡ kept.old.store.generation + 1) }
+{
+    turn_over(kept)?;
+    read_ahead(kept)
+}
+
+/// Turns the control files over, where they are ripe.
+fn turn_over<D: Disk>(kept: &mut Kept<D>) -> Result<(), TurnEnd>
     requires open { kept.old.closed ≡ false }
     ensures looks { OnOk result (LooksOnly D.view kept.old kept.new) }
     ensures stops { IfErr result (λ end. LookStops D.view end kept.old kept.new) }
@@ -38,6 +50,19 @@ fn tidy<D: Disk>(kept: &mut Kept<D>) -> Result<(), TurnEnd>
             kept.recovers();
             Err(end_of(error))
         }
+    }
+}
+
+/// Reads what a child is likely to ask for next.
+fn read_ahead<D: Disk>(kept: &mut Kept<D>) -> Result<(), TurnEnd>
+    requires open { kept.old.closed ≡ false }
+    ensures looks { OnOk result (LooksOnly D.view kept.old kept.new) }
+    ensures stops { IfErr result (λ end. LookStops D.view end kept.old kept.new) }
+    ensures generation { kept.new.store.generation ≡ kept.old.store.generation }
+{
+    match kept.read_ahead() {
+        Ok(()) => Ok(()),
+        Err(Failed) => Err(TurnEnd::Disk),
     }
 }
 

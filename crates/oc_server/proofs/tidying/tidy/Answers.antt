@@ -1,14 +1,11 @@
-use Rattle.std.proofs.Common.{Err, ap}
-use Rattle.oc_keep.specs.declared.errors.TidyError.{TidyError}
-use Rattle.oc_server.proofs.Turned.{tidied, tidy_stops}
+use Rattle.oc_server.proofs.Looking.{looks_then, stops_behind}
+use Rattle.oc_server.proofs.Results.{done_then, err_then}
 use Rattle.oc_server.proofs.tidying.tidy.Goals as goal
 
-pub returns-in-Ok-clause-looks : goal.returns-in-Ok-clause-looks
-returns-in-Ok-clause-looks g c = tidied g.D.Disk.view c.args.kept.now c.tidy.new.self c.in-Ok.field-0 c.requires.open c.tidy.ensures.keeps c.in-Ok.ensures.turned
+pub returns-clause-looks : goal.returns-clause-looks
+returns-clause-looks g c =
+    done_then c.read_ahead.result (λ looks. looks_then g.D.Disk.view c.args.kept.now c.turn_over.new.kept c.read_ahead.new.kept c.in_ok-turn_over.ensures.looks looks) c.read_ahead.ensures.looks
 
-pub returns-in-Err-clause-stops : goal.returns-in-Err-clause-stops
-returns-in-Err-clause-stops g c =
-    let t = c.in-Err.ensures in
-    rw c.end_of.ensures
-    (tidy_stops g.D.Disk.view (λ x h. g.met.D.Disk.consistent x h) c.args.kept.now c.tidy.new.self c.in-Err.error c.requires.open c.tidy.ensures.keeps
-    (λ e. t.closed.0 (ap (λ (x : TidyError). Err x) e)) t.refused c.recovers.ensures.survives)
+pub returns-clause-stops : goal.returns-clause-stops
+returns-clause-stops g c =
+    err_then c.read_ahead.result (λ end stops. stops_behind g.D.Disk.view end c.args.kept.now c.turn_over.new.kept c.read_ahead.new.kept c.in_ok-turn_over.ensures.looks stops) c.read_ahead.ensures.stops

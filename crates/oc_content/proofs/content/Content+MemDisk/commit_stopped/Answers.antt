@@ -18,8 +18,8 @@ returns-clause-content c =
     let left = frames_of c.append_stopped.result.bytes in
     let lines : x.shelves.items ≡ c.args.self.shelves = ap (λ (v : ContentView MemDiskView). v.shelves) c.self.view_is in
     let fit = subst (λ (l : List Shelf). fits (line_of e.group l) (length l) e.start (length e.bytes) e.seals ≡ true) (sym lines) (c.requires.prepared.fits c.requires.adds) in
-    let old = good_frames view_of j x c.self.invariant refl ∙ ap Some (sym (groups_are view_of j x c.self.invariant refl)) in
-    let new = content_next view_of j x p.body e c.self.invariant refl c.frame.ensures.says fit in
+    let old = good_frames view_of j x c.self.invariant.indexed refl ∙ ap Some (sym (groups_are view_of j x c.self.invariant.indexed refl)) in
+    let new = content_next view_of j x p.body e c.self.invariant.indexed refl c.frame.ensures.says fit in
     let is = c.append_stopped.ensures.frames ∙ ap (λ (b : List ℕ). frames_after c.args.calls c.args.image j.frames b) c.frame.ensures.body in
     subst (λ (v : ContentView MemDiskView). content_of left ≡ Some (groups_after c.args.calls c.args.image (groups_in v.journal.frames) e)) c.self.view_is
     (content_stopped c.args.calls c.args.image j.frames p.body (groups_in j.frames) e left is old new)

@@ -1,16 +1,11 @@
-use crate::extent::{HeadProgress, Outline, response_extent};
-use crate::limits::{
-    BEGIN_MILLIS, CONNECT_MILLIS, DIAL_MILLIS, DIAL_PAUSE_MILLIS, MOST_MESSAGE, MOST_READS,
-};
-use crate::socket::{Moved, read_some};
+use crate::limits::{BEGIN_MILLIS, CONNECT_MILLIS, DIAL_MILLIS, DIAL_PAUSE_MILLIS, MOST_READS};
+use crate::reply::Reply;
+use crate::socket::{Moved, write_some};
 use crate::times::Deadline;
 use crate::tools::Tools;
-use crate::unsent::Unsent;
 use mio::net::TcpStream;
-use oc_base::{MAX_BODY_BYTES, MAX_HEAD_BYTES};
 use oc_link::{Coming, DialId};
 use std::io::ErrorKind;
-use std::mem;
 use std::net::SocketAddr;
 
 /// How far a dial is.
@@ -39,9 +34,12 @@ pub(crate) struct Dial {
     /// Where it may be connected to, and how many of these were tried.
     addresses: Vec<SocketAddr>,
     tried: usize,
-    unsent: Unsent,
-    bytes: Vec<u8>,
-    outline: Option<Outline>,
+    /// Whether its connection was prepared before it began.
+    is_prepared: bool,
+    /// What it asks, and how many bytes of that went out.
+    request: Vec<u8>,
+    sent: usize,
+    reply: Reply,
     /// How its reply ends, once the stage is `Over`.
     coming: Coming,
     begun: u64,
@@ -59,8 +57,8 @@ impl Dial {
         bytes: &[u8],
         now: u64,
     ) -> Dial {
-        let mut unsent = Unsent::new(tools.alloc);
-        let is_kept = unsent.put(tools, bytes);
+        let mut request = Vec::new(tools.alloc);
+        let is_kept = request.extend_from_slice(bytes).is_ok();
         Dial {
             id,
             stream: None,
@@ -71,9 +69,10 @@ impl Dial {
             },
             addresses,
             tried: 0,
-            unsent,
-            bytes: Vec::new(tools.alloc),
-            outline: None,
+            is_prepared: false,
+            request,
+            sent: 0,
+            reply: Reply::new(tools.alloc),
             coming: Coming::Failed,
             begun: now,
             deadline: Deadline::after(now, CONNECT_MILLIS),
@@ -82,21 +81,39 @@ impl Dial {
         }
     }
 
-    /// This is the stream on which it is being connected, for as long as one address may take.
-    pub(crate) fn begin(&mut self, stream: TcpStream, now: u64) {
+    /// This is the stream on which it is being connected, for as long as one address may take; and whether that was
+    /// prepared before.
+    pub(crate) fn begin(&mut self, stream: TcpStream, is_prepared: bool, now: u64) {
         self.stream = Some(stream);
         self.stage = DialStage::Connecting;
+        self.is_prepared = is_prepared;
+        self.sent = 0;
         let end = self.left(now, BEGIN_MILLIS).min(CONNECT_MILLIS);
         self.deadline = Deadline::after(now, end);
         self.is_readable = false;
         self.is_writable = false;
     }
 
-    /// The next address to be tried.
+    /// The address that is to be tried next.
+    pub(crate) fn next(&self) -> Option<SocketAddr> {
+        self.addresses.get(self.tried).copied()
+    }
+
+    /// The same, which counts as tried from now on.
     pub(crate) fn next_address(&mut self) -> Option<SocketAddr> {
-        let address = self.addresses.get(self.tried).copied()?;
+        let address = self.next()?;
         self.tried = self.tried.saturating_add(1);
         Some(address)
+    }
+
+    /// The address that was tried last.
+    pub(crate) fn address(&self) -> Option<SocketAddr> {
+        self.addresses.get(self.tried.checked_sub(1)?).copied()
+    }
+
+    /// How many bytes of its reply have come.
+    pub(crate) fn heard(&self) -> usize {
+        self.reply.len()
     }
 
     /// It failed.
@@ -104,23 +121,36 @@ impl Dial {
         self.end(Coming::Failed);
     }
 
-    /// It is over, and its reply ends so.
+    /// It is over, and its reply ends so, unless its connection may have ended before anything was asked on it.
     fn end(&mut self, coming: Coming) {
-        self.stage = DialStage::Over;
-        self.coming = coming;
-        self.stream = None;
+        if self.is_prepared && self.heard() == 0 {
+            self.refuse();
+        } else {
+            self.stage = DialStage::Over;
+            self.coming = coming;
+            self.stream = None;
+        }
     }
 
-    /// Does what can be done on it now.
-    pub(crate) fn advance(&mut self, tools: &mut Tools, now: u64) {
-        let Some(mut stream) = self.stream.take() else {
-            return;
-        };
+    /// The connection can't be used: another one is to be made, to the next address; to the same one where this connection
+    /// was prepared before.
+    fn refuse(&mut self) {
+        self.stage = DialStage::Refused;
+        self.stream = None;
+        if self.is_prepared {
+            self.is_prepared = false;
+            self.tried = self.tried.saturating_sub(1);
+        }
+    }
+
+    /// Does what can be done on it now. It answers with the stream, where that is not needed any more.
+    pub(crate) fn advance(&mut self, tools: &mut Tools, now: u64) -> Option<TcpStream> {
+        let mut stream = self.stream.take()?;
         if self.stage == DialStage::Connecting {
             self.connect(&mut stream, now);
         }
         if self.stage == DialStage::Asking {
-            self.ask(&mut stream, tools, now);
+            self.ask(&mut stream, now);
         }
         if matches!(
             self.stage,
@@ -128,9 +158,11 @@ impl Dial {
         ) {
             self.hear(&mut stream, tools, now);
         }
-        if !matches!(self.stage, DialStage::Refused | DialStage::Over) {
-            self.stream = Some(stream);
+        if matches!(self.stage, DialStage::Refused | DialStage::Over) {
+            return Some(stream);
         }
+        self.stream = Some(stream);
+        None
     }
 
     /// Looks whether it is connected. The system tells that a socket can be written where it is, and where it
@@ -140,13 +172,13 @@ impl Dial {
             return;
         }
         if !matches!(stream.take_error(), Ok(None)) {
-            self.stage = DialStage::Refused;
+            self.refuse();
             return;
         }
         match stream.peer_addr() {
             Ok(peer) => {
                 if is_own(stream, peer) {
-                    self.stage = DialStage::Refused;
+                    self.refuse();
                     return;
                 }
                 // Without it a request that is written in two pieces may wait for an acknowledgement.
@@ -156,7 +188,7 @@ impl Dial {
                 self.deadline = Deadline::after(now, end).with_pause(now, DIAL_PAUSE_MILLIS);
             }
             Err(error) if error.kind() == ErrorKind::NotConnected => self.is_writable = false,
-            Err(_) => self.stage = DialStage::Refused,
+            Err(_) => self.refuse(),
         }
     }
 
@@ -167,23 +199,25 @@ impl Dial {
 
     /// Sends its request. Where that fails, a reply may have come before: a peer that refuses a request need not
     /// read all of it.
-    fn ask(&mut self, stream: &mut TcpStream, tools: &mut Tools, now: u64) {
-        if !self.is_writable {
-            return;
-        }
-        let before = self.unsent.len();
-        match self.unsent.send(stream, tools) {
-            Moved::Nothing => self.is_writable = false,
-            Moved::Failed | Moved::End => {
-                self.unsent.clear(tools);
-                self.is_readable = true;
+    fn ask(&mut self, stream: &mut TcpStream, now: u64) {
+        for _ in 0..self.request.len() {
+            let rest = self.request.get(self.sent..).unwrap_or(&[]);
+            if rest.is_empty() || !self.is_writable {
+                break;
             }
-            Moved::Bytes(_) => {}
+            match write_some(stream, rest) {
+                Moved::Bytes(count) => {
+                    self.sent = self.sent.saturating_add(count);
+                    self.deadline.progress(now);
+                }
+                Moved::Nothing => self.is_writable = false,
+                Moved::Failed | Moved::End => {
+                    self.sent = self.request.len();
+                    self.is_readable = true;
+                }
+            }
         }
-        if self.unsent.len() < before {
-            self.deadline.progress(now);
-        }
-        if self.unsent.is_empty() {
+        if self.sent >= self.request.len() {
             self.stage = DialStage::Waiting;
             self.deadline = Deadline::after(now, self.left(now, BEGIN_MILLIS));
         }
@@ -192,17 +226,15 @@ impl Dial {
     /// Reads what has come of its reply.
     fn hear(&mut self, stream: &mut TcpStream, tools: &mut Tools, now: u64) {
         for _ in 0..MOST_READS {
-            if !self.is_readable || self.stage == DialStage::Over {
+            if !self.is_readable || matches!(self.stage, DialStage::Refused | DialStage::Over) {
                 return;
             }
-            match read_some(stream, &mut tools.piece) {
-                Moved::Bytes(count) => {
+            match self.reply.read(stream, tools) {
+                Moved::Bytes(_) => {
                     self.note_progress(now);
-                    if !self.keep(tools, count) {
-                        self.end(Coming::Failed);
-                    } else if self.is_whole() {
+                    if self.reply.is_whole() {
                         self.end(Coming::Ended);
-                    } else if self.is_too_long() {
+                    } else if self.reply.is_too_long() {
                         self.end(Coming::Open);
                     }
                 }
@@ -223,59 +255,6 @@ impl Dial {
         self.deadline.progress(now);
     }
 
-    /// Keeps that many bytes of the piece, and looks at them; false where there is no memory for them.
-    fn keep(&mut self, tools: &mut Tools, count: usize) -> bool {
-        let piece = tools.piece.get(..count).unwrap_or(&[]);
-        if self.bytes.extend_from_slice(piece).is_err() {
-            return false;
-        }
-        if self.outline.is_none() {
-            let end = self.bytes.len().min(MAX_HEAD_BYTES);
-            let head = self.bytes.get(..end).unwrap_or(&[]);
-            if let HeadProgress::Begun(outline) = response_extent(head, &mut tools.spans) {
-                self.outline = Some(outline);
-                return self.make_room();
-            }
-        }
-        true
-    }
-
-    /// Makes room for the whole of its reply, so that what came is not copied again as the rest comes; false where there
-    /// is no memory for it.
-    fn make_room(&mut self) -> bool {
-        let Some(outline) = &self.outline else {
-            return true;
-        };
-        let body = outline.body.unwrap_or(0).min(MAX_BODY_BYTES) as usize;
-        let rest = body
-            .saturating_add(outline.head)
-            .saturating_sub(self.bytes.len());
-        self.bytes.reserve(rest).is_ok()
-    }
-
-    /// Whether its reply has come as far as its Content-Length says.
-    fn is_whole(&self) -> bool {
-        match &self.outline {
-            Some(outline) => match outline.body {
-                Some(body) => {
-                    self.bytes.len() as u64 >= body.saturating_add(outline.head as u64)
-                }
-                None => false,
-            },
-            None => false,
-        }
-    }
-
-    /// Whether there is more of it, or is to be, than a reply may have.
-    fn is_too_long(&self) -> bool {
-        match &self.outline {
-            Some(outline) => {
-                outline.body.unwrap_or(0) > MAX_BODY_BYTES || self.bytes.len() > MOST_MESSAGE
-            }
-            None => self.bytes.len() >= MAX_HEAD_BYTES,
-        }
-    }
-
     /// Whether its time has run out.
     pub(crate) fn is_due(&self, now: u64) -> bool {
         self.stage != DialStage::Over && self.deadline.is_over(now)
@@ -289,8 +268,7 @@ impl Dial {
         }
         let is_apart = matches!(self.stage, DialStage::Connecting | DialStage::Refused);
         if is_apart && self.left(now, BEGIN_MILLIS) > 0 {
-            self.stage = DialStage::Refused;
-            self.stream = None;
+            self.refuse();
         } else {
             self.end(Coming::Failed);
         }
@@ -303,8 +281,7 @@ impl Dial {
 
     /// What came of its reply, and how that ends.
     pub(crate) fn outcome(&mut self, tools: &Tools) -> (Coming, Vec<u8>) {
-        let bytes = mem::replace(&mut self.bytes, Vec::new(tools.alloc));
-        (self.coming, bytes)
+        (self.coming, self.reply.take(tools))
     }
 
     /// The stream, to be registered.

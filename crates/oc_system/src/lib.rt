@@ -1,7 +1,7 @@
 //! The edge: the real things that a program hands to the parts that are proved over any source, disk and link. They
-//! are files as disks ([`FileDisk`]), a program's input ([`Input`]), the sockets by which a client dials
-//! ([`SocketDialler`]), and sockets as the link of a running node ([`SocketLink`]). All numbers, times and bounds
-//! are in `limits`.
+//! are files as disks ([`FileDisk`]), a program's input ([`Input`]), the standard streams that were closed
+//! ([`ClosedStreams`]), the sockets by which a client dials ([`SocketDialler`]), and sockets as the link of a running node
+//! ([`SocketLink`]). All numbers, times and bounds are in `limits`.
 //!
 //! The edge is trusted: each thing tells no more than the system does, of a file its size, of sockets counts and
 //! lengths alone, and no story. Each counts its failures, makes interrupted calls again, and keeps why its last call
@@ -9,7 +9,8 @@
 //!
 //! No socket of a node blocks: one thread and one wait serve the connections that come in, and the dials.
 //! [`SocketLink`] hands out one thing that happened, by turns over all connections and dials that have one; whatever
-//! it is told to send goes out as far as a socket takes it, and the rest as the socket has room. That the link is
+//! it is told to send goes out as far as a socket takes it, and the rest as the socket has room. A node that copies much
+//! has the connection for its next request made while it waits for a reply (`standby`). That the link is
 //! safe, that each of its calls ends, and that only `next` waits, and no longer than it may, is proved. Where a
 //! message ends is a pure function of its bytes, with an exact contract (`specs/Extent.antt`), and all that the link
 //! knows of HTTP.
@@ -29,10 +30,12 @@ mod link;
 mod names;
 mod places;
 mod poller;
+mod reply;
 mod send_buffer;
 mod socket;
 mod socket_dialler;
 mod sockets;
+mod standby;
 mod timed_stream;
 mod times;
 mod tools;

@@ -11,6 +11,7 @@ use crate::limits::{
 use crate::places::ConnectionPlaces;
 use crate::poller::Poller;
 use crate::send_buffer::shorten_send_buffers;
+use crate::standby::Standby;
 use crate::times::Watch;
 use crate::tools::Tools;
 use crate::turn_queue::TurnQueue;
@@ -56,6 +57,7 @@ pub(crate) struct Sockets {
     spare: Option<Registry>,
     places: ConnectionPlaces,
     dials: Vec<Option<Dial>>,
+    standby: Standby,
     turns: TurnQueue,
     /// The places of those that wait for one of the places for large requests, and how many of these are taken.
     held: TurnQueue,
@@ -94,6 +96,7 @@ impl Sockets {
             spare: Some(spare),
             places: ConnectionPlaces::new(alloc)?,
             dials,
+            standby: Standby::new(),
             turns: TurnQueue::new(alloc, PLACES + DIALS)?,
             held: TurnQueue::new(alloc, PLACES)?,
             large: 0,
@@ -125,6 +128,9 @@ impl Sockets {
             if now >= until && (self.turns.is_empty() || looked >= PLACES) {
                 break;
             }
+        }
+        if !self.dials.iter().any(|dial| dial.is_some()) {
+            self.standby.clear();
         }
         Ok(self.with_nothing(LinkEvent::Quiet))
     }

@@ -117,18 +117,17 @@ impl Ahead {
         }
     }
 
-    /// What is worth a read, once all of it is held; it is told once.
+    /// What is worth a read, if all of it is held already. It is told once: who follows a group that still grows asks
+    /// for whatever there is by then.
     fn wanted(&mut self, index: &Index) -> Option<Stretch>
         requires { AreLinesAscending index.now.shelves.items }
         ensures there { IfSome result (λ wanted. AreHeld index.now.shelves.items wanted) }
         ensures chunk { self.new.chunk ≡ self.old.chunk }
     {
         let next = self.next?;
-        if !self.likely || self.has(&next) || !next.is_held(index) {
-            return None;
-        }
+        let is_worth_it = self.likely && !self.has(&next) && next.is_held(index);
         self.likely = false;
-        Some(next)
+        if is_worth_it { Some(next) } else { None }
     }
 }
 

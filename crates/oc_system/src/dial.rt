@@ -1,8 +1,9 @@
 use crate::limits::{BEGIN_MILLIS, CONNECT_MILLIS, DIAL_MILLIS, DIAL_PAUSE_MILLIS, MOST_READS};
 use crate::reply::Reply;
-use crate::socket::{Moved, write_some};
+use crate::socket::Moved;
 use crate::times::Deadline;
 use crate::tools::Tools;
+use crate::unsent::Unsent;
 use mio::net::TcpStream;
 use oc_link::{Coming, DialId};
 use std::io::ErrorKind;
@@ -34,11 +35,7 @@ pub(crate) struct Dial {
     /// Where it may be connected to, and how many of these were tried.
     addresses: Vec<SocketAddr>,
     tried: usize,
-    /// Whether its connection was prepared before it began.
-    is_prepared: bool,
-    /// What it asks, and how many bytes of that went out.
-    request: Vec<u8>,
-    sent: usize,
+    unsent: Unsent,
     reply: Reply,
     /// How its reply ends, once the stage is `Over`.
     coming: Coming,
@@ -57,8 +54,8 @@ impl Dial {
         bytes: &[u8],
         now: u64,
     ) -> Dial {
-        let mut request = Vec::new(tools.alloc);
-        let is_kept = request.extend_from_slice(bytes).is_ok();
+        let mut unsent = Unsent::new(tools.alloc);
+        let is_kept = unsent.put(tools, bytes);
         Dial {
             id,
             stream: None,
@@ -69,9 +66,7 @@ impl Dial {
             },
             addresses,
             tried: 0,
-            is_prepared: false,
-            request,
-            sent: 0,
+            unsent,
             reply: Reply::new(tools.alloc),
             coming: Coming::Failed,
             begun: now,
@@ -81,39 +76,21 @@ impl Dial {
         }
     }
 
-    /// This is the stream on which it is being connected, for as long as one address may take; and whether that was
-    /// prepared before.
-    pub(crate) fn begin(&mut self, stream: TcpStream, is_prepared: bool, now: u64) {
+    /// This is the stream on which it is being connected, for as long as one address may take.
+    pub(crate) fn begin(&mut self, stream: TcpStream, now: u64) {
         self.stream = Some(stream);
         self.stage = DialStage::Connecting;
-        self.is_prepared = is_prepared;
-        self.sent = 0;
         let end = self.left(now, BEGIN_MILLIS).min(CONNECT_MILLIS);
         self.deadline = Deadline::after(now, end);
         self.is_readable = false;
         self.is_writable = false;
     }
 
-    /// The address that is to be tried next.
-    pub(crate) fn next(&self) -> Option<SocketAddr> {
-        self.addresses.get(self.tried).copied()
-    }
-
-    /// The same, which counts as tried from now on.
+    /// The next address to be tried.
     pub(crate) fn next_address(&mut self) -> Option<SocketAddr> {
-        let address = self.next()?;
+        let address = self.addresses.get(self.tried).copied()?;
         self.tried = self.tried.saturating_add(1);
         Some(address)
-    }
-
-    /// The address that was tried last.
-    pub(crate) fn address(&self) -> Option<SocketAddr> {
-        self.addresses.get(self.tried.checked_sub(1)?).copied()
-    }
-
-    /// How many bytes of its reply have come.
-    pub(crate) fn heard(&self) -> usize {
-        self.reply.len()
     }
 
     /// It failed.
@@ -121,36 +98,23 @@ impl Dial {
         self.end(Coming::Failed);
     }
 
-    /// It is over, and its reply ends so, unless its connection may have ended before anything was asked on it.
+    /// It is over, and its reply ends so.
     fn end(&mut self, coming: Coming) {
-        if self.is_prepared && self.heard() == 0 {
-            self.refuse();
-        } else {
-            self.stage = DialStage::Over;
-            self.coming = coming;
-            self.stream = None;
-        }
-    }
-
-    /// The connection can't be used: another one is to be made, to the next address; to the same one where this connection
-    /// was prepared before.
-    fn refuse(&mut self) {
-        self.stage = DialStage::Refused;
+        self.stage = DialStage::Over;
+        self.coming = coming;
         self.stream = None;
-        if self.is_prepared {
-            self.is_prepared = false;
-            self.tried = self.tried.saturating_sub(1);
-        }
     }
 
-    /// Does what can be done on it now. It answers with the stream, where that is not needed any more.
-    pub(crate) fn advance(&mut self, tools: &mut Tools, now: u64) -> Option<TcpStream> {
-        let mut stream = self.stream.take()?;
+    /// Does what can be done on it now.
+    pub(crate) fn advance(&mut self, tools: &mut Tools, now: u64) {
+        let Some(mut stream) = self.stream.take() else {
+            return;
+        };
         if self.stage == DialStage::Connecting {
             self.connect(&mut stream, now);
         }
         if self.stage == DialStage::Asking {
-            self.ask(&mut stream, now);
+            self.ask(&mut stream, tools, now);
         }
         if matches!(
             self.stage,
@@ -158,11 +122,9 @@ impl Dial {
         ) {
             self.hear(&mut stream, tools, now);
         }
-        if matches!(self.stage, DialStage::Refused | DialStage::Over) {
-            return Some(stream);
+        if !matches!(self.stage, DialStage::Refused | DialStage::Over) {
+            self.stream = Some(stream);
         }
-        self.stream = Some(stream);
-        None
     }
 
     /// Looks whether it is connected. The system tells that a socket can be written where it is, and where it
@@ -172,13 +134,13 @@ impl Dial {
             return;
         }
         if !matches!(stream.take_error(), Ok(None)) {
-            self.refuse();
+            self.stage = DialStage::Refused;
             return;
         }
         match stream.peer_addr() {
             Ok(peer) => {
                 if is_own(stream, peer) {
-                    self.refuse();
+                    self.stage = DialStage::Refused;
                     return;
                 }
                 // Without it a request that is written in two pieces may wait for an acknowledgement.
@@ -188,7 +150,7 @@ impl Dial {
                 self.deadline = Deadline::after(now, end).with_pause(now, DIAL_PAUSE_MILLIS);
             }
             Err(error) if error.kind() == ErrorKind::NotConnected => self.is_writable = false,
-            Err(_) => self.refuse(),
+            Err(_) => self.stage = DialStage::Refused,
         }
     }
 
@@ -199,25 +161,23 @@ impl Dial {
 
     /// Sends its request. Where that fails, a reply may have come before: a peer that refuses a request need not
     /// read all of it.
-    fn ask(&mut self, stream: &mut TcpStream, now: u64) {
-        for _ in 0..self.request.len() {
-            let rest = self.request.get(self.sent..).unwrap_or(&[]);
-            if rest.is_empty() || !self.is_writable {
-                break;
-            }
-            match write_some(stream, rest) {
-                Moved::Bytes(count) => {
-                    self.sent = self.sent.saturating_add(count);
-                    self.deadline.progress(now);
-                }
-                Moved::Nothing => self.is_writable = false,
-                Moved::Failed | Moved::End => {
-                    self.sent = self.request.len();
-                    self.is_readable = true;
-                }
-            }
+    fn ask(&mut self, stream: &mut TcpStream, tools: &mut Tools, now: u64) {
+        if !self.is_writable {
+            return;
         }
-        if self.sent >= self.request.len() {
+        let before = self.unsent.len();
+        match self.unsent.send(stream, tools) {
+            Moved::Nothing => self.is_writable = false,
+            Moved::Failed | Moved::End => {
+                self.unsent.clear(tools);
+                self.is_readable = true;
+            }
+            Moved::Bytes(_) => {}
+        }
+        if self.unsent.len() < before {
+            self.deadline.progress(now);
+        }
+        if self.unsent.is_empty() {
             self.stage = DialStage::Waiting;
             self.deadline = Deadline::after(now, self.left(now, BEGIN_MILLIS));
         }
@@ -226,7 +186,7 @@ impl Dial {
     /// Reads what has come of its reply.
     fn hear(&mut self, stream: &mut TcpStream, tools: &mut Tools, now: u64) {
         for _ in 0..MOST_READS {
-            if !self.is_readable || matches!(self.stage, DialStage::Refused | DialStage::Over) {
+            if !self.is_readable || self.stage == DialStage::Over {
                 return;
             }
             match self.reply.read(stream, tools) {
@@ -268,7 +228,8 @@ impl Dial {
         }
         let is_apart = matches!(self.stage, DialStage::Connecting | DialStage::Refused);
         if is_apart && self.left(now, BEGIN_MILLIS) > 0 {
-            self.refuse();
+            self.stage = DialStage::Refused;
+            self.stream = None;
         } else {
             self.end(Coming::Failed);
         }

@@ -9,8 +9,7 @@
 //!
 //! No socket of a node blocks: one thread and one wait serve the connections that come in, and the dials.
 //! [`SocketLink`] hands out one thing that happened, by turns over all connections and dials that have one; whatever
-//! it is told to send goes out as far as a socket takes it, and the rest as the socket has room. A node that copies much
-//! has the connection for its next request made while it waits for a reply (`standby`). That the link is
+//! it is told to send goes out as far as a socket takes it, and the rest as the socket has room. That the link is
 //! safe, that each of its calls ends, and that only `next` waits, and no longer than it may, is proved. Where a
 //! message ends is a pure function of its bytes, with an exact contract (`specs/Extent.antt`), and all that the link
 //! knows of HTTP.
@@ -35,7 +34,6 @@ mod send_buffer;
 mod socket;
 mod socket_dialler;
 mod sockets;
-mod standby;
 mod timed_stream;
 mod times;
 mod tools;

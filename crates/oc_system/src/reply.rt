@@ -67,7 +67,7 @@ impl Reply {
         if whole <= self.count {
             return true;
         }
-        // Bytes that are made at once take a tenth of the time of bytes that are added one by one.
+        // To add so many bytes one by one would take ten times as long.
         let made: Result<Vec<u8>, AllocError> = Vec::from_elem(tools.alloc, 0u8, whole);
         let Ok(mut bytes) = made else {
             return false;
@@ -78,22 +78,14 @@ impl Reply {
         true
     }
 
-    /// How many bytes have come.
-    pub(crate) fn len(&self) -> usize {
-        self.count
-    }
-
     /// Whether it has come as far as its Content-Length says.
     pub(crate) fn is_whole(&self) -> bool {
-        match self.outline {
-            Some(
-                Outline {
-                    head,
-                    body: Some(body),
-                    ..
-                },
-            ) => self.count as u64 >= body.saturating_add(head as u64),
-            _ => false,
+        let Some(outline) = self.outline else {
+            return false;
+        };
+        match outline.body {
+            Some(body) => self.count as u64 >= body.saturating_add(outline.head as u64),
+            None => false,
         }
     }
 

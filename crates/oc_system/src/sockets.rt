@@ -11,7 +11,6 @@ use crate::limits::{
 use crate::places::ConnectionPlaces;
 use crate::poller::Poller;
 use crate::send_buffer::shorten_send_buffers;
-use crate::standby::Standby;
 use crate::times::Watch;
 use crate::tools::Tools;
 use crate::turn_queue::TurnQueue;
@@ -57,7 +56,6 @@ pub(crate) struct Sockets {
     spare: Option<Registry>,
     places: ConnectionPlaces,
     dials: Vec<Option<Dial>>,
-    standby: Standby,
     turns: TurnQueue,
     /// The places of those that wait for one of the places for large requests, and how many of these are taken.
     held: TurnQueue,
@@ -96,7 +94,6 @@ impl Sockets {
             spare: Some(spare),
             places: ConnectionPlaces::new(alloc)?,
             dials,
-            standby: Standby::new(),
             turns: TurnQueue::new(alloc, PLACES + DIALS)?,
             held: TurnQueue::new(alloc, PLACES)?,
             large: 0,
@@ -128,9 +125,6 @@ impl Sockets {
             if now >= until && (self.turns.is_empty() || looked >= PLACES) {
                 break;
             }
-        }
-        if !self.dials.iter().any(|dial| dial.is_some()) {
-            self.standby.clear();
         }
         Ok(self.with_nothing(LinkEvent::Quiet))
     }

@@ -28,24 +28,9 @@ impl Sockets {
             *place = Some(dial);
         }
         let place = PLACES.saturating_add(slot);
-        self.begin_prepared(place, now);
         self.connect(rt, place, now);
         self.turns.push(place);
         true
-    }
-
-    /// Has a new dial go on a connection that was prepared for it, if there is one.
-    fn begin_prepared(&mut self, place: usize, now: u64) {
-        let Some(dial) = dial_at(&mut self.dials, place) else {
-            return;
-        };
-        if dial.stage != DialStage::Refused {
-            return;
-        }
-        if let Some(stream) = self.standby.take(dial.next()) {
-            let _tried = dial.next_address();
-            self.watch_dial(place, stream, true, now);
-        }
     }
 
     /// Begins to connect a dial to the next of its addresses, and fails it where there is no further one.
@@ -59,7 +44,7 @@ impl Sockets {
                 break;
             };
             if let Ok(stream) = self.stream_to(rt, address) {
-                self.watch_dial(place, stream, false, now);
+                self.watch_dial(place, stream, now);
             }
         }
         if let Some(dial) = dial_at(&mut self.dials, place) {
@@ -85,11 +70,11 @@ impl Sockets {
     }
 
     /// Has the system tell when this socket of a dial is ready.
-    fn watch_dial(&mut self, place: usize, stream: Stream, is_prepared: bool, now: u64) {
+    fn watch_dial(&mut self, place: usize, stream: Stream, now: u64) {
         let Some(dial) = dial_at(&mut self.dials, place) else {
             return;
         };
-        dial.begin(stream, is_prepared, now);
+        dial.begin(stream, now);
         let both = Interest::READABLE | Interest::WRITABLE;
         let is_watched = match dial.stream_mut() {
             Some(stream) => self
@@ -112,16 +97,10 @@ impl Sockets {
         now: u64,
     ) -> Option<SocketEvent> {
         let dial = dial_at(&mut self.dials, place)?;
-        let was_asking = matches!(dial.stage, DialStage::Connecting | DialStage::Asking);
-        if let Some(stream) = dial.advance(&mut self.tools, now) {
-            self.standby.leave(stream);
-        }
+        dial.advance(&mut self.tools, now);
         dial.expire(now);
         if dial.stage == DialStage::Refused {
             self.connect(rt, place, now);
-        } else if was_asking && dial.stage == DialStage::Waiting {
-            let peer = dial.address();
-            self.prepare_next(rt, peer);
         }
         let dial = dial_at(&mut self.dials, place)?;
         if dial.is_busy() {
@@ -130,28 +109,11 @@ impl Sockets {
         if dial.stage != DialStage::Over {
             return None;
         }
-        if let Some(peer) = dial.address() {
-            self.standby.note(peer, dial.heard());
-        }
         let (coming, bytes) = dial.outcome(&self.tools);
         let event = LinkEvent::Reply(dial.id, coming);
         if let Some(slot) = self.dials.get_mut(place.saturating_sub(PLACES)) {
             *slot = None;
         }
         Some(SocketEvent { event, bytes })
-    }
-
-    /// A request went out to this node. While its reply is waited for, the connection for the next one is made, where
-    /// one is likely. Nobody gives way for it.
-    fn prepare_next<R: Net<Stream = TcpStream>>(&mut self, rt: &R, peer: Option<SocketAddr>) {
-        self.standby.close_used();
-        let Some(peer) = peer else {
-            return;
-        };
-        if self.standby.lacks(peer) {
-            if let Ok(stream) = Stream::connect(rt, peer) {
-                self.standby.prepare(stream);
-            }
-        }
     }
 }

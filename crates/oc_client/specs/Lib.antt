@@ -18,6 +18,7 @@ pub mod Places
 pub mod ProgressLines
 pub mod Publishing
 pub mod PutHearing
+pub mod PutLines
 pub mod PutReplies
 pub mod PutRequests
 pub mod PutTurns

@@ -7,6 +7,7 @@ ghost use Rattle.oc_client.specs.Jobs.{goal_of};
 ghost use Rattle.oc_client.specs.Places.{passed_over};
 ghost use Rattle.oc_client.specs.ProgressLines.{Grows};
 ghost use Rattle.oc_client.specs.Publishing.{IsPublished, IsPublishedAt, IsUnasked};
+ghost use Rattle.oc_client.specs.PutLines.{TellsWithin};
 ghost use Rattle.oc_io.specs.Faults.{NoFall, Rose};
 
 use crate::address::{UrlFault, read_address};
@@ -30,7 +31,7 @@ use std::alloc::Global;
 /// bytes yet, after what it has, or from where an earlier publishing of the same input stopped. Where the whole
 /// input is empty the group is made. The place is asked for first, and nothing of the input is read before it is
 /// known. After each failure but the fifth without anything done between, it pauses and tries again. What of the input is
-/// in the group is told as it grows. Each connection is ended.
+/// in the group is told as it grows: never more than came of it, whatever the end. Each connection is ended.
 pub fn put<L: Dialler, S: Source, P: Pause, E: Sink>(
     alloc: Global,
     to: &Destination<'_>,
@@ -47,6 +48,7 @@ pub fn put<L: Dialler, S: Source, P: Pause, E: Sink>(
     ensures link_cause { result ≡ PutEnd.Link → Rose (L.faults link.old) (L.faults link.new) }
     ensures input_cause { result ≡ PutEnd.Input → Rose (S.faults input.old) (S.faults input.new) }
     ensures lines { (more : ℕ) × Grows E.takes E.fails aside.old.lines more aside.new.lines }
+    ensures within { TellsWithin S.gives S.fails E.takes E.fails input.old input.new aside.old.lines aside.new.lines result }
     ensures told { result ≡ PutEnd.Done → (came : List ℕ) × S.gives input.old came input.new × Grows E.takes E.fails aside.old.lines (length came) aside.new.lines }
 {
     match read_address(alloc, to.address) {
@@ -72,7 +74,7 @@ fn publish<L: Dialler, S: Source, P: Pause, E: Sink>(
     ensures input_count { NoFall (S.faults input.old) (S.faults input.new) }
     ensures link_cause { result ≡ PutEnd.Link → Rose (L.faults link.old) (L.faults link.new) }
     ensures input_cause { result ≡ PutEnd.Input → Rose (S.faults input.old) (S.faults input.new) }
-    ensures lines { (more : ℕ) × Grows E.takes E.fails aside.old.lines more aside.new.lines }
+    ensures within { TellsWithin S.gives S.fails E.takes E.fails input.old input.new aside.old.lines aside.new.lines result }
     ensures told { result ≡ PutEnd.Done → (came : List ℕ) × S.gives input.old came input.new × Grows E.takes E.fails aside.old.lines (length came) aside.new.lines }
 {
     match publish_all(job, input, link, aside) {
@@ -96,7 +98,7 @@ fn publish_all<L: Dialler, S: Source, P: Pause, E: Sink>(
     ensures input_count { NoFall (S.faults input.old) (S.faults input.new) }
     ensures link_cause { IsErrOf result PutEnd.Link → Rose (L.faults link.old) (L.faults link.new) }
     ensures input_cause { IsErrOf result PutEnd.Input → Rose (S.faults input.old) (S.faults input.new) }
-    ensures lines { (more : ℕ) × Grows E.takes E.fails aside.old.lines more aside.new.lines }
+    ensures within { IfErr result (TellsWithin S.gives S.fails E.takes E.fails input.old input.new aside.old.lines aside.new.lines) }
     ensures told { OnOk result ((came : List ℕ) × S.gives input.old came input.new × Grows E.takes E.fails aside.old.lines (length came) aside.new.lines) }
     ensures unfinished { ¬ (IsErrOf result PutEnd.Done) }
 {
@@ -154,7 +156,7 @@ fn carry<L: Dialler, S: Source, P: Pause, E: Sink>(
     ensures input_count { NoFall (S.faults input.old) (S.faults input.new) }
     ensures link_cause { IsErrOf result PutEnd.Link → Rose (L.faults link.old) (L.faults link.new) }
     ensures input_cause { IsErrOf result PutEnd.Input → Rose (S.faults input.old) (S.faults input.new) }
-    ensures lines { (more : ℕ) × Grows E.takes E.fails aside.old.lines more aside.new.lines }
+    ensures within { IfErr result (TellsWithin S.gives S.fails E.takes E.fails input.old input.new aside.old.lines aside.new.lines) }
     ensures told { OnOk result ((came : List ℕ) × S.gives input.old came input.new × Grows E.takes E.fails aside.old.lines (length came) aside.new.lines) }
 {
     let mut reached = found;

@@ -1,10 +1,11 @@
 -- What a publishing did, told of a link and an input.
-use Rattle.std.proofs.Common.{◌≡◌, ℕ, Bool, true, false, Option, List, ◌++◌, length, refl, subst, inl, inr}
+use Rattle.std.proofs.Common.{◌≡◌, ℕ, ◌≤◌, Bool, true, false, Option, List, ◌++◌, length, refl, subst, inl, inr, arith}
 use Rattle.oc_client.specs.Addresses.{IsBadAddress}
 use Rattle.oc_client.specs.Lines.{Tells}
 use Rattle.oc_client.specs.ProgressLines.{Grows}
 use Rattle.oc_client.specs.declared.progress_lines.ProgressLines.{ProgressLines}
 use Rattle.oc_client.specs.Publishing.{Came as CameOf, IsPublished, IsUnasked}
+use Rattle.oc_client.specs.PutLines.{TellsWithin}
 use Rattle.oc_client.specs.declared.put_end.PutEnd.{PutEnd}
 use Rattle.oc_client.specs.declared.put_end.PutEnd.TheVariants as puts
 use Rattle.oc_client.specs.declared.publication.Publication.{Publication}
@@ -93,19 +94,39 @@ module _ {S : Type 0} (gives fails : S → List ℕ → S → Type 0) (ended : S
     abbrev F : Counting E → List ℕ → Counting E → Type 0
     F = Fails breaks faults
 
-    pub tells_of : (wanted : Bool) (end : PutEnd) → first.active ≡ wanted → ((more : ℕ) × Grows T F first more mid)
+    -- of a count that came of the input
+    counted : (end : PutEnd) → first.active ≡ true → (bytes : List ℕ) → (more : ℕ) → Grows T F first more mid → Tells T F mid.sink last mid.active active (last_line (is_done end) mid.count)
+        → Came input bytes false end → more ≤ length bytes → (end ≡ puts.Done → more ≡ length bytes) → posted_at.Tells (at_error writes breaks faults first.sink.sink last.sink) input true end
+    counted end is bytes more grows ends came within all = (
+      more,
+      told_of writes breaks faults then then_breaks first mid last active (is_done end) more grows ends zero is,
+      record {
+        bytes = bytes;
+        came = came;
+        within = within;
+        all = all;
+      },
+    )
+
+    -- where all is not done
+    counted_within : (end : PutEnd) → first.active ≡ true → ¬ (end ≡ puts.Done) → TellsWithin gives fails T F old new first mid end → (end ≡ puts.Input → Rose (count old) (count new))
+        → Tells T F mid.sink last mid.active active (last_line (is_done end) mid.count) → posted_at.Tells (at_error writes breaks faults first.sink.sink last.sink) input true end
+    counted_within end is undone w cause ends =
+        counted end is w.came w.more w.grew ends (came_of w.came false end w.gave (λ e. cc) cause) w.within (λ e. absurd (undone e))
+
+    pub tells_of : (wanted : Bool) (end : PutEnd) → first.active ≡ wanted → TellsWithin gives fails T F old new first mid end → (end ≡ puts.Input → Rose (count old) (count new))
         → (end ≡ puts.Done → (came : List ℕ) × gives old came new × Grows T F first (length came) mid)
         → Tells T F mid.sink last mid.active active (last_line (is_done end) mid.count)
         → posted_at.Tells (at_error writes breaks faults first.sink.sink last.sink) input wanted end
-    tells_of false end is (more, grows) done ends = silent_of writes breaks faults then then_breaks first mid last active (is_done end) more grows ends is
-    tells_of true puts.Done is grows done ends =
+    tells_of false end is w cause done ends = silent_of writes breaks faults then then_breaks first mid last active (is_done end) w.more w.grew ends is
+    tells_of true puts.Done is w cause done ends =
         let (came, gave, all) = done refl in
-        (length came, told_of writes breaks faults then then_breaks first mid last active true (length came) all ends zero is, λ e. (came, gave, refl))
-    tells_of true puts.BadUrl is (more, grows) done ends = (more, told_of writes breaks faults then then_breaks first mid last active false more grows ends zero is, λ e. cc)
-    tells_of true (puts.Refused status) is (more, grows) done ends = (more, told_of writes breaks faults then then_breaks first mid last active false more grows ends zero is, λ e. cc)
-    tells_of true (puts.Length found) is (more, grows) done ends = (more, told_of writes breaks faults then then_breaks first mid last active false more grows ends zero is, λ e. cc)
-    tells_of true puts.Short is (more, grows) done ends = (more, told_of writes breaks faults then then_breaks first mid last active false more grows ends zero is, λ e. cc)
-    tells_of true puts.Reply is (more, grows) done ends = (more, told_of writes breaks faults then then_breaks first mid last active false more grows ends zero is, λ e. cc)
-    tells_of true puts.Link is (more, grows) done ends = (more, told_of writes breaks faults then then_breaks first mid last active false more grows ends zero is, λ e. cc)
-    tells_of true puts.Input is (more, grows) done ends = (more, told_of writes breaks faults then then_breaks first mid last active false more grows ends zero is, λ e. cc)
-    tells_of true puts.Memory is (more, grows) done ends = (more, told_of writes breaks faults then then_breaks first mid last active false more grows ends zero is, λ e. cc)
+        counted puts.Done is came (length came) all ends gave (omega arith) (λ e. refl)
+    tells_of true puts.BadUrl is w cause done ends = counted_within puts.BadUrl is (λ e. cc) w cause ends
+    tells_of true (puts.Refused status) is w cause done ends = counted_within (puts.Refused status) is (λ e. cc) w cause ends
+    tells_of true (puts.Length found) is w cause done ends = counted_within (puts.Length found) is (λ e. cc) w cause ends
+    tells_of true puts.Short is w cause done ends = counted_within puts.Short is (λ e. cc) w cause ends
+    tells_of true puts.Reply is w cause done ends = counted_within puts.Reply is (λ e. cc) w cause ends
+    tells_of true puts.Link is w cause done ends = counted_within puts.Link is (λ e. cc) w cause ends
+    tells_of true puts.Input is w cause done ends = counted_within puts.Input is (λ e. cc) w cause ends
+    tells_of true puts.Memory is w cause done ends = counted_within puts.Memory is (λ e. cc) w cause ends

@@ -247,7 +247,16 @@ module _ (i j : Input) (o p : Output) (d e : OnError) (stage : OnStage) (input :
 
   posted_told : (wanted : Bool) (end : PutEnd) → PutTells d i wanted end → PutTells e j wanted end
   posted_told false end h = error.silent h
-  posted_told true end h = (h.0, error.told (is_put end) h.0 h.1, λ is. let (bytes, gave, all) = h.2 is in (bytes, input.gave bytes gave, all))
+  posted_told true end h = (
+    h.0,
+    error.told (is_put end) h.0 h.1,
+    record {
+      bytes = h.2.bytes;
+      came = came_told h.2.bytes false end h.2.came;
+      within = h.2.within;
+      all = h.2.all;
+    },
+  )
 
   put_told : (link : OnLink) (u : Upload) (token : Option (List ℕ)) (end : PutEnd) → HappenedAtPut link i d u token end → HappenedAtPut link j e u token end
   put_told link u token end h = record {

@@ -1,5 +1,5 @@
 -- What had happened at each end of `put`, with a token or without.
-use Rattle.std.specs.Prelude.{◌≡◌, ◌⊎◌, ℕ, Bool, true, false, Option, List, length, ⊤}
+use Rattle.std.specs.Prelude.{◌≡◌, ◌⊎◌, ℕ, ◌≤◌, Bool, true, false, Option, List, length, ⊤}
 use Rattle.oc_client.specs.Addresses.{IsAddressOf, IsBadAddress}
 use Rattle.oc_client.specs.Publishing.{IsUnasked, Publishes}
 use Rattle.oc_client.specs.PutRequests.{Goal}
@@ -58,10 +58,17 @@ abbrev pub is_done : PutEnd → Bool
 is_done ends.Done = true
 is_done end = false
 
--- where that is wanted, lines told of this many bytes; where all is done these are all bytes of the input
+-- no more than came of the input, and where all is done all of it
+pub record CountsInput (input : Input) (end : PutEnd) (count : ℕ) : Type 0 where
+  pub bytes : List ℕ
+  pub came : Came input bytes false end
+  pub within : count ≤ length bytes
+  pub all : end ≡ ends.Done → count ≡ length bytes
+
+-- where that is wanted, lines told of this many bytes of the input, whatever the end
 abbrev pub Tells : OnError → Input → Bool → PutEnd → Type 0
 Tells error input false end = error.silent
-Tells error input true end = (count : ℕ) × error.told (is_done end) count × (end ≡ ends.Done → (bytes : List ℕ) × input.gave bytes × (count ≡ length bytes))
+Tells error input true end = (count : ℕ) × error.told (is_done end) count × CountsInput input end count
 
 -- what was published, and what was told of it
 pub record HappenedAtPut (link : OnLink) (input : Input) (error : OnError) (u : Upload) (token : Option (List ℕ)) (end : PutEnd) : Type 0 where

@@ -13,7 +13,7 @@ use oc_words::{Name, Onto, Upload, text_of};
 use std::alloc::Global;
 
 /// Publishes the input into a group, with a token or without. It pauses after each failure but the last. Where lines are
-/// wanted, they tell how much of the input is in the group.
+/// wanted, they tell how much of the input is in the group: never more than came of it, whatever the end.
 pub fn publish<S: Source, L: Dialler, P: Pause, E: Sink>(
     alloc: Global,
     wanted: &Upload,

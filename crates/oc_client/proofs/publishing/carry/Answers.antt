@@ -5,10 +5,11 @@ use Rattle.oc_client.specs.Jobs.{goal_of}
 use Rattle.oc_client.specs.Publishing.{joined}
 use Rattle.oc_client.specs.declared.put_end.PutEnd.TheVariants as ends
 use Rattle.oc_client.specs.declared.input.TheConstants.{PUT_PIECE_BYTES}
-use Rattle.oc_client.proofs.Carried.{not_nil, no_bytes}
-use Rattle.oc_client.proofs.Lines.{Laws, grew_none, grew_then, grew_piece}
+use Rattle.oc_client.proofs.Carried.{not_nil, no_bytes, refuses_of_turns, came_of_turns}
+use Rattle.oc_client.proofs.Lines.{Laws, grew_none, grew_then, grew_piece, told_cut, told_front}
 use Rattle.oc_client.proofs.Pieces.{carried_none, carried_more, carried_all, carried_last, cut_between, refused_at}
-use Rattle.oc_client.proofs.Published.{refused_no_input}
+use Rattle.oc_client.proofs.Published.{Joins, refused_no_input}
+use Rattle.oc_client.specs.PutRequests.{bytes}
 use Rattle.oc_client.proofs.publishing.carry.Goals as goal
 
 pub pieces-init : goal.pieces-init
@@ -122,14 +123,21 @@ pieces-smaller g c =
 
 -- What is told
 
-pub returns-in_err-piece-clause-lines : goal.returns-in_err-piece-clause-lines
-returns-in_err-piece-clause-lines g c = (_, c.pieces.invariant.grew)
+pub returns-in_err-piece-clause-within : goal.returns-in_err-piece-clause-within
+returns-in_err-piece-clause-within g c =
+    let p = err_from_is_err_and c.from_residual.result c.from_residual.ensures.1 in
+    let before = c.pieces.invariant in
+    let joins : Joins g.S.Source.gives g.S.Source.fails = record { none = g.met.S.Source.gives_nothing; both = g.met.S.Source.gives_then; last = g.met.S.Source.gives_fails } in
+    rw (p.1, p.2) (told_cut g.S.Source.gives g.S.Source.fails g.E.Sink.takes g.E.Sink.fails joins c.args.input.now c.pieces.input c.next_piece.new.input c.args.aside.now.lines c.pieces.aside.lines (joined before.pieces) c.in_err-piece.field-0.0 before.has.came c.in_err-piece.ensures.cut before.grew)
 
-pub returns-then-is_left_out-clause-lines : goal.returns-then-is_left_out-clause-lines
-returns-then-is_left_out-clause-lines g c = (_, c.pieces.invariant.grew)
-
-pub returns-in_err-reached-clause-lines : goal.returns-in_err-reached-clause-lines
-returns-in_err-reached-clause-lines g c = (_, c.pieces.invariant.grew)
+pub returns-in_err-reached-clause-within : goal.returns-in_err-reached-clause-within
+returns-in_err-reached-clause-within g c =
+    let p = err_from_is_err_and c.from_residual-in_err-reached.result c.from_residual-in_err-reached.ensures.1 in
+    let before = c.pieces.invariant in
+    let came = g.met.S.Source.gives_then _ _ _ _ _ before.has.came c.in_ok-piece.ensures.came in
+    let refused = c.in_err-reached.ensures.stopped in
+    let of_turns = refuses_of_turns (bytes c.in_ok-piece.piece) c.pieces.reached refused.turns c.in_err-reached.field-0.0 refused.refuses in
+    rw (p.1, p.2) (told_front g.S.Source.gives g.S.Source.fails g.E.Sink.takes g.E.Sink.fails c.args.input.now c.next_piece.new.input c.args.aside.now.lines c.pieces.aside.lines (joined before.pieces) c.in_ok-piece.piece c.in_err-reached.field-0.0 (came_of_turns g.S.Source.gives g.S.Source.fails c.args.input.now c.next_piece.new.input (joined before.pieces ++ c.in_ok-piece.piece) c.in_err-reached.field-0.0 of_turns came) before.grew)
 
 pub returns-then-is_left_out-clause-told : goal.returns-then-is_left_out-clause-told
 returns-then-is_left_out-clause-told g c =
@@ -138,12 +146,6 @@ returns-then-is_left_out-clause-told g c =
     let none : length c.in_ok-piece.piece ≡ 0 = omega (arith, out.0, ap (λ (x : List ℕ). length x) c.items-count.ensures) in
     let came = g.met.S.Source.gives_then _ _ _ _ _ before.has.came c.in_ok-piece.ensures.came in
     (joined before.pieces, subst (λ (x : List ℕ). g.S.Source.gives c.args.input.now x c.next_piece.new.input) (ap (λ (x : List ℕ). joined before.pieces ++ x) (no_bytes c.in_ok-piece.piece none) ∙ append-nil (joined before.pieces)) came, before.grew)
-
-pub returns-then-count-lt-PUT_PIECE_BYTES-clause-lines : goal.returns-then-count-lt-PUT_PIECE_BYTES-clause-lines
-returns-then-count-lt-PUT_PIECE_BYTES-clause-lines g c =
-    let before = c.pieces.invariant in
-    let laws : Laws g.E.Sink.takes g.E.Sink.fails = record { none = g.met.E.Sink.takes_nothing; both = g.met.E.Sink.takes_then; last = g.met.E.Sink.takes_fails } in
-    (_, grew_piece g.E.Sink.takes g.E.Sink.fails laws c.args.aside.now.lines c.pieces.aside.lines c.add.new.self before.pieces c.in_ok-piece.piece (length c.items-count.result.now) (ap (λ (x : List ℕ). length x) c.items-count.ensures) before.grew c.add.ensures)
 
 pub returns-then-count-lt-PUT_PIECE_BYTES-clause-told : goal.returns-then-count-lt-PUT_PIECE_BYTES-clause-told
 returns-then-count-lt-PUT_PIECE_BYTES-clause-told g c =

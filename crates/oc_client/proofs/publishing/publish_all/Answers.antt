@@ -1,5 +1,5 @@
-use Rattle.std.proofs.Common.{◌≡◌, ◌++◌, length, refl, sym, ◌∙◌}
-use Rattle.oc_client.proofs.Lines.{Laws, grew_none, grew_both, grew_then, passed_length}
+use Rattle.std.proofs.Common.{◌≡◌, [], ◌++◌, length, refl, sym, ◌∙◌}
+use Rattle.oc_client.proofs.Lines.{Laws, grew_then, passed_length, untold, told_after, told_unsealed}
 use Rattle.oc_client.proofs.Published.{Joins, stopped_not_done, refused_not_done, unplaced_not_done, uncarried_not_done, stopped_no_input, refused_no_input, no_memory, not_found, not_carried, not_sealed, all_done}
 use Rattle.oc_client.proofs.publishing.publish_all.Goals as goal
 use Rattle.oc_client.specs.Efforts.{finding}
@@ -48,30 +48,43 @@ returns-clause-input_cause g c = λ e.
 
 -- What is told
 
-pub returns-in_err-room-clause-lines : goal.returns-in_err-room-clause-lines
-returns-in_err-room-clause-lines g c =
+pub returns-in_err-room-clause-within : goal.returns-in_err-room-clause-within
+returns-in_err-room-clause-within g c =
+    let p = err_from_is_err_and c.from_residual.result c.from_residual.ensures.1 in
     let laws : Laws g.E.Sink.takes g.E.Sink.fails = record { none = g.met.E.Sink.takes_nothing; both = g.met.E.Sink.takes_then; last = g.met.E.Sink.takes_fails } in
-    (_, grew_none g.E.Sink.takes g.E.Sink.fails laws c.args.aside.now.lines)
+    rw (p.1, p.2) (untold g.S.Source.gives g.S.Source.fails g.E.Sink.takes g.E.Sink.fails laws c.args.input.now c.args.input.now c.args.aside.now.lines [] ends.Memory (g.met.S.Source.gives_nothing c.args.input.now))
 
-pub returns-in_err-found-clause-lines : goal.returns-in_err-found-clause-lines
-returns-in_err-found-clause-lines g c =
+pub returns-in_err-found-clause-within : goal.returns-in_err-found-clause-within
+returns-in_err-found-clause-within g c =
+    let p = err_from_is_err_and c.from_residual-in_err-found.result c.from_residual-in_err-found.ensures.1 in
     let laws : Laws g.E.Sink.takes g.E.Sink.fails = record { none = g.met.E.Sink.takes_nothing; both = g.met.E.Sink.takes_then; last = g.met.E.Sink.takes_fails } in
-    (_, grew_none g.E.Sink.takes g.E.Sink.fails laws c.args.aside.now.lines)
+    let at = not_found g.S.Source.gives g.S.Source.fails g.S.Source.ended c.args.job.now.plan (goal_of c.args.job.now) (g.L.Dialler.story c.args.link.now) (g.L.Dialler.story c.find.new.link) c.args.input.now c.in_err-found.field-0.0 (g.met.S.Source.gives_nothing c.args.input.now) c.in_err-found.ensures.stopped in
+    rw (p.1, p.2) (untold g.S.Source.gives g.S.Source.fails g.E.Sink.takes g.E.Sink.fails laws c.args.input.now c.args.input.now c.args.aside.now.lines at.input c.in_err-found.field-0.0 at.came)
 
-pub returns-in_err-go_to_place-clause-lines : goal.returns-in_err-go_to_place-clause-lines
-returns-in_err-go_to_place-clause-lines g c =
+pub returns-in_err-go_to_place-clause-within : goal.returns-in_err-go_to_place-clause-within
+returns-in_err-go_to_place-clause-within g c =
+    let p = err_from_is_err_and c.from_residual-in_err-go_to_place.result c.from_residual-in_err-go_to_place.ensures.1 in
     let laws : Laws g.E.Sink.takes g.E.Sink.fails = record { none = g.met.E.Sink.takes_nothing; both = g.met.E.Sink.takes_then; last = g.met.E.Sink.takes_fails } in
-    (_, grew_none g.E.Sink.takes g.E.Sink.fails laws c.args.aside.now.lines)
+    let off = c.in_err-go_to_place.ensures.placed in
+    rw (p.1, p.2) (untold g.S.Source.gives g.S.Source.fails g.E.Sink.takes g.E.Sink.fails laws c.args.input.now c.go_to_place.new.input c.args.aside.now.lines off.input c.in_err-go_to_place.field-0.0 off.came)
 
-pub returns-in_err-reached-clause-lines : goal.returns-in_err-reached-clause-lines
-returns-in_err-reached-clause-lines g c =
+pub returns-in_err-reached-clause-within : goal.returns-in_err-reached-clause-within
+returns-in_err-reached-clause-within g c =
+    let p = err_from_is_err_and c.from_residual-in_err-reached.result c.from_residual-in_err-reached.ensures.1 in
     let laws : Laws g.E.Sink.takes g.E.Sink.fails = record { none = g.met.E.Sink.takes_nothing; both = g.met.E.Sink.takes_then; last = g.met.E.Sink.takes_fails } in
-    (_, grew_both g.E.Sink.takes g.E.Sink.fails laws c.args.aside.now.lines c.add.new.self c.carry.new.aside.lines _ c.carry.ensures.lines.0 c.add.ensures c.carry.ensures.lines.1)
+    let joins : Joins g.S.Source.gives g.S.Source.fails = record { none = g.met.S.Source.gives_nothing; both = g.met.S.Source.gives_then; last = g.met.S.Source.gives_fails } in
+    let at = c.in_ok-go_to_place.ensures.placed in
+    let passed = c.passed_over.ensures ∙ passed_length c.args.job.now.plan.place c.in_ok-found.found.length at.before at.begins in
+    rw (p.1, p.2) (told_after g.S.Source.gives g.S.Source.fails g.E.Sink.takes g.E.Sink.fails laws joins c.args.input.now c.go_to_place.new.input c.carry.new.input c.args.aside.now.lines c.add.new.self c.carry.new.aside.lines at.before _ c.in_err-reached.field-0.0 passed at.came c.add.ensures c.in_err-reached.ensures.within)
 
-pub returns-clause-lines : goal.returns-clause-lines
-returns-clause-lines g c =
+pub returns-clause-within : goal.returns-clause-within
+returns-clause-within g c =
     let laws : Laws g.E.Sink.takes g.E.Sink.fails = record { none = g.met.E.Sink.takes_nothing; both = g.met.E.Sink.takes_then; last = g.met.E.Sink.takes_fails } in
-    (_, grew_both g.E.Sink.takes g.E.Sink.fails laws c.args.aside.now.lines c.add.new.self c.carry.new.aside.lines _ c.carry.ensures.lines.0 c.add.ensures c.carry.ensures.lines.1)
+    let joins : Joins g.S.Source.gives g.S.Source.fails = record { none = g.met.S.Source.gives_nothing; both = g.met.S.Source.gives_then; last = g.met.S.Source.gives_fails } in
+    let at = c.in_ok-go_to_place.ensures.placed in
+    let told = c.in_ok-reached.ensures.told in
+    let passed = c.passed_over.ensures ∙ passed_length c.args.job.now.plan.place c.in_ok-found.found.length at.before at.begins in
+    IfErr-weaker c.close.result _ _ (λ end h. told_unsealed g.S.Source.gives g.S.Source.fails g.E.Sink.takes g.E.Sink.fails laws joins c.args.input.now c.go_to_place.new.input c.carry.new.input c.args.aside.now.lines c.add.new.self c.carry.new.aside.lines at.before told.0 _ (goal_of c.args.job.now) c.args.job.now.plan.seal c.in_ok-reached.reached (g.L.Dialler.story c.carry.new.link) (g.L.Dialler.story c.close.new.link) end passed at.came c.add.ensures told.1 told.2 h) c.close.ensures.stopped
 
 pub returns-clause-told : goal.returns-clause-told
 returns-clause-told g c =

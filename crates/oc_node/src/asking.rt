@@ -151,7 +151,7 @@ pub fn ask_before(step: &mut Step, peer: NodeId) -> Result<(), Memory>
 
 // The rule Take a yes
 
-/// Whether a node that had a wish comes back to the parent that it left for it: it was refused there.
+/// Whether a node that had a wish comes back to the parent that it left for it, mostly since it was refused there.
 fn comes_back(step: &Step, parent: NodeId) -> bool
     ensures { result ≡ comes_back step.now.plan.node.soft.wish step.now.plan.node parent }
 {

@@ -1,3 +1,6 @@
+ghost use Rattle.std.specs.Prelude.{◌≡◌, IsSome, false, true};
+ghost use Rattle.oc_system.specs.declared.connection.ConnectionStage.TheVariants as stages;
+
 use crate::incoming::Incoming;
 use crate::limits::{
     BODY_MILLIS, BODY_PAUSE_MILLIS, HEAD_MILLIS, LARGE_BYTES, LARGE_BYTES_A_MILLI, LINGER_BYTES,
@@ -303,7 +306,9 @@ impl Connection {
     }
 
     /// Takes back what was lent of its request and not taken: it was left, unless it got the permission to send more.
-    pub(crate) fn take_back(&mut self, bytes: Vec<u8>) {
+    pub(crate) fn take_back(&mut self, bytes: Vec<u8>)
+        ensures { self.new.incoming.was_left ≡ self.old.is_told }
+    {
         self.incoming.take_back(bytes, self.is_told);
     }
 
@@ -461,7 +466,9 @@ impl Connection {
     }
 
     /// What was to be told of it was told.
-    pub(crate) fn note_told(&mut self) {
+    pub(crate) fn note_told(&mut self)
+        ensures { self.old.stage ≡ stages.Awaiting → self.new.is_told ≡ true }
+    {
         match self.stage {
             ConnectionStage::Awaiting => self.is_told = true,
             _ => self.is_fed = false,
@@ -511,7 +518,10 @@ impl Connection {
     /// What it has to say for its place, where it may be asked for it. One whose request has come may not, unless it was
     /// left, and neither one that has still to be read: its request may be there. Else of many that come at once each
     /// would drop the one before.
-    pub(crate) fn claim(&self) -> Option<Claim> {
+    pub(crate) fn claim(&self) -> Option<Claim>
+        ensures left { self.now.stage ≡ stages.Awaiting → self.now.incoming.was_left ≡ true
+            → self.now.is_readable ≡ false → IsSome result }
+    {
         let (kind, since) = match self.stage {
             ConnectionStage::Lingering | ConnectionStage::Over => (ClaimKind::ReadOut, self.since),
             _ if !self.unsent.is_empty() => (ClaimKind::Content, self.fed_at),

@@ -1,3 +1,5 @@
+ghost use Rattle.std.specs.Prelude.{◌≡◌, false, true};
+
 use crate::extent::{HeadProgress, Outline, request_extent};
 use crate::limits::{MOST_MESSAGE, MOST_READS};
 use crate::socket::{Moved, read_some};
@@ -121,7 +123,9 @@ impl Incoming {
 
     /// Whether the request can be looked at: it is whole, or its head asks for the permission to send the body, or
     /// it has more than a request may have, or no head begins so. One that was left cannot, until more of it came.
-    pub(crate) fn is_ripe(&self, permitted: bool) -> bool {
+    pub(crate) fn is_ripe(&self, permitted: bool) -> bool
+        ensures left { self.now.was_left ≡ true → result ≡ false }
+    {
         if self.was_left {
             return false;
         }
@@ -155,7 +159,9 @@ impl Incoming {
     }
 
     /// Takes back what was lent and not taken. Where it was left, more of it is wanted before it is told again.
-    pub(crate) fn take_back(&mut self, bytes: Vec<u8>, was_left: bool) {
+    pub(crate) fn take_back(&mut self, bytes: Vec<u8>, was_left: bool)
+        ensures { self.new.was_left ≡ was_left }
+    {
         self.bytes = bytes;
         self.was_left = was_left;
     }

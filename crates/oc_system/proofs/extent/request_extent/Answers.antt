@@ -1,4 +1,4 @@
-use Rattle.std.proofs.Common.{◌≡◌, ◌∙◌, List, [], ℕ, sym, arith}
+use Rattle.std.proofs.Common.{◌≡◌, [], arith}
 use Rattle.std.proofs.lemmas.Grind.{common_steps}
 use Rattle.oc_system.proofs.WholeLines.{no_line, told_by_lines}
 use Rattle.oc_system.proofs.extent.request_extent.Goals as goal

@@ -395,8 +395,8 @@ impl Connection {
         !self.is_late && self.deadline.is_over(now)
     }
 
-    /// Notes that its time has run out, where it has. That is told of a request, unless it can be looked at and was not
-    /// told yet, which it is then as it is.
+    /// Notes that its time has run out, where it has. Its request is told as one that failed, unless it can be looked at
+    /// and was not told yet.
     pub(crate) fn expire(&mut self, now: u64) {
         if !self.is_due(now) {
             return;

@@ -1,8 +1,8 @@
 //! Where a message ends, as far as its head tells. This is all that the sockets know of HTTP; what else a head
 //! says is for whoever reads it.
 
-ghost use Rattle.std.specs.Prelude.{◌≡◌, length};
-ghost use Rattle.oc_http.specs.Fields.{lengths};
+ghost use Rattle.std.specs.Prelude.{◌≡◌, false, length, unwrap_or};
+ghost use Rattle.oc_http.specs.Fields.{is_unusable, length_of, lengths};
 ghost use Rattle.oc_system.specs.Extent.{AreWholeLines, IsLinesExtent, IsRequestExtent, IsResponseExtent, body_length, response_length};
 
 use httparse::spans::{HeaderSpan, parse_request, parse_response};
@@ -110,9 +110,11 @@ fn response_length(status: u16, fields: &Fields) -> Option<u64>
     }
 }
 
-/// The number of the first Content-Length.
+/// The number of the first Content-Length: where a reader of heads finds no fault in it, the length of the body that it
+/// waits for.
 fn told_length(fields: &Fields) -> Option<u64>
-    ensures { result ≡ body_length (lengths fields.now) }
+    ensures number { result ≡ body_length (lengths fields.now) }
+    ensures read { is_unusable (lengths fields.now) ≡ false → unwrap_or result 0 ≡ unwrap_or (length_of (lengths fields.now)) 0 }
 {
     match fields.find("content-length") {
         FieldMatch::Absent => None,

@@ -64,7 +64,7 @@ pub use law::{
 pub use log::Log;
 pub use order_law::turns_are_in_order;
 pub use outbox::Outbox;
-pub use pace::Pace;
+pub use pace::{Pace, most_interval};
 pub use server::Server;
 pub use taking::Accepted;
 pub use turn_law::{brief_lines_compute, turns_compute};

@@ -21,7 +21,7 @@ use oc_io::{Disk, Sink};
 use oc_keep::{KeepLoad, Kept, Seat};
 use oc_link::Link;
 use oc_probe::Probing;
-use oc_server::{Dials, Outbox, Pace, Server, Turns, Works};
+use oc_server::{Dials, Outbox, Pace, Server, Turns, Works, most_interval};
 use std::alloc::Global;
 
 /// What a running node keeps besides its files. Its memory is taken before they are read.
@@ -76,7 +76,7 @@ pub(crate) fn load<D: Disk, L: Link, K: Sink>(
                 sink,
                 heads,
             },
-            pace: Pace::new(task.log.is_record()),
+            pace: Pace::new(task.log.is_record(), most_interval(task.probes, task.me)),
             probing,
         }),
         Err((files, error)) => Err((Site { files, link, sink }, error)),

@@ -13,7 +13,8 @@ use Rattle.oc_model.specs.declared.answer.Answer.TheVariants as answers
 use Rattle.oc_model.specs.declared.message.Body.TheVariants as bodies
 use Rattle.oc_model.specs.declared.message.Message.{Message}
 use Rattle.oc_policy.specs.declared.rule.Rule.{Rule}
-use Rattle.oc_routes.specs.Responses.{message_response, status_alone}
+use Rattle.oc_routes.specs.Message.{message_response}
+use Rattle.oc_routes.specs.Responses.{status_alone}
 use Rattle.oc_routes.specs.declared.routes.Operation.{Operation}
 use Rattle.oc_routes.specs.declared.routes.Operation.TheVariants as asks
 use Rattle.oc_routes.specs.declared.manner.Manner.{Manner}

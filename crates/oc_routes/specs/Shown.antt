@@ -3,7 +3,9 @@ use Rattle.std.specs.Prelude.{ℕ, ◌-◌, Bool, true, false, ◌==◌, if◌th
 use Rattle.oc_model.specs.declared.answer.Answer.{Answer}
 use Rattle.oc_model.specs.declared.answer.Answer.TheVariants as answers
 use Rattle.oc_model.specs.declared.message.Message.{Message}
-use Rattle.oc_routes.specs.Responses.{address_of, client_response, redirection, response_to, whole as whole_reply}
+use Rattle.oc_routes.specs.Group.{client_response, redirection}
+use Rattle.oc_routes.specs.Responses.{address_of, whole as whole_reply}
+use Rattle.oc_routes.specs.Routes.{response_to}
 use Rattle.oc_routes.specs.declared.routes.Operation.{Operation}
 use Rattle.oc_routes.specs.declared.routes.Operation.TheVariants as asks
 use Rattle.oc_routes.specs.declared.manner.Manner.{Manner}

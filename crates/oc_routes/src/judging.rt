@@ -7,8 +7,8 @@ ghost use Rattle.oc_routes.specs.Asks.{IsLawfulVerdict};
 ghost use Rattle.oc_routes.specs.Verdicts.{IsVerdict, asked_behind, fault_met, input_for, terms_of, unfinished};
 
 use crate::hint::{Hint, route_with_hint};
-use crate::macs::is_forged;
 use crate::rest::Rest;
+use crate::routes::message::is_forged;
 use crate::terms::Terms;
 use crate::verdict::{Request, Verdict};
 use crate::{Refused, RouteFault, awaits_continue, input_of, is_last};

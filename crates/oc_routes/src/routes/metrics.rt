@@ -1,4 +1,4 @@
-//! The metrics of a node.
+//! A GET or HEAD of `/!metrics`: the metrics of the node, for Prometheus.
 
 ghost use Rattle.std.specs.Prelude.{◌≡◌, ◌++◌, IfOk, OnOk};
 ghost use Rattle.oc_routes.specs.Metrics.{count_gauges, gauge, group_gauges, heading, held_samples, metrics_text, place_gauges, sample, sealed_samples};
@@ -8,6 +8,9 @@ use crate::rows::rows_of;
 use oc_base::{Memory, Shelf, put, put_with_number};
 use oc_node::Node;
 use std::alloc::Global;
+
+/// The path of the metrics.
+pub const METRICS_PATH: &str = "/!metrics";
 
 /// What a node tells of itself at `/!metrics`, in the text format of Prometheus. `shelf` is what it holds of each
 /// group, and `messages` the number of messages in its outbox.

@@ -1,4 +1,4 @@
-//! The status of a node.
+//! A GET or HEAD of `/!status`: the state of the node, as JSON.
 
 ghost use Rattle.std.specs.Prelude.{◌≡◌, ◌++◌, IfOk, OnOk};
 ghost use Rattle.oc_routes.specs.Json.{number_text, or_null};
@@ -12,6 +12,9 @@ use oc_base::{Memory, NodeId, Rank, Shelf, put, put_number, put_with_number};
 use oc_model::Mode;
 use oc_node::Node;
 use std::alloc::Global;
+
+/// The path of the status.
+pub const STATUS_PATH: &str = "/!status";
 
 /// What a node tells of itself at `/!status`: one object of JSON, and a line's end. `shelf` is what it holds of each
 /// group.

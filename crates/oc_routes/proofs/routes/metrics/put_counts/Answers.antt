@@ -1,7 +1,7 @@
 use Rattle.std.proofs.Common.{codes}
 use Rattle.oc_routes.specs.Metrics.{gauge}
 use Rattle.oc_routes.proofs.Texts.{last_put, then_put}
-use Rattle.oc_routes.proofs.gauges.put_counts.Goals as goal
+use Rattle.oc_routes.proofs.routes.metrics.put_counts.Goals as goal
 
 -- one metric after the other
 pub returns : goal.returns

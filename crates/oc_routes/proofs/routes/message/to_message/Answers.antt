@@ -1,7 +1,7 @@
 use Rattle.std.proofs.Common.{Bor, Option, option_map, ap}
 use Rattle.oc_model.specs.declared.message.Message.{Message}
 use Rattle.oc_routes.proofs.Brought.{brought}
-use Rattle.oc_routes.proofs.responses.to_message.Goals as goal
+use Rattle.oc_routes.proofs.routes.message.to_message.Goals as goal
 
 pub returns : goal.returns
 returns c =

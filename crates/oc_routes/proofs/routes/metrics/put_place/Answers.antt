@@ -4,7 +4,7 @@ use Rattle.oc_model.specs.Adopting.{is_acting}
 use Rattle.oc_model.specs.Records.{is_joined}
 use Rattle.oc_routes.specs.Metrics.{gauge}
 use Rattle.oc_routes.proofs.Texts.{last_put, then_put}
-use Rattle.oc_routes.proofs.gauges.put_place.Goals as goal
+use Rattle.oc_routes.proofs.routes.metrics.put_place.Goals as goal
 
 -- one metric after the other
 pub returns : goal.returns

@@ -2,7 +2,7 @@ use Rattle.std.proofs.Common.{◌≡◌, ◌∙◌, ◌++◌, ap, append_assoc, 
 use Rattle.oc_model.specs.Node.{Log}
 use Rattle.oc_routes.specs.Json.{number_text}
 use Rattle.oc_routes.proofs.Texts.{last_field, then_field}
-use Rattle.oc_routes.proofs.telling.put_counts.Goals as goal
+use Rattle.oc_routes.proofs.routes.status.put_counts.Goals as goal
 
 -- one field after the other
 pub returns : goal.returns

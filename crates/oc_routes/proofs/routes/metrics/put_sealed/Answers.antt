@@ -3,7 +3,7 @@ use Rattle.std.specs.Int.{from_bool}
 use Rattle.oc_base.specs.declared.shelf.Shelf.{Shelf}
 use Rattle.oc_routes.specs.Metrics.{sample}
 use Rattle.oc_routes.proofs.Texts.{lines_go_on}
-use Rattle.oc_routes.proofs.gauges.put_sealed.Goals as goal
+use Rattle.oc_routes.proofs.routes.metrics.put_sealed.Goals as goal
 
 pub loop-line-preserved : goal.loop-line-preserved
 loop-line-preserved c =

@@ -1,5 +1,13 @@
-ghost use Rattle.std.specs.Prelude.{◌≡◌};
+//! A GET or HEAD of `/!`: the page that draws the status.
+
+ghost use Rattle.std.specs.Prelude.{◌≡◌, IfOk};
 ghost use Rattle.oc_routes.specs.Page.{page_text};
+
+use oc_base::{Memory, put};
+use std::alloc::Global;
+
+/// The path of the page.
+pub const PAGE_PATH: &str = "/!";
 
 /// The page, whole: it reads `/!status` each second and draws the tree that the node's table tells.
 pub const PAGE: &str = r##"<!doctype html>
@@ -537,4 +545,13 @@ pub fn page() -> &'static str
     ensures { result.now ≡ page_text }
 {
     PAGE
+}
+
+/// The page, as a text of its own.
+pub(crate) fn page_copy(alloc: Global) -> Result<Vec<u8>, Memory>
+    ensures { IfOk result (λ text. text.items ≡ page_text) }
+{
+    let mut text = Vec::new(alloc);
+    put(&mut text, page().as_bytes())?;
+    Ok(text)
 }

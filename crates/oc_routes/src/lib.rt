@@ -2,10 +2,11 @@
 //! what that gives the node, and what it is answered, piece by piece. No link, disk or clock is in it: functions over
 //! values.
 //!
-//! `src/routes.rt` and `specs/Routes` are the table of routes: which operation a head asks for under the
-//! access rules (`asked`), with its faults in their order, and which input results from it and the body
-//! (`input_asked`). `src/responses.rt` and `specs/Responses` have the reply of each operation
-//! (`response_to`), `specs/Refusals` the line and the reply of a refused request.
+//! `src/routes.rt` and `specs/Routes` are the table of routes: which operation a head asks for under the access rules
+//! (`asked`), with its faults in their order, which input results from it and the body (`input_asked`), and the reply
+//! of each operation (`response_to`). What belongs to one route alone is in its file of `src/routes`, and its definitions
+//! are in `specs/Message`, `Publish`, `Seal`, `Group`, `Probe`, `Status`, `Metrics` and `Page`. `specs/Refusals` has the
+//! line and the reply of a refused request.
 //!
 //! The contracts used above: [`route`] gives exactly `asked`, [`input_of`] exactly `input_asked`, and what
 //! it gives is an input of this node; [`respond`] gives exactly `response_to` of the answer of the step.

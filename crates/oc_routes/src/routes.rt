@@ -12,8 +12,11 @@
 //! | the name of a group | POST | `publish` | `Publish` | `Publish` | a status |
 //! | the name of a group | POST with `seal` | `seal` | `Seal` | `Seal` | a status |
 //!
-//! A path is looked up in [`resource_at`] alone: another name of a route is another row there. A POST of a group may say by
-//! `at=N` which length the group has to have; whether it has is looked at by the layer above.
+//! A path is looked up in [`resource_at`] alone, once a request: another name of a route is another row there. A POST of a
+//! group may say by `at=N` which length the group has to have; whether it has is looked at by the layer above.
+//!
+//! The laws look at no single route: that of tokens rests on what the rules speak of ([`Scope`]), those of MACs, of failures
+//! and of plain lines on what a body gives (`proofs/Bodies`), which computes for a route without an input.
 
 ghost use Rattle.std.specs.Prelude.{◌≡◌, ◌≤◌, length, IfOk, IfSome, map, option_map, string_bytes};
 ghost use Rattle.std.specs.Option.{ForSome};
@@ -334,22 +337,27 @@ pub fn respond(
     requires asks { IsAsked operation.now }
     requires reply { ForSome (option_map (λ m. m.now) reply) (λ m. HasSpelling m.body) }
     ensures { IfOk result (λ response. response
-        ≡ response_to operation.now answered.entry.answer (option_map (λ m. m.now) reply.entry) answered.entry.sealed
+        ≡ response_to operation.now answered.entry.shown.answer (option_map (λ m. m.now) reply.entry) answered.entry.shown.sealed
         (map string_bytes network.now.addresses.now) (option_map (λ k. k.now) network.now.key) answered.entry.last answered.entry.report.now) }
 {
+    let Answered {
+        shown,
+        last,
+        report: text,
+    } = answered;
     match operation {
         Operation::Message => to_message(alloc, reply, network.key),
-        Operation::Publish { .. } => to_publish(alloc, answered.answer),
-        Operation::Seal { .. } => to_seal(alloc, answered.answer),
+        Operation::Publish { .. } => to_publish(alloc, shown.answer),
+        Operation::Seal { .. } => to_seal(alloc, shown.answer),
         Operation::Client {
             group,
             start,
             manner,
             ..
         } => to_client(alloc, group, *start, *manner, answered, network.addresses),
-        Operation::Probe { manner } => to_probe(alloc, *manner, answered.last),
+        Operation::Probe { manner } => to_probe(alloc, *manner, last),
         Operation::Report { report, manner } => {
-            report_response(alloc, *report, *manner, answered.last, answered.report)
+            report_response(alloc, *report, *manner, last, text)
         }
     }
 }

@@ -29,21 +29,21 @@ pub fn respond_to(
     alloc: Global,
     asked: Asked,
     last: bool,
-    told: StepOutcome<'_>,
+    outcome: StepOutcome<'_>,
     network: &Directory<'_>,
     report: &[u8],
 ) -> Result<Response, Memory>
     requires asks { IsAsked asked.operation }
-    requires back { ForSome (option_map (λ m. m.now) told.back) (λ m. HasSpelling m.body) }
+    requires back { ForSome (option_map (λ m. m.now) outcome.back) (λ m. HasSpelling m.body) }
     ensures { IfOk result (λ response. response
-        ≡ response_for asked last told.entry.answer (option_map (λ m. m.now) told.entry.back) told.entry.holding
+        ≡ response_for asked last outcome.entry.answer (option_map (λ m. m.now) outcome.entry.back) outcome.entry.holding
         (map string_bytes network.now.addresses.now) (option_map (λ k. k.now) network.now.key) report.now) }
 {
     let StepOutcome {
         answer,
         back,
         holding,
-    } = told;
+    } = outcome;
     let Operation::Client {
         group,
         start,
@@ -51,9 +51,12 @@ pub fn respond_to(
         ..
     } = &asked.operation
     else {
-        let answered = Answered {
+        let shown = Shown {
             answer,
             sealed: holding.sealed,
+        };
+        let answered = Answered {
+            shown,
             last,
             report,
         };
@@ -62,8 +65,7 @@ pub fn respond_to(
     let shown = as_shown(asked.hint, answer, holding, *start);
     let Some(address) = address_in(shown.answer, network.addresses) else {
         let answered = Answered {
-            answer: shown.answer,
-            sealed: shown.sealed,
+            shown,
             last,
             report,
         };

@@ -2,7 +2,7 @@
 
 ghost use Rattle.std.specs.Prelude.{◌≡◌, ◌++◌, IfOk, OnOk};
 ghost use Rattle.oc_routes.specs.Json.{number_text, or_null};
-ghost use Rattle.oc_routes.specs.Status.{counts_text, mode_word, network_text, peer_of, place_text, rank_text, state_text, status_text, told_text};
+ghost use Rattle.oc_routes.specs.Status.{counts_text, mode_word, network_text, peer_of, place_text, rank_text, state_text, status_text, object_text};
 
 use crate::arrays::put_list;
 use crate::json::{put_field, put_number_or_null, put_quoted};
@@ -30,19 +30,19 @@ pub fn status(alloc: Global, node: &Node, shelf: &[Shelf]) -> Result<Vec<u8>, Me
         node.rates(),
     )?;
     let mut text = Vec::new(alloc);
-    put_told(&mut text, node, shelf, &rows, &leased)?;
+    put_object(&mut text, node, shelf, &rows, &leased)?;
     Ok(text)
 }
 
 /// Puts the whole status, with these rows and children.
-fn put_told(
+fn put_object(
     out: &mut Vec<u8>,
     node: &Node,
     shelf: &[Shelf],
     rows: &[Row],
     leased: &[Leased],
 ) -> Result<(), Memory>
-    ensures { OnOk result (out.new.items ≡ out.old.items ++ told_text node.now.control shelf.now rows.now leased.now) }
+    ensures { OnOk result (out.new.items ≡ out.old.items ++ object_text node.now.control shelf.now rows.now leased.now) }
 {
     put(out, b"{")?;
     put_state(out, node)?;

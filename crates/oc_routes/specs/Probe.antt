@@ -1,5 +1,5 @@
 -- A GET or HEAD of `/!probe`: the content by which rates are measured.
-use Rattle.std.specs.Prelude.{ℕ, None, List, [], ◌++◌, replicate}
+use Rattle.std.specs.Prelude.{ℕ, Bool, None, List, [], ◌++◌, replicate}
 use Rattle.std.specs.Str.{byte}
 use Rattle.oc_http.specs.Writing.{head_text}
 use Rattle.oc_http.specs.declared.framing.Framing.TheVariants as framings

@@ -354,7 +354,14 @@ pub fn respond(
             start,
             manner,
             ..
-        } => to_client(alloc, group, *start, *manner, answered, network.addresses),
+        } => {
+            let answered = Answered {
+                shown,
+                last,
+                report: text,
+            };
+            to_client(alloc, group, *start, *manner, answered, network.addresses)
+        }
         Operation::Probe { manner } => to_probe(alloc, *manner, last),
         Operation::Report { report, manner } => {
             report_response(alloc, *report, *manner, last, text)

@@ -6,16 +6,18 @@ ghost use Rattle.oc_routes.specs.Responses.{status_alone, typed, typed_as, whole
 
 use crate::refusals::bare;
 use crate::response::Response;
-use crate::showing::Shown;
 use oc_base::{Bytes, Memory, Text};
 use oc_http::{ContentType, Framing, Persistence, Reply, write_reply_head, write_response};
+use oc_model::Answer;
 use std::alloc::Global;
 
 /// What an answer depends on besides what was asked.
 #[derive(Clone, Copy, Drop)]
 pub struct Answered<'a> {
-    /// The answer of the step, and whether the group is sealed; for a probe and a report they are not looked at.
-    pub shown: Shown,
+    /// The answer of the step; for a probe and a report it is not looked at.
+    pub answer: Answer,
+    /// The group that a client gets is sealed.
+    pub sealed: bool,
     /// The request is the last of its connection whatever it asks.
     pub last: bool,
     /// What the node tells of itself; looked at for a report alone.

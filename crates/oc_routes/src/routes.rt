@@ -337,34 +337,22 @@ pub fn respond(
     requires asks { IsAsked operation.now }
     requires reply { ForSome (option_map (λ m. m.now) reply) (λ m. HasSpelling m.body) }
     ensures { IfOk result (λ response. response
-        ≡ response_to operation.now answered.entry.shown.answer (option_map (λ m. m.now) reply.entry) answered.entry.shown.sealed
+        ≡ response_to operation.now answered.entry.answer (option_map (λ m. m.now) reply.entry) answered.entry.sealed
         (map string_bytes network.now.addresses.now) (option_map (λ k. k.now) network.now.key) answered.entry.last answered.entry.report.now) }
 {
-    let Answered {
-        shown,
-        last,
-        report: text,
-    } = answered;
     match operation {
         Operation::Message => to_message(alloc, reply, network.key),
-        Operation::Publish { .. } => to_publish(alloc, shown.answer),
-        Operation::Seal { .. } => to_seal(alloc, shown.answer),
+        Operation::Publish { .. } => to_publish(alloc, answered.answer),
+        Operation::Seal { .. } => to_seal(alloc, answered.answer),
         Operation::Client {
             group,
             start,
             manner,
             ..
-        } => {
-            let answered = Answered {
-                shown,
-                last,
-                report: text,
-            };
-            to_client(alloc, group, *start, *manner, answered, network.addresses)
-        }
-        Operation::Probe { manner } => to_probe(alloc, *manner, last),
+        } => to_client(alloc, group, *start, *manner, answered, network.addresses),
+        Operation::Probe { manner } => to_probe(alloc, *manner, answered.last),
         Operation::Report { report, manner } => {
-            report_response(alloc, *report, *manner, last, text)
+            report_response(alloc, *report, *manner, answered.last, answered.report)
         }
     }
 }

@@ -51,12 +51,9 @@ pub fn respond_to(
         ..
     } = &asked.operation
     else {
-        let shown = Shown {
+        let answered = Answered {
             answer,
             sealed: holding.sealed,
-        };
-        let answered = Answered {
-            shown,
             last,
             report,
         };
@@ -65,7 +62,8 @@ pub fn respond_to(
     let shown = as_shown(asked.hint, answer, holding, *start);
     let Some(address) = address_in(shown.answer, network.addresses) else {
         let answered = Answered {
-            shown,
+            answer: shown.answer,
+            sealed: shown.sealed,
             last,
             report,
         };

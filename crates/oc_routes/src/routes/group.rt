@@ -27,14 +27,13 @@ pub(super) fn to_client(
 ) -> Result<Response, Memory>
     requires { IsGroupName group.now }
     ensures { IfOk result (λ response. response
-        ≡ client_response group.now start manner answered.entry.shown.answer answered.entry.shown.sealed (map string_bytes addresses.now) answered.entry.last) }
+        ≡ client_response group.now start manner answered.entry.answer answered.entry.sealed (map string_bytes addresses.now) answered.entry.last) }
 {
-    let Answered { shown, last, .. } = answered;
-    match shown.answer {
+    match answered.answer {
         Answer::Redirect(node) => {
             sent_to(alloc, address_of(addresses, node), group, start, manner)
         }
-        Answer::Serve(count) => served(alloc, manner, shown.sealed, last, start, count),
+        Answer::Serve(count) => served(alloc, manner, answered.sealed, answered.last, start, count),
         _ => status_alone(alloc, 404),
     }
 }

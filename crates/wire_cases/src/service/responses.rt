@@ -8,7 +8,7 @@ ghost use Rattle.oc_wire.specs.Spelling.{HasSpelling};
 use crate::service::asking::{ReadRequest, request_in};
 use oc_base::NodeId;
 use oc_model::{Answer, Message};
-use oc_routes::{Answered, Directory, Operation, Persistence, Response, Shown, is_last, respond};
+use oc_routes::{Answered, Directory, Operation, Persistence, Response, is_last, respond};
 use oc_wire::decode;
 use std::alloc::Global;
 use test_tools::{Fault, RowFields, put_spelled, spelled_in};
@@ -109,12 +109,9 @@ fn respond_with(
 {
     let addresses = addresses(alloc)?;
     let last = is_last(&request.head, turn.number);
-    let shown = Shown {
+    let answered = Answered {
         answer: turn.answer,
         sealed: turn.sealed,
-    };
-    let answered = Answered {
-        shown,
         last,
         report,
     };

@@ -37,6 +37,7 @@ pub(crate) mod publish;
 pub(crate) mod seal;
 pub(crate) mod status;
 
+use crate::addresses::address_of;
 use crate::directory::Directory;
 use crate::fault::RouteFault;
 use crate::manner::{Manner, manner_of};
@@ -44,14 +45,14 @@ use crate::query::{Query, query_in};
 use crate::refused::Refused;
 use crate::report::{Report, report_response};
 use crate::response::Response;
-use crate::responses::Answered;
-use group::to_client;
+use crate::responses::{Answered, status_alone};
+use group::{sent_to, served};
 use message::{delivered, to_message};
 use metrics::METRICS_PATH;
 use oc_base::words::is;
 use oc_base::{Bytes, GroupName, Memory, NodeId};
 use oc_http::{Head, MESSAGE_PATH, Method, PROBE_PATH, Text};
-use oc_model::{Input, Message};
+use oc_model::{Answer, Input, Message};
 use oc_policy::{Action, Decision, MAX_RULES, Rule, decide};
 use page::PAGE_PATH;
 use probe::to_probe;
@@ -340,19 +341,37 @@ pub fn respond(
         ≡ response_to operation.now answered.entry.answer (option_map (λ m. m.now) reply.entry) answered.entry.sealed
         (map string_bytes network.now.addresses.now) (option_map (λ k. k.now) network.now.key) answered.entry.last answered.entry.report.now) }
 {
+    let Answered {
+        answer,
+        sealed,
+        last,
+        report: text,
+    } = answered;
     match operation {
         Operation::Message => to_message(alloc, reply, network.key),
-        Operation::Publish { .. } => to_publish(alloc, answered.answer),
-        Operation::Seal { .. } => to_seal(alloc, answered.answer),
+        Operation::Publish { .. } => to_publish(alloc, answer),
+        Operation::Seal { .. } => to_seal(alloc, answer),
         Operation::Client {
             group,
             start,
             manner,
             ..
-        } => to_client(alloc, group, *start, *manner, answered, network.addresses),
-        Operation::Probe { manner } => to_probe(alloc, *manner, answered.last),
+        } => match answer {
+            Answer::Redirect(node) => {
+                sent_to(
+                    alloc,
+                    *manner,
+                    address_of(network.addresses, node),
+                    group,
+                    *start,
+                )
+            }
+            Answer::Serve(count) => served(alloc, *manner, sealed, last, *start, count),
+            _ => status_alone(alloc, 404),
+        },
+        Operation::Probe { manner } => to_probe(alloc, *manner, last),
         Operation::Report { report, manner } => {
-            report_response(alloc, *report, *manner, answered.last, answered.report)
+            report_response(alloc, *report, *manner, last, text)
         }
     }
 }

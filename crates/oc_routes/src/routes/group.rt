@@ -1,50 +1,26 @@
 //! A GET or HEAD of a group: a client is given its bytes from a byte on, or is sent to another node.
 
-ghost use Rattle.std.specs.Prelude.{◌≡◌, [], IfOk, map, string_bytes};
+ghost use Rattle.std.specs.Prelude.{◌≡◌, [], IfOk, string_bytes};
 ghost use Rattle.oc_base.specs.Names.{IsGroupName};
 ghost use Rattle.oc_http.specs.Writing.{head_text};
-ghost use Rattle.oc_routes.specs.Group.{client_response, framing_for, is_chunked, location_for, redirection, served};
+ghost use Rattle.oc_routes.specs.Group.{framing_for, is_chunked, location_for, redirection, served};
 ghost use Rattle.oc_routes.specs.Responses.{typed, whole};
 
-use crate::addresses::address_of;
 use crate::manner::{Manner, connection_for};
 use crate::response::{GroupRange, Response};
-use crate::responses::{Answered, status_alone, typed_head, whole};
+use crate::responses::{typed_head, whole};
 use oc_base::{Bytes, GroupName, Memory, Text};
 use oc_http::{Framing, Reply};
-use oc_model::Answer;
 use oc_updown::{follow_location, location};
 use std::alloc::Global;
 
-/// The reply to a client that asks for a group from byte `start` on, by the answer of its step.
-pub(super) fn to_client(
-    alloc: Global,
-    group: &GroupName,
-    start: u64,
-    manner: Manner,
-    answered: Answered<'_>,
-    addresses: &[String],
-) -> Result<Response, Memory>
-    requires { IsGroupName group.now }
-    ensures { IfOk result (λ response. response
-        ≡ client_response group.now start manner answered.entry.answer answered.entry.sealed (map string_bytes addresses.now) answered.entry.last) }
-{
-    match answered.answer {
-        Answer::Redirect(node) => {
-            sent_to(alloc, address_of(addresses, node), group, start, manner)
-        }
-        Answer::Serve(count) => served(alloc, manner, answered.sealed, answered.last, start, count),
-        _ => status_alone(alloc, 404),
-    }
-}
-
 /// Sends a client to the node at an address.
-fn sent_to(
+pub(super) fn sent_to(
     alloc: Global,
+    manner: Manner,
     address: &str,
     group: &GroupName,
     start: u64,
-    manner: Manner,
 ) -> Result<Response, Memory>
     requires { IsGroupName group.now }
     ensures { IfOk result (λ response. response ≡ whole (redirection (location_for manner address.now group.now start))) }
@@ -87,7 +63,7 @@ fn location_for(
 }
 
 /// Gives a client `count` bytes of a group from a byte on.
-fn served(
+pub(super) fn served(
     alloc: Global,
     manner: Manner,
     sealed: bool,

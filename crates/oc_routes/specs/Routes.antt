@@ -1,5 +1,5 @@
 -- The table of routes: what the head of a request asks of a node, which input results from it, and what it is answered.
-use Rattle.std.specs.Prelude.{◌≡◌, ℕ, Bool, true, false, ◌==◌, if◌then◌else◌, Option, Some, None, Result, Ok, Err, List, [], ◌∷◌}
+use Rattle.std.specs.Prelude.{◌≡◌, ℕ, Bool, true, false, if◌then◌else◌, Option, Some, None, Result, Ok, Err, List, [], ◌∷◌}
 use Rattle.std.specs.Str.{bytes_eq}
 use Rattle.oc_base.specs.Names.{parsed_name}
 use Rattle.oc_base.specs.Steps.{◌>>=◌}

@@ -83,6 +83,16 @@ def free_ports(count):
     return ports
 
 
+def need_ports(*ports):
+    """Waits until no other script has these ports; from then on this one has them."""
+    end = time.monotonic() + 300
+    for port in ports:
+        while not is_free(port):
+            if time.monotonic() > end:
+                sys.exit(f"another program listens at port {port}")
+            time.sleep(0.5)
+
+
 def measured(lines):
     """The key of a configuration that has these measures."""
     return 'measures = """\n' + "\n".join(lines) + '\n"""\n\n'

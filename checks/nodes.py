@@ -55,6 +55,8 @@ claims = []
 def is_free(port):
     """Whether nobody listens at a port of 127.0.0.1 and no other script has it; from then on this one has it."""
     with socket.socket() as it:
+        # Connections that ended a moment ago do not keep a port from a node.
+        it.setsockopt(socket.SOL_SOCKET, socket.SO_REUSEADDR, 1)
         try:
             it.bind(("127.0.0.1", port))
         except OSError:

@@ -195,6 +195,19 @@ class Network:
         told = {node: self.status(node) for node in self.nodes}
         return {node: it["parent"] if it["mode"] == "joined" else 0 if it["mode"] == "acting" else None for node, it in told.items()}
 
+    def disturbed(self):
+        """What makes running nodes ask that have a place: dials that failed, and the answer that a lease is not known; and how
+        far apart their ticks were. On a machine that has no time for the nodes there are some."""
+        found = []
+        for node in sorted(self.nodes):
+            lines = self.lines(node)
+            ticks = [int(line.split()[2]) for line in lines if line.startswith("tick ")]
+            failed = sum(line.startswith("fail ") for line in lines)
+            again = sum(re.match(rf"recv {node} [0-9a-f]{{16}}08", line) is not None for line in lines)
+            found.append(f"{node}: {failed} failed dials, told {again} times to join again, ticks at most "
+                         f"{max((b - a for a, b in zip(ticks, ticks[1:])), default=0)} s apart")
+        return "; ".join(found)
+
     def check(self, node, nodes, chain, home=None):
         """The lines of `overcast check` over the files of a node that does not run, in its folder or another."""
         it = subprocess.run([PROGRAM, "check", str(node), str(nodes), str(chain)],

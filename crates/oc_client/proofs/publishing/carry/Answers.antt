@@ -87,16 +87,16 @@ returns-in_err-reached-clause-input_cause g c = λ e.
 
 -- the last piece is taken
 
-pub returns-then-count-lt-least_piece-clause-carried : goal.returns-then-count-lt-least_piece-clause-carried
-returns-then-count-lt-least_piece-clause-carried g c =
+pub returns-then-count-least_piece-clause-carried : goal.returns-then-count-least_piece-clause-carried
+returns-then-count-least_piece-clause-carried g c =
     let before = c.pieces.invariant in
-    carried_last g.S.Source.gives g.S.Source.ended g.met.S.Source.gives_then c.args.job.now.plan (goal_of c.args.job.now) c.args.found c.pieces.reached c.in_ok-reached.reached (g.L.Dialler.story c.args.link.now) (g.L.Dialler.story c.pieces.link) (g.L.Dialler.story c.send.new.link) c.args.input.now c.pieces.input c.next_piece.new.input before.pieces c.in_ok-piece.piece before.has c.in_ok-piece.ensures.piece.came c.in_ok-piece.ensures.piece.within (λ none. before.first (c.if-is_left_out.ensures.sent refl (omega (arith, none, ap (λ (x : List ℕ). length x) c.items-count.ensures)))) (c.in_ok-piece.ensures.piece.end (omega (arith, c.if-count-lt-least_piece.true, c.least_piece.ensures, ap (λ (x : List ℕ). length x) c.items-count.ensures))) c.in_ok-reached.ensures.sent
+    carried_last g.S.Source.gives g.S.Source.ended g.met.S.Source.gives_then c.args.job.now.plan (goal_of c.args.job.now) c.args.found c.pieces.reached c.in_ok-reached.reached (g.L.Dialler.story c.args.link.now) (g.L.Dialler.story c.pieces.link) (g.L.Dialler.story c.send.new.link) c.args.input.now c.pieces.input c.next_piece.new.input before.pieces c.in_ok-piece.piece before.has c.in_ok-piece.ensures.piece.came c.in_ok-piece.ensures.piece.within (λ none. before.first (c.if-is_left_out.ensures.sent refl (omega (arith, none, ap (λ (x : List ℕ). length x) c.items-count.ensures)))) (c.in_ok-piece.ensures.piece.end (omega (arith, c.if-count-least_piece.true, c.least_piece.ensures, ap (λ (x : List ℕ). length x) c.items-count.ensures))) c.in_ok-reached.ensures.sent
 
-pub returns-then-count-lt-least_piece-clause-link_count : goal.returns-then-count-lt-least_piece-clause-link_count
-returns-then-count-lt-least_piece-clause-link_count g c = omega (arith, c.pieces.invariant.link_count, c.send.ensures.count)
+pub returns-then-count-least_piece-clause-link_count : goal.returns-then-count-least_piece-clause-link_count
+returns-then-count-least_piece-clause-link_count g c = omega (arith, c.pieces.invariant.link_count, c.send.ensures.count)
 
-pub returns-then-count-lt-least_piece-clause-input_count : goal.returns-then-count-lt-least_piece-clause-input_count
-returns-then-count-lt-least_piece-clause-input_count g c = omega (arith, c.pieces.invariant.input_count, c.next_piece.ensures.count)
+pub returns-then-count-least_piece-clause-input_count : goal.returns-then-count-least_piece-clause-input_count
+returns-then-count-least_piece-clause-input_count g c = omega (arith, c.pieces.invariant.input_count, c.next_piece.ensures.count)
 
 -- a piece is taken after which others may come
 
@@ -105,7 +105,7 @@ pieces-preserved g c =
     let before = c.pieces.invariant in
     let laws : Laws g.E.Sink.takes g.E.Sink.fails = record { none = g.met.E.Sink.takes_nothing; both = g.met.E.Sink.takes_then; last = g.met.E.Sink.takes_fails } in
     let piece = c.in_ok-piece.piece in
-    let least : least_piece c.args.job.now.plan.live ≤ length piece = omega (arith, c.if-count-lt-least_piece.false, c.least_piece.ensures, ap (λ (x : List ℕ). length x) c.items-count.ensures) in
+    let least : least_piece c.args.job.now.plan.live ≤ length piece = omega (arith, c.if-count-least_piece.false, c.least_piece.ensures, ap (λ (x : List ℕ). length x) c.items-count.ensures) in
     record {
       pieces = before.pieces ++ piece ∷ [];
       has = carried_more g.S.Source.gives g.met.S.Source.gives_then c.args.job.now.plan (goal_of c.args.job.now) c.args.found c.pieces.reached c.in_ok-reached.reached (g.L.Dialler.story c.args.link.now) (g.L.Dialler.story c.pieces.link) (g.L.Dialler.story c.send.new.link) c.args.input.now c.pieces.input c.next_piece.new.input before.pieces piece before.has c.in_ok-piece.ensures.piece.came (least, c.in_ok-piece.ensures.piece.within) c.in_ok-reached.ensures.sent;
@@ -118,7 +118,7 @@ pieces-preserved g c =
 
 pub pieces-smaller : goal.pieces-smaller
 pieces-smaller g c =
-    let least : least_piece c.args.job.now.plan.live ≤ length c.in_ok-piece.piece = omega (arith, c.if-count-lt-least_piece.false, c.least_piece.ensures, ap (λ (x : List ℕ). length x) c.items-count.ensures) in
+    let least : least_piece c.args.job.now.plan.live ≤ length c.in_ok-piece.piece = omega (arith, c.if-count-least_piece.false, c.least_piece.ensures, ap (λ (x : List ℕ). length x) c.items-count.ensures) in
     omega (arith, c.in_ok-reached.ensures.length, c.in_ok-reached.ensures.sent.sends.0, least, least_some c.args.job.now.plan.live, c.in_ok-piece.ensures.piece.within)
 
 -- What is told
@@ -147,8 +147,8 @@ returns-then-is_left_out-clause-told g c =
     let came = g.met.S.Source.gives_then _ _ _ _ _ before.has.came c.in_ok-piece.ensures.piece.came in
     (joined before.pieces, subst (λ (x : List ℕ). g.S.Source.gives c.args.input.now x c.next_piece.new.input) (ap (λ (x : List ℕ). joined before.pieces ++ x) (no_bytes c.in_ok-piece.piece none) ∙ append-nil (joined before.pieces)) came, before.grew)
 
-pub returns-then-count-lt-least_piece-clause-told : goal.returns-then-count-lt-least_piece-clause-told
-returns-then-count-lt-least_piece-clause-told g c =
+pub returns-then-count-least_piece-clause-told : goal.returns-then-count-least_piece-clause-told
+returns-then-count-least_piece-clause-told g c =
     let before = c.pieces.invariant in
     let laws : Laws g.E.Sink.takes g.E.Sink.fails = record { none = g.met.E.Sink.takes_nothing; both = g.met.E.Sink.takes_then; last = g.met.E.Sink.takes_fails } in
     let came = g.met.S.Source.gives_then _ _ _ _ _ before.has.came c.in_ok-piece.ensures.piece.came in

@@ -8,7 +8,7 @@ use Rattle.oc_base.specs.declared.refusal.Refusal.TheVariants as refusals
 use Rattle.oc_base.specs.declared.shelf.Shelf.{Shelf}
 use Rattle.oc_base.specs.Groups.{shelf}
 use Rattle.oc_model.specs.Adopting.{adopts, answers_ask, birth, has_lease, asked, grants, raises, raises_over, sends_rejoin}
-use Rattle.oc_model.specs.Asking.{act, ancestors_by, ask, ask_before, is_asking, descend, joins, lost, lost_from, next_try, not_reached, not_seen, refused, relocate, round, set_tries, took_no, took_yes, try_at, try_first}
+use Rattle.oc_model.specs.Asking.{act, ancestors_by, ask, ask_before, is_asking, descend, joins, lost, lost_from, next_try, not_reached, not_seen, notes_parent, refused, relocate, round, set_tries, took_no, took_yes, try_at, try_first}
 use Rattle.oc_model.specs.Checking.{acknowledges, at_time, checked_in, checks, checks_as, checks_if_due, checks_in_time, counts_clients, dies, ends_each, ends_leases, fetches, fetches_as, forgets_refusal, goes_on, is_due, is_joined_to, life, looks_at_each, looks_round, merges, merges_all, notes_time, reports, reports_news, reports_news_as, sets_due, starts_leases, takes_ancestors, takes_place, takes_rank, takes_rank_unless, tick, tick_checks, tick_checks_as, took_ack, took_rejoin}
 use Rattle.oc_model.specs.Choice.{below, chosen, reviewed}
 use Rattle.oc_model.specs.Content.{answers_fetch, asks_on, chunk_to, grows, keeps, keeps_chunk, publish_to, published, pulled, seal_line, sealed_at, took_chunk, unless}
@@ -133,8 +133,8 @@ module _ {x k : ℕ} where
   few_relocate : (o : Plan) (p : ℕ) → Few x k o → Few x (k + 1) (relocate o p)
   few_relocate o p f =
       let fixed : Bool = o.node.me == 1 || (is_member o.node && nat_lt o.node.me p) in
-      either (p == o.node.me) (answers o words.Own) (if fixed then answers o words.Fixed else ask_before o p) (few_answers o words.Own f)
-      (either fixed (answers o words.Fixed) (ask_before o p) (few_answers o words.Fixed f) (few_ask_before o p f))
+      either (p == o.node.me) (answers o words.Own) (if fixed then answers o words.Fixed else ask_before (notes_parent o) p) (few_answers o words.Own f)
+      (either fixed (answers o words.Fixed) (ask_before (notes_parent o) p) (few_answers o words.Fixed f) (few_ask_before (notes_parent o) p (quiet o (notes_parent o) refl refl f)))
 
   -- Looking
 

@@ -299,9 +299,12 @@ fn left_in_move(step: &Step) -> Option<NodeId>
     ensures { result ≡ left_in_move step.now.plan.node.kept.mode step.now.plan.node.soft.wish step.now.plan.node.soft.left }
 {
     let volatile = step.volatile();
-    match (step.position().mode, volatile.wish) {
-        (Mode::Joined(parent), Some(_)) => Some(parent),
-        _ => volatile.left,
+    match step.position().mode {
+        Mode::Joined(parent) => match volatile.wish {
+            Some(_) => Some(parent),
+            None => volatile.left,
+        },
+        Mode::Idle | Mode::Asking(_) | Mode::Acting => volatile.left,
     }
 }
 

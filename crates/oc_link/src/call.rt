@@ -7,8 +7,8 @@ use oc_base::{Bytes, Text};
 pub enum Call {
     /// The link waits for connections at this address.
     Listen(Text),
-    /// `next` answered this event. The bytes are those that came with it: of a request those after what had come before,
-    /// and of a reply all.
+    /// `next` answered this event. The bytes are those that came with it: of a request only the new ones, and of a
+    /// reply all.
     Next(LinkEvent, Bytes),
     /// The clock gave this number of seconds.
     Now(u64),
@@ -16,11 +16,11 @@ pub enum Call {
     Millis(u64),
     /// This number of bytes of a connection was taken as its request.
     Take(ConnectionId, u64),
-    /// A connection was given these bytes to send.
+    /// A connection got these bytes to send.
     Give(ConnectionId, Bytes),
-    /// The reply of a connection is whole.
+    /// The reply of a connection was given in full.
     Finish(ConnectionId, Ending),
-    /// A connection was broken off.
+    /// A connection was closed at once.
     BreakOff(ConnectionId),
     /// A dial to this address began, with these bytes.
     Dial(DialId, Text, Bytes),

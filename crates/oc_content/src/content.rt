@@ -218,9 +218,9 @@ impl<D: Disk> Content<D> {
         )
     }
 
-    /// Reads ahead the range of the next `fetch`, once: the range right after the last one, if that one, too, came right
-    /// after the one before. It does nothing if there is no memory, or if the group has too few bytes yet. After an error
-    /// each commit answers `Closed`.
+    /// Reads ahead the range of the next `fetch`, once: the range right after the last one, if that one, too, came
+    /// right after the one before. It does nothing if there is no memory, or if the group has too few bytes yet. After
+    /// an error each commit answers `Closed`.
     pub fn read_ahead(&mut self, alloc: Global) -> Result<(), Failed>
         ensures disk { OnErr result (ClosesByRead D.view self.old.journal self.new.journal) }
         ensures none_failed { OnOk result (NoneFailed D.view self.old.journal self.new.journal) }

@@ -256,7 +256,7 @@ fn reserve_at(tracks: &mut Vec<Track>, at: usize) -> Result<(), AllocError>
     tracks[at].reserve()
 }
 
-/// Adds the span of an entry, if that has bytes, to the track of the group at an index.
+/// Adds the span of an entry, unless it has no bytes, to the track of the group at an index.
 fn add_span_at(tracks: &mut Vec<Track>, at: usize, heading: &Heading, count: u64, frame: u64)
     requires within { at < length tracks.old.items }
     requires room { 0 < get_or (rooms tracks.old.items) at 0 }

@@ -6,6 +6,7 @@ use Rattle.oc_journal.specs.JournalFile.{frames_of, end_of, EndsAt, IsJournalOf}
 use Rattle.oc_journal.specs.declared.extent.Extent.{Extent}
 
 -- the disk, the bodies of the frames, the offset of their end, the number of further frames for which the index has memory, and whether
+-- the disk failed
 pub record JournalView (D : Type 0) : Type 0 where
   pub disk : D
   pub frames : List (List ℕ)

@@ -6,7 +6,7 @@ use Rattle.oc_io.specs.MemDiskView.{MemDiskView, refused, wrote}
 use Rattle.oc_io.specs.declared.failures.Stop.{Stop}
 use Rattle.oc_journal.specs.JournalView.{JournalView}
 
--- An append of a body of n bytes can be stopped: no call of the disk is listed to fail, the room is there, and the file stays within its limit.
+-- An append of n bytes can be stopped: no call of the disk is listed to fail, the room is there, and the file stays within its limit.
 pub record CanStop (n : ℕ) (journal : JournalView MemDiskView) : Type 0 where
   pub no_fault : journal.disk.failing.calls.listed ≡ []
   pub room : n + 6 ≤ journal.disk.room

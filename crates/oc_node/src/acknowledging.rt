@@ -47,6 +47,7 @@ fn acknowledge(step: &mut Step, child: NodeId, seq: u64, upto: u64, rate: u64) -
 }
 
 /// Rule 13, check-ins: merges the news of a child with a lease at that ask number, and acknowledges; tells any other
+/// node to ask anew.
 pub fn checked_in(step: &mut Step, child: NodeId, told: &CheckIn) -> Result<(), Memory>
     requires { IsNode step.old.base.nodes child }
     ensures { OnOk result (step.new ≡ goes step.old (checked_in step.old.plan child told.now.seq told.now.upto

@@ -22,9 +22,9 @@ pub struct Durable {
     position: Position,
     table: Table,
     log: ChangeLog,
-    /// The number of certificates and rates for which the log has room; unless it is 0, the table has memory for all rows,
-    /// and the measures for all peers. A recovery that runs out of memory leaves this number unchanged, though the log, the
-    /// table and the measures keep the memory that they have.
+    /// The number of certificates and rates for which the log has room; unless it is 0, the table has memory for all
+    /// rows, and the measures for all peers. A recovery that runs out of memory leaves this number unchanged, though the
+    /// log, the table and the measures keep the memory that they have.
     room: usize,
     /// The nodes above, nearest first.
     ancestors: IdList,
@@ -108,7 +108,7 @@ impl Durable {
         &self.measures
     }
 
-    /// Makes room to fold these records: room in the log for each certificate and rate that they bring, or for the whole
+    /// Makes room to fold these records: in the log for each certificate and rate that they bring, or for the whole
     /// table. Takes no memory if they bring none.
     pub fn reserve(&mut self, changes: &[Record]) -> Result<(), Memory>
         ensures room { OnOk result (length self.new.kept.log.waiting + (length self.new.kept.table + brought_by changes.now) ≤ self.new.room) }

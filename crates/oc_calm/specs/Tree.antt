@@ -95,6 +95,6 @@ abbrev pub is_positive : ℕ → Bool
 is_positive zero = false
 is_positive (suc n) = true
 
--- under the root r, a node is in place as in a ready world: down, or the root, or not acting and with a true chain and a lease of its parent
+-- under the root r, a node is as in a ready world: down, or the root, or not acting and with a true chain and a lease of its parent
 unfoldable pub fits_under : World → ℕ → ℕ → Bool
 fits_under w r x = not (is_up w x) || x == r || (not (is_acting (mode_of w x)) && is_positive (chain_length w x) && is_linked w x)

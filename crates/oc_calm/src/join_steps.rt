@@ -34,8 +34,8 @@ pub fn join_by<C: Cluster>(
     join(cluster, peer, node, acts)
 }
 
-/// The leader tells its rank down to a node: by a check of its own, and then by a check-in of each node on the way down,
-/// the last of them that node.
+/// The leader tells its rank down to a node: by a check of its own, and then by a check-in of each node on the way
+/// down, the last of them that node.
 fn tell_rank<C: Cluster>(
     alloc: Global,
     cluster: &mut C,

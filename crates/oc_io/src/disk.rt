@@ -28,7 +28,7 @@ pub trait Disk {
         ensures fails { OnErr result (FailsToRead (view self.old) (view self.new)) };
 
     /// Reads from that offset on into the buffer, up to the size, and answers the number of bytes read.
-    /// An offset past the size may fail.
+    /// A read from an offset past the size may fail.
     fn read_at(&mut self, at: u64, buf: &mut [u8]) -> Result<usize, Failed>
         ensures count { IfOk result (λ n. n ≡ min (length buf.old) ((view self.old).size - at)) }
         ensures bytes { IfOk result

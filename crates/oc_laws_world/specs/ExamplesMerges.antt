@@ -51,7 +51,7 @@ CopyingScheduled = IsScheduleOf (new_world two) copying
 abbrev pub CopyingHeld : Type 0
 CopyingHeld = shelf (own_fold two copying 2).groups ≡ record { group = codes "/a"; held = 5; sealed = false } ∷ []
 
--- A record whose second publish was not taken, since the node stopped, and a record whose first publish was not taken.
+-- A record whose second publish was not taken, since the node stopped, and a record whose first publish was taken.
 
 abbrev adds : List ℕ → Input
 adds bytes = Publish (codes "/a") bytes

@@ -23,8 +23,8 @@ pub struct Durable {
     table: Table,
     log: ChangeLog,
     /// The number of certificates and rates for which the log has room; unless it is 0, the table has memory for all
-    /// rows, and the measures for all peers. A recovery that runs out of memory leaves this number unchanged, though the
-    /// log, the table and the measures keep the memory that they have.
+    /// rows, and the measures for all peers. A recovery that runs out of memory leaves this number unchanged, though
+    /// the log, the table and the measures keep the memory that they have.
     room: usize,
     /// The nodes above, nearest first.
     ancestors: IdList,

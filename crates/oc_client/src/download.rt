@@ -28,7 +28,7 @@ use oc_link::Dialler;
 use std::alloc::Global;
 use url::Url;
 
-/// How many redirections a download follows.
+/// The greatest number of redirections that a download follows.
 pub const MAX_REDIRECTIONS: u8 = 2;
 
 /// Downloads the content of a URL onto a sink, in pieces of at most 64 KiB as they come (RFC 9110, section
@@ -105,7 +105,7 @@ pub fn follow<L: Dialler, K: Sink>(
     }
 }
 
-/// How a download ends where nothing is asked.
+/// The end of a download whose address is refused before any request.
 fn unasked(fault: UrlFault) -> GetEnd
     ensures { result ≡ end_of_url fault }
 {
@@ -115,7 +115,7 @@ fn unasked(fault: UrlFault) -> GetEnd
     }
 }
 
-/// What a client that follows the group of a URL wishes for.
+/// The wish of a client that follows the group of a URL.
 fn news<'a>(alloc: Global, manner: &'a FetchOptions<'a>, url: &Url) -> Result<Wish<'a>, Memory>
     ensures { IfOk result (λ wish. wish_of wish ≡ news_of manner.now url.now) }
 {
@@ -125,7 +125,7 @@ fn news<'a>(alloc: Global, manner: &'a FetchOptions<'a>, url: &Url) -> Result<Wi
     }
 }
 
-/// Talks with servers, from a URL on, until `times` replies have come.
+/// Makes requests, beginning with a URL, until `times` replies have come.
 fn download<L: Dialler, K: Sink>(
     alloc: Global,
     wish: &Wish<'_>,

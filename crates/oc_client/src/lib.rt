@@ -1,4 +1,4 @@
-//! The client: what it gets and what it publishes, over HTTP/1.1.
+//! The client: downloads and publishings over HTTP/1.1.
 //!
 //! [`get`] asks for a URL, follows two redirections, and passes the content of the reply on to a sink as it comes.
 //! [`follow`] asks for a group again and again, each time from the byte after what it has written, on the same connection

@@ -112,7 +112,7 @@ fn publish_all<L: Dialler, S: Source, P: Pause, E: Sink>(
     close(job, reached, &mut room, link, &mut aside.pause)
 }
 
-/// Passes over what of the input the group has.
+/// Skips the part of the input that the group has already.
 fn go_to_place<S: Source>(
     place: WriteMode,
     found: u64,
@@ -131,7 +131,7 @@ fn go_to_place<S: Source>(
     }
 }
 
-/// How many bytes of the input the group has, before any is sent.
+/// The number of bytes of the input that the group has before any is sent.
 fn passed_over(place: WriteMode, found: u64) -> u64
     ensures { result ≡ passed_over place found }
 {
@@ -141,7 +141,7 @@ fn passed_over(place: WriteMode, found: u64) -> u64
     }
 }
 
-/// Sends the rest of the input, piece by piece, each after the one before.
+/// Sends the rest of the input piece by piece, in order.
 fn carry<L: Dialler, S: Source, P: Pause, E: Sink>(
     job: &Job<'_>,
     found: Progress,
@@ -182,7 +182,8 @@ fn carry<L: Dialler, S: Source, P: Pause, E: Sink>(
     }
 }
 
-/// Whether a piece of this length is left out: an empty one is sent only where that is wanted.
+/// Whether a piece of this length is left out: an empty piece is sent only if an empty input makes
+/// the group.
 fn is_left_out(count: usize, may_be_empty: bool) -> bool
     ensures left_out { result ≡ true → (count ≡ 0) × (may_be_empty ≡ false) }
     ensures sent { result ≡ false → count ≡ 0 → may_be_empty ≡ true }
@@ -190,7 +191,7 @@ fn is_left_out(count: usize, may_be_empty: bool) -> bool
     count == 0 && !may_be_empty
 }
 
-/// Closes the group, where that is wanted.
+/// Closes the group, if that is wanted.
 fn close<L: Dialler, P: Pause>(
     job: &Job<'_>,
     reached: Progress,

@@ -1,4 +1,5 @@
-//! The commands of the program: what each does, how it ends, and with which status and which line.
+//! The commands of the program: the effect of each, its ends, and the status and the error line of
+//! each end.
 //!
 //! Each command is a file: `replaying`, `generating`, `merging`, `listing` (`rules`), `checking`, `getting`, `putting`
 //! and `serving` (`node`), besides `helping`, which answers `--help` and `--version`, `token`, which reads that of a client, and

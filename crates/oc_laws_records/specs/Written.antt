@@ -1,4 +1,4 @@
--- What a running node writes as its record is the text of a run.
+-- The record that a running node writes is the text of a run.
 use Rattle.std.specs.Prelude.{◌≡◌, ℕ, IfSome, Option, List, [], ◌++◌}
 use Rattle.oc_base.specs.Groups.{shelf}
 use Rattle.oc_model.specs.declared.input.Input.{Input}
@@ -25,7 +25,7 @@ pub record IsLawfulRunOf (h : Header) (s : Setting) (n : Node) (deeds : List Dee
   pub lawful : IsRun h is.run
   pub all : inputs_in is.run.lines ≡ inputs_of deeds
 
--- with the line of the input that is taken next, where it was written
+-- the run with the line of the next input, if that was written
 abbrev pub with_next : Run → Option Input → Run
 with_next run next = record run { lines = run.lines ++ line_of_next next }
 
@@ -41,7 +41,7 @@ pub record IsCutRunOf (h : Header) (s : Setting) (n : Node) (deeds behind : List
   pub follows : IsNext next behind
   pub whole : IfSome next (IsTaken h.nodes s.me) → IsRun h (with_next run next)
 
--- how the record of a run begins
+-- the beginning of the record of a run
 abbrev pub head_of : Run → List ℕ
 head_of run = record_head run.node.control (shelf run.node.groups)
 

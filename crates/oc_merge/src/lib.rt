@@ -13,8 +13,8 @@
 //!   on all [`Nodes`] of the network. `IsMergeOf` of `specs/Merging` says what a merge is: with the laws of merges
 //!   of `oc_laws_world`, that it is the greatest, whatever order is tried.
 //!
-//! Each line costs its event, a look at each head, and a look at what the next line of its node and of the
-//! receivers of its messages wait for.
+//! The cost of a line is that of its event, a look at each head, and a look at the lines for which
+//! its node and the receivers of its messages wait.
 #![tactic(auto)]
 
 mod alone;

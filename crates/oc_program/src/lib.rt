@@ -1,4 +1,5 @@
-//! The program as a call: words and all that a run reaches in, a status and the same out.
+//! The program as a call: it gets the words and the outside, and gives a status and the outside
+//! back.
 //!
 //! [`run`] is the contract that everything leads up to: how it ended, with which status and which
 //! line, and what had then happened outside. `Outside` in the `specs/` of `oc_commands` is all that it speaks
@@ -9,7 +10,7 @@
 //! Where a replay ends with status 0, [`headline_holds`] is part of that clause: what holds of every world
 //! of the schedule, also inside settle and heal, and what settle and heal leave and report.
 //!
-//! What the words ask for is read by `oc_words`, and done by `oc_commands`.
+//! The words are read by `oc_words`, and their request is performed by `oc_commands`.
 //!
 //! [`start`] makes the real things, which are the standard streams, or a file in the place of the input, three files of a
 //! folder, sockets, and a world in memory for a replay, and calls [`run_on_streams`]. [`Places::of`] finds which files

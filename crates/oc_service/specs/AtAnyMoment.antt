@@ -1,4 +1,4 @@
--- What every crash leaves, at whichever moment of a run.
+-- The state after every crash, at any moment of a run.
 use Rattle.std.specs.Prelude.{ℕ, List}
 use Rattle.oc_io.specs.DiskView.{DiskView}
 use Rattle.oc_keep.specs.Files.{Disks, IsLeft}

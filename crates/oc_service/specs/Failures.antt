@@ -8,7 +8,7 @@ use Rattle.oc_io.specs.Faults.{Rose}
 use Rattle.oc_routes.specs.declared.refused.Refused.TheVariants.{Source}
 use Rattle.oc_server.specs.Deeds.{Deed, Drops, Refuses, Sees}
 
--- what the link told last, after a deed
+-- the last event that the link reported, after a deed
 abbrev pub told_last : LinkEvent → Deed → LinkEvent
 told_last event (Sees new wait bytes) = new
 told_last event d = event
@@ -25,7 +25,7 @@ AreBorneOut event (d ∷ ds) = IsBorneOut event d × AreBorneOut (told_last even
 
 -- By the counts of the link
 
--- the count of what such a line tells rose from `old` to `now`
+-- the count that this line reports rose from `old` to `now`
 abbrev pub RisesFor : Deed → LinkCounts → LinkCounts → Type 0
 RisesFor (Refuses c count Source) old now = Rose old.reading now.reading
 RisesFor (Drops c true) old now = Rose old.writing now.writing

@@ -1,4 +1,4 @@
--- What is known of bytes by the lines that have ended of them.
+-- Knowledge of bytes from the finished lines among them.
 use Rattle.std.proofs.Common.{◌≡◌, ℕ, inl, inr, List, [], ◌∷◌, ◌++◌, length, drop, sym, ap, ◌∙◌, subst, arith, length-append}
 use Rattle.std.proofs.lemmas.List.{append_assoc, drop-append-le}
 use Rattle.httparse.specs.Ascii.{line_feed}

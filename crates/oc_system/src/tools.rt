@@ -2,7 +2,8 @@ use crate::limits::{FIELD_ROOM, PIECE, WARM_BYTES};
 use httparse::spans::{EMPTY_HEADER_SPAN, HeaderSpan};
 use std::alloc::{AllocError, Global};
 
-/// What the sockets of a link share: the buffer into which they are read, and room for the fields of a head.
+/// The buffers that the sockets of a link share: one into which they are read, and room for the
+/// fields of a head.
 #[derive(Drop)]
 pub(crate) struct Tools {
     pub(crate) alloc: Global,

@@ -1,5 +1,5 @@
--- A command without the subcommand `help` never leaves it open whether it answers by help: at each
--- list of words all kinds of error that may come have one verdict. So it is with each part of a
+-- A command without the subcommand `help` never leaves open whether it answers with help: for each
+-- list of words all possible kinds of error have one verdict. The same is true of each part of a
 -- parse, and `pure_x` says it of the part x.
 use Rattle.std.proofs.Common.{codes, ◌≡◌, ◌⊎◌, ◌&&◌, ◌||◌, ℕ, Bool, true, false, zero, suc, refl, ap, List, [], ◌∷◌, length, Option, Some, None, is_some, not, inl, inr, cond}
 use Rattle.std.specs.Option.{option_map_or}
@@ -23,7 +23,7 @@ use Rattle.clap.specs.declared.error.kind.ErrorKind.{ErrorKind}
 use Rattle.clap.specs.declared.error.kind.ErrorKind.TheVariants as kind
 use Rattle.oc_words.specs.Words.{verdict_by, verdict_among}
 
--- each kind of the list has the verdict of the list
+-- all kinds in the list have the same verdict
 pub record IsPure (kinds : Kinds) : Type 0 where
   pub one : (k : ErrorKind) → IsAmong k kinds → verdict_by k ≡ verdict_among kinds
 

@@ -1,4 +1,4 @@
--- What the program answers to the words is what they ask for.
+-- The answer of the program to the words is the request that they make.
 use Rattle.std.proofs.Common.{◌≡◌, ◌≢◌, ◌⊎◌, ◌∙◌, ap, ap₂, refl, sym, subst, inl, inr, true, List, [], Option, None, Result, Ok, Err, ⊎_elim}
 use Rattle.std.specs.Prelude.{ok_or}
 use Rattle.std.specs.Result.{result_ok}

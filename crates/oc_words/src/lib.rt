@@ -1,4 +1,5 @@
-//! The words after the program's name: what they ask for, exactly as `clap` reads them.
+//! The words after the program's name, and the request that they make, exactly as `clap` parses
+//! them.
 //!
 //! [`read_words`] gives the [`Invocation`] that the words make, with its numbers, or says that they make none: `asked` in
 //! `specs/Words` is which one it is. `clap` reads them by the command that `subcommands` builds, which is proved to be the

@@ -1,4 +1,4 @@
-//! What the libraries of worked cases share.
+//! The common parts of the libraries of worked cases.
 //!
 //! A table is a text file with a case in each row: its name, what it is given, a `=`, and the words that
 //! have to result. A [`Cases`] says what results from a row, and [`play`] prints a line for each row: its

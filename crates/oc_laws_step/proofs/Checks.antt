@@ -167,7 +167,7 @@ goes_fetches_as m o shelf = goes_itself o
 abbrev timed : Plan → ℕ → Plan
 timed o t = starts_leases (at_time o t)
 
--- those whose leases have ended then
+-- the children whose leases have ended then
 abbrev over : Plan → ℕ → List ℕ
 over o t = ended o.node.kept.table o.node.me (timed o t).node.leases (timed o t).node.soft.clock
 

@@ -37,7 +37,7 @@ connections_of-more (t ∷ past) (b ∷ given) [] more some = absurd (omega (ari
 connections_of-more (t ∷ past) (b ∷ given) (w ∷ strings) more some =
     ap (λ (cs : List Connection). connection_of b t w ∷ cs) (connections_of-more past given strings more (omega (arith, some)))
 
--- a longer last string does not change the connections before it
+-- a longer last string, of a connection that comes later, does not change these connections
 connections_of-grown : (past : List ConnectionProgress) (given strings : List (List ℕ)) (more : List ℕ) → length past < length strings → connections_of past given (grown strings more) ≡ connections_of past given strings
 connections_of-grown [] given strings more some = refl
 connections_of-grown (t ∷ past) given [] more some = absurd (omega (arith, some))

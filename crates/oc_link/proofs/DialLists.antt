@@ -36,7 +36,7 @@ dials_of-more (d ∷ cs) [] more some = absurd (omega (arith, some))
 dials_of-more (d ∷ cs) (a ∷ strings) more some =
     ap (λ (ds : List Dial). record { address = a; connection = d } ∷ ds) (dials_of-more cs strings more (omega (arith, some)))
 
--- a longer last address does not change the dials before it
+-- a longer last address, of a dial that comes later, does not change these dials
 dials_of-grown : (cs : List Connection) (strings : List (List ℕ)) (more : List ℕ) → length cs < length strings → dials_of cs (grown strings more) ≡ dials_of cs strings
 dials_of-grown [] strings more some = refl
 dials_of-grown (d ∷ cs) [] more some = absurd (omega (arith, some))

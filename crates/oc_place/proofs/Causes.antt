@@ -111,7 +111,7 @@ from_rank h x r = record {
 beneath_test : (h : Host) (x k : ℕ) → (nat_le h.me h.chain && (nat_lt h.chain x || nat_lt k x)) ≡ true → h.chain_child ≡ Some k → BelongsBeneath h x k
 beneath_test h x k t e = (e, grind (arith, nat_tests), grind (arith, nat_tests))
 
--- without such a chain member there is no refusal
+-- x belongs beneath no chain member, if the test fails
 test_beneath : (h : Host) (x k : ℕ) → (nat_le h.me h.chain && (nat_lt h.chain x || nat_lt k x)) ≡ false → (j : ℕ) → h.chain_child ≡ Some k → ¬ BelongsBeneath h x j
 test_beneath h x k t j e b = let same : k ≡ j = (let f : Some k ≡ Some j = sym e ∙ b.0 in cc) in let le = b.1 in elim b.2 [ inl past ↦ grind (arith, nat_tests) | inr past ↦ grind (arith, nat_tests) ]
 

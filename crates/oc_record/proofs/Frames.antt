@@ -1,4 +1,4 @@
--- Kept content changes the groups; a record changes a durable part; and the log of a joined node takes exactly the certificates that it takes.
+-- Kept content changes the groups, a record changes a durable part, and a joined node's log takes its new certificates.
 use Rattle.std.proofs.Common.{◌≡◌, ◌↔◌, ℕ, ◌+◌, ◌-◌, ◌<◌, ◌≤◌, zero, suc, Bool, true, false, not, ◌&&◌, ◌||◌, ◌==◌, nat_lt, nat_le, if◌then◌else◌, Option, Some, None, is_some, option_map, List, [], ◌∷◌, ◌++◌, length, drop, ◌⊎◌, inl, inr, refl, ap, sym, subst, ◌∙◌, arith, true≢false, ltb-true, length-append, length-drop}
 use Rattle.std.proofs.lemmas.Bool.{and_parts, ltb-false}
 use Rattle.oc_base.specs.declared.cert.Cert.{Cert}
@@ -254,7 +254,7 @@ left_other : (d e : Durable) → Left d e → e ≡ d → ⊥
 left_other d e (inl less) is = let seq : e.seq ≡ d.seq = ap (λ f. f.seq) is in omega (arith, less, seq)
 left_other d e (inr gone) is = gone.2 (ap (λ f. f.mode) is)
 
--- a step without records and kept bytes changes nothing durable
+-- the step changes neither the durable control state nor the groups
 abbrev Unchanged : Node → Input → Type 0
 Unchanged n i = ((step n i).node.control.kept ≡ n.control.kept) × ((step n i).node.groups ≡ n.groups)
 

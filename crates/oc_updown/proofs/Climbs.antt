@@ -34,7 +34,7 @@ Leads t r p y = (m : ℕ) × ((k : ℕ) → arrives t r (m + k) p ≡ arrives t 
 pub leads_itself : (t : List Cert) (r x : ℕ) → Leads t r x x
 leads_itself t r x = (0, λ k. let e : 0 + k ≡ k = omega arith in rw e)
 
--- a node whose way leads to y also leads to the parent of y
+-- a way that leads to x also leads to the parent of x
 pub leads_above : (t : List Cert) (r p x y : ℕ) → Leads t r p x → parent_in t x ≡ Some y → y == r ≡ false → Leads t r p y
 leads_above t r p x y leads up other = (suc leads.0, λ k. let e : suc leads.0 + k ≡ leads.0 + suc k = omega arith in ap (λ (n : ℕ). arrives t r n p) e ∙ (leads.1 (suc k) ∙ arrives_above t r x y k up other))
 
@@ -87,7 +87,7 @@ none_known t r n = none_known_from t r 1 n
 pub arrives_step : (t : List Cert) (r x y steps i : ℕ) → i < steps → parent_in t x ≡ Some y → y == r ≡ false → arrives t r (steps - i) x ≡ arrives t r (steps - (i + 1)) y
 arrives_step t r x y steps i within up other = let e : steps - i ≡ suc (steps - (i + 1)) = omega arith in rw e (arrives_above t r x y (steps - (i + 1)) up other)
 
--- a climb from a node, now at this place, with a post that it has passed: if it arrives within the remaining steps, the node is beneath the root
+-- a climb from a node, now at this place, past a post: if it arrives within the remaining steps, the node is beneath the root
 pub record IsClimb (t : List Cert) (r steps node place post : ℕ) : Type 0 where
   pub arrives : arrives t r steps place ≡ is_beneath t r node
   pub same : is_beneath t r place ≡ is_beneath t r node

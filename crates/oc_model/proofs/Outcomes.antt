@@ -42,7 +42,7 @@ calm_closed x c ls = record {
   lists = λ o leases rates counts h. record { me = h.me; clock = h.clock; keeps = h.keeps };
 }
 
--- The rule Content
+-- Rule 14, content
 
 -- the rule changes groups only, and within the limits
 record IsKept (n : Node) (i : Input) (o : Plan) : Type 0 where

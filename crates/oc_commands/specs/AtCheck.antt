@@ -1,4 +1,4 @@
--- What had happened at each end of `check`.
+-- The effect of `check` at each of its ends.
 use Rattle.std.specs.Prelude.{ℕ, List, [], length}
 use Rattle.oc_base.specs.declared.limits.TheConstants.{USUAL_CHUNK_BYTES}
 use Rattle.oc_commands.specs.Checks.{header_without_areas}
@@ -18,12 +18,13 @@ network_of m = record { nodes = m.nodes; chain = m.chain; chunk = USUAL_CHUNK_BY
 abbrev pub network_in : Settings → Network
 network_in s = record { nodes = length s.addresses; chain = s.chain; chunk = s.chunk }
 
--- what the files show was written, or some of it and then the output failed; or they were refused, and nothing was
+-- the text of the files was written, or a part and then the output failed; or the files were
+-- refused, and nothing was written
 abbrev pub WritesCheck : OnFiles → Output → Network → ℕ → CheckEnd → Type 0
 WritesCheck files output n id Done = (text : List ℕ) × files.show (header_without_areas n) id text × output.written text
 WritesCheck files output n id Sink = (text : List ℕ) × files.show (header_without_areas n) id text × SomeFront text output.cut_off
 WritesCheck files output n id (Load error) = files.are_refused n.nodes error × output.written []
 
--- what had happened; no moment of it lost anything of the files
+-- the effect of this end; no moment of it lost anything in the files
 abbrev pub HappenedAtCheck : OnFiles → Output → Network → ℕ → CheckEnd → Type 0
 HappenedAtCheck files output n id end = WritesCheck files output n id end × files.load_safely (header_without_areas n) id

@@ -1,4 +1,4 @@
--- What is shown of a node's files.
+-- The text shown for a node's files.
 use Rattle.std.specs.Prelude.{◌≡◌, ◌≤◌, ℕ, false, List, ◌++◌, replicate}
 use Rattle.oc_base.specs.declared.limits.TheConstants.{MAX_CHAIN, MAX_CHUNK_BYTES, MAX_NODES}
 use Rattle.oc_base.specs.Groups.{shelf}
@@ -23,7 +23,7 @@ pub record IsNetwork (n : Network) : Type 0 where
   pub sends : 1 ≤ n.chunk
   pub fits : n.chunk ≤ MAX_CHUNK_BYTES
 
--- in this network, with areas of 0
+-- the header of this network, with areas of 0
 abbrev pub header_without_areas : Network → Header
 header_without_areas n = header n.nodes n.chain n.chunk (replicate n.nodes 0)
 

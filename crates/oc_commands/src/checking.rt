@@ -1,4 +1,4 @@
-//! The command `check`, which shows what the files of a node recover.
+//! The command `check`, which shows the recovery of a node's files.
 ghost use Rattle.std.specs.Prelude.{◌≡◌, length};
 ghost use Rattle.oc_base.specs.Lawful.{IsNode};
 ghost use Rattle.oc_commands.specs.Checks.{IsNetwork};
@@ -20,7 +20,7 @@ use oc_keep::{Files, KeepLoad};
 use oc_words::Member;
 use std::alloc::Global;
 
-/// How `check` ended.
+/// The end of `check`.
 #[derive(Clone, Copy)]
 pub enum CheckEnd {
     /// The whole text was written.
@@ -31,18 +31,18 @@ pub enum CheckEnd {
     Sink,
 }
 
-/// How `check` ended, of a node of a configuration.
+/// The end of `check` for a node of a configuration.
 #[derive(Clone, Copy)]
 pub enum ConfiguredEnd {
     /// There is no configuration, and nothing was written.
     Config(ConfigEnd),
     /// No node of the configuration has this id, and nothing was written.
     Stranger,
-    /// The files of the node were looked at, which ended in this way.
+    /// The files of the node were read, with this end.
     Checked(CheckEnd),
 }
 
-/// Writes what the files of a node recover, one of a network with these numbers.
+/// Writes the recovery of the files of a node, in a network of these sizes.
 pub fn check_files<K: Sink, D: Disk>(
     alloc: Global,
     member: Member,
@@ -59,7 +59,7 @@ pub fn check_files<K: Sink, D: Disk>(
     show_files(alloc, NodeId(member.id), network, out, files)
 }
 
-/// The network of these numbers, with the usual chunk.
+/// The network of these sizes, with the usual chunk.
 fn network_of(member: Member) -> Network
     requires { IsMember member }
     ensures same { result ≡ network_of member }
@@ -72,7 +72,7 @@ fn network_of(member: Member) -> Network
     }
 }
 
-/// Writes what the files of a node recover, one of the configuration on the input.
+/// Writes the recovery of the files of a node, one of the configuration on the input.
 pub fn check_configured<S: Source, K: Sink, D: Disk>(
     alloc: Global,
     id: u64,
@@ -94,7 +94,7 @@ pub fn check_configured<S: Source, K: Sink, D: Disk>(
     }
 }
 
-/// Writes what the files of a node recover, one of this configuration.
+/// Writes the recovery of the files of a node, one of this configuration.
 fn check_one<K: Sink, D: Disk>(
     alloc: Global,
     id: u64,
@@ -132,8 +132,8 @@ fn network_in(config: &Config) -> Network
     }
 }
 
-/// Writes what the files of a node recover: the block of `show` and the block of `held`. All memory is taken
-/// before anything is written.
+/// Writes the recovery of a node's files: the block of `show` and the block of `held`. All memory
+/// is taken before anything is written.
 fn show_files<K: Sink, D: Disk>(
     alloc: Global,
     id: NodeId,

@@ -19,16 +19,16 @@ use oc_io::Disk;
 use oc_keep::{Files, KeepLoad, Kept, Seat};
 use std::alloc::Global;
 
-/// What the files of a node showed, and the files.
+/// The text of a node's files, and the files.
 #[derive(Drop)]
 pub struct Recovered<D: Disk> {
     pub files: Files<D>,
-    /// The text of the node, or why there is none.
+    /// The text of the node, or the reason why there is none.
     pub text: Result<Vec<u8>, KeepLoad>,
 }
 
-/// The block of `show` and the block of `held` of the node with this id in this network, as its first control file,
-/// its second one and its content file recover it. Its areas are 0.
+/// Gives the block of `show` and the block of `held` of the node with this id in this network, as
+/// recovered from its two control files and its content file. Its areas are 0.
 pub fn recovered_text<D: Disk>(
     alloc: Global,
     id: NodeId,
@@ -38,16 +38,16 @@ pub fn recovered_text<D: Disk>(
     requires network { IsNetwork network }
     requires id { IsNode network.nodes id }
 
-    // The text is that of the node that the files recover.
+    // The text is that of the node recovered from the files.
     ensures shows { IfOk result.text (λ text. Shows D.view (header_without_areas network) id (disks_in files) text.items) }
 
-    // When it refuses.
+    // The conditions of a refusal.
     ensures refuses { IfErr result.text (λ error. RefusesNode D.view network.nodes (disks_in files) (disks_in result.files) error) }
 
-    // At every moment a crash leaves what a crash at the start would have left.
+    // At every moment a crash leaves the files as a crash at the start would have left them.
     ensures safely { LoadsSafely D.view (header_without_areas network) id (disks_in files) (disks_in result.files) }
 
-    // The files of a node on honest disks are shown, where no disk fails and there is the memory.
+    // The files of a node on honest disks are shown, unless a disk fails or memory runs out.
     ensures complete { IfErr result.text (λ error. AreHonest D.view (disks_in files)
         → HoldFiles D.view network.nodes (disks_in files)
         → (OneRose D.view (disks_in files) (disks_in result.files) → ⊥)

@@ -1,13 +1,13 @@
 use oc_schedule::Sizes;
 use std::marker::Model;
 
-/// The network that records are of. Contracts see the model's header.
+/// The network of the records. Contracts see the model's header.
 #[derive(Drop)]
 pub(crate) struct Network {
     pub nodes: u32,
     /// The length of the chain.
     pub chain: u32,
-    /// The greatest number of bytes of a chunk.
+    /// The greatest length of a chunk, in bytes.
     pub chunk: u32,
     /// The area of each node, ascending by id.
     pub areas: Vec<u8>,

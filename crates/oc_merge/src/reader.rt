@@ -7,10 +7,11 @@ use crate::network::Network;
 use crate::place::Place;
 use crate::told::ToldLine;
 
-/// What the lines so far tell.
+/// The records so far, while the lines are read.
 #[derive(Drop)]
 pub(crate) struct Reader {
-    /// The numbers of the first header, and the areas of the first that had a start.
+    /// The sizes of the first header, and the areas of the first header that was followed by a
+    /// start.
     pub network: Option<Network>,
     /// Whether a node has started.
     pub started: bool,

@@ -1,19 +1,19 @@
 use crate::told::ToldLine;
 use std::marker::Model;
 
-/// What records tell: the network, and the lines of all its nodes in their order. Contracts see it as the
-/// record `Records` of lists.
+/// The content of records: the network, and the lines of all its nodes in order. Contracts see it
+/// as the record `Records` of lists.
 #[derive(Debug, Drop)]
 pub struct Records {
     /// The number of nodes, from 1 to 1,024.
     pub nodes: u32,
     /// The number of chain members, from 1 to 16 and at most the nodes.
     pub chain: u32,
-    /// The greatest number of bytes of a chunk, from 1 to 524,288.
+    /// The greatest length of a chunk in bytes, from 1 to 524,288.
     pub chunk: u32,
     /// The area of each node, ascending by id.
     pub areas: Vec<u8>,
-    /// The lines, in their order.
+    /// The lines, in order.
     pub lines: Vec<ToldLine>,
 }
 

@@ -1,4 +1,4 @@
-//! A world is a stage.
+//! The world as a stage of a replay.
 
 ghost use Rattle.std.specs.Prelude.{◌≡◌, OnOk, OnErr};
 ghost use Rattle.oc_model.specs.Lawful.{IsHeader};
@@ -12,7 +12,7 @@ use oc_replay::{Said, Stage};
 impl Stage for World {
     ghost world = { λ w. w.world };
 
-    /// If memory runs out, the world stays as it was.
+    /// If memory runs out, the world is unchanged.
     fn open(&mut self, nodes: u32, chain: u32, chunk: u32, areas: &[u8]) -> Result<(), Memory>
         requires { IsHeader (record { nodes = nodes; chain = chain; chunk = chunk; areas = areas.now }) }
         ensures opened { OnOk result (self.new.world ≡ new_world (record { nodes = nodes; chain = chain; chunk = chunk; areas = areas.now })) }

@@ -1,4 +1,4 @@
-//! A node that is down is read from its files.
+//! The start of a node that is down: its state is read from its files.
 
 ghost use Rattle.std.specs.Prelude.{◌≡◌, IfOk};
 ghost use Rattle.oc_base.specs.Lawful.{IsNode};
@@ -16,8 +16,8 @@ use oc_io::Disk;
 use oc_keep::{FileError, Files, KeepLoad, Kept, Seat};
 use std::alloc::Global;
 
-/// The node that these files recover. Files of a node on disks that do not fail are refused only where memory
-/// runs out.
+/// The node that these files recover. The files of a node on disks that do not fail are refused
+/// only if memory runs out.
 pub(crate) fn load<D: Disk + Drop>(
     alloc: Global,
     files: Files<D>,

@@ -1,4 +1,4 @@
-//! Heads of HTTP messages, and what is read from them, however their bytes come.
+//! Heads of HTTP messages, and the result of reading them, however their bytes come.
 
 use crate::wire::pieces::Pieces;
 use crate::wire::words::{put, put_value};
@@ -11,34 +11,35 @@ use oc_io::{MemSource, Source, read_all};
 use std::alloc::Global;
 use test_tools::{Fault, RowFields, put_spelled, spelled_in};
 
-/// A longer source is cut at its first and its last places alone.
+/// The length in bytes above which a source is cut only at its first and last offsets.
 const MOST_PLACES: usize = 1000;
 
-/// How many of the first and of the last places these are.
+/// The number of first and of last offsets at which a long source is cut.
 const EDGE: usize = 4;
 
-/// More bytes than a row has.
+/// An upper bound on the bytes of a row.
 const MOST_BYTES: usize = 2_000_000;
 
-/// What a source is read as.
+/// The form that is read from a source.
 #[derive(Clone, Copy)]
 enum Form {
     Request,
     Message,
     Response,
     Reply,
-    /// A reply of which it is not said how many bytes are left after it.
+    /// A reply after which the number of remaining bytes is not reported.
     Flood,
 }
 
-/// How a source is read, and the number of its call that fails, 0 where none does.
+/// The form that is read from a source, and the number of the call that fails, or 0 for none.
 #[derive(Clone, Copy)]
 struct Reader {
     form: Form,
     failing: u64,
 }
 
-/// Puts the words of a row: what is read, and what is read otherwise where the bytes come in other pieces.
+/// Appends the words of a row: the result of reading, and the different result if the bytes come in
+/// other pieces.
 pub fn put_words(alloc: Global, given: &str, said: &mut String) -> Result<(), Fault> {
     let (word, text) = given.split_once(' ').unwrap_or((given, ""));
     let reader = reader_of(word)?;
@@ -48,7 +49,7 @@ pub fn put_words(alloc: Global, given: &str, said: &mut String) -> Result<(), Fa
     put_cuts(alloc, said, reader, &bytes)
 }
 
-/// Puts what is read from single bytes, where that is something other than the words so far.
+/// Appends the result of reading single bytes, if it differs from the words so far.
 fn put_alone(alloc: Global, said: &mut String, reader: Reader, bytes: &[u8]) -> Result<(), Fault> {
     let alone = words_of(alloc, reader, bytes, 1, 1)?;
     if alone.as_str() == said.as_str() {
@@ -58,7 +59,7 @@ fn put_alone(alloc: Global, said: &mut String, reader: Reader, bytes: &[u8]) -> 
     put(said, alone.as_str())
 }
 
-/// The reader of a word such as `request`, or `request/7`, where call 7 fails.
+/// The reader of a word such as `request`, or `request/7`, for which call 7 fails.
 fn reader_of(word: &str) -> Result<Reader, Fault> {
     let (form, failing) = word.split_once('/').unwrap_or((word, "0"));
     Ok(Reader {
@@ -78,7 +79,7 @@ fn form_of(word: &str) -> Result<Form, Fault> {
     }
 }
 
-/// Puts the first place at which a cut has something else read than the words so far.
+/// Appends the first offset at which a cut gives a result that differs from the words so far.
 fn put_cuts(alloc: Global, said: &mut String, reader: Reader, bytes: &[u8]) -> Result<(), Fault> {
     let length = bytes.len();
     for at in 1..length {
@@ -92,7 +93,8 @@ fn put_cuts(alloc: Global, said: &mut String, reader: Reader, bytes: &[u8]) -> R
     Ok(())
 }
 
-/// Puts what is read with a cut at this place, where that is something other than the words so far. Says whether it is.
+/// Appends the result with a cut at this offset, if it differs from the words so far. Gives whether
+/// it does.
 fn put_cut(
     alloc: Global,
     said: &mut String,
@@ -109,7 +111,7 @@ fn put_cut(
     Ok(true)
 }
 
-/// The words of what is read, where the bytes come in a piece of this length and then in further ones of
+/// The words of the result, if the bytes come in a piece of this length and then in further ones of
 /// `piece` bytes.
 fn words_of(
     alloc: Global,
@@ -141,13 +143,13 @@ fn put_source(
     )
 }
 
-/// A source of these bytes, of which this call fails.
+/// A source of these bytes, with this call failing.
 fn source_of(alloc: Global, failing: u64, bytes: &[u8]) -> Result<MemSource, Fault> {
     let bytes = bytes.to_vec(alloc)?;
     Ok(MemSource::new(bytes, vec![in alloc; failing]?))
 }
 
-/// Puts what is read from a source, and how many bytes are left of it.
+/// Appends the result of reading a source, and the number of bytes left.
 fn put_all<S: Source>(
     alloc: Global,
     said: &mut String,
@@ -161,7 +163,7 @@ fn put_all<S: Source>(
     }
 }
 
-/// Puts how many bytes are left of a source.
+/// Appends the number of bytes left of a source.
 fn put_rest<S: Source>(alloc: Global, said: &mut String, source: &mut S) -> Result<(), Fault> {
     match read_all(alloc, source, MOST_BYTES) {
         Ok(rest) => put_value(said, " rest=", rest.len()),
@@ -169,7 +171,7 @@ fn put_rest<S: Source>(alloc: Global, said: &mut String, source: &mut S) -> Resu
     }
 }
 
-/// Puts what is read from a source.
+/// Appends the result of reading a source.
 fn put_read<S: Source>(
     alloc: Global,
     said: &mut String,
@@ -258,7 +260,7 @@ fn put_head(said: &mut String, head: &Head) -> Result<(), Fault> {
     put_some(said, " mac=", &head.mac)
 }
 
-/// Puts a text with its name, where there is one.
+/// Appends a text with its name, if there is one.
 fn put_some(said: &mut String, name: &str, text: &Option<Text>) -> Result<(), Fault> {
     match text {
         Some(text) => {
@@ -269,7 +271,7 @@ fn put_some(said: &mut String, name: &str, text: &Option<Text>) -> Result<(), Fa
     }
 }
 
-/// Puts how many bytes a group has, where that is told.
+/// Appends the length of a group in bytes, if it is given.
 fn put_group_length(said: &mut String, length: Option<u64>) -> Result<(), Fault> {
     match length {
         Some(length) => put_value(said, " group=", length),

@@ -56,7 +56,7 @@ abbrev pub may_try : Failure → ℕ → Bool
 may_try failures.Memory count = false
 may_try failure count = nat_lt count (MAX_FAILURES - 1)
 
--- a failure: the fifth ends it, and so does want of memory
+-- a failure: the fifth ends the publishing, and so does lack of memory
 abbrev pub tried_again : Effort → Failure → Next
 tried_again effort failure =
     if may_try failure effort.failures

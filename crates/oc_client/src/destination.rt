@@ -1,4 +1,4 @@
-/// Where an input is published.
+/// The group to publish into, and the token for it.
 #[derive(Clone, Copy, Debug)]
 pub struct Destination<'a> {
     /// The URL of the group.

@@ -27,13 +27,15 @@ use oc_io::{Sink, Source};
 use oc_link::Dialler;
 use std::alloc::Global;
 
-/// Publishes an input at a URL, an `http` URL with a host, without a user and a password: into a group that has no
-/// bytes yet, after what it has, or from where an earlier publishing of the same input stopped. Where the whole
-/// input is empty the group is made. The place is asked for first, and nothing of the input is read before it is
-/// known. It is sent in pieces of [`PUT_PIECE_BYTES`](crate::PUT_PIECE_BYTES) and one of the rest; live, what each read of it
-/// gives is sent before the next read. After each failure but the fifth without anything done between, it pauses and tries
-/// again; a reply with status 503 is such a failure. What of the input is
-/// in the group is told as it grows: never more than came of it, whatever the end. Each connection is ended.
+/// Publishes an input at a URL, an `http` URL with a host, without a user and a password: into a
+/// group that has no bytes yet, after its present end, or from the position at which an earlier
+/// publishing of the same input stopped. An empty input makes the group. The length of the group is
+/// asked for first, and the input is not read before that. The input is sent in pieces of
+/// [`PUT_PIECE_BYTES`](crate::PUT_PIECE_BYTES) and one of the rest; in live mode the bytes of each
+/// read are sent before the next read. After a failure it pauses and tries again, up to the fifth
+/// failure in a row; a reply with status 503 counts as a failure. The lines report the bytes of the
+/// input that are in the group as they grow: never more than came of the input, at any end. Each
+/// connection is ended.
 pub fn put<L: Dialler, S: Source, P: Pause, E: Sink>(
     alloc: Global,
     to: &Destination<'_>,

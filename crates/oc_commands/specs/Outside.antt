@@ -2,10 +2,11 @@
 -- client's progress lines on the error output, the stage, the files, the link of a client and the
 -- file of its token, and of a node with its own link.
 --
--- The input is one object, whatever the words name: the file that they name, else the standard input. Who calls `run` hands in that
--- object, which he finds by `Invocation::file`; and the three files are those of the folder that `Invocation::folder` gives. So nothing that is
--- said here depends on whether a file was named, but the line on the error output where the input failed (`Lines`), which names it. A
--- file is opened at the first call on its object, as a node's files are: an opening that is refused is a call that failed, no more. The
+-- The input is one object: the file that the words name, or else the standard input. The caller of
+-- `run` gives that object, found by `Invocation::file`; and the three files are those of the folder
+-- that `Invocation::folder` gives. So no statement here depends on whether a file was named, except
+-- the line on the error output for a failed input (`Lines`), which names the file. A file is opened
+-- at the first call on its object, like a node's files: a refused opening is a failed call. The
 -- file of a token is an object of its own.
 use Rattle.std.specs.Prelude.{◌≡◌, ℕ, ◌<◌, Bool, Option, Result, List, length}
 use Rattle.oc_base.specs.declared.limits.TheConstants.{MAX_SCHEDULE_BYTES}

@@ -1,4 +1,4 @@
--- The statements of the headline about settle and heal, in the world in which such an event comes.
+-- The statements of the headline about settle and heal, in the world in which the event comes.
 use Rattle.std.specs.Prelude.{◌≡◌, ◌↔◌, ℕ, Some, List, [], ◌∷◌}
 use Rattle.oc_laws_tree.specs.Healing.{IsLeast, acts_to_heal}
 use Rattle.oc_laws_tree.specs.Settling.{CountsExactly, acts_to_settle}

@@ -9,8 +9,8 @@ use Rattle.oc_server.specs.Records.{record_head}
 use Rattle.oc_laws_records.specs.Lawful.{IsRun, IsTaken}
 use Rattle.oc_laws_records.specs.Runs.{Run, run_text}
 
--- A run of this node, whose text is what these deeds wrote: its inputs are those that they took, and perhaps one more, with which the deeds
--- after them begin.
+-- A run of this node, whose text was written by these deeds: its inputs are those that the deeds
+-- took, and perhaps one more, with which the next deeds begin.
 pub record IsRunOf (s : Setting) (n : Node) (deeds behind : List Deed) : Type 0 where
   pub run : Run
   pub next : Option Input
@@ -45,7 +45,8 @@ pub record IsCutRunOf (h : Header) (s : Setting) (n : Node) (deeds behind : List
 abbrev pub head_of : Run → List ℕ
 head_of run = record_head run.node.control (shelf run.node.groups)
 
--- What a kill leaves of a run, whose text is then this: the same node, its lines up to one of them, and perhaps the front of that.
+-- The part of a run that a kill leaves, with this text: the same node, its lines up to some line,
+-- and perhaps a prefix of that line.
 pub record IsStopped (h : Header) (run : Run) (left : List ℕ) : Type 0 where
   pub stopped : Run
   pub lawful : IsRun h stopped

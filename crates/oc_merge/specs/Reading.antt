@@ -103,7 +103,7 @@ abbrev pub with_digits : List ℕ → Told → Told
 with_digits digits (Started files) = Started (Some digits)
 with_digits digits told = told
 
--- the lines, where the last of them is such a start
+-- the lines, with these digits in the last one if it is a start
 abbrev pub with_files : List ℕ → List ToldLine → List ToldLine
 with_files digits [] = []
 with_files digits (l ∷ []) = record l { told = with_digits digits l.told } ∷ []

@@ -52,10 +52,11 @@ pub struct Started {
     pub error: Traffic,
 }
 
-/// Runs the program on these words, over the standard streams and the files and sockets of the system: the
-/// input is the file that the words name, or else the standard input, and the three files are those of the folder that
-/// they name, or else of the present one ([`Places::of`]). A file is opened at the first call on it. Before it returns,
-/// what replies have still to go out is sent, as far as their receivers take it.
+/// Runs the program on these words, over the standard streams and the files and sockets of the
+/// system: the input is the file that the words name, or else the standard input, and the three
+/// files are those of the folder that they name, or else of the present one ([`Places::of`]). A
+/// file is opened at the first call on it. Before the call returns, the rest of the replies is
+/// sent, as far as their receivers take it.
 ///
 /// If there is no memory to find the files, nothing is run.
 pub fn start(rt: &HostRuntime, words: &[String]) -> Result<Started, End>

@@ -31,8 +31,9 @@ RisesFor (Refuses c count Source) old now = Rose old.reading now.reading
 RisesFor (Drops c true) old now = Rose old.writing now.writing
 RisesFor d old now = Unit {0}
 
--- The counts of a link go from `now` to `new` over these deeds, and what it told last before made `now` of `old`: each line of a failure is
--- written where its count rose by what the link told last.
+-- The counts of a link go from `now` to `new` over these deeds, and the last event before them
+-- changed `old` to `now`: each line of a failure is written only if its count rose with the last
+-- event.
 abbrev pub RiseForLines : LinkCounts → LinkCounts → List Deed → LinkCounts → Type 0
 RiseForLines old now [] new = new ≡ now
 RiseForLines old now (Sees event wait bytes ∷ ds) new = (at : LinkCounts) × CountsEvent event wait now at × RiseForLines now at ds new

@@ -83,9 +83,11 @@ heard_before c me old new = option_map (λ (cs : List Call). cs ++ acts.Listen (
 
 -- All turns
 
--- The deeds are those of what a node does, in this many turns, by what its link told. Each made its calls, each connection was given the
--- replies to its requests, a line of a failure was written only where its link told of one, a record tells their inputs, which are within
--- their ranges, and every crash leaves the node that took them, at every moment of the run those of a prefix, whose lines were written.
+-- The deeds are those of the machine, in this number of turns, for the reports of the link. Each
+-- deed made its calls, each connection was given the replies to its requests, a line of a failure
+-- was written only if the link reported one, a record has their inputs, which are within their
+-- ranges, and every crash leaves the node that took them; at every moment of the run the same holds
+-- of a prefix of the deeds, whose lines were written.
 pub record DidOn {D L K : Type 0} (view : D → DiskView) (story : L → Option (List Call)) (counts : L → LinkCounts) (takes : K → List ℕ → K → Type 0) (c : Settings) (task : Task) (deeds : List Deed) (old new : Disks D) (link after : L) (sink written : K) : Type 0 where
   pub told : List Observation
   pub many : length told ≡ task.turns
@@ -133,11 +135,12 @@ HasCauseOn view end under n old new before behind = Unit {0}
 abbrev pub CountsUntil : TurnEnd → List Deed → LinkCounts → LinkCounts → Type 0
 CountsUntil end deeds old new = (at : LinkCounts) × CountsAll deeds old at × CountsAt end at new
 
--- It ended so after these deeds, a front of what a node does: after whole turns, in the midst of one that is told `last`, or before the
--- first. What came in that one was read, where more was done in it than to ask the link. Each connection was given the replies to its requests
--- until then, and a line of a failure was written, or begun, only where its link told of one. A record tells the inputs of these deeds, which
--- are within their ranges, and perhaps the one that was to be taken next. At every moment the lines of a prefix of the deeds were written, and
--- every crash leaves its node.
+-- The run ended after these deeds, a prefix of those of the machine: after whole turns, in the
+-- midst of a turn with the observation `last`, or before the first. In a turn with more deeds than
+-- the asking of the link, the event was read. Each connection was given the replies to its requests
+-- until then, and a line of a failure was written, or begun, only if the link reported one. A
+-- record has the inputs of these deeds, which are within their ranges, and perhaps the next input.
+-- At every moment the lines of a prefix of the deeds were written, and every crash leaves its node.
 pub record StoppedOn {D L K : Type 0} (view : D → DiskView) (story : L → Option (List Call)) (counts : L → LinkCounts) (takes fails : K → List ℕ → K → Type 0) (c : Settings) (task : Task) (end : TurnEnd) (deeds : List Deed) (under : Under) (old new : Disks D) (link after : L) (sink written : K) : Type 0 where
   pub told : List Observation
   pub last : Observation

@@ -47,13 +47,13 @@ pub(crate) enum Fate {
 /// The kinds of connections that hold a place, in the order in which they give way.
 #[derive(Clone, Copy, PartialEq, Eq, PartialOrd, Ord)]
 pub(crate) enum ClaimKind {
-    /// Its remaining bytes are read and dropped.
+    /// A connection whose remaining bytes are read and dropped.
     ReadOut,
-    /// Its request has not come whole.
+    /// A connection whose request is not complete.
     Request,
-    /// Its reply is under way.
+    /// A connection whose reply is under way.
     Content,
-    /// Its request was taken, and nothing was sent so far.
+    /// A connection whose request was taken, and that was sent nothing so far.
     Follower,
 }
 
@@ -136,7 +136,7 @@ impl Connection {
 
     /// Registers the socket with the system, which then reports when it is ready. Most connections
     /// need no registration, since their request comes at once and their reply goes out at once:
-    /// that saves a call for each. The system reports at once what came before the registration.
+    /// that saves a call for each. The system reports bytes from before the registration at once.
     pub(crate) fn register(&mut self, registry: &Registry, token: usize) {
         if self.is_registered {
             return;

@@ -293,7 +293,7 @@ and_false : (b : Bool) → (b && false) ≡ false
 and_false true = refl
 and_false false = refl
 
--- what is spelled as a number is no flag
+-- a word that is spelled as a number is no flag
 no_flag : (least most : ℕ) (word : Text) (n : ℕ) → number_in least most word ≡ Ok n → IsNoFlag word
 no_flag least most [] n is = λ e. cc
 no_flag least most (x ∷ xs) n is = λ e.

@@ -100,7 +100,7 @@ pub record IsArgument (rule : Rule) (a : Arg) : Type 0 where
   pub reads : rule_of a ≡ rule
   pub is_local : a.global ≡ false
 
--- c is a subcommand of this shape, and no argument of it reaches past it
+-- the command is a subcommand of this shape, and none of its arguments is global
 pub record IsSubcommand (shape : Shape) (c : Command) : Type 0 where
   pub reads : shape_of c ≡ shape
   pub is_local : (fields_of c).has_globals ≡ false

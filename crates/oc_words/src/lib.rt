@@ -7,7 +7,7 @@
 //! takes the arguments of a subcommand, and `parsing` their numbers, each spelled as in every text of the program and
 //! within its range (`IsSample` and its like in `specs/Requests`).
 //!
-//! [`tip`] tells what words that make none may have been meant to be, where `clap` knows.
+//! [`tip`] gives the suggestion of `clap` for words that make no request, if it has one.
 //!
 //! A [`Status`] is how the program ended, and its number is the exit status of the process.
 #![tactic(auto)]

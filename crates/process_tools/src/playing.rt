@@ -25,7 +25,7 @@ pub struct Ports {
 }
 
 impl Ports {
-    /// This port, and no peer.
+    /// A port for `PORT`, and no peer.
     pub fn only(port: u16) -> Ports {
         Ports { port, peer: None }
     }

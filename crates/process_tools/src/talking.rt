@@ -66,7 +66,7 @@ pub fn play_talks(rt: &HostRuntime, home: &Home, table: &str) -> io::Result<()> 
     Ok(())
 }
 
-/// Has a conversation `count` times, or until one goes otherwise.
+/// Has a conversation `times` times, or until one goes otherwise.
 fn talk_often(
     rt: &HostRuntime,
     home: &Home,

@@ -49,10 +49,11 @@ fn append<D: Disk>(alloc: Global, journal: &mut Journal<D>, body: &[u8]) -> Resu
 
 /// The disk of a text: its content, and after a `/` its failures.
 ///
-/// It holds `bytes:HEX`, or the journal of the frames `frames:HEX,HEX`, or that of the one frame
-/// `long:HEX,END`, which begins so, goes on with bytes 3, and ends at this place of the file. Then
-/// `fail:CALL` has that one of its later calls fail, and `stop:CALLS,IMAGE` all writes and syncs after the
-/// first `CALLS`, where a crash leaves this byte wherever something was not synced.
+/// The disk holds `bytes:HEX`, or the journal of the frames `frames:HEX,HEX`, or that of the one
+/// frame `long:HEX,END`, which begins with these bytes, goes on with bytes 3, and ends at this
+/// offset of the file. Then `fail:CALL` makes one of its later calls fail, and `stop:CALLS,IMAGE`
+/// all writes and syncs after the first `CALLS`, with this byte after a crash at each place that
+/// was not synced.
 pub fn disk_in(alloc: Global, text: &str) -> Result<MemDisk, Fault> {
     let (held, failing) = text.split_once('/').unwrap_or((text, ""));
     let mut disk = held_in(alloc, RowStep::of(held))?;

@@ -26,7 +26,6 @@ mod law;
 mod lines;
 mod merge_end;
 mod merging;
-mod network;
 mod nodes;
 mod place;
 mod places;

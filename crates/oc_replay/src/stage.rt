@@ -8,7 +8,7 @@ ghost use Rattle.oc_model.specs.Status.{status_in};
 ghost use Rattle.oc_replay.specs.Stage.{HasTimeFor, IsSaid};
 
 use oc_base::{Memory, NodeId, Shelf};
-use oc_model::{Event, Message, NodeStatus, Word};
+use oc_model::{Event, Header, Message, NodeStatus, Word};
 
 /// What is said of an event: its word, and the messages that it sent.
 #[derive(Clone, Copy, Debug, PartialEq, Eq)]
@@ -30,9 +30,9 @@ pub trait Stage {
 
     /// Opens the world of a header: 1 to 1,024 nodes, a chain of 1 to 16 members and at most all nodes,
     /// and the area of each node, ascending by id. Nothing is said of the stage once memory ran out.
-    fn open(&mut self, nodes: u32, chain: u32, chunk: u32, areas: &[u8]) -> Result<(), Memory>
-        requires { IsHeader (record { nodes = nodes; chain = chain; chunk = chunk; areas = areas.now }) }
-        ensures { OnOk result (world self.new ≡ new_world (record { nodes = nodes; chain = chain; chunk = chunk; areas = areas.now })) };
+    fn open(&mut self, header: &Header) -> Result<(), Memory>
+        requires { IsHeader header.now }
+        ensures { OnOk result (world self.new ≡ new_world header.now) };
 
     /// Does what an event does, any one within its ranges. Settle and heal are given only where no
     /// clock of a node that is up is past the second 2^41 - 60. Nothing is said of the stage once memory

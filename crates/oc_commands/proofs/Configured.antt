@@ -17,7 +17,7 @@ use Rattle.oc_keep.specs.declared.errors.KeepLoad.{KeepLoad}
 use Rattle.oc_words.specs.declared.request.Paths.{Paths}
 use Rattle.oc_words.specs.declared.request.Invocation.{Invocation}
 use Rattle.oc_words.specs.declared.request.Invocation.TheVariants.{CheckConfigured as CheckRequest}
-use Rattle.oc_commands.specs.AtCheck.{HappenedAtCheck, network_in}
+use Rattle.oc_commands.specs.AtCheck.{HappenedAtCheck, sizes_in}
 use Rattle.oc_commands.specs.AtConfigured.{HappenedAtConfigured, HasShownStatus, IsShownOf, IsShownOver}
 use Rattle.oc_commands.specs.Ends.{status_of, status_of_cause, status_of_check, status_of_configured}
 use Rattle.oc_commands.specs.Outside.{Input, OnError, OnLink, OnNode, OnStage, Output, at_files, at_source}
@@ -51,7 +51,7 @@ module _ {S D : Type 0} (gives fails : S → List ℕ → S → Type 0) (ended :
   load_has s id error causes.Memory is node h = inr refl
 
   -- over the files of a node
-  check_has : (s : Settings) (id : ℕ) (end : CheckEnd) → IsNode (length s.addresses) id → HappenedAtCheck (at_files view d e) output (network_in s) id end
+  check_has : (s : Settings) (id : ℕ) (end : CheckEnd) → IsNode (length s.addresses) id → HappenedAtCheck (at_files view d e) output (sizes_in s) id end
       → IsShownOver view d s id (number_of (status_of_check end)) ⊎ (number_of (status_of_check end) ≡ 4)
   check_has s id checks.Done node h = inl (inr (node, λ files. refl))
   check_has s id checks.Sink node h = let (text, shows, cut) = h.0 in absurd (sound _ cut.1)

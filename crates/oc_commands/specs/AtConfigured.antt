@@ -8,7 +8,7 @@ use Rattle.oc_config.specs.declared.fault.ConfigFault.{ConfigFault}
 use Rattle.oc_io.specs.DiskView.{DiskView}
 use Rattle.oc_keep.specs.Files.{Disks}
 use Rattle.oc_keep.specs.Promises.{HoldFiles}
-use Rattle.oc_commands.specs.AtCheck.{HappenedAtCheck, network_in}
+use Rattle.oc_commands.specs.AtCheck.{HappenedAtCheck, sizes_in}
 use Rattle.oc_commands.specs.AtConfig.{ReadsConfig}
 use Rattle.oc_commands.specs.AtRules.{status_of_settings}
 use Rattle.oc_commands.specs.Outside.{Input, OnFiles, Output}
@@ -18,7 +18,7 @@ use Rattle.oc_commands.specs.declared.checking.ConfiguredEnd.TheVariants.{Config
 -- no node of the configuration has this id, or its files were read
 abbrev pub ChecksOne : OnFiles → Output → Settings → ℕ → ConfiguredEnd → Type 0
 ChecksOne files output s id Stranger = (IsNode (length s.addresses) id → ⊥) × output.written []
-ChecksOne files output s id (Checked end) = IsNode (length s.addresses) id × HappenedAtCheck files output (network_in s) id end
+ChecksOne files output s id (Checked end) = IsNode (length s.addresses) id × HappenedAtCheck files output (sizes_in s) id end
 ChecksOne files output s id (Config end) = ⊥
 
 -- the effect of this end

@@ -93,7 +93,7 @@ fn merged_text(alloc: Global, records: Records) -> Result<(Vec<u8>, MergeEnd), M
     ensures { IfOk result (λ merged. IsMergedText records merged.0.items merged.1) }
 {
     let there = without_missed::<LoneNode>(alloc, records)?;
-    let mut nodes = IndexedWorld::new(alloc, there.nodes, there.chain, there.chunk, &there.areas)?;
+    let mut nodes = IndexedWorld::new(alloc, &there.header)?;
     let (schedule, end) = merge(alloc, &mut nodes, &there)?;
     Ok((print(alloc, &schedule)?, end))
 }

@@ -14,7 +14,7 @@ use crate::hash::hash_of;
 use crate::numbers::Numbers;
 use oc_base::{Bytes, Memory, NodeId};
 use oc_merge::Nodes;
-use oc_model::{Event, Message};
+use oc_model::{Event, Header, Message};
 use oc_wire::encode;
 use oc_world::World;
 use std::alloc::Global;
@@ -29,20 +29,14 @@ pub struct IndexedWorld {
 }
 
 impl IndexedWorld {
-    /// The world of a header: all nodes are down, and no message was sent.
-    pub fn new(
-        alloc: Global,
-        nodes: u32,
-        chain: u32,
-        chunk: u32,
-        areas: &[u8],
-    ) -> Result<IndexedWorld, Memory>
-        requires { IsHeader (record { nodes = nodes; chain = chain; chunk = chunk; areas = areas.now }) }
-        ensures { IfOk result (λ made. made.world.world ≡ new_world (record { nodes = nodes; chain = chain; chunk = chunk; areas = areas.now })) }
+    /// The world of a header, where all nodes are down and nothing was sent.
+    pub fn new(alloc: Global, header: &Header) -> Result<IndexedWorld, Memory>
+        requires { IsHeader header.now }
+        ensures { IfOk result (λ made. made.world.world ≡ new_world header.now) }
     {
         Ok(IndexedWorld {
             alloc,
-            world: World::new(alloc, nodes, chain, chunk, areas)?,
+            world: World::new(alloc, header)?,
             numbers: Numbers::new(alloc),
         })
     }

@@ -12,7 +12,7 @@ use crate::groups::{copied, keep, lines_of};
 use oc_base::{Bytes, Group, MAX_BASE_ACKED, Memory, NodeId};
 use oc_keep::Node;
 use oc_merge::Alone;
-use oc_model::Input;
+use oc_model::{Header, Input};
 use oc_replay::put_digest;
 use std::alloc::Global;
 use std::marker::Model;
@@ -50,16 +50,17 @@ impl Alone for LoneNode {
     ghost digest = { digest };
 
     #[tactic(auto, using(crate::proofs::LoneSteps::header_copied, crate::proofs::LoneSteps::new_is, crate::proofs::LoneSteps::new_areas))]
-    fn new(
-        alloc: Global,
-        nodes: u32,
-        chain: u32,
-        chunk: u32,
-        areas: &[u8],
-        me: NodeId,
-    ) -> Result<LoneNode, Memory> {
-        let kept = areas.to_vec(alloc)?;
-        let node = Node::new(alloc, me, nodes, chain, chunk, areas.to_vec(alloc)?)?;
+    fn new(alloc: Global, header: &Header, me: NodeId) -> Result<LoneNode, Memory> {
+        let kept = header.areas.to_vec(alloc)?;
+        let sizes = header.sizes;
+        let node = Node::new(
+            alloc,
+            me,
+            sizes.nodes,
+            sizes.chain,
+            sizes.chunk,
+            header.areas.to_vec(alloc)?,
+        )?;
         Ok(LoneNode {
             alloc,
             areas: kept,

@@ -23,7 +23,7 @@ use Rattle.oc_model.specs.declared.message.Message.{Message}
 use Rattle.oc_model.specs.Node.{Header}
 use Rattle.oc_model.specs.Numbers.{number_end}
 use Rattle.oc_schedule.proofs.Steps.{behind_guard, steps, within_guard}
-use Rattle.oc_schedule.specs.declared.lines.Sizes.{Sizes}
+use Rattle.oc_model.specs.declared.header.Sizes.{Sizes}
 use Rattle.oc_schedule.specs.Acts.{PublishesBytes, act_in, act_words, check_in, client_in, deliver_in, delivered_in, fail_in, measure_in, most_byte, move_in, pair_in, publish_in, pull_in, seal_in, tick_in, ticked_in}
 use Rattle.oc_schedule.specs.Fields.{bytes_in, bytes_text, group_in}
 use Rattle.oc_schedule.specs.Lines.{area_in, area_words, chunk_in, chunk_words, header_in, header_words, named_in, node_alone_in, opening_in, sizes_in, with_sizes}

@@ -5,7 +5,7 @@ ghost use Rattle.oc_model.specs.Node.{Node, new_node, restarted};
 ghost use Rattle.oc_model.specs.Step.{step};
 
 use oc_base::{Bytes, Memory, NodeId};
-use oc_model::Input;
+use oc_model::{Header, Input};
 use std::alloc::Global;
 
 /// One node alone, on which the lines of its own record are played. It shows a node of the model.
@@ -16,19 +16,11 @@ pub trait Alone: Drop {
     /// The digest of a node's files.
     ghost digest: { Node → List ℕ };
 
-    /// A new node: its number, the number of nodes, the length of the chain, the greatest length in
-    /// bytes of a chunk, and the area of each node.
-    fn new(
-        alloc: Global,
-        nodes: u32,
-        chain: u32,
-        chunk: u32,
-        areas: &[u8],
-        me: NodeId,
-    ) -> Result<Self, Memory>
-        requires header { IsHeader (record { nodes = nodes; chain = chain; chunk = chunk; areas = areas.now }) }
-        requires me { IsNode nodes me }
-        ensures { IfOk result (λ made. node made ≡ new_node (record { nodes = nodes; chain = chain; chunk = chunk; areas = areas.now }) me) };
+    /// A new node of this number, in the network of a header.
+    fn new(alloc: Global, header: &Header, me: NodeId) -> Result<Self, Memory>
+        requires header { IsHeader header.now }
+        requires me { IsNode header.now.nodes me }
+        ensures { IfOk result (λ made. node made ≡ new_node header.now me) };
 
     /// The node after a restart. This node is unchanged.
     fn restarted(&self) -> Result<Self, Memory>

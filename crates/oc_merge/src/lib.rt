@@ -27,7 +27,6 @@ mod law;
 mod lines;
 mod merge_end;
 mod merging;
-mod network;
 mod nodes;
 mod place;
 mod places;

@@ -16,6 +16,7 @@ use crate::records::Records;
 use crate::told::{Told, ToldLine};
 use crate::way::take;
 use oc_base::Memory;
+use oc_model::Header;
 use oc_schedule::{EventList, Schedule};
 use std::alloc::Global;
 
@@ -138,7 +139,7 @@ pub fn merge<N: Nodes>(
     requires new { N.world nodes.old ≡ new_world records.now.header }
     ensures { IfOk result (λ merged. IsMergeOf N.digest records.now merged.0 merged.1) }
 {
-    let places = find_places(alloc, records.nodes, &records.lines)?;
+    let places = find_places(alloc, records.header.sizes.nodes, &records.lines)?;
     let heads = first_heads(alloc, nodes, records, &places)?;
     let mut fronts = Fronts {
         heads,
@@ -153,10 +154,10 @@ pub fn merge<N: Nodes>(
     }
     let end = end_at(&records.lines, &fronts.heads);
     let schedule = Schedule {
-        nodes: records.nodes,
-        chain: records.chain,
-        chunk: records.chunk,
-        areas: records.areas.to_vec(alloc)?,
+        header: Header {
+            sizes: records.header.sizes,
+            areas: records.header.areas.to_vec(alloc)?,
+        },
         events,
     };
     Ok((schedule, end))

@@ -14,14 +14,14 @@ ghost use Rattle.oc_merge.specs.Told.{published_in};
 
 use crate::fault::{Cause, MAX_RECORD_PUBLISHED, Most, RecordsFault};
 use crate::lines::{files, is_comment, is_cut_off, is_note, told};
-use crate::network::Network;
 use crate::place::Place;
 use crate::reader::Reader;
 use crate::records::Records;
 use crate::told::{Told, ToldLine, published_by};
 use oc_base::words::{first_word, is};
 use oc_base::{Bytes, Memory, NodeId, Why};
-use oc_schedule::{LineFault, Sizes, area, node_alone, opening};
+use oc_model::{Header, Sizes};
+use oc_schedule::{LineFault, area, node_alone, opening};
 use std::alloc::Global;
 
 /// The fault of a line that is refused for a reason which schedules have too.
@@ -44,38 +44,33 @@ fn refused_at(line: u32, fault: LineFault) -> RecordsFault
     }
 }
 
-/// The number of nodes in the network, or 0 if none is known.
-fn nodes_of(network: &Option<Network>) -> u32
-    ensures { result ≡ nodes_of network.now }
+/// How many nodes the network of a header has, or 0 where there is none.
+fn nodes_of(header: &Option<Header>) -> u32
+    ensures { result ≡ nodes_of header.now }
 {
-    match network {
-        Some(network) => network.nodes,
+    match header {
+        Some(header) => header.sizes.nodes,
         None => 0,
     }
 }
 
-/// The network of a header, if it has the sizes of the first.
+/// The header of the network, where a further one has its sizes.
 fn agreed(
     alloc: Global,
     number: u32,
-    network: Option<Network>,
+    header: Option<Header>,
     sizes: Sizes,
-) -> Result<Network, RecordsFault>
-    ensures said { Gives result (at_line number (because (agreed network (with_sizes sizes)))) }
+) -> Result<Header, RecordsFault>
+    ensures said { Gives result (at_line number (because (agreed header (with_sizes sizes)))) }
     ensures nodes { IfOk result (λ found. found.nodes ≡ sizes.nodes) }
 {
-    match network {
-        None => Ok(Network {
-            nodes: sizes.nodes,
-            chain: sizes.chain,
-            chunk: sizes.chunk,
+    match header {
+        None => Ok(Header {
+            sizes,
             areas: vec![in alloc; 0; sizes.nodes as usize]?,
         }),
         Some(first) => {
-            if first.nodes == sizes.nodes
-                && first.chain == sizes.chain
-                && first.chunk == sizes.chunk
-            {
+            if first.sizes == sizes {
                 Ok(first)
             } else {
                 Err(refused(number, Why::Header))
@@ -84,33 +79,31 @@ fn agreed(
     }
 }
 
-/// The network with these areas.
+/// The header with these areas.
 fn with_areas(
     alloc: Global,
-    network: Option<Network>,
+    header: Option<Header>,
     areas: &[u8],
-) -> Result<Option<Network>, RecordsFault>
-    ensures said { Gives result (Ok (with_areas areas.now network)) }
-    ensures nodes { IfOk result (λ found. nodes_of found ≡ nodes_of network) }
+) -> Result<Option<Header>, RecordsFault>
+    ensures said { Gives result (Ok (with_areas areas.now header)) }
+    ensures nodes { IfOk result (λ found. nodes_of found ≡ nodes_of header) }
 {
-    match network {
+    match header {
         None => Ok(None),
-        Some(network) => Ok(Some(Network {
-            nodes: network.nodes,
-            chain: network.chain,
-            chunk: network.chunk,
+        Some(header) => Ok(Some(Header {
+            sizes: header.sizes,
             areas: areas.to_vec(alloc)?,
         })),
     }
 }
 
-/// Whether these are the areas of the network.
-fn has_areas(network: &Option<Network>, areas: &[u8]) -> bool
-    ensures { result ≡ has_areas areas.now network.now }
+/// Whether these are the areas of the header.
+fn has_areas(header: &Option<Header>, areas: &[u8]) -> bool
+    ensures { result ≡ has_areas areas.now header.now }
 {
-    match network {
+    match header {
         None => false,
-        Some(network) => areas == network.areas.as_slice(),
+        Some(header) => areas == header.areas.as_slice(),
     }
 }
 
@@ -157,7 +150,7 @@ impl Reader {
         ensures { reading_of result ≡ nothing_read }
     {
         Reader {
-            network: None,
+            header: None,
             started: false,
             areas: Vec::new(alloc),
             place: Place::Outside,
@@ -170,22 +163,9 @@ impl Reader {
     pub fn into_records(self, number: u32) -> Result<Records, RecordsFault>
         ensures { Gives result (records_at_end number (reading_of self).header (reading_of self).lines) }
     {
-        let Reader { network, lines, .. } = self;
-        match network {
-            Some(
-                Network {
-                    nodes,
-                    chain,
-                    chunk,
-                    areas,
-                },
-            ) => Ok(Records {
-                nodes,
-                chain,
-                chunk,
-                areas,
-                lines,
-            }),
+        let Reader { header, lines, .. } = self;
+        match header {
+            Some(header) => Ok(Records { header, lines }),
             None => Err(refused(number, Why::Header)),
         }
     }
@@ -235,7 +215,7 @@ impl Reader {
         ensures { GivesBy reading_of result (Ok (after_files (reading_of self) node (Some digits))) }
     {
         let Reader {
-            network,
+            header,
             started,
             areas,
             place: _,
@@ -244,7 +224,7 @@ impl Reader {
         } = self;
         put_files(&mut lines, digits)?;
         Ok(Reader {
-            network,
+            header,
             started,
             areas,
             place: Place::Within(node.0),
@@ -285,7 +265,7 @@ impl Reader {
             return Err(refused(number, Why::Header));
         };
         let Reader {
-            network,
+            header,
             started,
             areas: _,
             place: _,
@@ -293,9 +273,9 @@ impl Reader {
             published,
         } = self;
         let areas = vec![in alloc; 0; sizes.nodes as usize]?;
-        let network = agreed(alloc, number, network, sizes)?;
+        let header = agreed(alloc, number, header, sizes)?;
         Ok(Reader {
-            network: Some(network),
+            header: Some(header),
             started,
             areas,
             place: Place::Opened,
@@ -331,12 +311,12 @@ impl Reader {
     fn with_area(self, number: u32, fields: &[u8]) -> Result<Reader, RecordsFault>
         ensures { GivesBy reading_of result (limited (at_line number (because (after_area (reading_of self) (words fields.now))))) }
     {
-        let (node, area) = match area(nodes_of(&self.network), fields) {
+        let (node, area) = match area(nodes_of(&self.header), fields) {
             Ok(found) => found,
             Err(why) => return Err(refused(number, why)),
         };
         let Reader {
-            network,
+            header,
             started,
             mut areas,
             place,
@@ -345,7 +325,7 @@ impl Reader {
         } = self;
         areas[node.index()] = area;
         Ok(Reader {
-            network,
+            header,
             started,
             areas,
             place,
@@ -358,7 +338,7 @@ impl Reader {
     fn with_up(self, alloc: Global, number: u32, fields: &[u8]) -> Result<Reader, RecordsFault>
         ensures { GivesBy reading_of result (limited (at_line number (after_up (reading_of self) number (words fields.now)))) }
     {
-        match node_alone(nodes_of(&self.network), fields) {
+        match node_alone(nodes_of(&self.header), fields) {
             Ok(node) => self.with_start(alloc, number, node),
             Err(why) => Err(refused(number, why)),
         }
@@ -370,7 +350,7 @@ impl Reader {
     {
         if !self.started {
             self.with_areas(alloc)?.with_start_of(number, node)
-        } else if has_areas(&self.network, &self.areas) {
+        } else if has_areas(&self.header, &self.areas) {
             self.with_start_of(number, node)
         } else {
             Err(RecordsFault::Line {
@@ -380,21 +360,21 @@ impl Reader {
         }
     }
 
-    /// Takes the areas after the last header as those of the network.
+    /// The areas after the last header are those of the header.
     fn with_areas(self, alloc: Global) -> Result<Reader, RecordsFault>
         ensures { GivesBy reading_of result (Ok (begun (reading_of self))) }
     {
         let Reader {
-            network,
+            header,
             started: _,
             areas,
             place,
             lines,
             published,
         } = self;
-        let network = with_areas(alloc, network, &areas)?;
+        let header = with_areas(alloc, header, &areas)?;
         Ok(Reader {
-            network,
+            header,
             started: true,
             areas,
             place,
@@ -444,7 +424,7 @@ impl Reader {
     ) -> Result<Reader, RecordsFault>
         ensures { GivesBy reading_of result (limited (at_line number (because (after_told (reading_of self) me number word.now (words fields.now))))) }
     {
-        match told(alloc, nodes_of(&self.network), me, word, fields) {
+        match told(alloc, nodes_of(&self.header), me, word, fields) {
             Ok(told) => self.within(me).with_told(number, me, told),
             Err(fault) => Err(refused_at(number, fault)),
         }
@@ -462,7 +442,7 @@ impl Reader {
         ensures { reading_of result ≡ record (reading_of self) { place = place } }
     {
         let Reader {
-            network,
+            header,
             started,
             areas,
             place: _,
@@ -470,7 +450,7 @@ impl Reader {
             published,
         } = self;
         Reader {
-            network,
+            header,
             started,
             areas,
             place,
@@ -484,7 +464,7 @@ impl Reader {
         ensures { GivesBy reading_of result (within_limits (tells (reading_of self) number node told)) }
     {
         let Reader {
-            network,
+            header,
             started,
             areas,
             place,
@@ -497,7 +477,7 @@ impl Reader {
         }
         lines.push(ToldLine { number, node, told })?;
         Ok(Reader {
-            network,
+            header,
             started,
             areas,
             place,

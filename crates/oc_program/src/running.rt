@@ -3,7 +3,7 @@
 ghost use Rattle.std.specs.Prelude.{◌≡◌, ◌≢◌, ℕ, ◌⊎◌, List, None, Err, IfOk, option_map};
 ghost use Rattle.oc_keep.specs.Files.{disks_in};
 ghost use Rattle.oc_io.specs.Faults.{NoFall};
-ghost use Rattle.oc_commands.specs.AtCheck.{HappenedAtCheck, network_of};
+ghost use Rattle.oc_commands.specs.AtCheck.{HappenedAtCheck, sizes_of};
 ghost use Rattle.oc_commands.specs.AtConfigured.{HappenedAtConfigured, UnlessChecked};
 ghost use Rattle.oc_commands.specs.AtGet.{HappenedAtGet};
 ghost use Rattle.oc_commands.specs.AtNode.{HappenedAtNode, UnlessRan};
@@ -229,7 +229,7 @@ fn check<S: Source, K: Sink, E: Sink, T: Stage, D: Disk, L: Dialler, N: Link, P:
     requires { IsMember member }
     ensures happened { HappenedAtCheck
         (at_files D.view (disks_in outside.files) (disks_in result.1.files))
-        (at_sink K.takes K.fails K.faults outside.output result.1.output) (network_of member) member.id result.0 }
+        (at_sink K.takes K.fails K.faults outside.output result.1.output) (sizes_of member) member.id result.0 }
     ensures count { NoFall (K.faults outside.output) (K.faults result.1.output) }
 
     // No other object was used.

@@ -129,18 +129,13 @@ fn play<K: Sink, T: Stage>(
     ensures count { NoFall (K.faults sink.old) (K.faults sink.new) }
     ensures cause { IsErrOf result ReportFault.Sink → Rose (K.faults sink.old) (K.faults sink.new) }
 {
-    stage.open(
-        schedule.nodes,
-        schedule.chain,
-        schedule.chunk,
-        &schedule.areas,
-    )?;
+    stage.open(&schedule.header)?;
     tell(
         alloc,
         sink,
         stage,
         &schedule.events,
-        schedule.nodes,
+        schedule.header.sizes.nodes,
         summary,
     )
 }

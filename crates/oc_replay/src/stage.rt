@@ -8,7 +8,7 @@ ghost use Rattle.oc_model.specs.Status.{status_in};
 ghost use Rattle.oc_replay.specs.Stage.{HasTimeFor, IsSaid};
 
 use oc_base::{Memory, NodeId, Shelf};
-use oc_model::{Event, Message, NodeStatus, Word};
+use oc_model::{Event, Header, Message, NodeStatus, Word};
 
 /// The answer of a stage to an event: its word, and the messages that it sent.
 #[derive(Clone, Copy, Debug, PartialEq, Eq)]
@@ -28,12 +28,11 @@ pub trait Stage {
     /// The world that the stage shows.
     ghost world: { Self → WorldState };
 
-    /// Opens the world of a header: 1 to 1,024 nodes, a chain of 1 to 16 members and at most all
-    /// nodes, and the area of each node, ascending by id. After memory ran out, the contract leaves
-    /// the stage open.
-    fn open(&mut self, nodes: u32, chain: u32, chunk: u32, areas: &[u8]) -> Result<(), Memory>
-        requires { IsHeader (record { nodes = nodes; chain = chain; chunk = chunk; areas = areas.now }) }
-        ensures { OnOk result (world self.new ≡ new_world (record { nodes = nodes; chain = chain; chunk = chunk; areas = areas.now })) };
+    /// Opens the world of a header: 1 to 1,024 nodes, a chain of 1 to 16 members and at most all nodes,
+    /// and the area of each node, ascending by id. Nothing is said of the stage once memory ran out.
+    fn open(&mut self, header: &Header) -> Result<(), Memory>
+        requires { IsHeader header.now }
+        ensures { OnOk result (world self.new ≡ new_world header.now) };
 
     /// Performs an event within its ranges. Settle and heal are given only if no clock of a node
     /// that is up is past the second 2^41 - 60. After memory ran out, the contract leaves the stage

@@ -10,6 +10,7 @@ use crate::brief::put_place;
 use crate::log::Log;
 use oc_base::{Memory, NodeId, Shelf, put, put_with_number};
 use oc_config::Config;
+use oc_model::{Header, Sizes};
 use oc_node::Node;
 use oc_replay::put_has_line;
 use oc_schedule::{EventList, Schedule, print};
@@ -66,10 +67,14 @@ fn put_network(alloc: Global, out: &mut Vec<u8>, node: &Node, areas: &[u8]) -> R
     ensures { OnOk result (out.new.items ≡ out.old.items ++ network_text (header_of node.now.control)) }
 {
     let schedule = Schedule {
-        nodes: node.nodes(),
-        chain: node.chain(),
-        chunk: node.chunk(),
-        areas: copy(alloc, areas)?,
+        header: Header {
+            sizes: Sizes {
+                nodes: node.nodes(),
+                chain: node.chain(),
+                chunk: node.chunk(),
+            },
+            areas: copy(alloc, areas)?,
+        },
         events: EventList::new(alloc),
     };
     let text = print(alloc, &schedule)?;

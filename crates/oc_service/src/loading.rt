@@ -20,6 +20,7 @@ use oc_http::HeadReader;
 use oc_io::{Disk, Sink};
 use oc_keep::{KeepLoad, Kept, Seat};
 use oc_link::Link;
+use oc_model::{Header, Sizes};
 use oc_probe::Probing;
 use oc_server::{Dials, Outbox, Pace, Server, Turns, Works, most_interval};
 use std::alloc::Global;
@@ -57,10 +58,14 @@ pub(crate) fn load<D: Disk, L: Link, K: Sink>(
     let Site { files, link, sink } = site;
     let seat = Seat {
         id: task.me,
-        nodes: nodes_of(&config),
-        chain: config.chain,
-        chunk: config.chunk(),
-        areas,
+        header: Header {
+            sizes: Sizes {
+                nodes: nodes_of(&config),
+                chain: config.chain,
+                chunk: config.chunk(),
+            },
+            areas,
+        },
     };
     match Kept::load(alloc, files, seat) {
         Ok(kept) => Ok(Turns {

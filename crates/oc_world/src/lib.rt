@@ -20,7 +20,6 @@ mod arrivals;
 mod cluster;
 mod letter;
 mod net;
-mod network;
 mod pools;
 mod process;
 mod process_acts;

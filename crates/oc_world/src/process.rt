@@ -5,7 +5,7 @@ ghost use Rattle.std.specs.List.{AllByRecursion};
 ghost use Rattle.oc_base.specs.Groups.{shelf};
 ghost use Rattle.oc_base.specs.Lawful.{IsNode};
 ghost use Rattle.oc_keep.specs.Files.{Survives, disks};
-ghost use Rattle.oc_keep.specs.KeptView.{header, header_of, node_of};
+ghost use Rattle.oc_keep.specs.KeptView.{header_of, node_of};
 ghost use Rattle.oc_keep.specs.Promises.{IsSameNode};
 ghost use Rattle.oc_keep.specs.ReadyView.{is_written, outcome_of, told_of};
 ghost use Rattle.oc_laws_step.specs.LawfulNode.{IsLawfulControl};
@@ -20,7 +20,6 @@ ghost use Rattle.oc_replay.specs.Digests.{digest_text};
 ghost use Rattle.oc_world.specs.ProcessView.{CanCommitTo, Renews, generation_of, resting};
 ghost use Rattle.oc_world.specs.ProcessState.{IsOpen, IsRunning};
 
-use crate::network::Network;
 use crate::process_state::{ProcessState, copied, empty_files};
 use crate::process_status::{
     digest_of, digest_recovered, groups_of, groups_recovered, lawful_node,
@@ -29,8 +28,8 @@ use crate::{process_acts, starting, stopping};
 use oc_base::{Memory, NodeId, Shelf};
 use oc_io::MemDisk;
 use oc_journal::is_kept_new;
-use oc_keep::{Files, Kept, Node, Outcome, Ready, status_of, status_recovered};
-use oc_model::{Input, NodeStatus};
+use oc_keep::{Files, Kept, Node, Outcome, Ready, Seat, status_of, status_recovered};
+use oc_model::{Header, Input, NodeStatus};
 use std::alloc::Global;
 use std::marker::Model;
 
@@ -40,41 +39,35 @@ use std::marker::Model;
 #[derive(Drop)]
 pub struct Process {
     alloc: Global,
-    id: NodeId,
-    network: Network,
-    /// The area of each node, by its number.
-    areas: Vec<u8>,
+    seat: Seat,
     state: ProcessState<MemDisk>,
 }
 
 impl Model for Process {
     ghost use Rattle.oc_base.specs.Lawful.{IsNode};
-    ghost use Rattle.oc_keep.specs.KeptView.{header};
     ghost use Rattle.oc_model.specs.Lawful.{IsHeader};
     ghost use Rattle.oc_world.specs.ProcessView.{ProcessView};
     ghost use Rattle.oc_world.specs.ProcessState.{IsStateOf, process_of};
 
     ghost Value = { ProcessView };
 
-    ghost view = { λ p. process_of (header p.network.nodes p.network.chain p.network.chunk p.areas.items) p.id p.state };
+    ghost view = { λ p. process_of p.seat.header p.seat.id p.state };
 
-    ghost invariant = { λ p. IsHeader (header p.network.nodes p.network.chain p.network.chunk p.areas.items) × IsNode p.network.nodes p.id
-        × IsStateOf (header p.network.nodes p.network.chain p.network.chunk p.areas.items) p.id p.state };
+    ghost invariant = { λ p. IsHeader p.seat.header × IsNode p.seat.header.nodes p.seat.id
+        × IsStateOf p.seat.header p.seat.id p.state };
 }
 
 impl Process {
     /// A new node that is down, on empty files.
-    pub fn new(alloc: Global, id: NodeId, network: Network, areas: &[u8]) -> Result<Process, Memory>
-        requires header { IsHeader (header network.nodes network.chain network.chunk areas.now) }
-        requires id { IsNode network.nodes id }
-        ensures { IfOk result (λ process. process ≡ resting (down (new_node (header network.nodes network.chain network.chunk areas.now) id))) }
+    pub fn new(alloc: Global, id: NodeId, header: &Header) -> Result<Process, Memory>
+        requires header { IsHeader header.now }
+        requires id { IsNode header.now.nodes id }
+        ensures { IfOk result (λ process. process ≡ resting (down (new_node header.now id))) }
     {
-        let areas = areas.to_vec(alloc)?;
+        let seat = Seat::new(alloc, id, header)?;
         Ok(Process {
             alloc,
-            id,
-            network,
-            areas,
+            seat,
             state: ProcessState::Stopped(empty_files(alloc)),
         })
     }
@@ -131,7 +124,7 @@ impl Process {
             ProcessState::Running(_) => unreachable!(),
             ProcessState::Stopped(files) => {
                 let copy = copied(files)?;
-                starting::load(self.alloc, copy, self.id, self.network, &self.areas)
+                starting::load(self.alloc, copy, &self.seat)
             }
         }
     }
@@ -207,9 +200,7 @@ impl Process {
     {
         let Process {
             alloc: _,
-            id: _,
-            network: _,
-            areas: _,
+            seat: _,
             state,
         } = self;
         match state {

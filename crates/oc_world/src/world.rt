@@ -7,7 +7,7 @@ ghost use Rattle.oc_calm.specs.Cluster.{HasChain, IsStepOf, IsUpNode, is_ack};
 ghost use Rattle.oc_content.specs.ContentFile.{groups_in};
 ghost use Rattle.oc_journal.specs.JournalFile.{frames_of};
 ghost use Rattle.oc_keep.specs.Files.{Survives, disks};
-ghost use Rattle.oc_keep.specs.KeptView.{header, header_of};
+ghost use Rattle.oc_keep.specs.KeptView.{header_of};
 ghost use Rattle.oc_laws_step.specs.LawfulNode.{IsLawfulControl};
 ghost use Rattle.oc_model.specs.Lawful.{IsEvent, IsHeader, IsInput, IsMessage};
 ghost use Rattle.oc_model.specs.NextWorld.{crashed, next_world, started, stopped_at, word_of, word_of_act, word_of_stop};
@@ -26,7 +26,6 @@ ghost use Rattle.oc_world.specs.World.{RenewsAt, RenewsBy, processes_of};
 use crate::acting::act;
 use crate::arrivals::{delivery, message_place};
 use crate::net::Net;
-use crate::network::Network;
 use crate::process::Process;
 use crate::processes::new_processes;
 use oc_base::{Memory, NodeId, Shelf};
@@ -34,7 +33,7 @@ use oc_calm::{heal, is_settled, settle};
 use oc_io::MemDisk;
 use oc_keep::Node;
 use oc_laws_world::tests_decide;
-use oc_model::{Act, Answer, Event, Input, Message, NodeStatus, Word};
+use oc_model::{Act, Answer, Event, Header, Input, Message, NodeStatus, Word};
 use oc_replay::Said;
 use std::alloc::Global;
 use std::marker::Model;
@@ -76,29 +75,18 @@ impl World {
         }
     }
 
-    /// The world of a header: all nodes are down on empty files, and no message was sent. There are
-    /// 1 to 1,024 nodes, a chain of 1 to 16 members and at most all nodes, chunks of 1 to 524,288
-    /// bytes, and an area for each node.
-    pub fn new(
-        alloc: Global,
-        nodes: u32,
-        chain: u32,
-        chunk: u32,
-        areas: &[u8],
-    ) -> Result<World, Memory>
-        requires { IsHeader (header nodes chain chunk areas.now) }
-        ensures { IfOk result (λ world. world.world ≡ new_world (header nodes chain chunk areas.now)) }
+    /// The world of a header, where all nodes are down on empty files, and nothing was sent. There are 1
+    /// to 1,024 nodes, a chain of 1 to 16 members and at most all nodes, chunks of 1 to 524,288 bytes, and an area for
+    /// each node.
+    pub fn new(alloc: Global, header: &Header) -> Result<World, Memory>
+        requires { IsHeader header.now }
+        ensures { IfOk result (λ world. world.world ≡ new_world header.now) }
     {
-        let network = Network {
-            nodes,
-            chain,
-            chunk,
-        };
         Ok(World {
             alloc,
-            chain,
-            processes: new_processes(alloc, network, areas)?,
-            net: Net::new(alloc, nodes),
+            chain: header.sizes.chain,
+            processes: new_processes(alloc, header)?,
+            net: Net::new(alloc, header.sizes.nodes),
         })
     }
 

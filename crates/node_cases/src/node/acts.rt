@@ -23,7 +23,7 @@ pub fn act_in<const NODES: u32>(
     let Ok(schedule) = read(alloc, Scale::Usual, text.as_str().as_bytes()) else {
         return Err(Fault::Field);
     };
-    if schedule.nodes != NODES || schedule.events.len() != 1 {
+    if schedule.header.sizes.nodes != NODES || schedule.events.len() != 1 {
         return Err(Fault::Field);
     }
     match schedule.events.event(0).get() {

@@ -7,6 +7,7 @@ use crate::node::inputs::NODES;
 use oc_base::{NodeId, USUAL_CHUNK_BYTES};
 use oc_io::Disk;
 use oc_keep::{Files, KeepLoad, Kept, Node, Seat};
+use oc_model::{Header, Sizes};
 use std::alloc::Global;
 use test_tools::{Fault, NodeDisks, RowDisk, put_disk, put_shelf};
 
@@ -21,10 +22,14 @@ pub fn load<D: Disk + Drop>(
     }
     let seat = Seat {
         id: me,
-        nodes: NODES,
-        chain: 1,
-        chunk: USUAL_CHUNK_BYTES,
-        areas: vec![in alloc; 0, 0, 0]?,
+        header: Header {
+            sizes: Sizes {
+                nodes: NODES,
+                chain: 1,
+                chunk: USUAL_CHUNK_BYTES,
+            },
+            areas: vec![in alloc; 0, 0, 0]?,
+        },
     };
     let NodeDisks {
         control,

@@ -10,7 +10,7 @@ use crate::node::inputs::{NODES, input_in};
 use oc_base::{NodeId, USUAL_CHUNK_BYTES};
 use oc_io::Disk;
 use oc_keep::{Files, Seat, Trial, trial};
-use oc_model::Input;
+use oc_model::{Header, Input, Sizes};
 use std::alloc::Global;
 use test_tools::{Fault, NodeDisks, RowDisk, RowFields, RowStep};
 
@@ -45,10 +45,14 @@ fn tried<D: Disk + Drop>(
     let inputs = inputs_in(alloc, steps, me)?;
     let seat = Seat {
         id: me,
-        nodes: NODES,
-        chain: 1,
-        chunk: USUAL_CHUNK_BYTES,
-        areas: vec![in alloc; 0, 0, 0]?,
+        header: Header {
+            sizes: Sizes {
+                nodes: NODES,
+                chain: 1,
+                chunk: USUAL_CHUNK_BYTES,
+            },
+            areas: vec![in alloc; 0, 0, 0]?,
+        },
     };
     let NodeDisks {
         control,

@@ -53,7 +53,7 @@ pub use head::{Head, Method};
 pub use head_reader::HeadReader;
 pub use law::{
     a_request_has_one_answer, a_response_has_one_answer, a_response_head_has_one_answer,
-    a_written_request_is_read, examples_compute,
+    a_written_path_is_read, a_written_request_is_read, examples_compute,
 };
 pub use messages::{read_body, read_head, read_response, read_response_head};
 pub use oc_base::Text;

@@ -194,10 +194,7 @@ fn content_range_line(length: Option<u64>, digits: &mut Buffer) -> FieldLine<'_>
     ensures { line_text result ≡ content_range_line length }
 {
     match length {
-        Some(count) => field_line(
-            b"Content-Range: bytes */",
-            digits.format(count).as_bytes(),
-        ),
+        Some(count) => field_line(b"Content-Range: bytes */", digits.format(count).as_bytes()),
         None => no_line(),
     }
 }

@@ -189,7 +189,7 @@ fn content_type_line<'a>(content_type: Option<ContentType>) -> &'a [u8]
     }
 }
 
-/// `Content-Range`, where none of the bytes of a content was asked for.
+/// `Content-Range`, where a content ends before what was asked for begins.
 fn content_range_line(length: Option<u64>, digits: &mut Buffer) -> FieldLine<'_>
     ensures { line_text result ≡ content_range_line length }
 {

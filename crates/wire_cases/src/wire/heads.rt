@@ -1,55 +1,57 @@
-//! Heads of HTTP messages, and the result of reading them, however their bytes come.
+//! Heads of HTTP messages, and what is read from them, however their bytes come.
 
 use crate::wire::pieces::Pieces;
 use crate::wire::words::{put, put_value};
 use oc_base::Text;
 use oc_http::{
-    Head, HttpFault, Method, Reply, ReplyHead, read_body, read_head, read_response,
-    read_response_head,
+    Head, HttpFault, Method, Reply, ReplyHead, begins_with_head, read_body, read_head,
+    read_response, read_response_head,
 };
 use oc_io::{MemSource, Source, read_all};
 use std::alloc::Global;
 use test_tools::{Fault, RowFields, put_spelled, spelled_in};
 
-/// The length in bytes above which a source is cut only at its first and last offsets.
+/// A longer source is cut at its first and its last places alone.
 const MOST_PLACES: usize = 1000;
 
-/// The number of first and of last offsets at which a long source is cut.
+/// How many of the first and of the last places these are.
 const EDGE: usize = 4;
 
-/// An upper bound on the bytes of a row.
+/// More bytes than a row has.
 const MOST_BYTES: usize = 2_000_000;
 
-/// The form that is read from a source.
+/// What a source is read as.
 #[derive(Clone, Copy)]
 enum Form {
     Request,
     Message,
     Response,
     Reply,
-    /// A reply after which the number of remaining bytes is not reported.
+    /// A reply of which it is not said how many bytes are left after it.
     Flood,
 }
 
-/// The form that is read from a source, and the number of the call that fails, or 0 for none.
+/// How a source is read, and the number of its call that fails, 0 where none does.
 #[derive(Clone, Copy)]
 struct Reader {
     form: Form,
     failing: u64,
 }
 
-/// Appends the words of a row: the result of reading, and the different result if the bytes come in
-/// other pieces.
+/// Puts the words of a row: what is read, and what is read otherwise where the bytes come in other pieces.
 pub fn put_words(alloc: Global, given: &str, said: &mut String) -> Result<(), Fault> {
     let (word, text) = given.split_once(' ').unwrap_or((given, ""));
-    let reader = reader_of(word)?;
     let bytes = spelled_in(alloc, text)?;
+    if word == "first" {
+        return put_value(said, "head=", begins_with_head(&bytes));
+    }
+    let reader = reader_of(word)?;
     put_source(alloc, said, reader, &bytes, MOST_BYTES, MOST_BYTES)?;
     put_alone(alloc, said, reader, &bytes)?;
     put_cuts(alloc, said, reader, &bytes)
 }
 
-/// Appends the result of reading single bytes, if it differs from the words so far.
+/// Puts what is read from single bytes, where that is something other than the words so far.
 fn put_alone(alloc: Global, said: &mut String, reader: Reader, bytes: &[u8]) -> Result<(), Fault> {
     let alone = words_of(alloc, reader, bytes, 1, 1)?;
     if alone.as_str() == said.as_str() {
@@ -59,7 +61,7 @@ fn put_alone(alloc: Global, said: &mut String, reader: Reader, bytes: &[u8]) -> 
     put(said, alone.as_str())
 }
 
-/// The reader of a word such as `request`, or `request/7`, for which call 7 fails.
+/// The reader of a word such as `request`, or `request/7`, where call 7 fails.
 fn reader_of(word: &str) -> Result<Reader, Fault> {
     let (form, failing) = word.split_once('/').unwrap_or((word, "0"));
     Ok(Reader {
@@ -79,7 +81,7 @@ fn form_of(word: &str) -> Result<Form, Fault> {
     }
 }
 
-/// Appends the first offset at which a cut gives a result that differs from the words so far.
+/// Puts the first place at which a cut has something else read than the words so far.
 fn put_cuts(alloc: Global, said: &mut String, reader: Reader, bytes: &[u8]) -> Result<(), Fault> {
     let length = bytes.len();
     for at in 1..length {
@@ -93,8 +95,7 @@ fn put_cuts(alloc: Global, said: &mut String, reader: Reader, bytes: &[u8]) -> R
     Ok(())
 }
 
-/// Appends the result with a cut at this offset, if it differs from the words so far. Gives whether
-/// it does.
+/// Puts what is read with a cut at this place, where that is something other than the words so far. Says whether it is.
 fn put_cut(
     alloc: Global,
     said: &mut String,
@@ -111,7 +112,7 @@ fn put_cut(
     Ok(true)
 }
 
-/// The words of the result, if the bytes come in a piece of this length and then in further ones of
+/// The words of what is read, where the bytes come in a piece of this length and then in further ones of
 /// `piece` bytes.
 fn words_of(
     alloc: Global,
@@ -143,13 +144,13 @@ fn put_source(
     )
 }
 
-/// A source of these bytes, with this call failing.
+/// A source of these bytes, of which this call fails.
 fn source_of(alloc: Global, failing: u64, bytes: &[u8]) -> Result<MemSource, Fault> {
     let bytes = bytes.to_vec(alloc)?;
     Ok(MemSource::new(bytes, vec![in alloc; failing]?))
 }
 
-/// Appends the result of reading a source, and the number of bytes left.
+/// Puts what is read from a source, and how many bytes are left of it.
 fn put_all<S: Source>(
     alloc: Global,
     said: &mut String,
@@ -163,7 +164,7 @@ fn put_all<S: Source>(
     }
 }
 
-/// Appends the number of bytes left of a source.
+/// Puts how many bytes are left of a source.
 fn put_rest<S: Source>(alloc: Global, said: &mut String, source: &mut S) -> Result<(), Fault> {
     match read_all(alloc, source, MOST_BYTES) {
         Ok(rest) => put_value(said, " rest=", rest.len()),
@@ -171,7 +172,7 @@ fn put_rest<S: Source>(alloc: Global, said: &mut String, source: &mut S) -> Resu
     }
 }
 
-/// Appends the result of reading a source.
+/// Puts what is read from a source.
 fn put_read<S: Source>(
     alloc: Global,
     said: &mut String,
@@ -249,18 +250,26 @@ fn put_head(said: &mut String, head: &Head) -> Result<(), Fault> {
             Method::Other => "method=OTHER path=",
         },
     )?;
-    put_spelled(said, head.path.items())?;
+    put_text_or_none(said, &head.path)?;
     put(said, " query=")?;
     put_spelled(said, head.query.items())?;
     put_value(said, " length=", head.length)?;
     put_value(said, " expects=", head.expects)?;
     put_value(said, " minor=", head.minor)?;
     put_value(said, " closes=", head.closes)?;
-    put_some(said, " authorization=", &head.authorization)?;
+    put_authorization(said, head)?;
     put_some(said, " mac=", &head.mac)
 }
 
-/// Appends a text with its name, if there is one.
+/// Puts the value of the one Authorization field, or that there are several.
+fn put_authorization(said: &mut String, head: &Head) -> Result<(), Fault> {
+    if head.has_authorization && head.authorization.is_none() {
+        return put(said, " authorizations");
+    }
+    put_some(said, " authorization=", &head.authorization)
+}
+
+/// Puts a text with its name, where there is one.
 fn put_some(said: &mut String, name: &str, text: &Option<Text>) -> Result<(), Fault> {
     match text {
         Some(text) => {
@@ -271,7 +280,7 @@ fn put_some(said: &mut String, name: &str, text: &Option<Text>) -> Result<(), Fa
     }
 }
 
-/// Appends the length of a group in bytes, if it is given.
+/// Puts how many bytes a group has, where that is told.
 fn put_group_length(said: &mut String, length: Option<u64>) -> Result<(), Fault> {
     match length {
         Some(length) => put_value(said, " group=", length),
@@ -291,12 +300,12 @@ fn put_reply_head(said: &mut String, head: &ReplyHead) -> Result<(), Fault> {
     put_some(said, " mac=", &head.mac)
 }
 
-/// Puts a reply that was read; reading gives neither a content type nor a rule.
+/// Puts a reply that was read; reading gives neither a content type nor a rule nor a content range.
 fn put_reply(said: &mut String, reply: &Reply) -> Result<(), Fault> {
     put_status(said, reply.status, &reply.location)?;
     put(said, " body=")?;
     put_spelled(said, reply.body.items())?;
-    if reply.content_type.is_some() || reply.rule.is_some() {
+    if reply.content_type.is_some() || reply.rule.is_some() || reply.content_range.is_some() {
         put(said, " and more")?;
     }
     put_group_length(said, reply.group_length)?;
@@ -306,8 +315,12 @@ fn put_reply(said: &mut String, reply: &Reply) -> Result<(), Fault> {
 fn put_status(said: &mut String, status: u16, location: &Option<Text>) -> Result<(), Fault> {
     put_value(said, "status=", status)?;
     put(said, " location=")?;
-    match location {
-        Some(location) => put_spelled(said, location.items()),
+    put_text_or_none(said, location)
+}
+
+fn put_text_or_none(said: &mut String, text: &Option<Text>) -> Result<(), Fault> {
+    match text {
+        Some(text) => put_spelled(said, text.items()),
         None => put(said, "none"),
     }
 }

@@ -125,11 +125,14 @@ impl Before<'_> {
         self.durable.measures()
     }
 
-    /// The leased children, ascending, with the rates that they told last.
+    /// The leased children that are no ancestors, ascending, with the rates that they told last.
     pub(crate) fn children(&self) -> Result<Vec<Child>, Memory>
         ensures { IfOk result (λ made. made.items ≡ children self.now) }
     {
-        children(self.alloc, self.durable.table().rows(), self.id, self.rates)
+        let above = self.durable.ancestors();
+        let mut told = children(self.alloc, self.durable.table().rows(), self.id, self.rates)?;
+        told.retain(|child| !above.contains(&child.id));
+        Ok(told)
     }
 
     /// The least leased child past a number whose lease has ended.

@@ -2,7 +2,7 @@
 
 ghost use Rattle.std.specs.Prelude.{IfErr, OnOk};
 ghost use Rattle.oc_server.specs.Parts.{Does, Stops};
-ghost use Rattle.oc_deeds.specs.Rooms.{goes_on, gone, is_told, room};
+ghost use Rattle.oc_deeds.specs.Rooms.{goes_on, gone, room};
 ghost use Rattle.oc_server.specs.Scenes.{IsServing};
 
 use crate::ends::TurnEnd;

@@ -8,7 +8,7 @@ ghost use Rattle.oc_server.specs.Parts.{Does, Stops};
 ghost use Rattle.oc_server.specs.Scenes.{IsServing};
 ghost use Rattle.oc_deeds.specs.Works.{client_input, pending};
 ghost use Rattle.oc_routes.specs.Lawful.{IsAsked};
-ghost use Rattle.oc_deeds.specs.Turns.{brought, measured, notes_fault, probe_note, probes_it, ticked, ticks_if};
+ghost use Rattle.oc_deeds.specs.Turns.{brought, measured, notes_fault, probes_it, ticked, ticks_if};
 
 use crate::ends::TurnEnd;
 use crate::server::Server;

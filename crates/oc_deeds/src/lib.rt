@@ -44,7 +44,7 @@ pub use law::{
 };
 pub use log::Log;
 pub use outbox::{Outbox, is_fetch, put_all};
-pub use pace::{Pace, quickened};
+pub use pace::{Pace, most_interval, quickened};
 pub use turn_law::{brief_lines_compute, turns_compute};
 pub use work::{Pending, Transfer, Waiting, Work, client_input, pending_of};
 pub use works::Works;

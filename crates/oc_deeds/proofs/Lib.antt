@@ -7,7 +7,7 @@ pub mod ToldInputs
 pub mod Recorded
 pub mod Outgoing
 pub mod Responding
-pub mod Ticks
+pub mod TickDue
 pub mod Probings
 pub mod WorksOn
 pub mod Grown

@@ -13,7 +13,7 @@ use oc_link::ConnectionId;
 use oc_model::{Answer, Input, Message};
 use oc_routes::{Holding, Operation, Request, split_reply};
 
-/// A request that waits on this connection since this time, without its input.
+/// A request that waits on this connection since this time, in milliseconds, without its input.
 pub fn waiting(connection: ConnectionId, request: Request, now: u64) -> Waiting
     ensures { result ≡ asks.waiting connection request now }
 {

@@ -10,3 +10,4 @@ pub mod Known
 pub mod Reading
 pub mod Laws
 pub mod Changes
+pub mod Examples

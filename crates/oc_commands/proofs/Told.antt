@@ -55,7 +55,7 @@ use Rattle.oc_commands.specs.declared.serving.ServiceEnd.{ServiceEnd}
 use Rattle.oc_commands.specs.declared.serving.ServiceEnd.TheVariants as services
 use Rattle.oc_commands.specs.declared.token.TokenEnd.{TokenEnd}
 use Rattle.oc_commands.specs.declared.token.TokenEnd.TheVariants as tokens
-use Rattle.oc_server.specs.Deeds.{Setting}
+use Rattle.oc_deeds.specs.Deeds.{Setting}
 use Rattle.oc_service.specs.OnSite.{NodeEnds, OnRun, Stops, setting_of}
 use Rattle.oc_service.specs.declared.running.Task.{Task}
 use Rattle.oc_service.proofs.Retold.{TellsRun, run_retold}

@@ -8,8 +8,8 @@ use Rattle.oc_config.specs.declared.fault.ConfigFault.{ConfigFault}
 use Rattle.oc_io.specs.DiskView.{DiskView}
 use Rattle.oc_keep.specs.Files.{Disks}
 use Rattle.oc_keep.specs.Promises.{HoldFiles}
-use Rattle.oc_server.specs.declared.log.Log.{Log}
-use Rattle.oc_server.specs.declared.log.Log.TheVariants as logs
+use Rattle.oc_deeds.specs.declared.log.Log.{Log}
+use Rattle.oc_deeds.specs.declared.log.Log.TheVariants as logs
 use Rattle.oc_service.specs.OnSite.{NodeEnds, setting_of}
 use Rattle.oc_service.specs.declared.running.Task.{Task}
 use Rattle.oc_words.specs.declared.request.LogWord.{LogWord}

@@ -51,9 +51,9 @@ ghost use Rattle.oc_routes.specs.declared.waiting.TheConstants.{FOLLOW_MILLIS, I
 ghost use Rattle.oc_merge.specs.declared.fault.TheConstants.{MAX_RECORD_BYTES, MAX_RECORD_LINES, MAX_RECORD_PUBLISHED};
 ghost use Rattle.oc_schedule.specs.declared.generating.TheConstants.{MAX_GENERATED_EVENTS};
 ghost use Rattle.oc_schedule.specs.declared.scale.TheConstants.{MAX_LARGE_BYTES, MAX_LARGE_LINES, MAX_LARGE_PUBLISHED};
-ghost use Rattle.oc_server.specs.declared.choosing.TheConstants.{MAX_DIALS, MAX_OTHER_DIALS};
-ghost use Rattle.oc_server.specs.declared.outbox.TheConstants.{MAX_OUTBOX};
-ghost use Rattle.oc_server.specs.declared.pace.TheConstants.{LEAST_INTERVAL, MOST_INTERVAL};
+ghost use Rattle.oc_deeds.specs.declared.choosing.TheConstants.{MAX_DIALS, MAX_OTHER_DIALS};
+ghost use Rattle.oc_deeds.specs.declared.outbox.TheConstants.{MAX_OUTBOX};
+ghost use Rattle.oc_deeds.specs.declared.pace.TheConstants.{LEAST_INTERVAL, MOST_INTERVAL};
 ghost use Rattle.oc_updown.specs.declared.leases.TheConstants.{LEASE_TIME};
 ghost use Rattle.oc_words.specs.declared.request.TheConstants.{ENDLESS, MAX_EVENTS, MAX_FOLLOWED, MAX_TURNS};
 

@@ -37,8 +37,8 @@ use Rattle.oc_schedule.proofs.ActsBack.{act_are_words, act_back, node_back, node
 use Rattle.oc_schedule.proofs.FieldsBack.{bytes_word}
 use Rattle.oc_schedule.specs.Acts.{PublishesBytes, act_words, input_fields, input_word}
 use Rattle.oc_schedule.specs.Texts.{line_text}
-use Rattle.oc_server.specs.Deeds.{note_line}
-use Rattle.oc_server.specs.Recorded.{RecordLine, Taken, Noted, inputs_in, record_text}
+use Rattle.oc_deeds.specs.Deeds.{note_line}
+use Rattle.oc_deeds.specs.Recorded.{RecordLine, Taken, Noted, inputs_in, record_text}
 use Rattle.oc_wire.specs.Spelling.{spelling}
 use Rattle.oc_laws_records.specs.Lawful.{IsLine, IsOneLine, IsTaken}
 use Rattle.oc_laws_records.specs.Runs.{told_input}

@@ -11,7 +11,7 @@ use Rattle.oc_probe.specs.declared.fault.ProbeFault.TheVariants as faults
 use Rattle.oc_routes.specs.Refusals.{why_text}
 use Rattle.oc_routes.specs.declared.refused.Refused.{Refused}
 use Rattle.oc_routes.specs.declared.refused.Refused.TheVariants as refusals
-use Rattle.oc_server.specs.Turns.{fault_word, probe_note}
+use Rattle.oc_deeds.specs.Turns.{fault_word, probe_note}
 use Rattle.oc_laws_records.specs.Lawful.{IsOneLine}
 
 one_then : (a c : List ℕ) → IsOneLine a → IsOneLine c → IsOneLine (a ++ c)

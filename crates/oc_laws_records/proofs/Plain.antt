@@ -39,29 +39,29 @@ use Rattle.oc_routes.specs.declared.verdict.Verdict.{Verdict}
 use Rattle.oc_routes.specs.declared.verdict.Verdict.TheVariants as verdicts
 use Rattle.oc_routes.specs.declared.waiting.Prospect.{Prospect}
 use Rattle.oc_routes.specs.declared.waiting.Prospect.TheVariants as prospects
-use Rattle.oc_server.specs.Asks.{has_to_wait, obeys, refuses_or, responds, takes_on, takes_up, waiting}
-use Rattle.oc_server.specs.Brought.{comes_back, delivered_or, fault_of, input_of, input_of_reply, message_in}
-use Rattle.oc_server.specs.Choices.{next_to_dial, prospect_of, wait_for}
-use Rattle.oc_server.specs.Deeds.{Deed, Reads, Running, Says, Sees, Setting, Takes, Tells, Waits, after, after_all, errand_in}
-use Rattle.oc_server.specs.Hurries.{came_hurries}
-use Rattle.oc_server.specs.Pace.{has_passed, wait_until}
-use Rattle.oc_server.specs.Parts.{nothing, one, ◌>>◌}
-use Rattle.oc_server.specs.Records.{told_ahead}
-use Rattle.oc_server.specs.Rooms.{moves, room_for}
-use Rattle.oc_server.specs.Rooms as rooms
-use Rattle.oc_server.specs.Sends.{dials_at, dials_it, dials_next, sends}
-use Rattle.oc_server.specs.Turns.{Means, MeansBack, Observation, brought, deals, happens, measures, next_peer, probes_it, quickened, takes_at, takes_due, ticked, ticks, ticks_and_sends, ticks_if}
-use Rattle.oc_server.specs.Works.{client_input, pending, work_on}
-use Rattle.oc_server.specs.declared.came.Came.{Came}
-use Rattle.oc_server.specs.declared.came.Came.TheVariants as comes
-use Rattle.oc_server.specs.declared.choosing.TheConstants.{MAX_DIALS}
-use Rattle.oc_server.specs.declared.dials.Errand.{Errand}
-use Rattle.oc_server.specs.declared.dials.Errand.TheVariants as errands
-use Rattle.oc_server.specs.declared.pace.Pace.{Pace}
-use Rattle.oc_server.specs.declared.work.Pending.{Pending}
-use Rattle.oc_server.specs.declared.work.Transfer.{Transfer}
-use Rattle.oc_server.specs.declared.work.Work.{Work}
-use Rattle.oc_server.specs.declared.work.Work.TheVariants as works
+use Rattle.oc_deeds.specs.Asks.{has_to_wait, obeys, refuses_or, responds, takes_on, takes_up, waiting}
+use Rattle.oc_deeds.specs.Brought.{comes_back, delivered_or, fault_of, input_of, input_of_reply, message_in}
+use Rattle.oc_deeds.specs.Choices.{next_to_dial, prospect_of, wait_for}
+use Rattle.oc_deeds.specs.Deeds.{Deed, Reads, Running, Says, Sees, Setting, Takes, Tells, Waits, after, after_all, errand_in}
+use Rattle.oc_deeds.specs.Hurries.{came_hurries}
+use Rattle.oc_deeds.specs.Pace.{has_passed, wait_until}
+use Rattle.oc_deeds.specs.Parts.{nothing, one, ◌>>◌}
+use Rattle.oc_deeds.specs.Records.{told_ahead}
+use Rattle.oc_deeds.specs.Rooms.{moves, room_for}
+use Rattle.oc_deeds.specs.Rooms as rooms
+use Rattle.oc_deeds.specs.Sends.{dials_at, dials_it, dials_next, sends}
+use Rattle.oc_deeds.specs.Turns.{Means, MeansBack, Observation, brought, deals, happens, measures, next_peer, probes_it, quickened, takes_at, takes_due, ticked, ticks, ticks_and_sends, ticks_if}
+use Rattle.oc_deeds.specs.Works.{client_input, pending, work_on}
+use Rattle.oc_deeds.specs.declared.came.Came.{Came}
+use Rattle.oc_deeds.specs.declared.came.Came.TheVariants as comes
+use Rattle.oc_deeds.specs.declared.choosing.TheConstants.{MAX_DIALS}
+use Rattle.oc_deeds.specs.declared.dials.Errand.{Errand}
+use Rattle.oc_deeds.specs.declared.dials.Errand.TheVariants as errands
+use Rattle.oc_deeds.specs.declared.pace.Pace.{Pace}
+use Rattle.oc_deeds.specs.declared.work.Pending.{Pending}
+use Rattle.oc_deeds.specs.declared.work.Transfer.{Transfer}
+use Rattle.oc_deeds.specs.declared.work.Work.{Work}
+use Rattle.oc_deeds.specs.declared.work.Work.TheVariants as works
 use Rattle.oc_service.proofs.BorneOut.{due_or_none, front_of_few}
 use Rattle.oc_service.specs.WhatNodeDoes.{Machine, begins, begun, behind_turn, due_at, node_behind, node_deeds, own_measure, own_measures, turn_deeds, turns_deeds}
 use Rattle.oc_service.specs.WhatNodeHears.{AreHeard, MayHear, calls_behind}

@@ -39,8 +39,8 @@ use Rattle.oc_schedule.specs.Lines.{header_words}
 use Rattle.oc_schedule.specs.Printing.{areas_text}
 use Rattle.oc_schedule.specs.Texts.{line_text, spaced}
 use Rattle.oc_wire.specs.Spelling.{spelling}
-use Rattle.oc_server.specs.Recorded.{RecordLine, Taken, Noted, inputs_in, record_text}
-use Rattle.oc_server.specs.Records.{network_text, record_head, up_line}
+use Rattle.oc_deeds.specs.Recorded.{RecordLine, Taken, Noted, inputs_in, record_text}
+use Rattle.oc_deeds.specs.Records.{network_text, record_head, up_line}
 use Rattle.oc_laws_records.specs.Lawful.{AreRuns, IsCut, IsLine, IsOneLine, IsRun, published_by_runs}
 use Rattle.oc_laws_records.specs.Read.{AreRead}
 use Rattle.oc_laws_records.specs.Runs.{told_by_run, Run, network_of, number_of, run_text, runs_text, told_by, told_input, told_start}

@@ -19,7 +19,7 @@ use Rattle.oc_schedule.proofs.FieldsBack.{bytes_word}
 use Rattle.oc_schedule.proofs.LineBack.{AreWords}
 use Rattle.oc_schedule.specs.Acts.{PublishesBytes, act_words}
 use Rattle.oc_schedule.specs.Texts.{fields_text, spaced}
-use Rattle.oc_server.specs.Recorded.{RecordLine, Taken, Noted, record_line_text, record_text}
+use Rattle.oc_deeds.specs.Recorded.{RecordLine, Taken, Noted, record_line_text, record_text}
 use Rattle.oc_wire.specs.Spelling.{spelling}
 use Rattle.oc_laws_records.specs.Lawful.{IsCut, IsLine, IsOneLine, IsRun, IsTaken}
 use Rattle.oc_laws_records.specs.Runs.{Run, number_of, run_text}

@@ -14,14 +14,14 @@ use Rattle.oc_link.specs.declared.counts.LinkCounts.{LinkCounts}
 use Rattle.oc_model.specs.declared.input.Input.{Input}
 use Rattle.oc_model.specs.declared.input.Input.TheVariants as inputs
 use Rattle.oc_model.specs.Node.{Header, Node}
-use Rattle.oc_server.specs.Brief.{told_first}
-use Rattle.oc_server.specs.Deeds.{Accepts, Deed, Drops, Notes, Refuses, Says, Setting, Takes, inputs_of, lines, with_input}
-use Rattle.oc_server.specs.Recorded.{IsNext, IsRecorded, IsRecordOf, RecordLine, inputs_in, line_of_next, record_lines, record_text}
-use Rattle.oc_server.specs.Records.{record_head}
-use Rattle.oc_server.specs.Scenes.{Under}
-use Rattle.oc_server.specs.Within.{IsWithin}
+use Rattle.oc_deeds.specs.Brief.{told_first}
+use Rattle.oc_deeds.specs.Deeds.{Accepts, Deed, Drops, Notes, Refuses, Says, Setting, Takes, inputs_of, lines, with_input}
+use Rattle.oc_deeds.specs.Recorded.{IsNext, IsRecorded, IsRecordOf, RecordLine, inputs_in, line_of_next, record_lines, record_text}
+use Rattle.oc_deeds.specs.Records.{record_head}
+use Rattle.oc_deeds.specs.Under.{Under}
+use Rattle.oc_deeds.specs.Within.{IsWithin}
 use Rattle.oc_server.specs.declared.ends.TurnEnd.{TurnEnd}
-use Rattle.oc_server.specs.declared.log.Log.TheVariants.{Record}
+use Rattle.oc_deeds.specs.declared.log.Log.TheVariants.{Record}
 use Rattle.oc_service.specs.OnSite.{DidOn, StoppedOn, header_of_settings, heard_before, machine_on, setting_of, terms_in}
 use Rattle.oc_service.specs.WhatNodeDoes.{Machine, begun, own_measures, turns_deeds}
 use Rattle.oc_service.specs.WhatNodeHears.{all_calls_behind}

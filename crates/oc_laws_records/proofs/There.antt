@@ -15,7 +15,7 @@ use Rattle.oc_model.specs.declared.message.Message.{Message}
 use Rattle.oc_model.specs.Lawful.{IsMessage}
 use Rattle.oc_model.specs.Node.{Node, new_node, restarted}
 use Rattle.oc_model.specs.Step.{step}
-use Rattle.oc_server.specs.Recorded.{RecordLine, Taken, Noted, inputs_in}
+use Rattle.oc_deeds.specs.Recorded.{RecordLine, Taken, Noted, inputs_in}
 use Rattle.oc_wire.specs.MessageReading.{decoded}
 use Rattle.oc_wire.specs.Spelling.{spelling}
 use Rattle.oc_model.specs.Node.{Header}

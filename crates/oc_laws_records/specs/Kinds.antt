@@ -4,7 +4,7 @@ use Rattle.std.specs.List.{AllByRecursion}
 use Rattle.oc_base.specs.declared.limits.TheConstants.{MAX_TIME}
 use Rattle.oc_model.specs.declared.input.Input.{Input}
 use Rattle.oc_model.specs.declared.input.Input.TheVariants.{CheckNow, Pull, Relocate, Tick}
-use Rattle.oc_server.specs.Deeds.{Accepts, Deed, Notes, Takes}
+use Rattle.oc_deeds.specs.Deeds.{Accepts, Deed, Notes, Takes}
 use Rattle.oc_laws_records.specs.Lawful.{IsOneLine}
 
 -- an input of a kind that records have, and no tick later than they may have

@@ -14,8 +14,8 @@ use Rattle.oc_model.specs.declared.input.Input.TheVariants.{Delivered}
 use Rattle.oc_model.specs.Lawful.{IsGiven, IsHeader, IsInput}
 use Rattle.oc_model.specs.Node.{Header}
 use Rattle.oc_schedule.specs.Acts.{PublishesBytes, input_word}
-use Rattle.oc_server.specs.Deeds.{note_line}
-use Rattle.oc_server.specs.Recorded.{RecordLine, Taken, Noted}
+use Rattle.oc_deeds.specs.Deeds.{note_line}
+use Rattle.oc_deeds.specs.Recorded.{RecordLine, Taken, Noted}
 use Rattle.oc_wire.specs.Spelling.{spelling}
 use Rattle.oc_laws_records.specs.Runs.{Run, network_of, number_of, runs_text, told_by_run}
 

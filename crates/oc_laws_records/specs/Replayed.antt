@@ -8,7 +8,7 @@ use Rattle.oc_model.specs.NextWorld.{world_after}
 use Rattle.oc_model.specs.Node.{Header, Node, new_node}
 use Rattle.oc_model.specs.World.{new_world, node}
 use Rattle.oc_schedule.specs.Script.{Script}
-use Rattle.oc_server.specs.Recorded.{inputs_in}
+use Rattle.oc_deeds.specs.Recorded.{inputs_in}
 use Rattle.oc_laws_records.specs.Runs.{Run, number_of, told_by}
 
 -- the entries of a run: its start and its inputs

@@ -8,8 +8,8 @@ use Rattle.oc_model.specs.declared.input.Input.{Input}
 use Rattle.oc_model.specs.declared.input.Input.TheVariants.{Delivered}
 use Rattle.oc_model.specs.Node.{Header, Node}
 use Rattle.oc_replay.specs.Digests.{digest_text}
-use Rattle.oc_server.specs.Recorded.{RecordLine, inputs_in, record_text}
-use Rattle.oc_server.specs.Records.{record_head}
+use Rattle.oc_deeds.specs.Recorded.{RecordLine, inputs_in, record_text}
+use Rattle.oc_deeds.specs.Records.{record_head}
 use Rattle.oc_wire.specs.Spelling.{spelling}
 
 -- A run of a node: the node in its files at the beginning, the lines of its inputs and its notes,

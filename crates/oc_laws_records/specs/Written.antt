@@ -3,9 +3,9 @@ use Rattle.std.specs.Prelude.{◌≡◌, ℕ, IfSome, Option, List, [], ◌++◌
 use Rattle.oc_base.specs.Groups.{shelf}
 use Rattle.oc_model.specs.declared.input.Input.{Input}
 use Rattle.oc_model.specs.Node.{Header, Node}
-use Rattle.oc_server.specs.Deeds.{Deed, Setting, inputs_of, lines, with_input}
-use Rattle.oc_server.specs.Recorded.{IsNext, RecordLine, inputs_in, line_of_next}
-use Rattle.oc_server.specs.Records.{record_head}
+use Rattle.oc_deeds.specs.Deeds.{Deed, Setting, inputs_of, lines, with_input}
+use Rattle.oc_deeds.specs.Recorded.{IsNext, RecordLine, inputs_in, line_of_next}
+use Rattle.oc_deeds.specs.Records.{record_head}
 use Rattle.oc_laws_records.specs.Lawful.{IsRun, IsTaken}
 use Rattle.oc_laws_records.specs.Runs.{Run, run_text}
 

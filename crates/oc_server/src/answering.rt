@@ -11,19 +11,21 @@ ghost use Rattle.oc_routes.specs.Reports.{report_of};
 ghost use Rattle.oc_routes.specs.Shown.{response_for};
 ghost use Rattle.oc_routes.specs.Lawful.{IsAsked};
 ghost use Rattle.oc_wire.specs.Spelling.{HasSpelling};
-ghost use Rattle.oc_server.specs.Asks.{answer_now, answers_or_waits, has_to_wait, holding_in, obeys, replies, responds, takes_on};
-ghost use Rattle.oc_server.specs.Hurries.{hurries, input_hurries, request_hurries, verdict_hurries};
-ghost use Rattle.oc_server.specs.Asks as asks;
+ghost use Rattle.oc_deeds.specs.Asks.{answer_now, answers_or_waits, has_to_wait, holding_in, obeys, replies, responds, takes_on};
+ghost use Rattle.oc_deeds.specs.Hurries.{hurries, input_hurries, request_hurries, verdict_hurries};
 ghost use Rattle.oc_server.specs.Looks.{LooksOnly, LookStops, end_of_ready};
-ghost use Rattle.oc_server.specs.Parts.{Does, Stops, nothing};
-ghost use Rattle.oc_server.specs.Scenes.{Breaks, IsServing, Idle};
+ghost use Rattle.oc_server.specs.Parts.{Does, Stops};
+ghost use Rattle.oc_deeds.specs.Parts.{nothing};
+ghost use Rattle.oc_server.specs.Scenes.{Breaks, IsServing};
+ghost use Rattle.oc_deeds.specs.Under.{Idle};
 
 use crate::ends::TurnEnd;
 use crate::server::Server;
 use crate::taking::Accepted;
-use crate::work::{Pending, Waiting, client_input, pending_of};
-use oc_base::{Memory, Shelf};
+use oc_base::Memory;
 use oc_config::Config;
+use oc_deeds::asked::{holding_for, hurries, waiting};
+use oc_deeds::{Pending, client_input, pending_of};
 use oc_io::{Disk, Sink};
 use oc_keep::{Kept, ReadyError};
 use oc_link::{ConnectionId, Link};
@@ -193,23 +195,6 @@ impl<D: Disk, L: Link, K: Sink> Server<D, L, K> {
     }
 }
 
-/// A request that waits on this connection since this time, without its input.
-fn waiting(connection: ConnectionId, request: Request, now: u64) -> Waiting
-    ensures { result ≡ asks.waiting connection request now }
-{
-    Waiting {
-        connection,
-        request: Request {
-            count: request.count,
-            operation: request.operation,
-            hint: request.hint,
-            input: None,
-            last: request.last,
-        },
-        since: now,
-    }
-}
-
 /// Why a node refuses what is asked for its condition, if it does.
 fn unmet<D: Disk>(kept: &Kept<D>, operation: &Operation) -> Option<Refused>
     ensures { IsHonest D.view kept.now → result ≡ conditions.unmet operation.now kept.now.node.control.me (shelf (node_of kept.now).groups) }
@@ -242,20 +227,6 @@ fn response_to(
     };
     let report = report_of(alloc, &pending.asked.operation, seen)?;
     respond_to(alloc, pending.asked, pending.last, told, &network, &report)
-}
-
-/// What the node holds of the group that was asked for.
-fn holding_for(operation: &Operation, shelf: &[Shelf]) -> Holding
-    ensures { result ≡ holding_in operation.now shelf.now }
-{
-    match operation {
-        Operation::Client { group, .. } => Holding::in_shelf(shelf, group),
-        _ => Holding {
-            there: false,
-            held: 0,
-            sealed: false,
-        },
-    }
 }
 
 /// Whether a request is to wait: it is of a client that follows a group and has all of it.
@@ -317,16 +288,5 @@ fn end_of(error: ReadyError) -> TurnEnd
     match error {
         ReadyError::Closed | ReadyError::Disk => TurnEnd::Disk,
         ReadyError::Memory => TurnEnd::Memory,
-    }
-}
-
-/// Whether the next tick is to come soon after this answer: what was asked added to a group, or closed it.
-fn hurries(operation: &Operation, answer: Answer) -> bool
-    ensures { result ≡ hurries operation.now answer }
-{
-    match operation {
-        Operation::Publish { .. } => answer == Answer::Ok,
-        Operation::Seal { .. } => answer == Answer::Ok || answer == Answer::Ignored,
-        _ => false,
     }
 }

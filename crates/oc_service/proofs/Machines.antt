@@ -9,12 +9,12 @@ use Rattle.oc_keep.specs.KeptView.{IsHonest}
 use Rattle.oc_keep.specs.Promises.{IsSameNode}
 use Rattle.oc_model.specs.Node.{Header}
 use Rattle.oc_routes.specs.Verdicts.{NodeTerms, terms_of}
-use Rattle.oc_server.specs.Deeds.{Deed, Running, Setting, after_all, calls_of}
+use Rattle.oc_deeds.specs.Deeds.{Deed, Running, Setting, after_all, calls_of}
 use Rattle.oc_server.specs.Runs.{MayRead, Serves, Turned, due_in, reads_by}
 use Rattle.oc_server.specs.Scenes.{Did, running, setting}
 use Rattle.oc_server.specs.Settled.{deeds_of}
-use Rattle.oc_server.specs.Turns.{Observation, turn}
-use Rattle.oc_server.specs.declared.pace.Pace.{Pace}
+use Rattle.oc_deeds.specs.Turns.{Observation, turn}
+use Rattle.oc_deeds.specs.declared.pace.Pace.{Pace}
 use Rattle.oc_server.specs.declared.server.Server.{Server}
 use Rattle.oc_server.specs.declared.turns.Turns.{Turns}
 use Rattle.oc_probe.specs.declared.probing.Probing.{Probing}

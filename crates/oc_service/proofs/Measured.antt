@@ -4,8 +4,8 @@ use Rattle.std.proofs.lemmas.List.{drop_all}
 use Rattle.std.proofs.lemmas.Bool.{ne_eqb}
 use Rattle.oc_updown.specs.declared.measure_lines.Measure.{Measure}
 use Rattle.oc_model.specs.declared.input.Input.TheVariants.{Measured}
-use Rattle.oc_server.specs.Deeds.{Deed, Says, Setting, Takes}
-use Rattle.oc_server.specs.Records.{told_ahead}
+use Rattle.oc_deeds.specs.Deeds.{Deed, Says, Setting, Takes}
+use Rattle.oc_deeds.specs.Records.{told_ahead}
 use Rattle.oc_service.specs.WhatNodeDoes.{own_measure, own_measures}
 
 -- the deeds for a measure of the node itself

@@ -23,17 +23,19 @@ use Rattle.oc_model.specs.Node.{Control, Header, Node}
 use Rattle.oc_model.specs.Step.{step}
 use Rattle.oc_routes.specs.Responses.{address_of}
 use Rattle.oc_routes.specs.Verdicts.{NodeTerms, terms_of}
-use Rattle.oc_server.specs.Answered.{AreAnswered}
-use Rattle.oc_server.specs.Deeds.{Deed, Setting, calls_of, inputs_of, line, lines}
+use Rattle.oc_deeds.specs.Answered.{AreAnswered}
+use Rattle.oc_deeds.specs.Deeds.{Deed, Setting, calls_of, inputs_of, line, lines}
 use Rattle.oc_server.specs.Moments.{AtEachPrefix}
-use Rattle.oc_server.specs.Parts.{Cuts}
+use Rattle.oc_deeds.specs.Under.{Cuts}
 use Rattle.oc_server.specs.Runs.{reads_by}
-use Rattle.oc_server.specs.Scenes.{BreaksBehind, CountsAll, Did, EndsOn, HasCause, Idle, LeavesAt, LeavesUnder, Noting, Taking, Under, WritesAt, running, setting, under_line}
-use Rattle.oc_server.specs.Turns.{Observation}
-use Rattle.oc_server.specs.Within.{IsWithin}
+use Rattle.oc_server.specs.Scenes.{BreaksBehind, Did, EndsOn, HasCause, LeavesAt, LeavesUnder, WritesAt, running, setting}
+use Rattle.oc_deeds.specs.Done.{CountsAll}
+use Rattle.oc_deeds.specs.Under.{Idle, Noting, Taking, Under, under_line}
+use Rattle.oc_deeds.specs.Turns.{Observation}
+use Rattle.oc_deeds.specs.Within.{IsWithin}
 use Rattle.oc_server.specs.declared.ends.TurnEnd.{TurnEnd}
 use Rattle.oc_server.specs.declared.ends.TurnEnd.TheVariants as ends
-use Rattle.oc_server.specs.declared.log.Log.{Log}
+use Rattle.oc_deeds.specs.declared.log.Log.{Log}
 use Rattle.oc_server.specs.declared.server.Server.{Server}
 use Rattle.oc_server.specs.declared.turns.Turns.{Turns}
 use Rattle.oc_server.proofs.Scenes.{broken_cause, broken_leaves, broken_text, did_node, setting_stays, still_honest}

@@ -6,7 +6,7 @@ use Rattle.oc_base.specs.Lawful.{IsNode}
 use Rattle.oc_base.proofs.Each.{all_append}
 use Rattle.oc_probe.specs.Turns.{RotationView, ids, others}
 use Rattle.oc_probe.specs.declared.probing.Probing.{Probing}
-use Rattle.oc_server.specs.Lawful.{IsMadeFor}
+use Rattle.oc_deeds.specs.Lawful.{IsMadeFor}
 use Rattle.oc_service.specs.OnSite.{probing_of}
 
 -- ids from one on that are within the nodes

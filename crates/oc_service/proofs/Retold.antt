@@ -7,9 +7,10 @@ use Rattle.oc_keep.specs.declared.errors.KeepLoad.{KeepLoad}
 use Rattle.oc_link.specs.declared.call.Call.{Call}
 use Rattle.oc_link.specs.declared.counts.LinkCounts.{LinkCounts}
 use Rattle.oc_model.specs.Node.{Header, Node}
-use Rattle.oc_server.specs.Deeds.{Deed}
+use Rattle.oc_deeds.specs.Deeds.{Deed}
 use Rattle.oc_server.specs.Moments.{AtEachPrefix, node_after}
-use Rattle.oc_server.specs.Scenes.{Under, WritesAt}
+use Rattle.oc_deeds.specs.Under.{Under}
+use Rattle.oc_server.specs.Scenes.{WritesAt}
 use Rattle.oc_server.specs.declared.ends.TurnEnd.{TurnEnd}
 use Rattle.oc_server.specs.declared.ends.TurnEnd.TheVariants as ends
 use Rattle.oc_service.specs.AtAnyMoment.{AlwaysRecovers}

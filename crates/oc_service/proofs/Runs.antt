@@ -14,22 +14,24 @@ use Rattle.oc_keep.specs.KeptView.{IsHonest, KeptView, node_of}
 use Rattle.oc_model.specs.declared.input.Input.{Input}
 use Rattle.oc_model.specs.declared.input.Input.TheVariants.{Measured}
 use Rattle.oc_routes.specs.Verdicts.{NodeTerms}
-use Rattle.oc_server.specs.Deeds.{Deed, Running, Says, Setting, Takes, after_all, calls_of}
-use Rattle.oc_server.specs.Parts.{Cuts, Stops}
-use Rattle.oc_server.specs.Records.{told_ahead}
+use Rattle.oc_deeds.specs.Deeds.{Deed, Running, Says, Setting, Takes, after_all, calls_of}
+use Rattle.oc_deeds.specs.Under.{Cuts}
+use Rattle.oc_server.specs.Parts.{Stops}
+use Rattle.oc_deeds.specs.Records.{told_ahead}
 use Rattle.oc_server.specs.Runs.{MayRead, ServeEnds, ServesUpTo, TurnStops, due_in, reads_by}
 use Rattle.oc_server.specs.Scenes.{BreaksBehind, Did, running, setting}
-use Rattle.oc_server.specs.Settled.{AreServed, IsSettled, deeds_until, deeds_up_to}
-use Rattle.oc_server.specs.Turns.{Observation}
-use Rattle.oc_server.specs.declared.came.Came.TheVariants as comes
+use Rattle.oc_deeds.specs.Settled.{AreServed, IsSettled}
+use Rattle.oc_server.specs.Settled.{deeds_until, deeds_up_to}
+use Rattle.oc_deeds.specs.Turns.{Observation}
+use Rattle.oc_deeds.specs.declared.came.Came.TheVariants as comes
 use Rattle.oc_server.specs.declared.ends.TurnEnd.{TurnEnd}
 use Rattle.oc_server.specs.declared.ends.TurnEnd.TheVariants as ends
 use Rattle.oc_server.specs.declared.server.Server.{Server}
 use Rattle.oc_server.specs.declared.turns.Turns.{Turns}
-use Rattle.oc_server.specs.declared.work.Work.{Work}
+use Rattle.oc_deeds.specs.declared.work.Work.{Work}
 use Rattle.oc_updown.specs.declared.measure_lines.Measure.{Measure}
-use Rattle.oc_server.proofs.Chains.{calls_append}
-use Rattle.oc_server.proofs.Parts.{cuts_behind, cuts_more}
+use Rattle.oc_deeds.proofs.Chains.{calls_append}
+use Rattle.oc_deeds.proofs.Cuts.{cuts_behind, cuts_more}
 use Rattle.oc_server.proofs.Scenes.{breaks_then, did_then, setting_stays, still_honest}
 use Rattle.oc_service.specs.Measuring.{begins_with}
 use Rattle.oc_service.specs.Running.{Halts, Listens, RunEnds, Runs, machine}

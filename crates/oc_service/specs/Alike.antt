@@ -3,9 +3,9 @@ use Rattle.std.specs.Prelude.{◌≡◌, ℕ, List}
 use Rattle.oc_link.specs.Traffic.{given}
 use Rattle.oc_link.specs.declared.event.Arrival.{Arrival}
 use Rattle.oc_link.specs.declared.event.LinkEvent.TheVariants.{Request}
-use Rattle.oc_server.specs.Deeds.{Deed, Running, Setting, after_all, calls_of, lines}
-use Rattle.oc_server.specs.Turns.{Observation}
-use Rattle.oc_server.specs.declared.came.Came.{Came}
+use Rattle.oc_deeds.specs.Deeds.{Deed, Running, Setting, after_all, calls_of, lines}
+use Rattle.oc_deeds.specs.Turns.{Observation}
+use Rattle.oc_deeds.specs.declared.came.Came.{Came}
 
 -- a turn is told a request, by which these bytes came new, and which means this
 abbrev pub told_request : Observation → Arrival → List ℕ → Came → Observation

@@ -4,10 +4,11 @@ use Rattle.oc_io.specs.DiskView.{DiskView}
 use Rattle.oc_keep.specs.Files.{Disks, IsLeft}
 use Rattle.oc_keep.specs.Trials.{after_inputs, first_node}
 use Rattle.oc_model.specs.Node.{Header, Node}
-use Rattle.oc_server.specs.Deeds.{Deed, inputs_of}
+use Rattle.oc_deeds.specs.Deeds.{Deed, inputs_of}
 use Rattle.oc_server.specs.Looks.{RunsSafely}
 use Rattle.oc_server.specs.Moments.{AtEachPrefix}
-use Rattle.oc_server.specs.Scenes.{EndsOn, Under}
+use Rattle.oc_server.specs.Scenes.{EndsOn}
+use Rattle.oc_deeds.specs.Under.{Under}
 
 -- From these files to those, and from this output to that one: while the node was loaded every
 -- crash left the files as a crash at the start would have left them, and nothing was written; then,

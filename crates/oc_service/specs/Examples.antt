@@ -12,11 +12,11 @@ use Rattle.oc_routes.specs.Verdicts.{arrival}
 use Rattle.oc_routes.specs.declared.verdict.Verdict.TheVariants as verdicts
 use Rattle.oc_routes.specs.declared.refused.Refused.{Refused}
 use Rattle.oc_routes.specs.declared.refused.Refused.TheVariants as refusals
-use Rattle.oc_server.specs.Deeds.{Deed, Drops, Reads, Refuses, Running, Sees, Setting, lines}
-use Rattle.oc_server.specs.Turns.{Observation, turn}
-use Rattle.oc_server.specs.declared.came.Came.TheVariants as comes
-use Rattle.oc_server.specs.declared.log.Log.TheVariants.{Inputs}
-use Rattle.oc_server.specs.declared.pace.Pace.{Pace}
+use Rattle.oc_deeds.specs.Deeds.{Deed, Drops, Reads, Refuses, Running, Sees, Setting, lines}
+use Rattle.oc_deeds.specs.Turns.{Observation, turn}
+use Rattle.oc_deeds.specs.declared.came.Came.TheVariants as comes
+use Rattle.oc_deeds.specs.declared.log.Log.TheVariants.{Inputs}
+use Rattle.oc_deeds.specs.declared.pace.Pace.{Pace}
 use Rattle.oc_service.specs.Alike.{AreAlike, told_request}
 use Rattle.oc_service.specs.Failures.{AreBorneOut}
 

@@ -6,7 +6,7 @@ use Rattle.oc_link.specs.declared.counts.LinkCounts.{LinkCounts}
 use Rattle.oc_link.specs.declared.event.LinkEvent.{LinkEvent}
 use Rattle.oc_io.specs.Faults.{Rose}
 use Rattle.oc_routes.specs.declared.refused.Refused.TheVariants.{Source}
-use Rattle.oc_server.specs.Deeds.{Deed, Drops, Refuses, Sees}
+use Rattle.oc_deeds.specs.Deeds.{Deed, Drops, Refuses, Sees}
 
 -- the last event that the link reported, after a deed
 abbrev pub told_last : LinkEvent → Deed → LinkEvent

@@ -10,9 +10,10 @@ use Rattle.oc_keep.specs.Promises.{IsNodeOf, LoadsSafely, RefusesNode}
 use Rattle.oc_keep.specs.declared.errors.KeepLoad.{KeepLoad}
 use Rattle.oc_model.specs.declared.message.Message.{Message}
 use Rattle.oc_probe.specs.declared.probing.Probing.{Probing}
-use Rattle.oc_server.specs.Lawful.{IsMadeFor, IsReady}
-use Rattle.oc_server.specs.Pace.{first_pace, most_interval}
-use Rattle.oc_server.specs.Records.{is_record}
+use Rattle.oc_deeds.specs.Lawful.{IsMadeFor}
+use Rattle.oc_server.specs.Lawful.{IsReady}
+use Rattle.oc_deeds.specs.Pace.{first_pace, most_interval}
+use Rattle.oc_deeds.specs.Records.{is_record}
 use Rattle.oc_server.specs.declared.turns.Turns.{Turns}
 use Rattle.oc_service.specs.OnSite.{header_of_settings, probing_at_first}
 use Rattle.oc_service.specs.declared.running.Task.{Task}

@@ -2,7 +2,7 @@
 use Rattle.std.specs.Prelude.{List}
 use Rattle.oc_model.specs.declared.input.Input.{Input}
 use Rattle.oc_model.specs.declared.input.Input.TheVariants.{Measured}
-use Rattle.oc_server.specs.Parts.{Part}
+use Rattle.oc_deeds.specs.Parts.{Part}
 use Rattle.oc_service.specs.WhatNodeDoes.{begins, own_measure, own_measures}
 use Rattle.oc_updown.specs.declared.measure_lines.Measure.{Measure}
 

@@ -25,14 +25,16 @@ use Rattle.oc_probe.specs.Turns.{others}
 use Rattle.oc_probe.specs.declared.probing.Probing.{Probing}
 use Rattle.oc_routes.specs.Responses.{address_of}
 use Rattle.oc_routes.specs.Verdicts.{NodeTerms, terms_of}
-use Rattle.oc_server.specs.Deeds.{Deed, Setting, calls_of, inputs_of, line, lines}
-use Rattle.oc_server.specs.Pace.{most_interval}
-use Rattle.oc_server.specs.Parts.{Cuts}
-use Rattle.oc_server.specs.Recorded.{IsRecordOf}
-use Rattle.oc_server.specs.Records.{is_record}
-use Rattle.oc_server.specs.Scenes.{CountsAll, CountsAt, Idle, Taking, Under, WritesAt, under_line}
-use Rattle.oc_server.specs.Turns.{Observation}
-use Rattle.oc_server.specs.Within.{IsWithin}
+use Rattle.oc_deeds.specs.Deeds.{Deed, Setting, calls_of, inputs_of, line, lines}
+use Rattle.oc_deeds.specs.Pace.{most_interval}
+use Rattle.oc_deeds.specs.Under.{Cuts}
+use Rattle.oc_deeds.specs.Recorded.{IsRecordOf}
+use Rattle.oc_deeds.specs.Records.{is_record}
+use Rattle.oc_deeds.specs.Done.{CountsAll}
+use Rattle.oc_server.specs.Scenes.{CountsAt, WritesAt}
+use Rattle.oc_deeds.specs.Under.{Idle, Taking, Under, under_line}
+use Rattle.oc_deeds.specs.Turns.{Observation}
+use Rattle.oc_deeds.specs.Within.{IsWithin}
 use Rattle.oc_server.specs.declared.ends.TurnEnd.{TurnEnd}
 use Rattle.oc_server.specs.declared.ends.TurnEnd.TheVariants as ends
 use Rattle.oc_service.specs.AtAnyMoment.{AlwaysRecovers}

@@ -8,11 +8,12 @@ use Rattle.oc_link.specs.declared.counts.LinkCounts.{LinkCounts}
 use Rattle.oc_io.specs.DiskView.{DiskView}
 use Rattle.oc_keep.specs.KeptView.{IsHonest, node_of}
 use Rattle.oc_routes.specs.Responses.{address_of}
-use Rattle.oc_server.specs.Deeds.{Deed}
-use Rattle.oc_server.specs.Parts.{Cuts}
+use Rattle.oc_deeds.specs.Deeds.{Deed}
+use Rattle.oc_deeds.specs.Under.{Cuts}
 use Rattle.oc_server.specs.Runs.{reads_by}
-use Rattle.oc_server.specs.Scenes.{BreaksBehind, Did, Under, running, setting}
-use Rattle.oc_server.specs.Turns.{Observation}
+use Rattle.oc_server.specs.Scenes.{BreaksBehind, Did, running, setting}
+use Rattle.oc_deeds.specs.Under.{Under}
+use Rattle.oc_deeds.specs.Turns.{Observation}
 use Rattle.oc_server.specs.declared.ends.TurnEnd.{TurnEnd}
 use Rattle.oc_server.specs.declared.ends.TurnEnd.TheVariants as ends
 use Rattle.oc_server.specs.declared.server.Server.{Server}

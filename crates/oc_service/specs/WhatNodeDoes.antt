@@ -7,13 +7,13 @@ use Rattle.oc_base.specs.declared.shelf.Shelf.{Shelf}
 use Rattle.oc_model.specs.declared.input.Input.TheVariants.{Measured}
 use Rattle.oc_model.specs.Node.{Control, Node}
 use Rattle.oc_probe.specs.declared.probing.Probing.{Probing}
-use Rattle.oc_server.specs.Brief.{told_first}
-use Rattle.oc_server.specs.Choices.{due_place}
-use Rattle.oc_server.specs.Deeds.{Deed, Running, Says, Setting, Takes, after_all}
-use Rattle.oc_server.specs.Pace.{first_pace}
-use Rattle.oc_server.specs.Records.{told_ahead}
-use Rattle.oc_server.specs.Turns.{Observation, pace_behind, probing_behind, turn}
-use Rattle.oc_server.specs.declared.pace.Pace.{Pace}
+use Rattle.oc_deeds.specs.Brief.{told_first}
+use Rattle.oc_deeds.specs.Choices.{due_place}
+use Rattle.oc_deeds.specs.Deeds.{Deed, Running, Says, Setting, Takes, after_all}
+use Rattle.oc_deeds.specs.Pace.{first_pace}
+use Rattle.oc_deeds.specs.Records.{told_ahead}
+use Rattle.oc_deeds.specs.Turns.{Observation, pace_behind, probing_behind, turn}
+use Rattle.oc_deeds.specs.declared.pace.Pace.{Pace}
 use Rattle.oc_updown.specs.declared.measure_lines.Measure.{Measure}
 
 -- a node between two turns

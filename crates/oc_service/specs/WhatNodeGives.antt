@@ -2,9 +2,9 @@
 use Rattle.std.specs.Prelude.{Option, List, []}
 use Rattle.oc_link.specs.Told.{Told}
 use Rattle.oc_link.specs.declared.call.Call.{Call}
-use Rattle.oc_server.specs.Answered.{AreAnswered}
-use Rattle.oc_server.specs.Deeds.{Deed, Running, Setting}
-use Rattle.oc_server.specs.Settled.{AreServed, IsSettled}
+use Rattle.oc_deeds.specs.Answered.{AreAnswered}
+use Rattle.oc_deeds.specs.Deeds.{Deed, Running, Setting}
+use Rattle.oc_deeds.specs.Settled.{AreServed, IsSettled}
 
 -- From these calls on, if the link tells them to the end, and no reply was under way then: the deeds were done in order, so that each connection
 -- was given a beginning of the replies to its requests, and all of them where its next request is awaited or its last reply is whole.

@@ -3,9 +3,10 @@ use Rattle.std.specs.Prelude.{ℕ, Option, None, Some, List, [], ◌∷◌, ◌+
 use Rattle.std.specs.Option.{option_map}
 use Rattle.oc_link.specs.declared.call.Call.{Call}
 use Rattle.oc_routes.specs.Verdicts.{NodeTerms}
-use Rattle.oc_server.specs.Deeds.{Setting, calls_of, errand_in}
-use Rattle.oc_server.specs.Runs.{IsLent, IsMeasured, behind_reading}
-use Rattle.oc_server.specs.Turns.{Means, Observation}
+use Rattle.oc_deeds.specs.Deeds.{Setting, calls_of, errand_in}
+use Rattle.oc_server.specs.Runs.{IsLent, behind_reading}
+use Rattle.oc_deeds.specs.Measured.{IsMeasured}
+use Rattle.oc_deeds.specs.Turns.{Means, Observation}
 use Rattle.oc_service.specs.WhatNodeDoes.{Machine, behind_turn, due_at, turn_deeds}
 
 -- The event is that reported by the link, read by these terms. If the link tells its story, these

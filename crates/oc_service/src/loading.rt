@@ -7,7 +7,7 @@ ghost use Rattle.oc_base.specs.declared.limits.TheConstants.{MAX_AREA, MAX_NODES
 ghost use Rattle.oc_config.specs.Reading.{IsConfig};
 ghost use Rattle.oc_keep.specs.Files.{disks_in};
 ghost use Rattle.oc_keep.specs.Promises.{LoadsSafely, RefusesNode};
-ghost use Rattle.oc_server.specs.Lawful.{IsMadeFor};
+ghost use Rattle.oc_deeds.specs.Lawful.{IsMadeFor};
 ghost use Rattle.oc_service.specs.Loading.{IsEquipped, IsLoaded, IsUnloaded};
 ghost use Rattle.oc_service.specs.OnSite.{header_of_settings, probing_at_first};
 
@@ -16,13 +16,14 @@ use crate::running::Task;
 use crate::site::Site;
 use oc_base::{Memory, NodeId};
 use oc_config::Config;
+use oc_deeds::{Dials, Outbox, Pace, Works, most_interval};
 use oc_http::HeadReader;
 use oc_io::{Disk, Sink};
 use oc_keep::{KeepLoad, Kept, Seat};
 use oc_link::Link;
 use oc_model::{Header, Sizes};
 use oc_probe::Probing;
-use oc_server::{Dials, Outbox, Pace, Server, Turns, Works, most_interval};
+use oc_server::{Server, Turns};
 use std::alloc::Global;
 
 /// The state of a running node besides its files. Its memory is taken before the files are read.

@@ -2,7 +2,7 @@
 
 ghost use Rattle.std.specs.Prelude.{◌≡◌, ◌≤◌, IfOk, IfSome};
 ghost use Rattle.oc_base.specs.Lawful.{IsNode};
-ghost use Rattle.oc_server.specs.Lawful.{IsMadeFor};
+ghost use Rattle.oc_deeds.specs.Lawful.{IsMadeFor};
 ghost use Rattle.oc_service.specs.OnSite.{probing_at_first, probing_of};
 
 use oc_base::{Memory, NodeId};

@@ -3,12 +3,12 @@ use Rattle.std.proofs.lemmas.Result.{err_from_is_err_and}
 use Rattle.oc_keep.specs.KeptView.{node_of}
 use Rattle.oc_routes.specs.declared.verdict.Verdict.{Verdict}
 use Rattle.oc_routes.specs.Refusals.{why_text}
-use Rattle.oc_server.specs.Asks.{obeys, takes_on}
-use Rattle.oc_server.specs.Deeds.{BreaksOff, Permits, Refuses, note_line}
-use Rattle.oc_server.specs.Hurries.{verdict_hurries}
+use Rattle.oc_deeds.specs.Asks.{obeys, takes_on}
+use Rattle.oc_deeds.specs.Deeds.{BreaksOff, Permits, Refuses, note_line}
+use Rattle.oc_deeds.specs.Hurries.{verdict_hurries}
 use Rattle.oc_server.specs.Scenes.{running, setting}
 use Rattle.oc_server.proofs.Parts.{does_as, does_nothing, does_one, stops_as}
-use Rattle.oc_server.proofs.Results.{done_then, err_then, ok_then}
+use Rattle.oc_deeds.proofs.Results.{done_then, err_then, ok_then}
 use Rattle.oc_server.proofs.Stopping.{note_stops}
 use Rattle.oc_server.proofs.server.Server.obeys.Goals as goal
 

@@ -2,7 +2,7 @@ use Rattle.std.proofs.Common.{List, ℕ, Option, refl, rules, subst, ◌∙◌}
 use Rattle.std.proofs.lemmas.Result.{err_from_is_err_and}
 use Rattle.oc_link.specs.Told.{AddsAll}
 use Rattle.oc_routes.specs.Refusals.{why_text}
-use Rattle.oc_server.specs.Deeds.{Refuses, note_line, refuses}
+use Rattle.oc_deeds.specs.Deeds.{Refuses, note_line, refuses}
 use Rattle.oc_server.proofs.Steps.{did_line, line_breaks_as, memory_breaks, put_first}
 use Rattle.oc_server.proofs.server.Server.refuses.Goals as goal
 

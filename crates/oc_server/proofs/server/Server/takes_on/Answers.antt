@@ -2,12 +2,12 @@ use Rattle.std.proofs.Common.{None, Some, refl, sym, ◌∙◌}
 use Rattle.std.proofs.lemmas.Result.{err_from_is_err_and}
 use Rattle.oc_keep.specs.KeptView.{node_of}
 use Rattle.oc_routes.specs.Refusals.{why_text}
-use Rattle.oc_server.specs.Asks.{answers_or_waits, takes_on}
-use Rattle.oc_server.specs.Deeds.{Refuses, note_line}
+use Rattle.oc_deeds.specs.Asks.{answers_or_waits, takes_on}
+use Rattle.oc_deeds.specs.Deeds.{Refuses, note_line}
 use Rattle.oc_server.specs.Scenes.{running, setting}
 use Rattle.oc_server.proofs.Parts.{does_as, does_one, stops_as}
-use Rattle.oc_server.proofs.Responding.{condition_hurries, condition_part}
-use Rattle.oc_server.proofs.Results.{done_then, err_then, ok_then}
+use Rattle.oc_deeds.proofs.Responding.{condition_hurries, condition_part}
+use Rattle.oc_deeds.proofs.Results.{done_then, err_then, ok_then}
 use Rattle.oc_server.proofs.Stopping.{note_stops}
 use Rattle.oc_server.proofs.server.Server.takes_on.Goals as goal
 

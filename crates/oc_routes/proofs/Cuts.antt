@@ -2,12 +2,13 @@
 use Rattle.std.proofs.Common.{◌≡◌, ℕ, ◌+◌, ◌-◌, ◌≤◌, Bool, true, false, None, Result, Ok, Err, List, ◌++◌, length, take, refl, sym, ap, ◌∙◌, arith, length-append}
 use Rattle.std.specs.Prelude.{not, ◌&&◌, nat_lt, if◌then◌else◌}
 use Rattle.std.proofs.lemmas.Bool.{ltb-false, le-ltb, false≢true}
+use Rattle.std.proofs.Math.Seq.{take-append_seam}
 use Rattle.std.proofs.lemmas.List.{append_assoc, take-append-le}
 use Rattle.oc_link.specs.declared.event.Arrival.{Arrival}
 use Rattle.oc_link.specs.declared.event.Coming.{Coming}
 use Rattle.oc_link.specs.declared.event.Coming.TheVariants as comings
 use Rattle.oc_http.specs.Answers.{AnswersRequest, IsDecided}
-use Rattle.oc_http.specs.Requests.{read_request}
+use Rattle.oc_http.specs.Requests.{begins_with_head, read_request}
 use Rattle.oc_http.proofs.Forms.{request_form}
 use Rattle.oc_http.proofs.OneAnswer.{one_answer}
 use Rattle.oc_http.specs.declared.fault.HttpFault.{HttpFault}
@@ -15,8 +16,9 @@ use Rattle.oc_http.specs.declared.fault.HttpFault.TheVariants.{Source, Ended, He
 use Rattle.oc_http.specs.declared.head.Head.{Head}
 use Rattle.oc_routes.specs.Connections.{awaits_continue, is_last}
 use Rattle.oc_routes.specs.declared.refused.Refused.{Refused}
+use Rattle.oc_routes.specs.declared.refused.Refused.TheVariants as refusals
 use Rattle.oc_routes.specs.Hints.{asked_with_hint}
-use Rattle.oc_routes.specs.Verdicts.{IsVerdict, NodeTerms, arrival, after_head, routed, unfinished, verdict_for, whole, with_body}
+use Rattle.oc_routes.specs.Verdicts.{IsVerdict, NodeTerms, arrival, after_head, refuse, routed, taken, unfinished, verdict_for, whole, with_body}
 use Rattle.oc_routes.specs.declared.hint.Asked.{Asked}
 use Rattle.oc_routes.specs.declared.verdict.Verdict.{Verdict}
 use Rattle.oc_routes.specs.declared.verdict.Verdict.TheVariants.{Wait, Permit}
@@ -48,6 +50,16 @@ answers_more left rest more (Err (Length missing)) h own stays = (h.0, front_mor
 answers_more left rest more (Err BodyLong) h own stays = (h.0, front_more left (h.0) rest more (h.1), h.2)
 answers_more left rest more (Err Memory) h own stays = absurd own
 
+taken_of : (front rest : List ℕ) → taken (front ++ rest) rest ≡ front
+taken_of front rest =
+    ap (λ (n : ℕ). take n (front ++ rest)) (let few : length (front ++ rest) - length rest ≡ length front = omega (arith, length-append front rest) in few)
+    ∙ take-append_seam front rest
+
+taken_front : (left front rest more : List ℕ) → left ≡ front ++ rest → taken left rest ≡ taken (left ++ more) (rest ++ more)
+taken_front left front rest more e =
+    ap (λ (x : List ℕ). taken x rest) e ∙ taken_of front rest
+    ∙ sym (ap (λ (x : List ℕ). taken x (rest ++ more)) (front_more left front rest more e) ∙ taken_of front (rest ++ more))
+
 -- the permission, then the wait, then the whole request
 by_tests : (permits short later : Bool) (done done_later shortened v : Verdict) → (short ≡ false → later ≡ false) → (short ≡ false → done ≡ done_later)
     → v ≡ (if permits then Permit else if short then Wait else done) → (v ≡ Wait → ⊥) → v ≡ (if permits then Permit else if later then shortened else done_later)
@@ -67,12 +79,12 @@ body_more t c number permitted coming came head rest more said v is decided =
     let few : head.length ≤ length rest = ltb-false (length rest) head.length long in
     let body : take head.length (rest ++ more) ≡ take head.length rest = take-append-le head.length rest more few in
     let count : came - length rest ≡ (came + length more) - length (rest ++ more) = omega (arith, length-append rest more) in
-    ap (λ (n : ℕ). whole t head (record { count = n + head.length; operation = said.operation; hint = said.hint; input = None; last = is_last head number }) (take head.length rest)) count
-    ∙ ap (λ (b : List ℕ). whole t head (record { count = ((came + length more) - length (rest ++ more)) + head.length; operation = said.operation; hint = said.hint; input = None; last = is_last head number }) b) (sym body))
+    ap (λ (n : ℕ). whole t head (record { count = n + head.length; asked = said; input = None; last = is_last head number }) (take head.length rest)) count
+    ∙ ap (λ (b : List ℕ). whole t head (record { count = ((came + length more) - length (rest ++ more)) + head.length; asked = said; input = None; last = is_last head number }) b) (sym body))
     is decided
   where
     request : ℕ → List ℕ → Verdict
-    request n left = whole t head (record { count = n - length left + head.length; operation = said.operation; hint = said.hint; input = None; last = is_last head number }) (take head.length left)
+    request n left = whole t head (record { count = n - length left + head.length; asked = said; input = None; last = is_last head number }) (take head.length left)
 
 routed_more : (t : NodeTerms) (c number : ℕ) (permitted : Bool) (coming : Coming) (came : ℕ) (head : Head) (rest more : List ℕ) (asked : Result Asked Refused) (v : Verdict)
     → v ≡ routed t (arrival c number permitted comings.Open) came head rest asked → (v ≡ Wait → ⊥)
@@ -80,22 +92,28 @@ routed_more : (t : NodeTerms) (c number : ℕ) (permitted : Bool) (coming : Comi
 routed_more t c number permitted coming came head rest more (Ok said) v is decided = body_more t c number permitted coming came head rest more said v is decided
 routed_more t c number permitted coming came head rest more (Err why) v is decided = is
 
+-- what was taken of the bytes is what is taken of them with more
+taken_more : (left rest more : List ℕ) (answer : Result Head HttpFault) → AnswersRequest left rest answer → taken left rest ≡ taken (left ++ more) (rest ++ more)
+taken_more left rest more (Ok head) h = taken_front left (h.0) rest more (h.1)
+taken_more left rest more (Err fault) h = taken_front left (h.0) rest more (h.1)
+
 verdict_more : (t : NodeTerms) (c number : ℕ) (permitted : Bool) (coming : Coming) (bytes rest more : List ℕ) (answer : Result Head HttpFault) (v : Verdict)
+    → taken bytes rest ≡ taken (bytes ++ more) (rest ++ more)
     → v ≡ verdict_for t (arrival c number permitted comings.Open) bytes rest answer → (v ≡ Wait → ⊥)
     → v ≡ verdict_for t (arrival c number permitted coming) (bytes ++ more) (rest ++ more) answer
-verdict_more t c number permitted coming bytes rest more (Ok head) v is decided =
+verdict_more t c number permitted coming bytes rest more (Ok head) v same is decided =
     routed_more t c number permitted coming (length bytes) head rest more (asked_with_hint head t.rules) v is decided
     ∙ ap (λ (n : ℕ). after_head t (arrival c number permitted coming) n head (rest ++ more)) (sym (length-append bytes more))
-verdict_more t c number permitted coming bytes rest more (Err Source) v is decided = is
-verdict_more t c number permitted coming bytes rest more (Err Ended) v is decided = absurd (decided is)
-verdict_more t c number permitted coming bytes rest more (Err NoHead) v is decided = is
-verdict_more t c number permitted coming bytes rest more (Err HeadLong) v is decided = is
-verdict_more t c number permitted coming bytes rest more (Err Fields) v is decided = is
-verdict_more t c number permitted coming bytes rest more (Err Host) v is decided = is
-verdict_more t c number permitted coming bytes rest more (Err (Coding both)) v is decided = is
-verdict_more t c number permitted coming bytes rest more (Err (Length missing)) v is decided = is
-verdict_more t c number permitted coming bytes rest more (Err BodyLong) v is decided = is
-verdict_more t c number permitted coming bytes rest more (Err Memory) v is decided = is
+verdict_more t c number permitted coming bytes rest more (Err Source) v same is decided = is ∙ ap (λ (x : List ℕ). refuse (begins_with_head x) refusals.Source) same
+verdict_more t c number permitted coming bytes rest more (Err Ended) v same is decided = absurd (decided is)
+verdict_more t c number permitted coming bytes rest more (Err NoHead) v same is decided = is ∙ ap (λ (x : List ℕ). refuse (begins_with_head x) refusals.Head) same
+verdict_more t c number permitted coming bytes rest more (Err HeadLong) v same is decided = is ∙ ap (λ (x : List ℕ). refuse (begins_with_head x) refusals.HeadLong) same
+verdict_more t c number permitted coming bytes rest more (Err Fields) v same is decided = is ∙ ap (λ (x : List ℕ). refuse (begins_with_head x) refusals.Fields) same
+verdict_more t c number permitted coming bytes rest more (Err Host) v same is decided = is ∙ ap (λ (x : List ℕ). refuse (begins_with_head x) refusals.Host) same
+verdict_more t c number permitted coming bytes rest more (Err (Coding both)) v same is decided = is ∙ ap (λ (x : List ℕ). refuse (begins_with_head x) (refusals.Coding both)) same
+verdict_more t c number permitted coming bytes rest more (Err (Length missing)) v same is decided = is ∙ ap (λ (x : List ℕ). refuse (begins_with_head x) (refusals.Length missing)) same
+verdict_more t c number permitted coming bytes rest more (Err BodyLong) v same is decided = is ∙ ap (λ (x : List ℕ). refuse (begins_with_head x) refusals.BodyLong) same
+verdict_more t c number permitted coming bytes rest more (Err Memory) v same is decided = is
 
 -- a part of a request is to wait
 not_ended : (t : NodeTerms) (c number : ℕ) (permitted : Bool) (bytes rest : List ℕ) (answer : Result Head HttpFault) (v : Verdict)
@@ -111,5 +129,5 @@ verdict_stays t c number permitted coming bytes more v x decided = record {
   rest = x.rest ++ more;
   answers = answers_more bytes x.rest more x.answer x.answers x.decided (not_ended t c number permitted bytes x.rest x.answer v x.verdict decided);
   decided = x.decided;
-  verdict = verdict_more t c number permitted coming bytes x.rest more x.answer v x.verdict decided;
+  verdict = verdict_more t c number permitted coming bytes x.rest more x.answer v (taken_more bytes x.rest more x.answer x.answers) x.verdict decided;
 }

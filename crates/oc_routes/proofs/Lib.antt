@@ -12,7 +12,6 @@ pub mod MacLaws
 pub mod Chunks
 pub mod Cuts
 pub mod PieceLaws
-pub mod Sent
 pub mod SparedReplies
 pub mod Unread
 pub mod WaitLaws

@@ -7,6 +7,7 @@ use Rattle.oc_link.specs.declared.event.Arrival.{Arrival}
 use Rattle.oc_link.specs.declared.event.Coming.{Coming}
 use Rattle.oc_link.specs.declared.event.Coming.TheVariants.{Open, Ended, Failed}
 use Rattle.oc_http.specs.Answers.{AnswersRequest}
+use Rattle.oc_http.specs.Requests.{begins_with_head}
 use Rattle.oc_http.specs.declared.fault.HttpFault.{HttpFault}
 use Rattle.oc_http.specs.declared.fault.HttpFault.TheVariants as http
 use Rattle.oc_http.specs.declared.head.Head.{Head}
@@ -26,7 +27,7 @@ use Rattle.oc_routes.proofs.Spared.{IsOther, IsSpared}
 use Rattle.oc_routes.proofs.SparedReplies.{head_spared}
 use Rattle.oc_wire.specs.Macs.{is_authentic}
 use Rattle.oc_routes.specs.Macs.{HaveMac, is_forged}
-use Rattle.oc_routes.specs.Verdicts.{IsVerdict, NodeTerms, answered, fault_met, input_for, is_none, routed, unfinished, unread, verdict_for, whole}
+use Rattle.oc_routes.specs.Verdicts.{IsVerdict, NodeTerms, answered, fault_met, input_for, is_head, is_none, refuse, routed, taken, unfinished, unread, verdict_for, whole}
 use Rattle.oc_routes.specs.declared.hint.Asked.{Asked}
 use Rattle.oc_routes.specs.declared.verdict.Request.{Request}
 use Rattle.oc_routes.specs.declared.verdict.Verdict.{Verdict}
@@ -42,18 +43,18 @@ authentic_mac key (Some mac) body is = by_test (bytes_eq mac (mac_digits key bod
     by_test false same e = cc
 
 -- a request that is answered asks what was asked
-answered_asks : (q r : Request) (input : Result (Option Input) Refused) → Ask q ≡ answered r input → q.operation ≡ r.operation
-answered_asks q r (Ok input) e = let same : q ≡ record r { input = input_for r.hint input } = cc in ap (λ (x : Request). x.operation) same
-answered_asks q r (Err why) e = cc
+answered_asks : (head : Head) (q r : Request) (input : Result (Option Input) Refused) → Ask q ≡ answered head r input → q.asked.operation ≡ r.asked.operation
+answered_asks head q r (Ok input) e = let same : q ≡ record r { input = input_for r.asked.hint input } = cc in ap (λ (x : Request). x.asked.operation) same
+answered_asks head q r (Err why) e = cc
 
 -- no request is answered that has a fault
-unread_no : (coming : Coming) (none : Bool) (fault : Option RouteFault) (q : Request) → Ask q ≡ unread coming none fault → ⊥
-unread_no Open none None q e = cc
-unread_no Ended true None q e = cc
-unread_no Ended false None q e = cc
-unread_no Failed none None q e = cc
-unread_no coming none (Some (faults.Refused why)) q e = cc
-unread_no coming none (Some faults.Memory) q e = cc
+unread_no : (coming : Coming) (none head_alone : Bool) (fault : Option RouteFault) (q : Request) → Ask q ≡ unread coming none head_alone fault → ⊥
+unread_no Open none head_alone None q e = cc
+unread_no Ended true head_alone None q e = cc
+unread_no Ended false head_alone None q e = cc
+unread_no Failed none head_alone None q e = cc
+unread_no coming none head_alone (Some (faults.Refused why)) q e = cc
+unread_no coming none head_alone (Some faults.Memory) q e = cc
 
 unfinished_no : (coming : Coming) (none : Bool) (q : Request) → Ask q ≡ unfinished coming none → ⊥
 unfinished_no Open none q e = cc
@@ -62,13 +63,13 @@ unfinished_no Ended false q e = cc
 unfinished_no Failed none q e = cc
 
 -- a whole request that is answered is not forged
-whole_mac : (t : NodeTerms) (key : List ℕ) (head : Head) (q r : Request) (body : List ℕ) → t.key ≡ Some key → q.operation ≡ asks.Message
-    → (forged : Bool) → is_forged t.key r.operation head.mac body ≡ forged
-    → Ask q ≡ (if forged then Refuse refusals.Mac else answered r (input_asked t.nodes t.me r.operation body))
+whole_mac : (t : NodeTerms) (key : List ℕ) (head : Head) (q r : Request) (body : List ℕ) → t.key ≡ Some key → q.asked.operation ≡ asks.Message
+    → (forged : Bool) → is_forged t.key r.asked.operation head.mac body ≡ forged
+    → Ask q ≡ (if forged then refuse (is_head head.method) refusals.Mac else answered head r (input_asked t.nodes t.me r.asked.operation body))
     → head.mac ≡ Some (mac_digits key body)
 whole_mac t key head q r body has asks_message true is e = cc
 whole_mac t key head q r body has asks_message false is e =
-    let same : q.operation ≡ r.operation = answered_asks q r (input_asked t.nodes t.me r.operation body) e in
+    let same : q.asked.operation ≡ r.asked.operation = answered_asks head q r (input_asked t.nodes t.me r.asked.operation body) e in
     authentic_mac key head.mac body
     (ap (λ (k : Option (List ℕ)). is_forged k asks.Message head.mac body) (sym has)
     ∙ ap (λ (o : Operation). is_forged t.key o head.mac body) (sym asks_message ∙ same) ∙ is)
@@ -80,7 +81,7 @@ come_whole coming q done true short e = cc
 come_whole coming q done false true e = absurd (unfinished_no coming false q e)
 come_whole coming q done false false e = e
 
-routed_mac : (t : NodeTerms) (key : List ℕ) (a : Arrival) (came : ℕ) (head : Head) (rest : List ℕ) (asked : Result Asked Refused) (q : Request) → t.key ≡ Some key → q.operation ≡ asks.Message
+routed_mac : (t : NodeTerms) (key : List ℕ) (a : Arrival) (came : ℕ) (head : Head) (rest : List ℕ) (asked : Result Asked Refused) (q : Request) → t.key ≡ Some key → q.asked.operation ≡ asks.Message
     → Ask q ≡ routed t a came head rest asked → head.mac ≡ Some (mac_digits key (take head.length rest))
 routed_mac t key a came head rest (Err why) q has asks_message e = cc
 routed_mac t key a came head rest (Ok said) q has asks_message e =
@@ -88,10 +89,10 @@ routed_mac t key a came head rest (Ok said) q has asks_message e =
     (come_whole a.coming q (whole t head request (take head.length rest)) (awaits_continue head && not a.permitted) (nat_lt (length rest) head.length) e)
   where
     request : Request
-    request = record { count = came - length rest + head.length; operation = said.operation; hint = said.hint; input = None; last = is_last head a.number }
+    request = record { count = came - length rest + head.length; asked = said; input = None; last = is_last head a.number }
 
 -- a message that is taken under a key came with its MAC
-pub have_mac : (t : NodeTerms) (a : Arrival) (key bytes : List ℕ) (q : Request) → t.key ≡ Some key → q.operation ≡ asks.Message → IsVerdict t a bytes (Ask q) → HaveMac key bytes
+pub have_mac : (t : NodeTerms) (a : Arrival) (key bytes : List ℕ) (q : Request) → t.key ≡ Some key → q.asked.operation ≡ asks.Message → IsVerdict t a bytes (Ask q) → HaveMac key bytes
 have_mac t a key bytes q has asks_message x = by_answer x.answer x.answers x.verdict
   where
     by_answer : (answer : Result Head HttpFault) → AnswersRequest bytes x.rest answer → Ask q ≡ verdict_for t a bytes x.rest answer → HaveMac key bytes
@@ -103,55 +104,63 @@ have_mac t a key bytes q has asks_message x = by_answer x.answer x.answers x.ver
       says = took.2;
       mac = routed_mac t key a (length bytes) head x.rest (asked_with_hint head t.rules) q has asks_message e;
     }
-    by_answer (Err fault) took e = absurd (unread_no a.coming (is_none bytes) (fault_met fault) q e)
+    by_answer (Err fault) took e = absurd (unread_no a.coming (is_none bytes) (begins_with_head (taken bytes x.rest)) (fault_met fault) q e)
 
 -- A body is refused as no message only where it came with its MAC
 
-unfinished_other : (coming : Coming) (none : Bool) → Refuse refusals.Message ≡ unfinished coming none → ⊥
+-- why a verdict refuses a request, if it does
+why_of : Verdict → Option Refused
+why_of (Refuse refusal) = Some refusal.why
+why_of v = None
+
+abbrev SaysMessage : Verdict → Type 0
+SaysMessage v = Some refusals.Message ≡ why_of v
+
+unfinished_other : (coming : Coming) (none : Bool) → SaysMessage (unfinished coming none) → ⊥
 unfinished_other Open none e = cc
 unfinished_other Ended true e = cc
 unfinished_other Ended false e = cc
 unfinished_other Failed none e = cc
 
-unread_other : (coming : Coming) (none : Bool) (fault : HttpFault) → Refuse refusals.Message ≡ unread coming none (fault_met fault) → ⊥
-unread_other coming none http.Source e = cc
-unread_other coming none http.Ended e = unfinished_other coming none e
-unread_other coming none http.Head e = cc
-unread_other coming none http.HeadLong e = cc
-unread_other coming none http.Fields e = cc
-unread_other coming none http.Host e = cc
-unread_other coming none (http.Coding both) e = cc
-unread_other coming none (http.Length missing) e = cc
-unread_other coming none http.BodyLong e = cc
-unread_other coming none http.Memory e = cc
+unread_other : (coming : Coming) (none head_alone : Bool) (fault : HttpFault) → SaysMessage (unread coming none head_alone (fault_met fault)) → ⊥
+unread_other coming none head_alone http.Source e = cc
+unread_other coming none head_alone http.Ended e = unfinished_other coming none e
+unread_other coming none head_alone http.Head e = cc
+unread_other coming none head_alone http.HeadLong e = cc
+unread_other coming none head_alone http.Fields e = cc
+unread_other coming none head_alone http.Host e = cc
+unread_other coming none head_alone (http.Coding both) e = cc
+unread_other coming none head_alone (http.Length missing) e = cc
+unread_other coming none head_alone http.BodyLong e = cc
+unread_other coming none head_alone http.Memory e = cc
 
 -- a body is no message only where a message is asked
 input_message : (nodes me : ℕ) (operation : Operation) (body : List ℕ) → input_asked nodes me operation body ≡ Err refusals.Message → operation ≡ asks.Message
 input_message nodes me operation body e = subst (λ (r : Result (Option Input) Refused). IsOfBody operation r) e (of_body nodes me operation body)
 
-answered_message : (r : Request) (input : Result (Option Input) Refused) → Refuse refusals.Message ≡ answered r input → input ≡ Err refusals.Message
-answered_message r (Ok input) e = cc
-answered_message r (Err why) e = let same : why ≡ refusals.Message = cc in ap (λ (w : Refused). Err w) same
+answered_message : (head : Head) (r : Request) (input : Result (Option Input) Refused) → SaysMessage (answered head r input) → input ≡ Err refusals.Message
+answered_message head r (Ok input) e = cc
+answered_message head r (Err why) e = let same : why ≡ refusals.Message = cc in ap (λ (w : Refused). Err w) same
 
 whole_refused : (t : NodeTerms) (key : List ℕ) (head : Head) (r : Request) (body : List ℕ) → t.key ≡ Some key
-    → (forged : Bool) → is_forged t.key r.operation head.mac body ≡ forged
-    → Refuse refusals.Message ≡ (if forged then Refuse refusals.Mac else answered r (input_asked t.nodes t.me r.operation body))
+    → (forged : Bool) → is_forged t.key r.asked.operation head.mac body ≡ forged
+    → SaysMessage (if forged then refuse (is_head head.method) refusals.Mac else answered head r (input_asked t.nodes t.me r.asked.operation body))
     → head.mac ≡ Some (mac_digits key body)
 whole_refused t key head r body has true is e = cc
 whole_refused t key head r body has false is e =
-    let message : r.operation ≡ asks.Message = input_message t.nodes t.me r.operation body (answered_message r (input_asked t.nodes t.me r.operation body) e) in
+    let message : r.asked.operation ≡ asks.Message = input_message t.nodes t.me r.asked.operation body (answered_message head r (input_asked t.nodes t.me r.asked.operation body) e) in
     authentic_mac key head.mac body
     (ap (λ (k : Option (List ℕ)). is_forged k asks.Message head.mac body) (sym has)
     ∙ ap (λ (o : Operation). is_forged t.key o head.mac body) (sym message) ∙ is)
 
 refused_whole : (coming : Coming) (done : Verdict) (permits short : Bool)
-    → Refuse refusals.Message ≡ (if permits then Permit else if short then unfinished coming false else done) → Refuse refusals.Message ≡ done
+    → SaysMessage (if permits then Permit else if short then unfinished coming false else done) → SaysMessage done
 refused_whole coming done true short e = cc
 refused_whole coming done false true e = absurd (unfinished_other coming false e)
 refused_whole coming done false false e = e
 
 routed_refused : (t : NodeTerms) (key : List ℕ) (a : Arrival) (came : ℕ) (head : Head) (rest : List ℕ) (asked : Result Asked Refused) → t.key ≡ Some key → IsSpared asked
-    → Refuse refusals.Message ≡ routed t a came head rest asked → head.mac ≡ Some (mac_digits key (take head.length rest))
+    → SaysMessage (routed t a came head rest asked) → head.mac ≡ Some (mac_digits key (take head.length rest))
 routed_refused t key a came head rest (Err why) has spared e =
     let same : why ≡ refusals.Message = cc in
     absurd (subst (λ (w : Refused). IsOther w) same spared)
@@ -160,13 +169,13 @@ routed_refused t key a came head rest (Ok said) has spared e =
     (refused_whole a.coming (whole t head request (take head.length rest)) (awaits_continue head && not a.permitted) (nat_lt (length rest) head.length) e)
   where
     request : Request
-    request = record { count = came - length rest + head.length; operation = said.operation; hint = said.hint; input = None; last = is_last head a.number }
+    request = record { count = came - length rest + head.length; asked = said; input = None; last = is_last head a.number }
 
 -- a body that is read as a message under a key came with its MAC, also where it is none
-pub read_mac : (t : NodeTerms) (a : Arrival) (key bytes : List ℕ) → t.key ≡ Some key → IsVerdict t a bytes (Refuse refusals.Message) → HaveMac key bytes
-read_mac t a key bytes has x = by_answer x.answer x.answers x.verdict
+pub read_mac : (t : NodeTerms) (a : Arrival) (key bytes : List ℕ) (head_alone : Bool) → t.key ≡ Some key → IsVerdict t a bytes (refuse head_alone refusals.Message) → HaveMac key bytes
+read_mac t a key bytes head_alone has x = by_answer x.answer x.answers (ap why_of x.verdict)
   where
-    by_answer : (answer : Result Head HttpFault) → AnswersRequest bytes x.rest answer → Refuse refusals.Message ≡ verdict_for t a bytes x.rest answer → HaveMac key bytes
+    by_answer : (answer : Result Head HttpFault) → AnswersRequest bytes x.rest answer → SaysMessage (verdict_for t a bytes x.rest answer) → HaveMac key bytes
     by_answer (Ok head) took e = record {
       front = took.0;
       rest = x.rest;
@@ -175,4 +184,4 @@ read_mac t a key bytes has x = by_answer x.answer x.answers x.verdict
       says = took.2;
       mac = routed_refused t key a (length bytes) head x.rest (asked_with_hint head t.rules) has (head_spared head t.rules) e;
     }
-    by_answer (Err fault) took e = absurd (unread_other a.coming (is_none bytes) fault e)
+    by_answer (Err fault) took e = absurd (unread_other a.coming (is_none bytes) (begins_with_head (taken bytes x.rest)) fault e)

@@ -1,5 +1,6 @@
 -- What a head asks is never refused as a body that is no message, nor as a call that failed.
-use Rattle.std.proofs.Common.{ℕ, Bool, true, false, Option, Some, None, Result, Ok, Err, List, codes}
+use Rattle.std.proofs.Common.{ℕ, Bool, true, false, Option, Some, None, Result, Ok, Err, List, codes, if◌then◌else◌}
+use Rattle.std.specs.Prelude.{not}
 use Rattle.oc_base.specs.Names.{parsed_name}
 use Rattle.oc_base.specs.Steps.{◌>>=◌, with_fault}
 use Rattle.oc_base.specs.Words.{number_in}
@@ -15,12 +16,10 @@ use Rattle.oc_policy.specs.declared.deciding.Decision.TheVariants.{Allowed, Deni
 use Rattle.oc_policy.specs.declared.rule.Action.{Action}
 use Rattle.oc_policy.specs.declared.rule.Rule.{Rule}
 use Rattle.oc_routes.specs.Queries.{condition_in, first_value, number_or_nought, number_told, query_in}
-use Rattle.oc_routes.specs.Routes.{action_of, asked, group_in, is_conditional, named_group, permitted, permitted_by, permitted_in, resource_at, resource_in, resource_or, scope_of}
+use Rattle.oc_routes.specs.Routes.{action_of, asked, group_in, is_conditional, is_own, name_of, named_group, permitted, permitted_as, permitted_by, resource_at, resource_named, resource_or}
 use Rattle.oc_routes.specs.declared.refused.Refused.{Refused}
 use Rattle.oc_routes.specs.declared.refused.Refused.TheVariants as refusals
 use Rattle.oc_routes.specs.declared.routes.Resource.{Resource}
-use Rattle.oc_routes.specs.declared.routes.Scope.{Scope}
-use Rattle.oc_routes.specs.declared.routes.Scope.TheVariants.{Free, Node, Group}
 
 -- another refusal
 abbrev pub IsOther : Refused → Type 0
@@ -69,26 +68,30 @@ spared_named : (r : Result (List ℕ) NameFault) → IsSpared (named_group r)
 spared_named (Ok group) = tt
 spared_named (Err fault) = tt
 
-spared_or : (row : Option Resource) (r : Result Resource Refused) → IsSpared r → IsSpared (resource_or row r)
-spared_or (Some resource) r h = tt
-spared_or None r h = h
+spared_own : (path : List ℕ) (own : Bool) → IsSpared (if own then Err refusals.Path else group_in path)
+spared_own path true = tt
+spared_own path false = spared_named (parsed_name path)
+
+spared_or : (row : Option Resource) (path : List ℕ) → IsSpared (resource_or row path)
+spared_or (Some resource) path = tt
+spared_or None path = spared_own path (is_own path)
 
 -- whatever rows the table has
-spared_resource : (action : Action) (path : List ℕ) → IsSpared (resource_in action path)
-spared_resource action path = spared_or (resource_at action path) (group_in path) (spared_named (parsed_name path))
+spared_resource : (action : Action) (path : Option (List ℕ)) → IsSpared (resource_named action path)
+spared_resource action None = tt
+spared_resource action (Some path) = spared_or (resource_at action path) path
 
-spared_allowed : (v : Decision) → IsSpared (permitted_by v)
-spared_allowed Allowed = tt
-spared_allowed (Denied rule) = tt
+spared_allowed : (rules : List Rule) (action : Action) (name : List ℕ) (area : ℕ) (bare : Bool) (v : Decision) → IsSpared (permitted_by rules action name area bare v)
+spared_allowed rules action name area bare Allowed = tt
+spared_allowed rules action name area bare (Denied rule) = tt
 
-spared_permitted : (rules : List Rule) (action : Action) (scope : Scope) (area : ℕ) (shown : Option (List ℕ)) → IsSpared (permitted_in rules action scope area shown)
-spared_permitted rules action Free area shown = tt
-spared_permitted rules action Node area shown = spared_allowed (verdict rules action None area shown)
-spared_permitted rules action (Group group) area shown = spared_allowed (verdict rules action (Some group) area shown)
+spared_permitted : (rules : List Rule) (action : Action) (name : Option (List ℕ)) (area : ℕ) (bare : Bool) (shown : Option (List ℕ)) → IsSpared (permitted_as rules action name area bare shown)
+spared_permitted rules action None area bare shown = tt
+spared_permitted rules action (Some name) area bare shown = spared_allowed rules action name area bare (verdict rules action (Some name) area shown)
 
 pub spared_asked : (head : Head) (rules : List Rule) → IsSpared (asked head rules)
 spared_asked head rules =
     spared_then (action_of head.method) _ (spared_action head.method)
-    (λ action. spared_then (resource_in action head.path) _ (spared_resource action head.path)
+    (λ action. spared_then (resource_named action head.path) _ (spared_resource action head.path)
     (λ resource. spared_then (query_in head.query (is_conditional action resource)) _ (spared_query head.query (is_conditional action resource))
-    (λ query. spared_then (permitted rules action resource query.area head.authorization) _ (spared_permitted rules action (scope_of resource) query.area head.authorization) (λ allowed. tt))))
+    (λ query. spared_then (permitted rules action resource query.area (not head.has_authorization) head.authorization) _ (spared_permitted rules action (name_of resource) query.area (not head.has_authorization) head.authorization) (λ allowed. tt))))

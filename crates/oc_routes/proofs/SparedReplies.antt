@@ -37,8 +37,8 @@ spared_both (Ok (asks.Client group area start manner)) (Err why) s t = t
 spared_both (Ok (asks.Report report manner)) (Ok hint) s t = tt
 spared_both (Ok (asks.Report report manner)) (Err why) s t = t
 spared_both (Ok other) h s t = tt
-spared_both (Err (refusals.Denied rule)) (Ok hint) s t = tt
-spared_both (Err (refusals.Denied rule)) (Err why) s t = t
+spared_both (Err (refusals.Denied rule needs_token)) (Ok hint) s t = tt
+spared_both (Err (refusals.Denied rule needs_token)) (Err why) s t = t
 spared_both (Err why) h s t = s
 
 -- what a head asks is not refused so

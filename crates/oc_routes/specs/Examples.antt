@@ -1,5 +1,5 @@
 -- Worked examples: what requests ask, and what they are answered.
-use Rattle.std.specs.Prelude.{◌≡◌, ℕ, true, false, Bool, Option, Some, None, Result, Ok, Err, List, [], ◌∷◌, ◌++◌, codes}
+use Rattle.std.specs.Prelude.{◌≡◌, ℕ, true, false, Bool, Option, Some, None, Result, Ok, Err, List, [], ◌∷◌, ◌++◌, codes, decimal, length}
 use Rattle.oc_http.specs.declared.framing.Persistence.TheVariants.{Close, Keep}
 use Rattle.oc_http.specs.declared.head.Head.{Head}
 use Rattle.oc_http.specs.declared.head.Method.{Method}
@@ -15,9 +15,11 @@ use Rattle.oc_policy.specs.declared.rule.Rule.{Rule}
 use Rattle.oc_wire.specs.Spelling.{spelling}
 use Rattle.oc_routes.specs.Connections.{is_last, awaits_continue}
 use Rattle.oc_routes.specs.Inputs.{input_line}
-use Rattle.oc_routes.specs.Refusals.{refusal_line, refusal_text}
+use Rattle.oc_routes.specs.Refusals.{refusal_line, refusal_text, refusing}
 use Rattle.oc_routes.specs.Replies.{others, reply_to}
-use Rattle.oc_routes.specs.Routes.{asked, input_asked, response_to}
+use Rattle.oc_routes.specs.Routes.{asked, input_asked, response_for}
+use Rattle.oc_routes.specs.declared.hint.Hint.TheVariants.{Plain}
+use Rattle.oc_routes.specs.declared.holding.Holding.{Holding}
 use Rattle.oc_routes.specs.declared.routes.Operation.{Operation}
 use Rattle.oc_routes.specs.declared.routes.Operation.TheVariants as operations
 use Rattle.oc_routes.specs.declared.manner.Manner.{Manner}
@@ -30,7 +32,7 @@ use Rattle.oc_routes.specs.declared.response.Response.{Response}
 
 -- the head of a request of version 1.1 with no body
 abbrev head : Method → List ℕ → List ℕ → Head
-head method path query = record { method = method; path = path; query = query; length = 0; expects = false; minor = 1; closes = false; authorization = None; mac = None }
+head method path query = record { method = method; path = Some path; query = query; length = 0; expects = false; minor = 1; closes = false; has_authorization = false; authorization = None; mac = None }
 
 -- what a request without access rules asks
 abbrev asks_for : Method → List ℕ → List ℕ → Operation → Type 0
@@ -52,11 +54,18 @@ under_rules method path query wanted = asked (head method path query) rules ≡ 
 abbrev pub closed : List Rule
 closed = record { allow = false; action = None; prefix = codes "/"; area = None; token = None } ∷ []
 
--- what is asked where all is allowed to who shows a token, and to nobody else
+-- a rule: what lies within a prefix is allowed to who shows a token
+abbrev with_token : List ℕ → Rule
+with_token prefix = record { allow = true; action = None; prefix = prefix; area = None; token = Some (codes "secret") }
+
+-- what is asked where all is allowed to who shows a token, and to nobody else; an Authorization field is there
 abbrev under_token : Option (List ℕ) → Method → List ℕ → Result Operation Refused
 under_token shown method path =
-    asked (record (head method path []) { authorization = shown })
-    (record { allow = true; action = None; prefix = codes "/"; area = None; token = Some (codes "secret") } ∷ closed)
+    asked (record (head method path []) { has_authorization = true; authorization = shown }) (with_token (codes "/") ∷ closed)
+
+-- what is asked without such a field, where this is allowed to who shows a token, and all else to nobody
+abbrev without_token : List ℕ → Method → List ℕ → Result Operation Refused
+without_token prefix method path = asked (head method path []) (with_token prefix ∷ closed)
 
 pub record AreRouted : Type 0 where
   pub client : asks_for methods.Get (codes "/news/a") (codes "start=2") (operations.Client (codes "/news/a") 0 2 Once)
@@ -81,16 +90,30 @@ pub record AreRouted : Type 0 where
   pub status : asks_for methods.Get (codes "/!status") (codes "x&area=4") (operations.Report reports.Status Once)
   pub metrics : asks_for methods.Head (codes "/!metrics") (codes "follow") (operations.Report reports.Metrics HeadAlone)
   pub page : asks_for methods.Get (codes "/!") (codes "follow") (operations.Report reports.Page Follow)
+  pub named_status : asks_for methods.Get (codes "/-/status") (codes "x&area=4") (operations.Report reports.Status Once)
+  pub named_metrics : asks_for methods.Head (codes "/-/metrics") [] (operations.Report reports.Metrics HeadAlone)
+  pub named_page : asks_for methods.Get (codes "/-/") [] (operations.Report reports.Page Once)
+  pub own : refuses methods.Get (codes "/-") [] refusals.Path
+  pub own_below : refuses methods.Get (codes "/-/x") [] refusals.Path
+  pub own_is_not_posted : refuses methods.Post (codes "/-/status") [] refusals.Path
+  pub nearly_own : asks_for methods.Get (codes "/-x/a") [] (operations.Client (codes "/-x/a") 0 0 Once)
+  pub broken_path : asked (record (head methods.Get [] (codes "start=x")) { path = None }) [] ≡ Err refusals.Path
+  pub method_before_path : asked (record (head methods.Other [] []) { path = None }) [] ≡ Err refusals.Method
   pub status_is_not_posted : refuses methods.Post (codes "/!status") [] refusals.Path
   pub no_report : refuses methods.Get (codes "/!status/") [] refusals.Path
   pub query_of_a_report : refuses methods.Get (codes "/!metrics") (codes "start=x") refusals.Query
-  pub report_denied : asked (head methods.Head (codes "/!status") []) closed ≡ Err (refusals.Denied 1)
+  pub report_denied : asked (head methods.Head (codes "/!status") []) closed ≡ Err (refusals.Denied 1 false)
+  pub pages_alone : asked (head methods.Get (codes "/!metrics") []) (record { allow = false; action = None; prefix = codes "/-"; area = None; token = None } ∷ []) ≡ Err (refusals.Denied 1 false)
+  pub page_alone : asked (head methods.Get (codes "/-/") []) (record { allow = false; action = None; prefix = codes "/-/status"; area = None; token = None } ∷ []) ≡ Ok (operations.Report reports.Page Once)
   pub report_of_an_area : under_rules methods.Get (codes "/!") (codes "area=4") (Ok (operations.Report reports.Page Once))
   pub token : under_token (Some (codes "Bearer secret")) methods.Get (codes "/a") ≡ Ok (operations.Client (codes "/a") 0 0 Once)
   pub token_of_a_report : under_token (Some (codes "Bearer secret")) methods.Get (codes "/!status") ≡ Ok (operations.Report reports.Status Once)
-  pub no_token : under_token None methods.Get (codes "/!status") ≡ Err (refusals.Denied 2)
-  pub another_token : under_token (Some (codes "Bearer secrets")) methods.Post (codes "/a") ≡ Err (refusals.Denied 2)
-  pub another_scheme : under_token (Some (codes "bearer secret")) methods.Get (codes "/a") ≡ Err (refusals.Denied 2)
+  pub two_tokens : under_token None methods.Get (codes "/!status") ≡ Err (refusals.Denied 2 false)
+  pub another_token : under_token (Some (codes "Bearer secrets")) methods.Post (codes "/a") ≡ Err (refusals.Denied 2 false)
+  pub another_scheme : under_token (Some (codes "bearer secret")) methods.Get (codes "/a") ≡ Err (refusals.Denied 2 false)
+  pub no_token : without_token (codes "/a") methods.Post (codes "/a/b") ≡ Err (refusals.Denied 2 true)
+  pub no_token_of_a_report : without_token (codes "/-") methods.Get (codes "/!status") ≡ Err (refusals.Denied 2 true)
+  pub no_token_would_do : without_token (codes "/a") methods.Get (codes "/b") ≡ Err (refusals.Denied 2 false)
   pub put : refuses methods.Other (codes "/%") (codes "start=x") refusals.Method
   pub percent : refuses methods.Get (codes "/a%20") (codes "start=x") refusals.Path
   pub message_is_not_read : refuses methods.Get (codes "/!overcast") [] refusals.Path
@@ -100,8 +123,8 @@ pub record AreRouted : Type 0 where
   pub first_start_counts : refuses methods.Get (codes "/a") (codes "start=&start=1") refusals.Query
   pub start_too_great : refuses methods.Get (codes "/a") (codes "start=1099511627777") refusals.Query
   pub area_too_great : refuses methods.Post (codes "/a") (codes "area=256") refusals.Query
-  pub denied : under_rules methods.Get (codes "/news/a") (codes "area=4") (Err (refusals.Denied 1))
-  pub head_is_denied : under_rules methods.Head (codes "/news") (codes "area=4&area=5") (Err (refusals.Denied 1))
+  pub denied : under_rules methods.Get (codes "/news/a") (codes "area=4") (Err (refusals.Denied 1 false))
+  pub head_is_denied : under_rules methods.Head (codes "/news") (codes "area=4&area=5") (Err (refusals.Denied 1 false))
   pub query_before_rules : under_rules methods.Get (codes "/news") (codes "area=4&start=x") (Err refusals.Query)
   pub newsroom : under_rules methods.Get (codes "/newsroom") (codes "area=4") (Ok (operations.Client (codes "/newsroom") 4 0 Once))
   pub news : under_rules methods.Get (codes "/news/a") [] (Ok (operations.Client (codes "/news/a") 0 0 Once))
@@ -128,13 +151,33 @@ closes = codes "Connection: close"
 abbrev octets : List ℕ
 octets = codes "Content-Type: application/octet-stream"
 
--- what a client of group `/a` is answered
+-- a reply of this status line whose body is a line, with these lines before the length
+abbrev pub says : List ℕ → List (List ℕ) → List ℕ → List ℕ
+says status more line = lines (status ∷ more ++ (codes "Content-Length: " ++ decimal (length line)) ∷ closes ∷ []) ++ line
+
+abbrev pub plain : List ℕ
+plain = codes "Content-Type: text/plain; charset=utf-8"
+
+-- what a node has of a group
+abbrev holds : ℕ → Bool → Holding
+holds held sealed = record { there = true; held = held; sealed = sealed }
+
+-- what a request is answered that tells nothing else, where the node holds nine bytes of its group
+abbrev answers_to : Operation → Answer → Bool → Bool → Option (List ℕ) → Response
+answers_to wanted answer sealed last key =
+    response_for (record { operation = wanted; hint = Plain }) last answer None (holds 9 sealed) (codes "h:1" ∷ codes "h:2" ∷ []) key []
+
 abbrev answered : Operation → Answer → Bool → Bool → Response → Type 0
-answered wanted answer sealed last response = response_to wanted answer None sealed (codes "h:1" ∷ codes "h:2" ∷ []) None last [] ≡ response
+answered wanted answer sealed last response = answers_to wanted answer sealed last None ≡ response
+
+-- a whole reply that ends the connection
+abbrev ends_with : List ℕ → Response
+ends_with text = record { text = text; content = None; connection = Close }
 
 -- what one who asks what the node tells of itself is answered
 abbrev told : Report → Manner → Response → Type 0
-told report manner response = response_to (operations.Report report manner) answers.Ok None false [] None false (codes "it") ≡ response
+told report manner response =
+    response_for (record { operation = operations.Report report manner; hint = Plain }) false answers.Ok None (holds 0 false) [] None (codes "it") ≡ response
 
 pub record AreAnswered : Type 0 where
   pub message : input_asked 3 1 operations.Message rejoin_bytes ≡ Ok (Some (inputs.Delivered rejoin))
@@ -144,24 +187,44 @@ pub record AreAnswered : Type 0 where
   pub recv_line : input_line 1 (inputs.Delivered rejoin) ≡ codes "recv 1 0000000200000001080000000000000007\n"
   pub publish_line : input_line 1 (inputs.Publish (codes "/a") []) ≡ codes "publish 1 /a -\n"
   pub client_line : input_line 1 (inputs.Client 4 2 (codes "/a")) ≡ codes "client 1 4 2 /a\n"
-  pub denied_line : refusal_line (refusals.Denied 12) ≡ codes "! denied 12\n"
+  pub denied_line : refusal_line (refusals.Denied 12 false) ≡ codes "! denied 12\n"
+  pub unauthorized_line : refusal_line (refusals.Denied 12 true) ≡ codes "! denied 12\n"
   pub at_line : refusal_line (refusals.At 1099511627776) ≡ codes "! at 1099511627776\n"
   pub mac_line : refusal_line refusals.Mac ≡ codes "! mac\n"
-  pub at_reply : refusal_text (refusals.At 7)
-      ≡ Some (lines (codes "HTTP/1.1 409 Conflict" ∷ codes "Overcast-Length: 7" ∷ codes "Content-Length: 0" ∷ closes ∷ []))
-  pub mac_reply : refusal_text refusals.Mac
-      ≡ Some (lines (codes "HTTP/1.1 403 Forbidden" ∷ codes "Content-Length: 0" ∷ closes ∷ []))
-  pub denied_reply : refusal_text (refusals.Denied 1)
-      ≡ Some (lines (codes "HTTP/1.1 403 Forbidden" ∷ codes "Overcast-Rule: 1" ∷ codes "Content-Length: 0" ∷ closes ∷ []))
-  pub method_reply : refusal_text refusals.Method
-      ≡ Some (lines (codes "HTTP/1.1 405 Method Not Allowed" ∷ codes "Allow: GET, HEAD, POST" ∷ codes "Content-Length: 0" ∷ closes ∷ []))
-  pub no_reply : refusal_text refusals.Ended ≡ None
+  pub at_reply : refusal_text (refusing (refusals.At 325))
+      ≡ Some (says (codes "HTTP/1.1 409 Conflict") (plain ∷ codes "Overcast-Length: 325" ∷ []) (codes "the group has 325 bytes: at=325 appends\n"))
+  pub mac_reply : refusal_text (refusing refusals.Mac)
+      ≡ Some (says (codes "HTTP/1.1 403 Forbidden") (plain ∷ []) (codes "the message has not the MAC of this network's key: give all nodes the same key\n"))
+  pub denied_reply : refusal_text (refusing (refusals.Denied 1 false))
+      ≡ Some (says (codes "HTTP/1.1 403 Forbidden") (codes "Overcast-Rule: 1" ∷ plain ∷ []) (codes "access rule 1 denies this: ask who runs this node\n"))
+  pub unauthorized_reply : refusal_text (refusing (refusals.Denied 1 true))
+      ≡ Some (says (codes "HTTP/1.1 401 Unauthorized") (codes "WWW-Authenticate: Bearer" ∷ codes "Overcast-Rule: 1" ∷ plain ∷ [])
+      (codes "access rule 1 denies this without a token: send the field Authorization: Bearer TOKEN\n"))
+  pub method_reply : refusal_text (refusing refusals.Method)
+      ≡ Some (says (codes "HTTP/1.1 405 Method Not Allowed") (codes "Allow: GET, HEAD, POST" ∷ plain ∷ []) (codes "there is no such method here: use GET, HEAD or POST\n"))
+  pub head_reply : refusal_text (record { why = refusals.Host; head_alone = true })
+      ≡ Some (lines (codes "HTTP/1.1 400 Bad Request" ∷ plain ∷ codes "Content-Length: 48" ∷ closes ∷ []))
+  pub no_reply : refusal_text (refusing refusals.Ended) ≡ None
   pub reply : reply_to (look_at 3 ∷ rejoin ∷ look_at 2 ∷ look_at 2 ∷ []) 2 ≡ Some (look_at 2)
   pub others : others (look_at 3 ∷ rejoin ∷ look_at 2 ∷ look_at 2 ∷ []) 2 ≡ look_at 3 ∷ rejoin ∷ look_at 2 ∷ []
   pub redirected : answered (operations.Client (codes "/a") 0 2 Once) (answers.Redirect 2) false false
-      (record { text = lines (codes "HTTP/1.1 302 Found" ∷ codes "Location: http://h:2/a?start=2" ∷ codes "Content-Length: 0" ∷ closes ∷ []); content = None; connection = Close })
+      (record { text = lines (codes "HTTP/1.1 302 Found" ∷ codes "Location: http://h:2/a?start=2&known" ∷ codes "Content-Length: 0" ∷ closes ∷ []); content = None; connection = Close })
   pub follower_redirected : answered (operations.Client (codes "/a") 0 0 Follow) (answers.Redirect 1) false false
-      (record { text = lines (codes "HTTP/1.1 302 Found" ∷ codes "Location: http://h:1/a?follow" ∷ codes "Content-Length: 0" ∷ closes ∷ []); content = None; connection = Close })
+      (record { text = lines (codes "HTTP/1.1 302 Found" ∷ codes "Location: http://h:1/a?known&follow" ∷ codes "Content-Length: 0" ∷ closes ∷ []); content = None; connection = Close })
+  pub redirected_in_escapes : answered (operations.Client (codes "/a+b") 0 0 Once) (answers.Redirect 2) true false
+      (ends_with (lines (codes "HTTP/1.1 302 Found" ∷ codes "Location: http://h:2/a%2Bb?of=9" ∷ codes "Content-Length: 0" ∷ closes ∷ [])))
+  pub past_its_end : answered (operations.Client (codes "/a") 0 10 Once) (answers.Serve 0) true false
+      (ends_with (says (codes "HTTP/1.1 416 Range Not Satisfiable") (plain ∷ codes "Content-Range: bytes */9" ∷ []) (codes "the group has 9 bytes, and is sealed: start=9 is the last start\n")))
+  pub head_past_its_end : answered (operations.Client (codes "/a") 0 10 HeadAlone) (answers.Serve 0) true false
+      (ends_with (lines (codes "HTTP/1.1 416 Range Not Satisfiable" ∷ plain ∷ codes "Content-Range: bytes */9" ∷ codes "Content-Length: 64" ∷ closes ∷ [])))
+  pub at_its_end : answered (operations.Client (codes "/a") 0 9 Once) (answers.Serve 0) true false
+      (record { text = lines (codes "HTTP/1.1 200 OK" ∷ octets ∷ codes "Content-Length: 0" ∷ closes ∷ []); content = Some (record { start = 9; count = 0; chunked = false }); connection = Close })
+  pub past_the_end_of_an_open_group : answered (operations.Client (codes "/a") 0 10 Once) (answers.Serve 0) false false
+      (record { text = lines (codes "HTTP/1.1 200 OK" ∷ octets ∷ codes "Content-Length: 0" ∷ closes ∷ []); content = Some (record { start = 10; count = 0; chunked = false }); connection = Close })
+  pub not_the_source : answered (operations.Publish (codes "/a") None) answers.NotSource false false
+      (ends_with (says (codes "HTTP/1.1 403 Forbidden") (plain ∷ []) (codes "this node is not the source: publish at the source, http://h:1/a\n")))
+  pub no_group_to_seal : answered (operations.Seal (codes "/a") None) answers.NoGroup false false
+      (ends_with (says (codes "HTTP/1.1 404 Not Found") (plain ∷ []) (codes "there is no such group: publish it first\n")))
   pub served : answered (operations.Client (codes "/a") 0 2 Once) (answers.Serve 3) false false
       (record { text = lines (codes "HTTP/1.1 200 OK" ∷ octets ∷ codes "Content-Length: 3" ∷ closes ∷ []); content = Some (record { start = 2; count = 3; chunked = false }); connection = Close })
   pub head_alone : answered (operations.Client (codes "/a") 0 2 HeadAlone) (answers.Serve 3) false false
@@ -173,12 +236,12 @@ pub record AreAnswered : Type 0 where
   pub last_of_its_connection : answered (operations.Client (codes "/a") 0 0 Follow) (answers.Serve 2) false true
       (record { text = lines (codes "HTTP/1.1 200 OK" ∷ octets ∷ codes "Transfer-Encoding: chunked" ∷ closes ∷ []); content = Some (record { start = 0; count = 2; chunked = true }); connection = Close })
   pub not_held : answered (operations.Client (codes "/b") 0 0 Follow) answers.NoGroup false false
-      (record { text = lines (codes "HTTP/1.1 404 Not Found" ∷ codes "Content-Length: 0" ∷ closes ∷ []); content = None; connection = Close })
+      (ends_with (says (codes "HTTP/1.1 404 Not Found") (plain ∷ []) (codes "there is no such group here: look at /-/status for the names of groups\n")))
   pub nothing_back : answered operations.Message answers.Ok false false
       (record { text = lines (codes "HTTP/1.1 204 No Content" ∷ closes ∷ []); content = None; connection = Close })
-  pub message_with_a_mac : response_to operations.Message answers.Ok (Some rejoin) false [] (Some (codes "key")) false []
+  pub message_with_a_mac : response_for (record { operation = operations.Message; hint = Plain }) false answers.Ok (Some rejoin) (holds 0 false) [] (Some (codes "key")) []
       ≡ record { text = lines (codes "HTTP/1.1 200 OK" ∷ octets ∷ codes "Content-Length: 17" ∷ closes ∷ (codes "Overcast-Mac: " ++ mac_digits (codes "key") (spelling rejoin)) ∷ []) ++ spelling rejoin; content = None; connection = Close }
-  pub nothing_back_needs_none : response_to operations.Message answers.Ok None false [] (Some (codes "key")) false []
+  pub nothing_back_needs_none : answers_to operations.Message answers.Ok false false (Some (codes "key"))
       ≡ record { text = lines (codes "HTTP/1.1 204 No Content" ∷ closes ∷ []); content = None; connection = Close }
   pub status : told reports.Status Once
       (record { text = lines (codes "HTTP/1.1 200 OK" ∷ codes "Content-Type: application/json" ∷ codes "Content-Length: 2" ∷ closes ∷ []) ++ codes "it"; content = None; connection = Close })

@@ -14,7 +14,9 @@ use Rattle.oc_model.specs.declared.message.Body.TheVariants as bodies
 use Rattle.oc_model.specs.declared.message.Message.{Message}
 use Rattle.oc_policy.specs.declared.rule.Rule.{Rule}
 use Rattle.oc_routes.specs.Message.{message_response}
-use Rattle.oc_routes.specs.Responses.{status_alone}
+use Rattle.oc_routes.specs.Publish.{publish_response}
+use Rattle.oc_routes.specs.Refusals.{refusing}
+use Rattle.oc_routes.specs.Routes.{response_for}
 use Rattle.oc_routes.specs.declared.routes.Operation.{Operation}
 use Rattle.oc_routes.specs.declared.routes.Operation.TheVariants as asks
 use Rattle.oc_routes.specs.declared.manner.Manner.{Manner}
@@ -25,24 +27,25 @@ use Rattle.oc_routes.specs.declared.report.Report.TheVariants as reports
 use Rattle.oc_routes.specs.declared.response.GroupRange.{GroupRange}
 use Rattle.oc_routes.specs.declared.response.Response.{Response}
 use Rattle.oc_routes.specs.Conditions.{unmet}
-use Rattle.oc_routes.specs.Examples.{closed, closes, lines, rejoin_bytes}
+use Rattle.oc_routes.specs.Examples.{closed, closes, lines, plain, rejoin_bytes, says}
 use Rattle.oc_routes.specs.Contents.{behind, owed, piece_of, piece_text}
 use Rattle.oc_routes.specs.Hints.{asked_with_hint, hint_in}
-use Rattle.oc_routes.specs.Shown.{location_of, response_for, told_text}
-use Rattle.oc_routes.specs.Verdicts.{NodeTerms, arrival, after_head, terms_of, unfinished}
+use Rattle.oc_routes.specs.Shown.{location_of, told_text}
+use Rattle.oc_routes.specs.Verdicts.{NodeTerms, arrival, after_head, refuse, terms_of, unfinished}
 use Rattle.oc_routes.specs.Waits.{holding, is_due, is_to_wait, left_of, prospect}
 use Rattle.oc_routes.specs.declared.content.UnderWay.{UnderWay}
 use Rattle.oc_routes.specs.declared.hint.Asked.{Asked}
 use Rattle.oc_routes.specs.declared.hint.Hint.{Hint}
 use Rattle.oc_routes.specs.declared.hint.Hint.TheVariants as hints
 use Rattle.oc_routes.specs.declared.holding.Holding.{Holding}
+use Rattle.oc_routes.specs.declared.verdict.Refusal.{Refusal}
 use Rattle.oc_routes.specs.declared.verdict.Verdict.{Verdict}
 use Rattle.oc_routes.specs.declared.verdict.Verdict.TheVariants as verdicts
 use Rattle.oc_routes.specs.declared.waiting.Prospect.TheVariants as prospects
 
 -- the head of a request of version 1.1 with a body of this length
 abbrev head : Method → List ℕ → List ℕ → ℕ → Head
-head method path query length = record { method = method; path = path; query = query; length = length; expects = false; minor = 1; closes = false; authorization = None; mac = None }
+head method path query length = record { method = method; path = Some path; query = query; length = length; expects = false; minor = 1; closes = false; has_authorization = false; authorization = None; mac = None }
 
 -- node 1 of 3, without access rules
 abbrev open_terms : NodeTerms
@@ -57,7 +60,7 @@ abbrev cut_publish : Head
 cut_publish = head methods.Post (codes "/a") [] 3
 
 abbrev published : ℕ → Bool → Verdict
-published count last = verdicts.Ask (record { count = count; operation = asks.Publish (codes "/a") None; hint = hints.Plain; input = Some (inputs.Publish (codes "/a") (codes "abc")); last = last })
+published count last = verdicts.Ask (record { count = count; asked = record { operation = asks.Publish (codes "/a") None; hint = hints.Plain }; input = Some (inputs.Publish (codes "/a") (codes "abc")); last = last })
 
 -- in a network with this key, where it has one
 abbrev keyed : Option (List ℕ) → NodeTerms
@@ -76,35 +79,36 @@ abbrev judged_under : Option (List ℕ) → Head → List ℕ → Verdict → Ty
 judged_under key head body verdict = after_head (keyed key) (arrival 7 1 false comings.Open) (40 + length body) (record head { length = length body }) body ≡ verdict
 
 abbrev read : Hint → Verdict
-read hint = verdicts.Ask (record { count = 40; operation = asks.Client (codes "/a") 0 0 Follow; hint = hint; input = Some (inputs.Client 0 0 (codes "/a")); last = false })
+read hint = verdicts.Ask (record { count = 40; asked = record { operation = asks.Client (codes "/a") 0 0 Follow; hint = hint }; input = Some (inputs.Client 0 0 (codes "/a")); last = false })
 
 -- what is to be done with a connection
 pub record AreJudged : Type 0 where
   pub waits : came_open cut_publish (codes "ab") 42 verdicts.Wait
-  pub ended : after_head open_terms (arrival 7 1 false comings.Ended) 42 cut_publish (codes "ab") ≡ verdicts.Refuse refusals.Ended
-  pub failed : after_head open_terms (arrival 7 1 false comings.Failed) 42 cut_publish (codes "ab") ≡ verdicts.Refuse refusals.Source
+  pub ended : after_head open_terms (arrival 7 1 false comings.Ended) 42 cut_publish (codes "ab") ≡ refuse false refusals.Ended
+  pub failed : after_head open_terms (arrival 7 1 false comings.Failed) 42 cut_publish (codes "ab") ≡ refuse false refusals.Source
   pub whole : came_open cut_publish (codes "abc") 43 (published 43 false)
   pub more_behind : came_open cut_publish (codes "abcGET") 46 (published 43 false)
   pub whole_at_its_end : after_head open_terms (arrival 7 1 false comings.Ended) 43 cut_publish (codes "abc") ≡ published 43 false
   pub sixteenth : after_head open_terms (arrival 7 16 false comings.Open) 43 cut_publish (codes "abc") ≡ published 43 true
   pub permits : came_open (record cut_publish { expects = true }) (codes "abc") 43 verdicts.Permit
   pub permitted : after_head open_terms (arrival 7 1 true comings.Open) 43 (record cut_publish { expects = true }) (codes "abc") ≡ published 43 false
-  pub refused_at_its_head : came_open (record (head methods.Post (codes "/%") [] 3) { expects = true }) [] 40 (verdicts.Refuse refusals.Path)
-  pub sealed_with_a_body : came_open (head methods.Post (codes "/a") (codes "seal") 3) (codes "abc") 43 (verdicts.Refuse refusals.Body)
+  pub refused_at_its_head : came_open (record (head methods.Post (codes "/%") [] 3) { expects = true }) [] 40 (refuse false refusals.Path)
+  pub sealed_with_a_body : came_open (head methods.Post (codes "/a") (codes "seal") 3) (codes "abc") 43 (refuse false refusals.Body)
+  pub head_refused : came_open (head methods.Head (codes "/%") [] 0) [] 40 (refuse true refusals.Path)
   pub follows : came_open (head methods.Get (codes "/a") (codes "follow") 0) [] 40 (read hints.Plain)
   pub follows_known : came_open (head methods.Get (codes "/a") (codes "follow&known") 0) [] 40 (read hints.Known)
   pub here : came_open (head methods.Get (codes "/a") (codes "follow&here") 0) [] 40
-      (verdicts.Ask (record { count = 40; operation = asks.Client (codes "/a") 0 0 Follow; hint = hints.Here; input = None; last = false }))
-  pub message : judged_under None (posted None) rejoin_bytes (verdicts.Ask (record { count = 57; operation = asks.Message; hint = hints.Plain; input = Some (inputs.Delivered to_this_node); last = false }))
-  pub mac_without_a_key : judged_under None (posted (Some (codes "0a"))) (0 ∷ []) (verdicts.Refuse refusals.Message)
-  pub no_mac : judged_under (Some (codes "key")) (posted None) rejoin_bytes (verdicts.Refuse refusals.Mac)
-  pub no_mac_of_no_message : judged_under (Some (codes "key")) (posted None) (0 ∷ []) (verdicts.Refuse refusals.Mac)
-  pub path_before_mac : judged_under (Some (codes "key")) (record (posted None) { method = methods.Get }) rejoin_bytes (verdicts.Refuse refusals.Path)
-  pub part_before_mac : after_head (keyed (Some (codes "key"))) (arrival 7 1 false comings.Ended) 41 (record (posted None) { length = 2 }) (0 ∷ []) ≡ verdicts.Refuse refusals.Ended
+      (verdicts.Ask (record { count = 40; asked = record { operation = asks.Client (codes "/a") 0 0 Follow; hint = hints.Here }; input = None; last = false }))
+  pub message : judged_under None (posted None) rejoin_bytes (verdicts.Ask (record { count = 57; asked = record { operation = asks.Message; hint = hints.Plain }; input = Some (inputs.Delivered to_this_node); last = false }))
+  pub mac_without_a_key : judged_under None (posted (Some (codes "0a"))) (0 ∷ []) (refuse false refusals.Message)
+  pub no_mac : judged_under (Some (codes "key")) (posted None) rejoin_bytes (refuse false refusals.Mac)
+  pub no_mac_of_no_message : judged_under (Some (codes "key")) (posted None) (0 ∷ []) (refuse false refusals.Mac)
+  pub path_before_mac : judged_under (Some (codes "key")) (record (posted None) { method = methods.Get }) rejoin_bytes (refuse false refusals.Path)
+  pub part_before_mac : after_head (keyed (Some (codes "key"))) (arrival 7 1 false comings.Ended) 41 (record (posted None) { length = 2 }) (0 ∷ []) ≡ refuse false refusals.Ended
   pub publish_needs_none : after_head (keyed (Some (codes "key"))) (arrival 7 1 false comings.Open) 43 cut_publish (codes "abc") ≡ published 43 false
   pub nothing_waits : unfinished comings.Open true ≡ verdicts.Wait
   pub nothing_ended : unfinished comings.Ended true ≡ verdicts.Leave
-  pub nothing_failed : unfinished comings.Failed true ≡ verdicts.Refuse refusals.Source
+  pub nothing_failed : unfinished comings.Failed true ≡ refuse false refusals.Source
 
 abbrev asks_under : List Rule → Method → List ℕ → List ℕ → Result Asked Refused → Type 0
 asks_under rules method path query wanted = asked_with_hint (head method path query 0) rules ≡ wanted
@@ -122,27 +126,27 @@ pub record AreHinted : Type 0 where
   pub refused : asks_under [] methods.Get (codes "/a") (codes "of=x") (Err refusals.Query)
   pub refused_of_a_head : asks_under [] methods.Head (codes "/a") (codes "of=x") (Err refusals.Query)
   pub before_the_rules : asks_under closed methods.Get (codes "/a") (codes "of=x") (Err refusals.Query)
-  pub denied : asks_under closed methods.Get (codes "/a") (codes "of=5") (Err (refusals.Denied 1))
+  pub denied : asks_under closed methods.Get (codes "/a") (codes "of=5") (Err (refusals.Denied 1 false))
   pub behind_the_path : asks_under [] methods.Get (codes "/%") (codes "of=x") (Err refusals.Path)
   pub not_of_a_post : asks_under [] methods.Post (codes "/a") (codes "of=x") (Ok (record { operation = asks.Publish (codes "/a") None; hint = hints.Plain }))
-  pub not_of_a_denied_post : asks_under closed methods.Post (codes "/a") (codes "of=x") (Err (refusals.Denied 1))
+  pub not_of_a_denied_post : asks_under closed methods.Post (codes "/a") (codes "of=x") (Err (refusals.Denied 1 false))
   pub refused_of_a_report : asks_under [] methods.Get (codes "/!status") (codes "of=x") (Err refusals.Query)
   pub not_of_a_report : asks_under [] methods.Get (codes "/!status") (codes "of=5&here") (Ok (record { operation = asks.Report reports.Status Once; hint = hints.Plain }))
   pub not_of_a_probe : asks_under closed methods.Get (codes "/!probe") (codes "of=x") (Ok (record { operation = asks.Probe Once; hint = hints.Plain }))
 
 -- what the node `me` says of a condition, where it has five bytes of group `/a`
-abbrev says_of : Operation → ℕ → Option Refused → Type 0
+abbrev says_of : Operation → ℕ → Option Refusal → Type 0
 says_of operation me wanted = unmet operation me (record { group = codes "/a"; held = 5; sealed = true } ∷ []) ≡ wanted
 
 -- when a condition is met
 pub record AreConditions : Type 0 where
   pub met : says_of (asks.Publish (codes "/a") (Some 5)) 1 None
-  pub shorter : says_of (asks.Publish (codes "/a") (Some 4)) 1 (Some (refusals.At 5))
-  pub longer : says_of (asks.Publish (codes "/a") (Some 6)) 1 (Some (refusals.At 5))
-  pub of_a_seal : says_of (asks.Seal (codes "/a") (Some 6)) 1 (Some (refusals.At 5))
+  pub shorter : says_of (asks.Publish (codes "/a") (Some 4)) 1 (Some (refusing (refusals.At 5)))
+  pub longer : says_of (asks.Publish (codes "/a") (Some 6)) 1 (Some (refusing (refusals.At 5)))
+  pub of_a_seal : says_of (asks.Seal (codes "/a") (Some 6)) 1 (Some (refusing (refusals.At 5)))
   pub none_said : says_of (asks.Seal (codes "/a") None) 1 None
   pub absent : says_of (asks.Publish (codes "/b") (Some 0)) 1 None
-  pub absent_and_longer : says_of (asks.Seal (codes "/b") (Some 5)) 1 (Some (refusals.At 0))
+  pub absent_and_longer : says_of (asks.Seal (codes "/b") (Some 5)) 1 (Some (refusing (refusals.At 0)))
   pub elsewhere : says_of (asks.Publish (codes "/a") (Some 4)) 2 None
 
 abbrev groups : List Group
@@ -223,7 +227,7 @@ abbrev addresses : List (List ℕ)
 addresses = codes "h:1" ∷ codes "h:2" ∷ []
 
 abbrev missing : Response
-missing = record { text = lines (codes "HTTP/1.1 404 Not Found" ∷ codes "Content-Length: 0" ∷ closes ∷ []); content = None; connection = Close }
+missing = record { text = says (codes "HTTP/1.1 404 Not Found") (plain ∷ []) (codes "there is no such group here: look at /-/status for the names of groups\n"); content = None; connection = Close }
 
 abbrev location_is : Hint → Holding → ℕ → Manner → List ℕ → Type 0
 location_is hint h start manner wanted = location_of (codes "h:2") (codes "/a") start (told_text hint h) manner ≡ wanted
@@ -262,9 +266,12 @@ pub record AreShown : Type 0 where
   pub sent_sealed_here : location_is (hints.Of 9) (holds 5 true) 0 Follow (codes "http://h:2/a?of=5&follow")
   pub sent_told : location_is (hints.Of 9) (holds 5 false) 2 HeadAlone (codes "http://h:2/a?start=2&of=9")
   pub sent_known : location_is hints.Known holds_none 0 Once (codes "http://h:2/a?known")
+  pub past_told : shows (client 10 Once) (hints.Of 9) false (answers.Serve 0) (holds 5 false) ≡ gives (codes "Content-Length: 0" ∷ closes ∷ []) (from_to 10 0 false) Close
+  pub past_here : shows (client 6 HeadAlone) hints.Here false answers.Ok (holds 5 true)
+      ≡ record { text = lines (codes "HTTP/1.1 416 Range Not Satisfiable" ∷ plain ∷ codes "Content-Range: bytes */5" ∷ codes "Content-Length: 64" ∷ closes ∷ []); content = None; connection = Close }
   pub sent_following : location_is hints.Plain holds_none 7 Follow (codes "http://h:2/a?start=7&known&follow")
   pub reported : response_for (asks_with (asks.Report reports.Status Once) hints.Plain) false answers.Ok None holds_none addresses None (codes "{}")
       ≡ record { text = lines (codes "HTTP/1.1 200 OK" ∷ codes "Content-Type: application/json" ∷ codes "Content-Length: 2" ∷ closes ∷ []) ++ codes "{}"; content = None; connection = Close }
   pub message : answered_with asks.Message answers.Ok (Some rejoin) (message_response None (Some rejoin))
   pub nothing_back : answered_with asks.Message answers.Ok None (message_response None None)
-  pub published : answered_with (asks.Publish (codes "/a") None) answers.TooLong (Some rejoin) (status_alone 413)
+  pub published : answered_with (asks.Publish (codes "/a") None) answers.TooLong (Some rejoin) (publish_response answers.TooLong (codes "h:1") (codes "/a"))

@@ -1,6 +1,6 @@
 //! Laws of the routes.
 
-ghost use Rattle.std.specs.Prelude.{ℕ, List, Option};
+ghost use Rattle.std.specs.Prelude.{ℕ, Bool, List, Option};
 ghost use Rattle.oc_http.specs.declared.head.Head.{Head};
 ghost use Rattle.oc_model.specs.Node.{Node};
 ghost use Rattle.oc_model.specs.Step.{step};
@@ -20,11 +20,11 @@ pub fn steps_answer_by_the_table()
     ensures client { (n : Node) (area start : ℕ) (group : List ℕ) → IsClientAnswer (step n (ClientInput area start group)).answer }
 {}
 
-/// What a request shows, as a token, decides only whether a rule denies it: what is asked, and each other refusal with its
-/// line and its reply, is the same whatever is shown.
+/// What a request shows, as a token, decides only whether a rule denies it, and is told so by 401: what is asked, and each
+/// other refusal with its line and its reply, is the same whatever is shown.
 pub fn a_token_tells_nothing()
-    ensures { (head : Head) (rules : List Rule) (x y : Option (List ℕ))
-        → AreAlike (asked (record head { authorization = x }) rules) (asked (record head { authorization = y }) rules) }
+    ensures { (head : Head) (rules : List Rule) (p q : Bool) (x y : Option (List ℕ))
+        → AreAlike (asked (record head { has_authorization = p; authorization = x }) rules) (asked (record head { has_authorization = q; authorization = y }) rules) }
 {}
 
 /// Worked examples of requests, inputs and responses come out as they should. They are computed.

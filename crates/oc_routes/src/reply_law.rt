@@ -11,8 +11,9 @@ ghost use Rattle.oc_routes.specs.Conditions.{unmet_at};
 ghost use Rattle.oc_routes.specs.Contents.{IsThere, begun, behind, coded, owed, owed_of, part_of, piece_of, piece_text};
 ghost use Rattle.oc_routes.specs.ReplyExamples.{AreConditions, AreHinted, AreJudged, ArePieces, AreShown, AreWaiting};
 ghost use Rattle.oc_routes.specs.Macs.{HaveMac};
+ghost use Rattle.oc_routes.specs.Refusals.{refusing};
 ghost use Rattle.oc_routes.specs.Stillness.{HasNothingNew, IsEarly};
-ghost use Rattle.oc_routes.specs.Verdicts.{IsVerdict, NodeTerms, arrival};
+ghost use Rattle.oc_routes.specs.Verdicts.{IsVerdict, NodeTerms, arrival, refuse};
 ghost use Rattle.oc_routes.specs.Shown.{here_answer};
 ghost use Rattle.oc_routes.specs.Waits.{gives_nothing, holding, is_due, prospect};
 ghost use Rattle.oc_routes.specs.declared.content.UnderWay.{UnderWay};
@@ -20,7 +21,7 @@ ghost use Rattle.oc_routes.specs.declared.hint.Hint.{Hint};
 ghost use Rattle.oc_routes.specs.declared.holding.Holding.{Holding};
 ghost use Rattle.oc_routes.specs.declared.verdict.Verdict.{Verdict};
 ghost use Rattle.oc_routes.specs.declared.verdict.Request.{Request};
-ghost use Rattle.oc_routes.specs.declared.verdict.Verdict.TheVariants.{Ask, Refuse, Wait};
+ghost use Rattle.oc_routes.specs.declared.verdict.Verdict.TheVariants.{Ask, Wait};
 ghost use Rattle.oc_routes.specs.declared.waiting.Follower.{Follower};
 ghost use Rattle.oc_routes.specs.declared.waiting.Prospect.TheVariants.{Gives, Waits};
 ghost use Rattle.oc_routes.specs.declared.waiting.TheConstants.{IDLE_MILLIS};
@@ -40,16 +41,16 @@ pub fn a_request_has_one_verdict()
 /// one that is not met says this length.
 pub fn a_condition_says_the_length()
     ensures met { (group : List ℕ) (at : ℕ) (groups : List Group) → unmet_at 1 group (Some at) (shelf groups) ≡ None → length (bytes_of group groups) ≡ at }
-    ensures unmet { (group : List ℕ) (at other : ℕ) (groups : List Group) → unmet_at 1 group (Some at) (shelf groups) ≡ Some (At other)
+    ensures unmet { (group : List ℕ) (at other : ℕ) (groups : List Group) → unmet_at 1 group (Some at) (shelf groups) ≡ Some (refusing (At other))
         → (length (bytes_of group groups) ≡ other) × (other ≢ at) }
 {}
 
 /// In a network with a key a body is read as a message only where its MAC under the key is in its head: one that is
 /// taken, and one that is refused since it is no message.
 pub fn a_message_has_its_mac()
-    ensures taken { (t : NodeTerms) (a : Arrival) (key bytes : List ℕ) (request : Request) → t.key ≡ Some key → request.operation ≡ MessageAsked
+    ensures taken { (t : NodeTerms) (a : Arrival) (key bytes : List ℕ) (request : Request) → t.key ≡ Some key → request.asked.operation ≡ MessageAsked
         → IsVerdict t a bytes (Ask request) → HaveMac key bytes }
-    ensures read { (t : NodeTerms) (a : Arrival) (key bytes : List ℕ) → t.key ≡ Some key → IsVerdict t a bytes (Refuse NoMessage) → HaveMac key bytes }
+    ensures read { (t : NodeTerms) (a : Arrival) (key bytes : List ℕ) (head_alone : Bool) → t.key ≡ Some key → IsVerdict t a bytes (refuse head_alone NoMessage) → HaveMac key bytes }
 {}
 
 /// The pieces of a content are its text: what is owed before the first is the content as it is sent whole, what is

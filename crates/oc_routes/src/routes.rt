@@ -381,14 +381,14 @@ pub fn respond(
     alloc: Global,
     asked: Asked,
     last: bool,
-    answered: Answered<'_>,
+    answered: &Answered<'_>,
     network: &Directory<'_>,
 ) -> Result<Response, Memory>
     requires asks { IsAsked asked.operation }
-    requires back { ForSome (option_map (λ m. m.now) answered.back) (λ m. HasSpelling m.body) }
+    requires back { ForSome (option_map (λ m. m.now) answered.now.back) (λ m. HasSpelling m.body) }
     ensures { IfOk result (λ response. response
-        ≡ response_for asked last answered.entry.answer (option_map (λ m. m.now) answered.entry.back) answered.entry.holding
-        (map string_bytes network.now.addresses.now) (option_map (λ k. k.now) network.now.key) answered.entry.report.now) }
+        ≡ response_for asked last answered.now.answer (option_map (λ m. m.now) answered.now.back) answered.now.holding
+        (map string_bytes network.now.addresses.now) (option_map (λ k. k.now) network.now.key) answered.now.report.now) }
 {
     match asked.operation {
         Operation::Message => to_message(alloc, answered.back, network.key),
@@ -417,7 +417,7 @@ pub fn respond(
                 hint: asked.hint,
                 last,
             };
-            to_client(alloc, &client, &answered, network.addresses)
+            to_client(alloc, &client, answered, network.addresses)
         }
         Operation::Probe { manner } => to_probe(alloc, manner, last),
         Operation::Report { report, manner } => {

@@ -227,7 +227,7 @@ fn response_to(
         addresses: &config.addresses,
         key: config.key.as_ref(),
     };
-    respond(alloc, pending.asked, pending.last, answered, &network)
+    respond(alloc, pending.asked, pending.last, &answered, &network)
 }
 
 /// Whether a request is to wait: it is of a client that follows a group and has all of it.

@@ -22,9 +22,9 @@ pub(super) fn to_publish(
 {
     match answer {
         Answer::Ok => status_alone(alloc, 200),
-        refusal => {
-            let line = publish_line(alloc, refusal, source, group)?;
-            told(alloc, publish_status(refusal), line)
+        _ => {
+            let line = publish_line(alloc, answer, source, group)?;
+            told(alloc, publish_status(answer), line)
         }
     }
 }

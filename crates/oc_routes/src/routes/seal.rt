@@ -22,9 +22,9 @@ pub(super) fn to_seal(
 {
     match answer {
         Answer::Ok | Answer::Ignored => status_alone(alloc, 200),
-        refusal => {
-            let line = seal_line(alloc, refusal, source, group)?;
-            told(alloc, seal_status(refusal), line)
+        _ => {
+            let line = seal_line(alloc, answer, source, group)?;
+            told(alloc, seal_status(answer), line)
         }
     }
 }

@@ -134,7 +134,7 @@ fn respond_with(
         addresses: &addresses,
         key: None,
     };
-    Ok(respond(alloc, asked, last, answered, &network)?)
+    Ok(respond(alloc, asked, last, &answered, &network)?)
 }
 
 fn addresses(alloc: Global) -> Result<Vec<String>, Fault> {

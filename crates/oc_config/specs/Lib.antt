@@ -10,4 +10,3 @@ pub mod Known
 pub mod Reading
 pub mod Laws
 pub mod Changes
-pub mod Examples

@@ -155,8 +155,8 @@ octets = codes "Content-Type: application/octet-stream"
 abbrev pub says : List ℕ → List (List ℕ) → List ℕ → List ℕ
 says status more line = lines (status ∷ more ++ (codes "Content-Length: " ++ decimal (length line)) ∷ closes ∷ []) ++ line
 
-abbrev pub plain : List ℕ
-plain = codes "Content-Type: text/plain; charset=utf-8"
+abbrev pub plain_text : List ℕ
+plain_text = codes "Content-Type: text/plain; charset=utf-8"
 
 -- what a node has of a group
 abbrev holds : ℕ → Bool → Holding
@@ -192,18 +192,18 @@ pub record AreAnswered : Type 0 where
   pub at_line : refusal_line (refusals.At 1099511627776) ≡ codes "! at 1099511627776\n"
   pub mac_line : refusal_line refusals.Mac ≡ codes "! mac\n"
   pub at_reply : refusal_text (refusing (refusals.At 325))
-      ≡ Some (says (codes "HTTP/1.1 409 Conflict") (plain ∷ codes "Overcast-Length: 325" ∷ []) (codes "the group has 325 bytes: at=325 appends\n"))
+      ≡ Some (says (codes "HTTP/1.1 409 Conflict") (plain_text ∷ codes "Overcast-Length: 325" ∷ []) (codes "the group has 325 bytes: at=325 appends\n"))
   pub mac_reply : refusal_text (refusing refusals.Mac)
-      ≡ Some (says (codes "HTTP/1.1 403 Forbidden") (plain ∷ []) (codes "the message has not the MAC of this network's key: give all nodes the same key\n"))
+      ≡ Some (says (codes "HTTP/1.1 403 Forbidden") (plain_text ∷ []) (codes "the message has not the MAC of this network's key: give all nodes the same key\n"))
   pub denied_reply : refusal_text (refusing (refusals.Denied 1 false))
-      ≡ Some (says (codes "HTTP/1.1 403 Forbidden") (codes "Overcast-Rule: 1" ∷ plain ∷ []) (codes "access rule 1 denies this: ask who runs this node\n"))
+      ≡ Some (says (codes "HTTP/1.1 403 Forbidden") (codes "Overcast-Rule: 1" ∷ plain_text ∷ []) (codes "access rule 1 denies this: ask who runs this node\n"))
   pub unauthorized_reply : refusal_text (refusing (refusals.Denied 1 true))
-      ≡ Some (says (codes "HTTP/1.1 401 Unauthorized") (codes "WWW-Authenticate: Bearer" ∷ codes "Overcast-Rule: 1" ∷ plain ∷ [])
+      ≡ Some (says (codes "HTTP/1.1 401 Unauthorized") (codes "WWW-Authenticate: Bearer" ∷ codes "Overcast-Rule: 1" ∷ plain_text ∷ [])
       (codes "access rule 1 denies this without a token: send the field Authorization: Bearer TOKEN\n"))
   pub method_reply : refusal_text (refusing refusals.Method)
-      ≡ Some (says (codes "HTTP/1.1 405 Method Not Allowed") (codes "Allow: GET, HEAD, POST" ∷ plain ∷ []) (codes "there is no such method here: use GET, HEAD or POST\n"))
+      ≡ Some (says (codes "HTTP/1.1 405 Method Not Allowed") (codes "Allow: GET, HEAD, POST" ∷ plain_text ∷ []) (codes "there is no such method here: use GET, HEAD or POST\n"))
   pub head_reply : refusal_text (record { why = refusals.Host; head_alone = true })
-      ≡ Some (lines (codes "HTTP/1.1 400 Bad Request" ∷ plain ∷ codes "Content-Length: 48" ∷ closes ∷ []))
+      ≡ Some (lines (codes "HTTP/1.1 400 Bad Request" ∷ plain_text ∷ codes "Content-Length: 48" ∷ closes ∷ []))
   pub no_reply : refusal_text (refusing refusals.Ended) ≡ None
   pub reply : reply_to (look_at 3 ∷ rejoin ∷ look_at 2 ∷ look_at 2 ∷ []) 2 ≡ Some (look_at 2)
   pub others : others (look_at 3 ∷ rejoin ∷ look_at 2 ∷ look_at 2 ∷ []) 2 ≡ look_at 3 ∷ rejoin ∷ look_at 2 ∷ []
@@ -211,20 +211,20 @@ pub record AreAnswered : Type 0 where
       (record { text = lines (codes "HTTP/1.1 302 Found" ∷ codes "Location: http://h:2/a?start=2&known" ∷ codes "Content-Length: 0" ∷ closes ∷ []); content = None; connection = Close })
   pub follower_redirected : answered (operations.Client (codes "/a") 0 0 Follow) (answers.Redirect 1) false false
       (record { text = lines (codes "HTTP/1.1 302 Found" ∷ codes "Location: http://h:1/a?known&follow" ∷ codes "Content-Length: 0" ∷ closes ∷ []); content = None; connection = Close })
-  pub redirected_in_escapes : answered (operations.Client (codes "/a+b") 0 0 Once) (answers.Redirect 2) true false
-      (ends_with (lines (codes "HTTP/1.1 302 Found" ∷ codes "Location: http://h:2/a%2Bb?of=9" ∷ codes "Content-Length: 0" ∷ closes ∷ [])))
+  pub redirected_of_a_sealed_group : answered (operations.Client (codes "/a") 0 0 Once) (answers.Redirect 2) true false
+      (ends_with (lines (codes "HTTP/1.1 302 Found" ∷ codes "Location: http://h:2/a?of=9" ∷ codes "Content-Length: 0" ∷ closes ∷ [])))
   pub past_its_end : answered (operations.Client (codes "/a") 0 10 Once) (answers.Serve 0) true false
-      (ends_with (says (codes "HTTP/1.1 416 Range Not Satisfiable") (plain ∷ codes "Content-Range: bytes */9" ∷ []) (codes "the group has 9 bytes, and is sealed: start=9 is the last start\n")))
+      (ends_with (says (codes "HTTP/1.1 416 Range Not Satisfiable") (plain_text ∷ codes "Content-Range: bytes */9" ∷ []) (codes "the group has 9 bytes, and is sealed: start=9 is the last start\n")))
   pub head_past_its_end : answered (operations.Client (codes "/a") 0 10 HeadAlone) (answers.Serve 0) true false
-      (ends_with (lines (codes "HTTP/1.1 416 Range Not Satisfiable" ∷ plain ∷ codes "Content-Range: bytes */9" ∷ codes "Content-Length: 64" ∷ closes ∷ [])))
+      (ends_with (lines (codes "HTTP/1.1 416 Range Not Satisfiable" ∷ plain_text ∷ codes "Content-Range: bytes */9" ∷ codes "Content-Length: 64" ∷ closes ∷ [])))
   pub at_its_end : answered (operations.Client (codes "/a") 0 9 Once) (answers.Serve 0) true false
       (record { text = lines (codes "HTTP/1.1 200 OK" ∷ octets ∷ codes "Content-Length: 0" ∷ closes ∷ []); content = Some (record { start = 9; count = 0; chunked = false }); connection = Close })
   pub past_the_end_of_an_open_group : answered (operations.Client (codes "/a") 0 10 Once) (answers.Serve 0) false false
       (record { text = lines (codes "HTTP/1.1 200 OK" ∷ octets ∷ codes "Content-Length: 0" ∷ closes ∷ []); content = Some (record { start = 10; count = 0; chunked = false }); connection = Close })
   pub not_the_source : answered (operations.Publish (codes "/a") None) answers.NotSource false false
-      (ends_with (says (codes "HTTP/1.1 403 Forbidden") (plain ∷ []) (codes "this node is not the source: publish at the source, http://h:1/a\n")))
+      (ends_with (says (codes "HTTP/1.1 403 Forbidden") (plain_text ∷ []) (codes "this node is not the source: publish at the source, http://h:1/a\n")))
   pub no_group_to_seal : answered (operations.Seal (codes "/a") None) answers.NoGroup false false
-      (ends_with (says (codes "HTTP/1.1 404 Not Found") (plain ∷ []) (codes "there is no such group: publish it first\n")))
+      (ends_with (says (codes "HTTP/1.1 404 Not Found") (plain_text ∷ []) (codes "there is no such group: publish it first\n")))
   pub served : answered (operations.Client (codes "/a") 0 2 Once) (answers.Serve 3) false false
       (record { text = lines (codes "HTTP/1.1 200 OK" ∷ octets ∷ codes "Content-Length: 3" ∷ closes ∷ []); content = Some (record { start = 2; count = 3; chunked = false }); connection = Close })
   pub head_alone : answered (operations.Client (codes "/a") 0 2 HeadAlone) (answers.Serve 3) false false
@@ -236,7 +236,7 @@ pub record AreAnswered : Type 0 where
   pub last_of_its_connection : answered (operations.Client (codes "/a") 0 0 Follow) (answers.Serve 2) false true
       (record { text = lines (codes "HTTP/1.1 200 OK" ∷ octets ∷ codes "Transfer-Encoding: chunked" ∷ closes ∷ []); content = Some (record { start = 0; count = 2; chunked = true }); connection = Close })
   pub not_held : answered (operations.Client (codes "/b") 0 0 Follow) answers.NoGroup false false
-      (ends_with (says (codes "HTTP/1.1 404 Not Found") (plain ∷ []) (codes "there is no such group here: look at /-/status for the names of groups\n")))
+      (ends_with (says (codes "HTTP/1.1 404 Not Found") (plain_text ∷ []) (codes "there is no such group here: look at /-/status for the names of groups\n")))
   pub nothing_back : answered operations.Message answers.Ok false false
       (record { text = lines (codes "HTTP/1.1 204 No Content" ∷ closes ∷ []); content = None; connection = Close })
   pub message_with_a_mac : response_for (record { operation = operations.Message; hint = Plain }) false answers.Ok (Some rejoin) (holds 0 false) [] (Some (codes "key")) []

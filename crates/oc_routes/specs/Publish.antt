@@ -1,5 +1,5 @@
 -- A POST of a group: its body is added at the end of the group.
-use Rattle.std.specs.Prelude.{⊤, ℕ, List}
+use Rattle.std.specs.Prelude.{⊤, ℕ, ◌==◌, if◌then◌else◌, List}
 use Rattle.oc_model.specs.declared.answer.Answer.{Answer}
 use Rattle.oc_model.specs.declared.answer.Answer.TheVariants as answers
 use Rattle.oc_routes.specs.Reasons.{publish_line}
@@ -21,7 +21,7 @@ publish_status answers.Ok = 200
 publish_status answers.TooLong = 413
 publish_status refusal = 403
 
--- and what that is told, whose group this is, where the source has this address
+-- and what is told by a refusal, where the source has this address, and this is the group
 abbrev pub publish_response : Answer → List ℕ → List ℕ → Response
-publish_response answers.Ok source group = status_alone 200
-publish_response refusal source group = told (publish_status refusal) (publish_line refusal source group)
+publish_response answer source group =
+    if publish_status answer == 200 then status_alone 200 else told (publish_status answer) (publish_line answer source group)

@@ -27,7 +27,7 @@ use Rattle.oc_routes.specs.declared.report.Report.TheVariants as reports
 use Rattle.oc_routes.specs.declared.response.GroupRange.{GroupRange}
 use Rattle.oc_routes.specs.declared.response.Response.{Response}
 use Rattle.oc_routes.specs.Conditions.{unmet}
-use Rattle.oc_routes.specs.Examples.{closed, closes, lines, plain, rejoin_bytes, says}
+use Rattle.oc_routes.specs.Examples.{closed, closes, lines, plain_text, rejoin_bytes, says}
 use Rattle.oc_routes.specs.Contents.{behind, owed, piece_of, piece_text}
 use Rattle.oc_routes.specs.Hints.{asked_with_hint, hint_in}
 use Rattle.oc_routes.specs.Shown.{location_of, told_text}
@@ -227,7 +227,7 @@ abbrev addresses : List (List ℕ)
 addresses = codes "h:1" ∷ codes "h:2" ∷ []
 
 abbrev missing : Response
-missing = record { text = says (codes "HTTP/1.1 404 Not Found") (plain ∷ []) (codes "there is no such group here: look at /-/status for the names of groups\n"); content = None; connection = Close }
+missing = record { text = says (codes "HTTP/1.1 404 Not Found") (plain_text ∷ []) (codes "there is no such group here: look at /-/status for the names of groups\n"); content = None; connection = Close }
 
 abbrev location_is : Hint → Holding → ℕ → Manner → List ℕ → Type 0
 location_is hint h start manner wanted = location_of (codes "h:2") (codes "/a") start (told_text hint h) manner ≡ wanted
@@ -268,7 +268,7 @@ pub record AreShown : Type 0 where
   pub sent_known : location_is hints.Known holds_none 0 Once (codes "http://h:2/a?known")
   pub past_told : shows (client 10 Once) (hints.Of 9) false (answers.Serve 0) (holds 5 false) ≡ gives (codes "Content-Length: 0" ∷ closes ∷ []) (from_to 10 0 false) Close
   pub past_here : shows (client 6 HeadAlone) hints.Here false answers.Ok (holds 5 true)
-      ≡ record { text = lines (codes "HTTP/1.1 416 Range Not Satisfiable" ∷ plain ∷ codes "Content-Range: bytes */5" ∷ codes "Content-Length: 64" ∷ closes ∷ []); content = None; connection = Close }
+      ≡ record { text = lines (codes "HTTP/1.1 416 Range Not Satisfiable" ∷ plain_text ∷ codes "Content-Range: bytes */5" ∷ codes "Content-Length: 64" ∷ closes ∷ []); content = None; connection = Close }
   pub sent_following : location_is hints.Plain holds_none 7 Follow (codes "http://h:2/a?start=7&known&follow")
   pub reported : response_for (asks_with (asks.Report reports.Status Once) hints.Plain) false answers.Ok None holds_none addresses None (codes "{}")
       ≡ record { text = lines (codes "HTTP/1.1 200 OK" ∷ codes "Content-Type: application/json" ∷ codes "Content-Length: 2" ∷ closes ∷ []) ++ codes "{}"; content = None; connection = Close }

@@ -29,8 +29,7 @@ seal_status answers.Ignored = 200
 seal_status answers.NoGroup = 404
 seal_status refusal = 403
 
--- and what that is told, whose group this is, where the source has this address
+-- and what is told by a refusal, where the source has this address, and this is the group
 abbrev pub seal_response : Answer → List ℕ → List ℕ → Response
-seal_response answers.Ok source group = status_alone 200
-seal_response answers.Ignored source group = status_alone 200
-seal_response refusal source group = told (seal_status refusal) (seal_line refusal source group)
+seal_response answer source group =
+    if seal_status answer == 200 then status_alone 200 else told (seal_status answer) (seal_line answer source group)

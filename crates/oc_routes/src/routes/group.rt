@@ -1,6 +1,6 @@
 //! A GET or HEAD of a group: a client is given its bytes from a byte on, or is sent to another node.
 
-ghost use Rattle.std.specs.Prelude.{◌≡◌, [], IfOk};
+ghost use Rattle.std.specs.Prelude.{◌≡◌, [], IfOk, Some};
 ghost use Rattle.oc_http.specs.Writing.{head_text};
 ghost use Rattle.oc_routes.specs.Group.{framing_for, is_chunked, is_past, past_reply, redirection, served};
 ghost use Rattle.oc_routes.specs.Reasons.{no_group_line, telling};
@@ -12,7 +12,7 @@ use crate::reasons::{bare, no_group_line, past_line, telling};
 use crate::response::{GroupRange, Response};
 use crate::responses::{typed_head, whole, whole_for};
 use oc_base::{Memory, Text};
-use oc_http::Framing;
+use oc_http::{Framing, Reply};
 use std::alloc::Global;
 
 /// Sends a client to a URL.
@@ -43,9 +43,17 @@ pub(crate) fn is_past(start: u64, holding: Holding) -> bool
 pub(crate) fn past(alloc: Global, manner: Manner, length: u64) -> Result<Response, Memory>
     ensures { IfOk result (λ response. response ≡ whole_for manner (past_reply length)) }
 {
-    let mut reply = telling(416, past_line(alloc, length)?);
+    let line = past_line(alloc, length)?;
+    whole_for(alloc, manner, &past_reply(line, length))
+}
+
+/// The reply with this line, which tells the length of the group, too.
+fn past_reply(line: Vec<u8>, length: u64) -> Reply
+    ensures { result ≡ record (telling 416 line.items) { content_range = Some length } }
+{
+    let mut reply = telling(416, line);
     reply.content_range = Some(length);
-    whole_for(alloc, manner, &reply)
+    reply
 }
 
 /// Gives a client `count` bytes of a group from a byte on.

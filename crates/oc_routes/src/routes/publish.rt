@@ -20,13 +20,11 @@ pub(super) fn to_publish(
 ) -> Result<Response, Memory>
     ensures { IfOk result (λ response. response ≡ publish_response answer source.now group.now) }
 {
-    match answer {
-        Answer::Ok => status_alone(alloc, 200),
-        _ => {
-            let line = publish_line(alloc, answer, source, group)?;
-            told(alloc, publish_status(answer), line)
-        }
+    let status = publish_status(answer);
+    if status == 200 {
+        return status_alone(alloc, 200);
     }
+    told(alloc, status, publish_line(alloc, answer, source, group)?)
 }
 
 /// The status of a reply to a publish.

@@ -20,13 +20,11 @@ pub(super) fn to_seal(
 ) -> Result<Response, Memory>
     ensures { IfOk result (λ response. response ≡ seal_response answer source.now group.now) }
 {
-    match answer {
-        Answer::Ok | Answer::Ignored => status_alone(alloc, 200),
-        _ => {
-            let line = seal_line(alloc, answer, source, group)?;
-            told(alloc, seal_status(answer), line)
-        }
+    let status = seal_status(answer);
+    if status == 200 {
+        return status_alone(alloc, 200);
     }
+    told(alloc, status, seal_line(alloc, answer, source, group)?)
 }
 
 /// The status of a reply to a seal.

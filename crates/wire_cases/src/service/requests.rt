@@ -6,6 +6,7 @@ ghost use Rattle.oc_policy.specs.declared.deciding.TheConstants.{MAX_RULES as RU
 
 use crate::service::asking::{request_in, rules_in};
 use oc_base::NodeId;
+use oc_http::begins_with_head;
 use oc_policy::Rule;
 use oc_routes::{Refusal, RouteFault, input_of, put_input_line, put_refusal_line, refusal_reply};
 use std::alloc::Global;
@@ -20,16 +21,11 @@ pub fn put_words(alloc: Global, given: &str, said: &mut String) -> Result<(), Fa
     let (me, text) = rest.split_once(' ').unwrap_or((rest, ""));
     let me = RowFields::of(me, ' ').node()?;
     let rules = rules_in(alloc, rules)?;
-    match line_of(alloc, spelled_in(alloc, text)?, &rules, me) {
+    let bytes = spelled_in(alloc, text)?;
+    let head_alone = begins_with_head(&bytes);
+    match line_of(alloc, bytes, &rules, me) {
         Ok(line) => put_line(said, &line),
-        Err(RouteFault::Refused(why)) => put_refusal(
-            alloc,
-            said,
-            Refusal {
-                why,
-                head_alone: false,
-            },
-        ),
+        Err(RouteFault::Refused(why)) => put_refusal(alloc, said, Refusal { why, head_alone }),
         Err(RouteFault::Memory) => Err(Fault::Memory),
     }
 }

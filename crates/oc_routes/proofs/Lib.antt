@@ -8,6 +8,8 @@ pub mod InputLines
 pub mod BodyFits
 pub mod ConditionLaws
 pub mod Holdings
+pub mod LineLaws
+pub mod LocationLaws
 pub mod MacLaws
 pub mod Chunks
 pub mod Cuts

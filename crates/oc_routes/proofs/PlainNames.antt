@@ -52,6 +52,13 @@ none_first p xs none = elim (cases_lt (position_or_len p xs) (length xs)) [
   | inr past ↦ past
 ]
 
+-- a name of a right length has no other fault
+within : (bytes : List ℕ) → IsGroupName bytes → fault_at (position (λ b. not (is_name_byte b)) bytes) (is_path bytes) ≡ None
+within bytes name = elim (cases_Bool (nat_lt (length bytes) MIN_NAME_BYTES || nat_lt MAX_NAME_BYTES (length bytes))) [
+  | inl bad ↦ let e = rw bad at name in cc e
+  | inr good ↦ rw good at name
+]
+
 -- a name has no strange byte
 named : (bytes : List ℕ) → IsGroupName bytes → position (λ b. not (is_name_byte b)) bytes ≡ None
 named bytes name = first_of (position (λ b. not (is_name_byte b)) bytes) (is_path bytes) (within bytes name)
@@ -60,11 +67,14 @@ named bytes name = first_of (position (λ b. not (is_name_byte b)) bytes) (is_pa
     first_of None formed e = refl
     first_of (Some i) formed e = cc
 
-    within : (bytes : List ℕ) → IsGroupName bytes → fault_at (position (λ b. not (is_name_byte b)) bytes) (is_path bytes) ≡ None
-    within bytes name = elim (cases_Bool (nat_lt (length bytes) MIN_NAME_BYTES || nat_lt MAX_NAME_BYTES (length bytes))) [
-      | inl bad ↦ let e = rw bad at name in cc e
-      | inr good ↦ rw good at name
-    ]
+-- and is a path
+pub name_is_path : (bytes : List ℕ) → IsGroupName bytes → is_path bytes ≡ true
+name_is_path bytes name = formed_of (position (λ b. not (is_name_byte b)) bytes) (is_path bytes) (within bytes name)
+  where
+    formed_of : (o : Option ℕ) (formed : Bool) → fault_at o formed ≡ None → formed ≡ true
+    formed_of None true e = refl
+    formed_of None false e = cc
+    formed_of (Some i) formed e = cc
 
 pub name_is_plain : (bytes : List ℕ) → IsGroupName bytes → IsPlain bytes
 name_is_plain bytes name = all_weaker is_name_byte is_plain plain_byte bytes (all_pass is_name_byte bytes (none_first (λ b. not (is_name_byte b)) bytes (named bytes name)))

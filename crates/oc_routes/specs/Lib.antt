@@ -1,4 +1,5 @@
 pub mod Reasons
+pub mod Lines
 pub mod Refusals
 pub mod Inputs
 pub mod Responses

@@ -88,7 +88,10 @@ pub use fault::RouteFault;
 pub use hint::{Asked, Hint, route_with_hint};
 pub use holding::Holding;
 pub use judging::judge;
-pub use law::{a_token_tells_nothing, examples_compute, steps_answer_by_the_table};
+pub use law::{
+    a_location_names_its_group, a_refusal_is_one_line, a_token_tells_nothing, examples_compute,
+    steps_answer_by_the_table,
+};
 pub use lines::{put_input_line, put_refusal_line};
 pub use manner::Manner;
 pub use oc_http::Persistence;

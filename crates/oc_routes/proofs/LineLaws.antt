@@ -1,0 +1,207 @@
+-- The lines of refusals are plain lines.
+use Rattle.std.proofs.Common.{◌≡◌, ℕ, ◌+◌, ◌<◌, ◌≤◌, ◌^◌, Bool, true, false, not, ◌&&◌, ◌||◌, ◌==◌, inl, inr, Option, None, IfSome, List, [], ◌∷◌, ◌++◌, length, decimal, codes, refl, sym, ap, ◌∙◌, append_assoc, length-append, arith}
+use Rattle.std.specs.Prelude.{nat_le, nat_lt}
+use Rattle.std.specs.Char.{is_ascii_digit}
+use Rattle.std.specs.List.{list_all}
+use Rattle.std.proofs.lemmas.Bool.{and_from, and_parts, cases_Bool}
+use Rattle.std.proofs.lemmas.Bool.Decides.{nat_tests}
+use Rattle.std.proofs.lemmas.Fmt.{digits_decimal, length-decimal-le}
+use Rattle.std.proofs.lemmas.List.Folds.{list_all-append}
+use Rattle.oc_base.proofs.Numerals.{numerals}
+use Rattle.oc_base.specs.Names.{IsGroupName}
+use Rattle.oc_base.specs.declared.limits.TheConstants.{MIN_NAME_BYTES, MAX_NAME_BYTES}
+use Rattle.oc_http.specs.PlainLine.{IsPlainLine, is_shown}
+use Rattle.oc_model.specs.declared.answer.Answer.{Answer}
+use Rattle.oc_model.specs.declared.answer.Answer.TheVariants as answers
+use Rattle.oc_routes.specs.Lines.{IsCounted, IsTellable}
+use Rattle.oc_routes.specs.PlainNames.{is_plain}
+use Rattle.oc_routes.specs.Publish.{IsPublishAnswer, publish_status}
+use Rattle.oc_routes.specs.Reasons.{no_group_line, past_line, publish_line, refused_line, seal_line}
+use Rattle.oc_routes.specs.Refusals.{status_of}
+use Rattle.oc_routes.specs.Seal.{IsSealAnswer, seal_status}
+use Rattle.oc_routes.specs.declared.refused.Refused.{Refused}
+use Rattle.oc_routes.specs.declared.refused.Refused.TheVariants.{Source, Ended, Head, HeadLong, Fields, Host, Coding, Length, BodyLong, Method, Path, Query, Denied, Mac, Message, Body, At}
+use Rattle.oc_routes.proofs.PlainNames.{name_is_plain}
+
+-- a part of a line: so many bytes at most, and all of them shown
+record IsPart (most : ℕ) (text : List ℕ) : Type 0 where
+  short : length text ≤ most
+  shown : list_all is_shown text ≡ true
+
+together : (m n : ℕ) (a b : List ℕ) → IsPart m a → IsPart n b → IsPart (m + n) (a ++ b)
+together m n a b first second = record {
+  short = omega (arith, length-append a b, first.short, second.short);
+  shown = list_all-append is_shown a b ∙ and_from _ _ first.shown second.shown;
+}
+
+digit_shown : (b : ℕ) → is_ascii_digit b ≡ true → is_shown b ≡ true
+digit_shown b is = grind (arith, nat_tests)
+
+all_shown : (p : ℕ → Bool) → ((b : ℕ) → p b ≡ true → is_shown b ≡ true) → (xs : List ℕ) → list_all p xs ≡ true → list_all is_shown xs ≡ true
+all_shown p weaker [] is = refl
+all_shown p weaker (x ∷ xs) is =
+    let parts = and_parts (p x) (list_all p xs) is in
+    and_from _ _ (weaker x parts.0) (all_shown p weaker xs parts.1)
+
+number : (n : ℕ) → n < 2 ^ 64 → IsPart 20 (decimal n)
+number n fits = record {
+  short = length-decimal-le 20 n (omega arith) (omega (arith, fits)) fits;
+  shown = all_shown is_ascii_digit digit_shown (decimal n) (digits_decimal numerals n fits);
+}
+
+-- Requests that are refused
+
+denied_is : (rule : ℕ) (needs : Bool) → rule < 2 ^ 64 → IsPlainLine (refused_line (Denied rule needs))
+denied_is rule true fits =
+    let behind : List ℕ = codes " denies this without a token: send the field Authorization: Bearer TOKEN" in
+    let part = together 12 100 (codes "access rule ") (decimal rule ++ behind) (record { short = omega arith; shown = refl }) (together 20 80 (decimal rule) behind (number rule fits) (record { short = omega arith; shown = refl })) in
+    record {
+      line = codes "access rule " ++ decimal rule ++ behind;
+      some = omega (arith, length-append (codes "access rule ") (decimal rule ++ behind));
+      most = omega (arith, part.short);
+      shown = part.shown;
+      ended = ap (λ (x : List ℕ). codes "access rule " ++ x) (sym (append_assoc (decimal rule) behind (10 ∷ []))) ;
+    }
+denied_is rule false fits =
+    let behind : List ℕ = codes " denies this: ask who runs this node" in
+    let part = together 12 100 (codes "access rule ") (decimal rule ++ behind) (record { short = omega arith; shown = refl }) (together 20 80 (decimal rule) behind (number rule fits) (record { short = omega arith; shown = refl })) in
+    record {
+      line = codes "access rule " ++ decimal rule ++ behind;
+      some = omega (arith, length-append (codes "access rule ") (decimal rule ++ behind));
+      most = omega (arith, part.short);
+      shown = part.shown;
+      ended = ap (λ (x : List ℕ). codes "access rule " ++ x) (sym (append_assoc (decimal rule) behind (10 ∷ [])));
+    }
+
+at_is : (n : ℕ) → n < 2 ^ 64 → IsPlainLine (refused_line (At n))
+at_is n fits =
+    let last = together 20 10 (decimal n) (codes " appends") (number n fits) (record { short = omega arith; shown = refl }) in
+    let second = together 12 30 (codes " bytes: at=") (decimal n ++ codes " appends") (record { short = omega arith; shown = refl }) last in
+    let third = together 20 42 (decimal n) (codes " bytes: at=" ++ decimal n ++ codes " appends") (number n fits) second in
+    let part = together 14 62 (codes "the group has ") (decimal n ++ codes " bytes: at=" ++ decimal n ++ codes " appends") (record { short = omega arith; shown = refl }) third in
+    record {
+      line = codes "the group has " ++ decimal n ++ codes " bytes: at=" ++ decimal n ++ codes " appends";
+      some = omega (arith, length-append (codes "the group has ") (decimal n ++ codes " bytes: at=" ++ decimal n ++ codes " appends"));
+      most = omega (arith, part.short);
+      shown = part.shown;
+      ended = ap (λ (x : List ℕ). codes "the group has " ++ x)
+          (ap (λ (x : List ℕ). decimal n ++ codes " bytes: at=" ++ x) (sym (append_assoc (decimal n) (codes " appends") (10 ∷ [])))
+          ∙ sym (append_assoc (decimal n) (codes " bytes: at=" ++ decimal n ++ codes " appends") (10 ∷ [])));
+    }
+
+-- a line of its own
+alone : (line : List ℕ) → nat_le 1 (length line) ≡ true → nat_le (length line) 1000 ≡ true → list_all is_shown line ≡ true → IsPlainLine (line ++ 10 ∷ [])
+alone line some few shown = record { line = line; some = grind (arith, nat_tests); most = grind (arith, nat_tests); shown = shown; ended = refl }
+
+pub refused_is : (refused : Refused) → IsCounted refused → IfSome (status_of refused) (λ (status : ℕ). IsPlainLine (refused_line refused))
+refused_is Source counted = tt
+refused_is Ended counted = tt
+refused_is (Denied rule needs) counted = denied_is rule needs counted
+refused_is (At n) counted = at_is n counted
+refused_is (Coding true) counted = alone (codes "the body has a transfer coding beside its length: give Content-Length alone") refl refl refl
+refused_is (Coding false) counted = alone (codes "transfer codings are not read: give Content-Length") refl refl refl
+refused_is (Length true) counted = alone (codes "the length of the body is missing: give Content-Length") refl refl refl
+refused_is (Length false) counted = alone (codes "Content-Length is no number, or there are several: give one") refl refl refl
+refused_is Head counted = alone (codes "this is no request of HTTP/1.1 or 1.0: send a request line and fields as RFC 9112 has them") refl refl refl
+refused_is HeadLong counted = alone (codes "the head is too long: send at most 8192 bytes") refl refl refl
+refused_is Fields counted = alone (codes "the head has too many fields: send at most 64") refl refl refl
+refused_is Host counted = alone (codes "Host is missing, or there are several: send one") refl refl refl
+refused_is BodyLong counted = alone (codes "the body is too long: publish at most 1000000 bytes at a time") refl refl refl
+refused_is Method counted = alone (codes "there is no such method here: use GET, HEAD or POST") refl refl refl
+refused_is Path counted = alone (codes "no group can have this path, and no page has it: look at /-/status for the names of groups") refl refl refl
+refused_is Query counted = alone (codes "a number of the query is none, or too great: look at start, area, of and at") refl refl refl
+refused_is Mac counted = alone (codes "the message has not the MAC of this network's key: give all nodes the same key") refl refl refl
+refused_is Message counted = alone (codes "the body is no message to this node: only nodes of this network post here") refl refl refl
+refused_is Body counted = alone (codes "a request to seal has no body: publish first, then seal") refl refl refl
+
+-- Answers of steps
+
+named : (name : List ℕ) → IsGroupName name → IsPart 200 name
+named name is = record {
+  short = short;
+  shown = all_shown is_plain plain_shown name (name_is_plain name is);
+}
+  where
+    plain_shown : (b : ℕ) → is_plain b ≡ true → is_shown b ≡ true
+    plain_shown b plain =
+        let outer = and_parts (nat_lt 32 b && nat_lt b 127 && not (b == 34)) (not (b == 92)) plain in
+        let middle = and_parts (nat_lt 32 b && nat_lt b 127) (not (b == 34)) outer.0 in
+        let inner = and_parts (nat_lt 32 b) (nat_lt b 127) middle.0 in
+        grind (arith, nat_tests)
+
+    short : length name ≤ 200
+    short = elim (cases_Bool (nat_lt (length name) MIN_NAME_BYTES || nat_lt MAX_NAME_BYTES (length name))) [
+      | inl bad ↦ let e = rw bad at is in cc e
+      | inr good ↦ grind (arith, nat_tests)
+    ]
+
+-- what begins so and ends with the URL of a group at the source
+at_source : (front behind source group : List ℕ) → nat_le 1 (length front) ≡ true → nat_le (length front) 100 ≡ true → list_all is_shown front ≡ true → IsPart 10 behind → IsTellable source → IsGroupName group
+    → IsPlainLine (front ++ (codes "http://" ++ source ++ group) ++ behind ++ 10 ∷ [])
+at_source front behind source group some few shown last tellable is =
+    let url = together 7 500 (codes "http://") (source ++ group) (record { short = omega arith; shown = refl }) (together 300 200 source group (record { short = tellable.most; shown = tellable.shown }) (named group is)) in
+    let rest = together 507 10 (codes "http://" ++ source ++ group) behind url last in
+    let part = together 100 517 front ((codes "http://" ++ source ++ group) ++ behind) (record { short = grind (arith, nat_tests); shown = shown }) rest in
+    record {
+      line = front ++ (codes "http://" ++ source ++ group) ++ behind;
+      some = grind (arith, nat_tests, length-append front ((codes "http://" ++ source ++ group) ++ behind));
+      most = omega (arith, part.short);
+      shown = part.shown;
+      ended = ap (λ (x : List ℕ). front ++ x) (sym (append_assoc (codes "http://" ++ source ++ group) behind (10 ∷ []))) ∙ sym (append_assoc front ((codes "http://" ++ source ++ group) ++ behind) (10 ∷ []));
+    }
+
+pub publish_is : (answer : Answer) (source group : List ℕ) → IsPublishAnswer answer → (publish_status answer ≡ 200 → ⊥) → IsTellable source → IsGroupName group → IsPlainLine (publish_line answer source group)
+publish_is answers.NotSource source group known refuses tellable is =
+    at_source (codes "this node is not the source: publish at the source, ") [] source group refl refl refl (record { short = omega arith; shown = refl }) tellable is
+publish_is answers.Sealed source group known refuses tellable is = alone (codes "the group is sealed, and takes no more: publish another group") refl refl refl
+publish_is answers.Groups source group known refuses tellable is = alone (codes "64 groups are held: publish files into a folder") refl refl refl
+publish_is answers.TooLong source group known refuses tellable is = alone (codes "the group would be too long: at most 1099511627776 bytes fit") refl refl refl
+publish_is answers.Ok source group known refuses tellable is = absurd (refuses refl)
+publish_is answers.Ignored source group known refuses tellable is = absurd known
+publish_is answers.Gap source group known refuses tellable is = absurd known
+publish_is answers.NoGroup source group known refuses tellable is = absurd known
+publish_is answers.Own source group known refuses tellable is = absurd known
+publish_is answers.Fixed source group known refuses tellable is = absurd known
+publish_is answers.Waiting source group known refuses tellable is = absurd known
+publish_is answers.Spent source group known refuses tellable is = absurd known
+publish_is (answers.Redirect node) source group known refuses tellable is = absurd known
+publish_is (answers.Serve count) source group known refuses tellable is = absurd known
+
+pub seal_is : (answer : Answer) (source group : List ℕ) → IsSealAnswer answer → (seal_status answer ≡ 200 → ⊥) → IsTellable source → IsGroupName group → IsPlainLine (seal_line answer source group)
+seal_is answers.NotSource source group known refuses tellable is =
+    at_source (codes "this node is not the source: seal at the source, ") (codes "?seal") source group refl refl refl (record { short = omega arith; shown = refl }) tellable is
+seal_is answers.NoGroup source group known refuses tellable is = alone (codes "there is no such group: publish it first") refl refl refl
+seal_is answers.Ok source group known refuses tellable is = absurd (refuses refl)
+seal_is answers.Ignored source group known refuses tellable is = absurd (refuses refl)
+seal_is answers.Gap source group known refuses tellable is = absurd known
+seal_is answers.Groups source group known refuses tellable is = absurd known
+seal_is answers.TooLong source group known refuses tellable is = absurd known
+seal_is answers.Own source group known refuses tellable is = absurd known
+seal_is answers.Fixed source group known refuses tellable is = absurd known
+seal_is answers.Waiting source group known refuses tellable is = absurd known
+seal_is answers.Spent source group known refuses tellable is = absurd known
+seal_is answers.Sealed source group known refuses tellable is = absurd known
+seal_is (answers.Redirect node) source group known refuses tellable is = absurd known
+seal_is (answers.Serve count) source group known refuses tellable is = absurd known
+
+-- Clients
+
+pub no_group_is : IsPlainLine no_group_line
+no_group_is = alone (codes "there is no such group here: look at /-/status for the names of groups") refl refl refl
+
+pub past_is : (n : ℕ) → n < 2 ^ 64 → IsPlainLine (past_line n)
+past_is n fits =
+    let middle : List ℕ = codes " bytes, and is sealed: start=" in
+    let last = together 20 30 (decimal n) (codes " is the last start") (number n fits) (record { short = omega arith; shown = refl }) in
+    let second = together 40 50 middle (decimal n ++ codes " is the last start") (record { short = omega arith; shown = refl }) last in
+    let third = together 20 90 (decimal n) (middle ++ decimal n ++ codes " is the last start") (number n fits) second in
+    let part = together 14 110 (codes "the group has ") (decimal n ++ middle ++ decimal n ++ codes " is the last start") (record { short = omega arith; shown = refl }) third in
+    record {
+      line = codes "the group has " ++ decimal n ++ middle ++ decimal n ++ codes " is the last start";
+      some = omega (arith, length-append (codes "the group has ") (decimal n ++ middle ++ decimal n ++ codes " is the last start"));
+      most = omega (arith, part.short);
+      shown = part.shown;
+      ended = ap (λ (x : List ℕ). codes "the group has " ++ x)
+          (ap (λ (x : List ℕ). decimal n ++ middle ++ x) (sym (append_assoc (decimal n) (codes " is the last start") (10 ∷ [])))
+          ∙ sym (append_assoc (decimal n) (middle ++ decimal n ++ codes " is the last start") (10 ∷ [])));
+    }

@@ -1,4 +1,4 @@
--- What had happened leaves no other end to a command that has what it needs.
+-- The effect of an end leaves no other end to a command that has all it needs.
 use Rattle.std.proofs.Common.{◌≡◌, ℕ, Bool, inl, inr, refl, subst, ap, List, Option, Some, None}
 use Rattle.oc_keep.proofs.Complete.{only_memory}
 use Rattle.oc_client.specs.Completeness.{Completes, IsUnrefused}

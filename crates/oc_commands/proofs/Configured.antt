@@ -1,4 +1,4 @@
--- What had happened leaves `check` of a node of a configuration the status of that, where nothing fails.
+-- The effect of an end gives `check` of a node of a configuration its status, if nothing fails.
 use Rattle.std.proofs.Common.{◌≡◌, ◌∙◌, ℕ, ◌⊎◌, inl, inr, refl, sym, subst, List, length, Option, Some, Err, Ok, Result}
 use Rattle.oc_base.specs.Lawful.{IsNode}
 use Rattle.oc_keep.proofs.Complete.{only_memory}
@@ -57,7 +57,7 @@ module _ {S D : Type 0} (gives fails : S → List ℕ → S → Type 0) (ended :
   check_has s id checks.Sink node h = let (text, shows, cut) = h.0 in absurd (sound _ cut.1)
   check_has s id (checks.Load error) node h = load_has s id error (cause_of error) refl node h.0.0
 
-  -- by what all bytes of the input say
+  -- by the meaning of all bytes of the input
   told : (id : ℕ) (said : Result Settings ConfigFault) (status : ℕ) (bytes : List ℕ) → gives old bytes new → ended new → (line : ℕ) → settings_of line bytes ≡ said → IsShownOf view d id said status ⊎ (status ≡ 4)
       → HasShownStatus gives ended view d id old new status ⊎ (status ≡ 4)
   told id said status bytes came whole line is (inl has) = inl (record { bytes = bytes; came = came; status_is = inl (whole, shown_over view d id line bytes status (subst (λ r. IsShownOf view d id r status) (sym is) has)) })

@@ -1,4 +1,4 @@
--- What had happened, told of the outside in other words that follow.
+-- The effect on the outside, stated in other relations that follow.
 use Rattle.std.proofs.Common.{◌≡◌, ℕ, Bool, true, false, List, length, Option, Some, None, Result, Ok, Err, inl, inr, subst, take}
 use Rattle.oc_config.specs.Settings.{Settings}
 use Rattle.oc_config.specs.declared.fault.ConfigFault.TheVariants as faults
@@ -55,7 +55,7 @@ use Rattle.oc_commands.specs.declared.serving.ServiceEnd.{ServiceEnd}
 use Rattle.oc_commands.specs.declared.serving.ServiceEnd.TheVariants as services
 use Rattle.oc_commands.specs.declared.token.TokenEnd.{TokenEnd}
 use Rattle.oc_commands.specs.declared.token.TokenEnd.TheVariants as tokens
-use Rattle.oc_server.specs.Deeds.{Setting}
+use Rattle.oc_deeds.specs.Deeds.{Setting}
 use Rattle.oc_service.specs.OnSite.{NodeEnds, OnRun, Stops, setting_of}
 use Rattle.oc_service.specs.declared.running.Task.{Task}
 use Rattle.oc_service.proofs.Retold.{TellsRun, run_retold}
@@ -95,7 +95,7 @@ pub record TellsNode (m n : OnNode) : Type 0 where
   pub run : (s : Settings) (task : Task) → TellsRun (m.run s task) (n.run s task)
   pub untouched : m.untouched → n.untouched
 
--- what is told of a node whose output is seen as another one, from this state to that one
+-- the statements about a node whose output is seen as another one, from this state to that one
 module _ {D N K J : Type 0} (view : D → DiskView) (story : N → Option (List Call)) (counts : N → LinkCounts) (takes fails : K → List ℕ → K → Type 0) (adds adds_less : J → List ℕ → J → Type 0) (seen : K → J)
     (added : (a b : K) (text : List ℕ) → takes a text b → adds (seen a) text (seen b)) (added_less : (a b : K) (text : List ℕ) → fails a text b → adds_less (seen a) text (seen b)) where
   pub node_seen : (old new : Disks D) (link after : N) (sink written : K) (first last : J) → seen sink ≡ first → seen written ≡ last

@@ -1,4 +1,4 @@
--- What had happened at each end of `check`.
+-- The effect of `check` at each of its ends.
 use Rattle.std.specs.Prelude.{ℕ, List, [], length}
 use Rattle.oc_base.specs.declared.limits.TheConstants.{USUAL_CHUNK_BYTES}
 use Rattle.oc_commands.specs.Checks.{header_without_areas}

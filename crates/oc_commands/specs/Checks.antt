@@ -1,4 +1,4 @@
--- What is shown of a node's files.
+-- The text shown for a node's files.
 use Rattle.std.specs.Prelude.{◌≡◌, ◌≤◌, ℕ, false, List, ◌++◌, replicate}
 use Rattle.oc_base.specs.declared.limits.TheConstants.{MAX_CHAIN, MAX_CHUNK_BYTES, MAX_NODES}
 use Rattle.oc_base.specs.Groups.{shelf}

@@ -1,4 +1,4 @@
--- What had happened outside at each end of a run.
+-- The effect on the outside at each end of a run.
 use Rattle.std.specs.Prelude.{◌≡◌, ℕ, ◌<◌, ◌⊎◌, Bool, List, [], length, Option, Some, None, ⊤}
 use Rattle.oc_io.specs.Faults.{Rose}
 use Rattle.oc_replay.specs.Pieces.{SomeFront}
@@ -40,7 +40,7 @@ pub record IsUnplayed (o : Outside) : Type 0 where
   pub input : o.input.unread
   pub stage : o.stage.unplayed
 
--- no file and no link was asked for, and nothing was told
+-- no file and no link was used, and no progress line was written
 pub record IsAlone (o : Outside) : Type 0 where
   pub error : o.error.silent
   pub files : o.files.untouched
@@ -48,19 +48,19 @@ pub record IsAlone (o : Outside) : Type 0 where
   pub token : o.token.unread
   pub node : o.node.untouched
 
--- no link was asked for, and nothing was told
+-- no link was used, and no progress line was written
 pub record IsOffline (o : Outside) : Type 0 where
   pub error : o.error.silent
   pub link : o.link.untouched
   pub token : o.token.unread
   pub node : o.node.untouched
 
--- no file and no link of a node was asked for
+-- no file and no link of a node was used
 pub record IsFileless (o : Outside) : Type 0 where
   pub files : o.files.untouched
   pub node : o.node.untouched
 
--- what had happened at each end
+-- the effect of each end
 abbrev pub Happened : Outside → End → Type 0
 Happened o Helped = (o.asked ≡ Some Help) × ((text : List ℕ) × (0 < length text) × o.output.written text) × IsUnplayed o × IsAlone o
 Happened o HelpFailed = (o.asked ≡ Some Help) × ((text : List ℕ) × o.output.cut_off text) × IsUnplayed o × IsAlone o

@@ -1,4 +1,4 @@
-//! The command `check`, which shows what the files of a node recover.
+//! The command `check`, which shows the recovery of a node's files.
 ghost use Rattle.std.specs.Prelude.{◌≡◌, length};
 ghost use Rattle.oc_base.specs.Lawful.{IsNode};
 ghost use Rattle.oc_commands.specs.Checks.{AreSizes};
@@ -21,7 +21,7 @@ use oc_model::Sizes;
 use oc_words::Member;
 use std::alloc::Global;
 
-/// How `check` ended.
+/// The end of `check`.
 #[derive(Clone, Copy)]
 pub enum CheckEnd {
     /// The whole text was written.
@@ -32,14 +32,14 @@ pub enum CheckEnd {
     Sink,
 }
 
-/// How `check` ended, of a node of a configuration.
+/// The end of `check` for a node of a configuration.
 #[derive(Clone, Copy)]
 pub enum ConfiguredEnd {
     /// There is no configuration, and nothing was written.
     Config(ConfigEnd),
     /// No node of the configuration has this id, and nothing was written.
     Stranger,
-    /// The files of the node were looked at, which ended in this way.
+    /// The files of the node were read, with this end.
     Checked(CheckEnd),
 }
 
@@ -73,7 +73,7 @@ fn sizes_of(member: Member) -> Sizes
     }
 }
 
-/// Writes what the files of a node recover, one of the configuration on the input.
+/// Writes the recovery of the files of a node, one of the configuration on the input.
 pub fn check_configured<S: Source, K: Sink, D: Disk>(
     alloc: Global,
     id: u64,
@@ -95,7 +95,7 @@ pub fn check_configured<S: Source, K: Sink, D: Disk>(
     }
 }
 
-/// Writes what the files of a node recover, one of this configuration.
+/// Writes the recovery of the files of a node, one of this configuration.
 fn check_one<K: Sink, D: Disk>(
     alloc: Global,
     id: u64,
@@ -133,8 +133,8 @@ fn sizes_in(config: &Config) -> Sizes
     }
 }
 
-/// Writes what the files of a node recover: the block of `show` and the block of `held`. All memory is taken
-/// before anything is written.
+/// Writes the recovery of a node's files: the block of `show` and the block of `held`. All memory
+/// is taken before anything is written.
 fn show_files<K: Sink, D: Disk>(
     alloc: Global,
     id: NodeId,

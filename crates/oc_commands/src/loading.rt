@@ -19,11 +19,11 @@ use oc_keep::{Files, KeepLoad, Kept, Seat};
 use oc_model::{Header, Sizes};
 use std::alloc::Global;
 
-/// What the files of a node showed, and the files.
+/// The text of a node's files, and the files.
 #[derive(Drop)]
 pub struct Recovered<D: Disk> {
     pub files: Files<D>,
-    /// The text of the node, or why there is none.
+    /// The text of the node, or the reason why there is none.
     pub text: Result<Vec<u8>, KeepLoad>,
 }
 
@@ -47,7 +47,7 @@ pub fn recovered_text<D: Disk>(
     // At every moment a crash leaves what a crash at the start would have left.
     ensures safely { LoadsSafely D.view (header_without_areas sizes) id (disks_in files) (disks_in result.files) }
 
-    // The files of a node on honest disks are shown, where no disk fails and there is the memory.
+    // The files of a node on honest disks are shown, unless a disk fails or memory runs out.
     ensures complete { IfErr result.text (λ error. AreHonest D.view (disks_in files)
         → HoldFiles D.view sizes.nodes (disks_in files)
         → (OneRose D.view (disks_in files) (disks_in result.files) → ⊥)

@@ -11,5 +11,6 @@ pub mod Lawful
 mod Lines
 mod Keys
 mod Splits
+mod Spelled
 pub mod Ipv6
 pub mod AddressBytes

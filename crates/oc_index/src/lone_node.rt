@@ -17,15 +17,15 @@ use oc_replay::put_digest;
 use std::alloc::Global;
 use std::marker::Model;
 
-/// One node alone, with its groups in memory in the place of its files: a start keeps what is durable of it, as its
-/// files would. It is seen as a node of the model.
+/// One node alone, with its groups in memory instead of files: a start keeps the durable part of
+/// it, as its files would. Contracts see a node of the model.
 #[derive(Drop)]
 pub struct LoneNode {
     alloc: Global,
     /// The area of each node, by its number.
     areas: Vec<u8>,
     node: Node,
-    /// Ascending by name.
+    /// The groups, ascending by name.
     groups: Vec<Group>,
 }
 
@@ -93,7 +93,8 @@ impl Alone for LoneNode {
     }
 }
 
-/// The node, except for its groups, that a start makes of what is durable of this one. These are its areas.
+/// The node, except for its groups, after a start from the durable part of this one. These are its
+/// areas.
 #[tactic(auto, using(crate::proofs::LoneSteps::header_again, crate::proofs::LoneSteps::me_again, crate::proofs::LoneSteps::new_kept, crate::proofs::LoneSteps::records_again, crate::proofs::LoneSteps::start_of_records, crate::proofs::LoneSteps::start_areas))]
 fn started_again(alloc: Global, node: &Node, areas: &[u8]) -> Result<Node, Memory>
     requires { areas.now ≡ node.now.control.areas }
@@ -103,7 +104,7 @@ fn started_again(alloc: Global, node: &Node, areas: &[u8]) -> Result<Node, Memor
     if !has_short_log(node) {
         return Err(Memory);
     }
-    // The clause of this call says that the node is one of a header.
+    // This call has a clause by which the node is one of a header.
     let nodes = node.nodes();
     let list = node.snapshot(1)?;
     let mut made = Node::new(
@@ -132,7 +133,7 @@ fn take_into(
     ensures shelf { IsShelf (shelf groups.new.items) }
     ensures areas { node.old.control.areas ≡ node.new.control.areas }
 {
-    // The clause of this call says that the node is lawful.
+    // This call has a clause by which the node is lawful.
     let _nodes = node.nodes();
     if !has_short_log(node) {
         return Err(Memory);
@@ -144,7 +145,8 @@ fn take_into(
     Ok(())
 }
 
-/// Whether the log of a node is no longer than a base may be. A longer one has more certificates than memory holds.
+/// Whether the log of a node is at most as long as a base may be. A longer log has more
+/// certificates than memory can hold.
 fn has_short_log(node: &Node) -> bool
     ensures { IsTrue result → node.now.control.kept.log.length ≤ MAX_BASE_ACKED }
 {

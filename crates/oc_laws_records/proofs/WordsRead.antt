@@ -1,4 +1,4 @@
--- What words say, printed, is as long as they are.
+-- The meaning of words, printed, is as long as they are.
 use Rattle.std.proofs.Common.{◌≡◌, ℕ, ◌+◌, ◌*◌, ◌<◌, ◌≤◌, ◌^◌, Bool, true, false, cond, ◌==◌, nat_lt, min, Option, Some, None, Result, Ok, Err, List, [], ◌∷◌, length, take, drop, inl, inr, refl, ap, sym, subst, ◌∙◌, arith, codes, decimal}
 use Rattle.std.specs.Int.{from_be_bytes, w32}
 use Rattle.std.specs.Str.{bytes_eq}
@@ -112,7 +112,7 @@ bytes_length field bytes h = elim (cases_Bool (bytes_eq field (codes "-"))) [
 
 -- Acts
 
--- the words of the act are this long, and what it publishes is bytes; it is no message
+-- the words of the act are this long, and its content is bytes; the act is no message
 abbrev pub IsPrintedIn : ℕ → Act → Type 0
 IsPrintedIn n (At x (Delivered m)) = ⊥
 IsPrintedIn n act = (total (act_words act) ≡ n) × PublishesBytes act

@@ -13,7 +13,7 @@ pub trait Alone: Drop {
     /// The node that it shows.
     ghost node: { Self → Node };
 
-    /// The digits that stand for the files of a node.
+    /// The digest of a node's files.
     ghost digest: { Node → List ℕ };
 
     /// A new node of this number, in the network of a header.
@@ -22,16 +22,16 @@ pub trait Alone: Drop {
         requires me { IsNode header.now.nodes me }
         ensures { IfOk result (λ made. node made ≡ new_node header.now me) };
 
-    /// What a start makes of it. It stays as it is.
+    /// The node after a restart. This node is unchanged.
     fn restarted(&self) -> Result<Self, Memory>
         ensures { IfOk result (λ other. node other ≡ restarted (node self.now)) };
 
-    /// Takes an input within its ranges. Nothing is said of it once memory ran out.
+    /// Takes an input within its ranges. After memory ran out, the contract leaves the node open.
     fn take(&mut self, input: &Input) -> Result<(), Memory>
         requires { IsInput (node self.old).control.nodes (node self.old).control.me input.now }
         ensures { OnOk result (node self.new ≡ (step (node self.old) input.now).node) };
 
-    /// The digits that stand for its files.
+    /// The digest of the node's files.
     fn files(&self) -> Result<Bytes, Memory>
         ensures { IfOk result (λ digits. digits ≡ digest (node self.now)) };
 }

@@ -7,7 +7,7 @@ use crate::place::Place;
 use crate::told::ToldLine;
 use oc_model::Header;
 
-/// What the lines so far tell.
+/// The records so far, while the lines are read.
 #[derive(Drop)]
 pub(crate) struct Reader {
     /// The sizes of the first header, with the areas of the first that had a start.

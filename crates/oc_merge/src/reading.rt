@@ -1,4 +1,4 @@
-//! How each line is read, after those before it.
+//! Reading of each line, given those before it.
 
 ghost use Rattle.std.specs.Prelude.{◌≡◌, ◌≤◌, ◌∷◌, Ok, Some, OnOk, IfOk, length};
 ghost use Rattle.oc_base.specs.Words.{words};
@@ -24,7 +24,7 @@ use oc_model::{Header, Sizes};
 use oc_schedule::{LineFault, area, node_alone, opening};
 use std::alloc::Global;
 
-/// The fault of a line that is refused for a cause which schedules have too.
+/// The fault of a line that is refused for a reason which schedules have too.
 fn refused(line: u32, why: Why) -> RecordsFault
     ensures { result ≡ Line line (Said why) }
 {
@@ -34,7 +34,7 @@ fn refused(line: u32, why: Why) -> RecordsFault
     }
 }
 
-/// The fault of the text, where the line of this number has this one.
+/// The fault of the text, given the number of a line and its fault.
 fn refused_at(line: u32, fault: LineFault) -> RecordsFault
     ensures { result ≡ fault_at line fault }
 {
@@ -107,7 +107,7 @@ fn has_areas(header: &Option<Header>, areas: &[u8]) -> bool
     }
 }
 
-/// Puts these digits into the last line, as those of a start.
+/// Adds these digits to the last line, which is a start.
 #[tactic(auto, using(crate::proofs::LastLine::files_last, crate::proofs::LastLine::files_published))]
 fn put_files(lines: &mut Vec<ToldLine>, digits: Bytes) -> Result<(), Memory>
     ensures files { OnOk result (lines.new.items ≡ with_files digits lines.old.items) }
@@ -122,7 +122,7 @@ fn put_files(lines: &mut Vec<ToldLine>, digits: Bytes) -> Result<(), Memory>
     }
 }
 
-/// A line, where it is a start that found the files of these digits.
+/// The line; if it is a start, with the digits of its files.
 fn with_told_files(line: ToldLine, digits: Bytes) -> ToldLine
     ensures { result ≡ record line { told = with_digits digits line.told } }
 {
@@ -134,7 +134,7 @@ fn with_told_files(line: ToldLine, digits: Bytes) -> ToldLine
     }
 }
 
-/// What is told, where a start found the files of these digits.
+/// The statement; if it is a start, with the digits of its files.
 fn with_digits(told: Told, digits: Bytes) -> Told
     ensures { result ≡ with_digits digits told }
 {
@@ -145,7 +145,7 @@ fn with_digits(told: Told, digits: Bytes) -> Told
 }
 
 impl Reader {
-    /// Before the first line. It takes no memory.
+    /// The state before the first line. Takes no memory.
     pub fn new(alloc: Global) -> Reader
         ensures { reading_of result ≡ nothing_read }
     {
@@ -159,7 +159,7 @@ impl Reader {
         }
     }
 
-    /// What the whole text tells, where the line after the last has this number.
+    /// The records of the whole text, given the number of the line after the last.
     pub fn into_records(self, number: u32) -> Result<Records, RecordsFault>
         ensures { Gives result (records_at_end number (reading_of self).header (reading_of self).lines) }
     {
@@ -170,7 +170,8 @@ impl Reader {
         }
     }
 
-    /// One more line, of this number. One that is not whole, or was cut off, is skipped.
+    /// Reads one more line, of this number. A line that is not complete, or was cut off, is
+    /// skipped.
     pub fn with_line(
         self,
         alloc: Global,
@@ -196,7 +197,7 @@ impl Reader {
         }
     }
 
-    /// A comment, which may tell the files of the start that it follows.
+    /// Reads a comment, which may tell the files of the start before it.
     fn with_comment(self, alloc: Global, line: &[u8]) -> Result<Reader, RecordsFault>
         ensures { GivesBy reading_of result (Ok (after_comment (reading_of self).place (reading_of self) line.now)) }
     {
@@ -209,7 +210,7 @@ impl Reader {
         }
     }
 
-    /// The last line is a start that found these files.
+    /// Notes that the start in the last line found these files.
     fn with_files(self, node: NodeId, digits: Bytes) -> Result<Reader, RecordsFault>
         ensures { GivesBy reading_of result (Ok (after_files (reading_of self) node (Some digits))) }
     {
@@ -232,7 +233,7 @@ impl Reader {
         })
     }
 
-    /// A line that is not skipped, of this word and these fields.
+    /// Reads a line that is not skipped, with this word and these fields.
     fn with_statement(
         self,
         alloc: Global,
@@ -256,7 +257,7 @@ impl Reader {
         }
     }
 
-    /// A line that opens a record.
+    /// Reads a header line, which opens a record.
     fn with_header(self, alloc: Global, number: u32, line: &[u8]) -> Result<Reader, RecordsFault>
         ensures { GivesBy reading_of result (limited (at_line number (because (after_header (reading_of self) (words line.now))))) }
     {
@@ -283,7 +284,7 @@ impl Reader {
         })
     }
 
-    /// A line after a header.
+    /// Reads a line after a header.
     fn with_opening(
         self,
         alloc: Global,
@@ -343,7 +344,7 @@ impl Reader {
         }
     }
 
-    /// The start of a node, in the areas of the first record.
+    /// Reads the start of a node, in the areas of the first record.
     fn with_start(self, alloc: Global, number: u32, node: NodeId) -> Result<Reader, RecordsFault>
         ensures { GivesBy reading_of result (limited (at_line number (starts (reading_of self) number node))) }
     {
@@ -382,7 +383,7 @@ impl Reader {
         })
     }
 
-    /// The line of a start.
+    /// Appends the line of a start.
     fn with_start_of(self, number: u32, node: NodeId) -> Result<Reader, RecordsFault>
         ensures { GivesBy reading_of result (within_limits (started_at (reading_of self) number node)) }
     {
@@ -390,7 +391,7 @@ impl Reader {
             .with_told(number, node, Told::Started(None))
     }
 
-    /// A line in the record of `me`, in which this word and these fields were found.
+    /// Reads a line in the record of `me`, with this word and these fields.
     fn with_inside(
         self,
         alloc: Global,
@@ -412,7 +413,7 @@ impl Reader {
         }
     }
 
-    /// A line of a message or of any other input of `me`.
+    /// Reads a line of a message or of another input of `me`.
     fn with_input(
         self,
         alloc: Global,
@@ -429,14 +430,14 @@ impl Reader {
         }
     }
 
-    /// In the record of `me`.
+    /// Moves into the record of `me`.
     fn within(self, me: NodeId) -> Reader
         ensures { reading_of result ≡ record (reading_of self) { place = Within me } }
     {
         self.at(Place::Within(me.0))
     }
 
-    /// Between other lines.
+    /// Moves to another place between the lines.
     fn at(self, place: Place) -> Reader
         ensures { reading_of result ≡ record (reading_of self) { place = place } }
     {
@@ -458,7 +459,7 @@ impl Reader {
         }
     }
 
-    /// One more line that tells this of the node, where it passes no limit.
+    /// Appends one more statement about the node, if no limit is exceeded.
     fn with_told(self, number: u32, node: NodeId, told: Told) -> Result<Reader, RecordsFault>
         ensures { GivesBy reading_of result (within_limits (tells (reading_of self) number node told)) }
     {

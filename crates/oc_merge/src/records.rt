@@ -2,8 +2,8 @@ use crate::told::ToldLine;
 use oc_model::Header;
 use std::marker::Model;
 
-/// What records tell: the network, and the lines of all its nodes in their order. Contracts see it as the
-/// record `Records` of lists.
+/// The content of records: the network, and the lines of all its nodes in order. Contracts see it
+/// as the record `Records` of lists.
 #[derive(Debug, Drop)]
 pub struct Records {
     pub header: Header,

@@ -1,4 +1,4 @@
-//! A world is a stage.
+//! The world as a stage of a replay.
 
 ghost use Rattle.std.specs.Prelude.{◌≡◌, OnOk, OnErr};
 ghost use Rattle.oc_model.specs.Lawful.{IsHeader};

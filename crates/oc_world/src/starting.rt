@@ -1,4 +1,4 @@
-//! A node that is down is read from its files.
+//! The start of a node that is down: its state is read from its files.
 
 ghost use Rattle.std.specs.Prelude.{◌≡◌, IfOk};
 ghost use Rattle.oc_base.specs.Lawful.{IsNode};

@@ -1,4 +1,5 @@
-//! The inputs of nodes in the rows of tables. Those that are no messages are read as the lines of a schedule.
+//! The inputs of nodes in the rows of tables. Inputs other than messages are read as the lines of a
+//! schedule.
 ghost use Rattle.std.specs.Prelude.{ℕ, IfOk};
 ghost use Rattle.oc_model.specs.Lawful.{IsAct, IsInput};
 

@@ -2,14 +2,19 @@
 //! what that gives the node, and what it is answered, piece by piece. No link, disk or clock is in it: functions over
 //! values.
 //!
+//! A request goes through the node as one value, and so does what answers it: its bytes give a [`Verdict`], which for a
+//! whole one is a [`Request`] with what it [`Asked`], and for a refused one a [`Refusal`]; after the step of its input the
+//! node has for it what is [`Answered`], of which [`respond`] makes the [`Response`].
+//!
 //! `src/routes.rt` and `specs/Routes` are the table of routes: which operation a head asks for under the access rules
 //! (`asked`), with its faults in their order, which input results from it and the body (`input_asked`), and the reply
-//! of each operation (`response_to`). What belongs to one route alone is in its file of `src/routes`, and its definitions
+//! of each operation (`response_for`). What belongs to one route alone is in its file of `src/routes`, and its definitions
 //! are in `specs/Message`, `Publish`, `Seal`, `Group`, `Probe`, `Status`, `Metrics` and `Page`. `specs/Refusals` has the
-//! line and the reply of a refused request.
+//! line and the reply of a refused request, and `specs/Reasons` the texts that say why and what to do: one line each
+//! ([`a_refusal_is_one_line`]), made of nothing that a token, a key or a field could be in.
 //!
 //! The contracts used above: [`route`] gives exactly `asked`, [`input_of`] exactly `input_asked`, and what
-//! it gives is an input of this node; [`respond`] gives exactly `response_to` of the answer of the step.
+//! it gives is an input of this node; [`respond`] gives exactly `response_for` of the answer of the step.
 //! The content of a group is given in the [`Response`] as a [`GroupRange`]; the layer above reads and sends
 //! it. [`is_last`] and [`awaits_continue`] say what becomes of the connection of a request, and
 //! [`split_reply`] takes the reply out of the messages of a step. [`steps_answer_by_the_table`] says that
@@ -20,6 +25,9 @@
 //! these bytes and then ends is answered, by the definitions of `oc_http` and of the routes, where its end is what it is
 //! on the connection. [`a_request_has_one_verdict`] says that this is one, however the bytes are cut.
 //!
+//! A path is looked up as `oc_http` decoded it, byte by byte, and a Location has it in escapes
+//! ([`a_location_names_its_group`]).
+//!
 //! A request that publishes or seals may say which length its group has to have; [`unmet`] says whether the source refuses
 //! it for that.
 //!
@@ -27,16 +35,15 @@
 //! the content file. [`pieces_are_the_content`]: piece by piece they are the text of the whole content, whatever came
 //! between. [`is_to_wait`], [`Follower::is_due`] and [`UnderWay::prospect`] say who waits, and until when.
 //!
-//! What a query tells besides start and area (`of=`, `known`, `here`) is a [`Hint`]. [`respond_to`] says what any
-//! request is answered for the answer of its step: a message by the one that goes back, a client by what it tells, one who
-//! asks what the node tells of itself by that ([`report_of`]).
+//! What a query tells besides start and area (`of=`, `known`, `here`) is a [`Hint`], by which a client is shown the answer
+//! of the step.
 //!
-//! What a node tells of itself, to those who look after it, is `/!status` as JSON, `/!metrics` in the text format of
-//! Prometheus, and the page `/!` that draws the first. [`status`] is `status_text` of the node's control state and its
-//! shelf, and [`metrics`] is `metrics_text` of these and of the number of messages in the outbox. The two definitions
-//! (`specs/Status`, `specs/Metrics`) are the formats: who reads them needs nothing else. No byte of a group's name has
-//! to be escaped in either ([`names_are_plain`]), and the worked examples compute ([`examples_are_told`]). [`page`] is a
-//! text of this crate and nothing more: no contract speaks of what it draws.
+//! What a node tells of itself ([`report_of`]), to those who look after it, is `/-/status` as JSON, `/-/metrics` in the text
+//! format of Prometheus, and the page `/-/` that draws the first; each has a second name, with `!`. [`status`] is
+//! `status_text` of the node's control state and its shelf, and [`metrics`] is `metrics_text` of these and of the number of
+//! messages in the outbox. The two definitions (`specs/Status`, `specs/Metrics`) are the formats: who reads them needs
+//! nothing else. No byte of a group's name has to be escaped in either ([`names_are_plain`]), and the worked examples
+//! compute ([`examples_are_told`]). [`page`] is a text of this crate and nothing more: no contract speaks of what it draws.
 //!
 //! In a network with a key a message is read only from a body whose MAC came with it ([`a_message_has_its_mac`]).
 #![tactic(auto)]

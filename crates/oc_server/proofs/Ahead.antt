@@ -14,7 +14,7 @@ use Rattle.oc_deeds.specs.Parts.{Part, ◌>>◌}
 use Rattle.oc_deeds.specs.Records.{told_ahead}
 use Rattle.oc_server.specs.Scenes.{Did, IsServing, running, setting}
 use Rattle.oc_deeds.specs.Telling.{says_ahead}
-use Rattle.oc_server.specs.declared.ends.TurnEnd.{TurnEnd}
+use Rattle.oc_deeds.specs.declared.ends.TurnEnd.{TurnEnd}
 use Rattle.oc_server.specs.declared.server.Server.{Server}
 use Rattle.oc_server.proofs.Parts.{does_one, does_then, stops_behind, stops_in}
 use Rattle.oc_server.proofs.Scenes.{still_honest, still_serving}

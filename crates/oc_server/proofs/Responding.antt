@@ -21,7 +21,7 @@ use Rattle.oc_deeds.specs.Parts.{Part, nothing, ◌>>◌}
 use Rattle.oc_server.specs.Scenes.{Breaks, Did, running, setting}
 use Rattle.oc_deeds.specs.Under.{Idle}
 use Rattle.oc_deeds.specs.Telling.{accepts_in}
-use Rattle.oc_server.specs.declared.ends.TurnEnd.{TurnEnd}
+use Rattle.oc_deeds.specs.declared.ends.TurnEnd.{TurnEnd}
 use Rattle.oc_server.specs.declared.server.Server.{Server}
 use Rattle.oc_deeds.specs.declared.work.Pending.{Pending}
 use Rattle.oc_server.proofs.Lawful.{lawful_of}

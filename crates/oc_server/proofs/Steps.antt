@@ -26,8 +26,8 @@ use Rattle.oc_server.specs.Scenes.{Breaks, Did, IsLawful, KeepsAll, running, set
 use Rattle.oc_deeds.specs.Lawful.{IsLawfulWork}
 use Rattle.oc_deeds.specs.Under.{Idle}
 use Rattle.oc_deeds.specs.declared.dials.Dialling.{Dialling}
-use Rattle.oc_server.specs.declared.ends.TurnEnd.{TurnEnd}
-use Rattle.oc_server.specs.declared.ends.TurnEnd.TheVariants as ends
+use Rattle.oc_deeds.specs.declared.ends.TurnEnd.{TurnEnd}
+use Rattle.oc_deeds.specs.declared.ends.TurnEnd.TheVariants as ends
 use Rattle.oc_server.specs.declared.server.Server.{Server}
 use Rattle.oc_deeds.specs.declared.work.Transfer.{Transfer}
 use Rattle.oc_deeds.specs.declared.work.Work.{Work}

@@ -13,8 +13,8 @@ use Rattle.oc_deeds.specs.Parts.{Part}
 use Rattle.oc_server.specs.Parts.{Stops}
 use Rattle.oc_server.specs.Scenes.{Breaks, running, setting}
 use Rattle.oc_deeds.specs.Under.{Idle, Noting, Taking, Under}
-use Rattle.oc_server.specs.declared.ends.TurnEnd.{TurnEnd}
-use Rattle.oc_server.specs.declared.ends.TurnEnd.TheVariants as ends
+use Rattle.oc_deeds.specs.declared.ends.TurnEnd.{TurnEnd}
+use Rattle.oc_deeds.specs.declared.ends.TurnEnd.TheVariants as ends
 use Rattle.oc_server.specs.declared.server.Server.{Server}
 use Rattle.oc_server.proofs.Parts.{stops_first}
 

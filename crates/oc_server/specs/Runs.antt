@@ -21,8 +21,8 @@ use Rattle.oc_server.specs.Looks.{Renews}
 use Rattle.oc_server.specs.Parts.{Does, Stops}
 use Rattle.oc_deeds.specs.Turns.{Means, Observation, deals, pace_behind, paced, probed, probing_behind, quickened, takes_next, turn}
 use Rattle.oc_deeds.specs.declared.came.Came.{Came}
-use Rattle.oc_server.specs.declared.ends.TurnEnd.{TurnEnd}
-use Rattle.oc_server.specs.declared.ends.TurnEnd.TheVariants as ends
+use Rattle.oc_deeds.specs.declared.ends.TurnEnd.{TurnEnd}
+use Rattle.oc_deeds.specs.declared.ends.TurnEnd.TheVariants as ends
 use Rattle.oc_server.specs.declared.server.Server.{Server}
 use Rattle.oc_server.specs.declared.turns.Turns.{Turns}
 

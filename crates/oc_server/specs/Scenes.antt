@@ -28,8 +28,8 @@ use Rattle.oc_server.specs.Looks.{LooksOn, LooksOnly, RunsSafely}
 use Rattle.oc_server.specs.Moments.{AtEachPrefix}
 use Rattle.oc_deeds.specs.Sending.{AreSendable}
 use Rattle.oc_deeds.specs.Within.{IsWithin}
-use Rattle.oc_server.specs.declared.ends.TurnEnd.{TurnEnd}
-use Rattle.oc_server.specs.declared.ends.TurnEnd.TheVariants as ends
+use Rattle.oc_deeds.specs.declared.ends.TurnEnd.{TurnEnd}
+use Rattle.oc_deeds.specs.declared.ends.TurnEnd.TheVariants as ends
 use Rattle.oc_server.specs.declared.server.Server.{Server}
 
 -- What a server is seen as

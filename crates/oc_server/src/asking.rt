@@ -6,9 +6,8 @@ ghost use Rattle.oc_deeds.specs.Deeds.{Reads, Sees, Tells, errand_in};
 ghost use Rattle.oc_server.specs.Scenes.{Breaks, Did, IsServing};
 ghost use Rattle.oc_deeds.specs.Under.{Idle};
 
-use crate::ends::TurnEnd;
 use crate::server::Server;
-use oc_deeds::{Errand, errand_in};
+use oc_deeds::{Errand, TurnEnd, errand_in};
 use oc_io::{Disk, Sink};
 use oc_link::{Link, LinkEvent};
 

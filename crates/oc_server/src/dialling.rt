@@ -15,11 +15,10 @@ ghost use Rattle.oc_deeds.specs.Dials.{brings, dialling};
 ghost use Rattle.oc_server.specs.Scenes.{Breaks, Did, IsServing};
 ghost use Rattle.oc_deeds.specs.Under.{Idle};
 
-use crate::ends::TurnEnd;
 use crate::server::Server;
 use oc_base::{Memory, NodeId};
 use oc_config::Config;
-use oc_deeds::{Dials, Errand, is_fetch};
+use oc_deeds::{Dials, Errand, TurnEnd, is_fetch};
 use oc_http::write_probe;
 use oc_io::{Disk, Sink};
 use oc_link::{DialId, Link};

@@ -11,11 +11,10 @@ ghost use Rattle.oc_server.specs.Scenes.{Breaks, Did, IsServing};
 ghost use Rattle.oc_deeds.specs.Lawful.{IsLawfulWaiting};
 ghost use Rattle.oc_deeds.specs.Under.{Idle};
 
-use crate::ends::TurnEnd;
 use crate::server::Server;
 use oc_base::{GroupName, Memory, put};
 use oc_deeds::contents::{begin_rest, keeps, piece_text, place_behind, place_of};
-use oc_deeds::{Pending, Transfer, Waiting, Work};
+use oc_deeds::{Pending, Transfer, TurnEnd, Waiting, Work};
 use oc_io::{Disk, Sink};
 use oc_keep::{Kept, KeptRead};
 use oc_link::{ConnectionId, Ending, Link};

@@ -12,12 +12,11 @@ ghost use Rattle.oc_deeds.specs.Lawful.{IsLawfulErrand};
 ghost use Rattle.oc_deeds.specs.Turns.{Means, MeansBack};
 
 use crate::asking::Happened;
-use crate::ends::TurnEnd;
 use crate::server::Server;
 use oc_base::Memory;
 use oc_config::Config;
 use oc_deeds::reading::{Hearer, comes_back};
-use oc_deeds::{Came, Errand};
+use oc_deeds::{Came, Errand, TurnEnd};
 use oc_http::HeadReader;
 use oc_io::{Disk, Sink};
 use oc_keep::Kept;

@@ -8,8 +8,8 @@ ghost use Rattle.oc_deeds.specs.Deeds.{Drops, Notes, Refuses, drop_line, note_li
 ghost use Rattle.oc_server.specs.Noting.{LineStops, NoteBreaks};
 ghost use Rattle.oc_server.specs.Scenes.{Did, IsServing};
 
-use crate::ends::TurnEnd;
 use crate::server::Server;
+use oc_deeds::TurnEnd;
 use oc_deeds::lines::put_note;
 use oc_io::{Disk, Sink, write_all};
 use oc_link::{ConnectionId, Ending, Link};

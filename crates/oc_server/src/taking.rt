@@ -14,13 +14,12 @@ ghost use Rattle.oc_server.specs.Scenes.{Breaks, Did, IsServing, KeepStops, Keep
 ghost use Rattle.oc_deeds.specs.Under.{Taking};
 ghost use Rattle.oc_deeds.specs.Within.{BringsBytes, HasBytes};
 
-use crate::ends::TurnEnd;
 use crate::noting::write_line;
 use crate::sendable::sendable;
 use crate::server::Server;
 use oc_base::Memory;
-use oc_deeds::asked::{held_back, sender_of};
-use oc_deeds::{Log, put_all};
+use oc_deeds::asked::{Accepted, held_back, sender_of};
+use oc_deeds::{Log, TurnEnd, put_all};
 use oc_io::{Disk, Sink};
 use oc_keep::{KeepError, Kept, Outcome};
 use oc_laws_step::lawful_nodes_stay_lawful;
@@ -29,13 +28,6 @@ use oc_model::{Answer, Body, Input, Message};
 use oc_routes::put_input_line;
 use oc_wire::spellings_are_read;
 use std::alloc::Global;
-
-/// What a request's input brought: the answer of its step, and the message that goes back to its sender.
-#[derive(Drop)]
-pub struct Accepted {
-    pub answer: Answer,
-    pub back: Option<Message>,
-}
 
 impl<D: Disk, L: Link, K: Sink> Server<D, L, K> {
     /// Takes an input: makes its frame safe, changes the node, and then writes its line, where each input has one there.

@@ -11,12 +11,14 @@ ghost use Rattle.oc_server.specs.Scenes.{IsServing};
 ghost use Rattle.oc_deeds.specs.Turns as turns;
 ghost use Rattle.oc_deeds.specs.Turns.{happens, measures, paced, probed, probes_next, quickened, rotated, takes_due, takes_median, ticks, ticks_and_sends, with_measure};
 
-use crate::ends::TurnEnd;
 use crate::server::Server;
 use oc_base::{MAX_RATE, NodeId};
 use oc_deeds::choosing::{due_place, wait_for};
 use oc_deeds::probing::{measured, next_peer};
-use oc_deeds::{Came, Pace, quickened};
+use oc_deeds::{
+    Came, Pace, TurnEnd, has_room, loses, notes_fault, obeys, probes_it, quickened, sends,
+    takes_brought, takes_measure, takes_up, ticks,
+};
 use oc_io::{Disk, Sink};
 use oc_link::Link;
 use oc_probe::{ProbeFault, Probing, rate_of};
@@ -78,7 +80,7 @@ impl<D: Disk, L: Link, K: Sink> Turns<D, L, K> {
         ensures breaks { IfErr result (λ end. (seconds : ℕ)
             × Stops D.view K.takes K.fails K.faults L.story L.counts end (takes_due self.old.pace (slice_get self.old.server.works place) before seconds) self.old.server self.new.server) }
     {
-        self.server.takes_up(place, before)?;
+        takes_up(&mut self.server, place, before)?;
         self.ticks_and_sends(before)?;
         Ok(true)
     }
@@ -130,17 +132,17 @@ impl<D: Disk, L: Link, K: Sink> Turns<D, L, K> {
                 connection,
                 count,
                 verdict,
-            } => self.server.obeys(connection, count, verdict, now),
+            } => obeys(&mut self.server, connection, count, verdict, now),
             Came::Room(connection) => {
-                self.server.has_room(connection, now)?;
+                has_room(&mut self.server, connection, now)?;
                 Ok(false)
             }
             Came::Gone(connection, loss) => {
-                self.server.loses(connection, loss)?;
+                loses(&mut self.server, connection, loss)?;
                 Ok(false)
             }
             Came::Reply { input, taken } => {
-                self.server.takes_brought(input)?;
+                takes_brought(&mut self.server, input)?;
                 Ok(taken)
             }
             Came::Probed { peer, since, fault } => {
@@ -173,7 +175,7 @@ impl<D: Disk, L: Link, K: Sink> Turns<D, L, K> {
     {
         match fault {
             None => self.takes_median(peer, rate_of(since, now)),
-            Some(fault) => self.server.notes_fault(peer, fault),
+            Some(fault) => notes_fault(&mut self.server, peer, fault),
         }
     }
 
@@ -189,7 +191,7 @@ impl<D: Disk, L: Link, K: Sink> Turns<D, L, K> {
             × Stops D.view K.takes K.fails K.faults L.story L.counts end (takes_median self.old.probing peer median) self.old.server self.new.server) }
     {
         match measured(&mut self.probing, peer, rate) {
-            Some(median) => self.server.takes_measure(peer, median.min(MAX_RATE)),
+            Some(median) => takes_measure(&mut self.server, peer, median.min(MAX_RATE)),
             None => Ok(()),
         }
     }
@@ -203,7 +205,7 @@ impl<D: Disk, L: Link, K: Sink> Turns<D, L, K> {
         ensures breaks { IfErr result (λ end. (started : ℕ) × Stops D.view K.takes K.fails K.faults L.story L.counts end (probes_next self.old.probing started) self.old.server self.new.server) }
     {
         match next_peer(&mut self.probing, self.server.dials.list()) {
-            Some(peer) => self.server.probes_it(peer),
+            Some(peer) => probes_it(&mut self.server, peer),
             None => Ok(()),
         }
     }
@@ -217,7 +219,7 @@ impl<D: Disk, L: Link, K: Sink> Turns<D, L, K> {
         ensures breaks { IfErr result (λ end. (seconds : ℕ) × Stops D.view K.takes K.fails K.faults L.story L.counts end (ticks_and_sends self.old.pace now seconds) self.old.server self.new.server) }
     {
         self.ticks(now)?;
-        self.server.sends()
+        sends(&mut self.server)
     }
 
     /// Takes a tick, where one is due.
@@ -231,7 +233,7 @@ impl<D: Disk, L: Link, K: Sink> Turns<D, L, K> {
         if self.pace.wait(now) != 0 {
             return Ok(());
         }
-        let seconds = self.server.ticks(&self.pace)?;
+        let seconds = ticks(&mut self.server, &self.pace)?;
         self.pace.look(now, seconds);
         Ok(())
     }

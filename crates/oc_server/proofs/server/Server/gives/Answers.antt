@@ -5,7 +5,7 @@ use Rattle.oc_keep.specs.KeptView.{node_of}
 use Rattle.oc_deeds.specs.Deeds.{Gives, piece, rest, with_content}
 use Rattle.oc_deeds.specs.Lawful.{IsLawfulWork}
 use Rattle.oc_deeds.specs.Works.{without}
-use Rattle.oc_server.specs.declared.ends.TurnEnd.TheVariants.{Memory}
+use Rattle.oc_deeds.specs.declared.ends.TurnEnd.TheVariants.{Memory}
 use Rattle.oc_deeds.specs.declared.work.Transfer.{Transfer}
 use Rattle.oc_deeds.specs.declared.work.Work.{Work}
 use Rattle.oc_deeds.proofs.Lawful.{works_with_content, works_without}

@@ -25,7 +25,7 @@ returns-in-Request-clause-did g c =
       0,
       0,
       subst (λ (x : Came). IsMeasured t.probing x c.args.now 0) (sym c.in-Request.is) tt,
-      does_as g.D.Disk.view g.K.Sink.takes g.K.Sink.fails g.K.Sink.faults g.L.Link.story g.L.Link.counts (obeys c.in-Request.connection c.in-Request.count c.in-Request.verdict c.args.now) (happens t.probing c.args.came c.args.now 0 0) t.server c.obeys.new.self (λ honest. ap (λ (x : Came). happens t.probing x c.args.now 0 0 (setting t.server) (running t.server)) c.in-Request.is) does,
+      does_as g.D.Disk.view g.K.Sink.takes g.K.Sink.fails g.K.Sink.faults g.L.Link.story g.L.Link.counts (obeys c.in-Request.connection c.in-Request.count c.in-Request.verdict c.args.now) (happens t.probing c.args.came c.args.now 0 0) t.server c.obeys.new.doer (λ honest. ap (λ (x : Came). happens t.probing x c.args.now 0 0 (setting t.server) (running t.server)) c.in-Request.is) does,
     )) c.obeys.ensures.did
 
 pub returns-in-Request-clause-hurries : goal.returns-in-Request-clause-hurries
@@ -39,7 +39,7 @@ returns-in-Request-clause-breaks g c =
       0,
       0,
       subst (λ (x : Came). IsMeasured t.probing x c.args.now 0) (sym c.in-Request.is) tt,
-      stops_as g.D.Disk.view g.K.Sink.takes g.K.Sink.fails g.K.Sink.faults g.L.Link.story g.L.Link.counts end (obeys c.in-Request.connection c.in-Request.count c.in-Request.verdict c.args.now) (happens t.probing c.args.came c.args.now 0 0) t.server c.obeys.new.self (λ honest. ap (λ (x : Came). happens t.probing x c.args.now 0 0 (setting t.server) (running t.server)) c.in-Request.is) stops,
+      stops_as g.D.Disk.view g.K.Sink.takes g.K.Sink.fails g.K.Sink.faults g.L.Link.story g.L.Link.counts end (obeys c.in-Request.connection c.in-Request.count c.in-Request.verdict c.args.now) (happens t.probing c.args.came c.args.now 0 0) t.server c.obeys.new.doer (λ honest. ap (λ (x : Came). happens t.probing x c.args.now 0 0 (setting t.server) (running t.server)) c.in-Request.is) stops,
     )) c.obeys.ensures.breaks
 
 pub returns-in-Request-clause-probing : goal.returns-in-Request-clause-probing
@@ -52,7 +52,7 @@ returns-in_ok-has_room-in-Room-clause-did g c =
       0,
       0,
       subst (λ (x : Came). IsMeasured t.probing x c.args.now 0) (sym c.in-Room.is) tt,
-      does_as g.D.Disk.view g.K.Sink.takes g.K.Sink.fails g.K.Sink.faults g.L.Link.story g.L.Link.counts (room c.in-Room.connection c.args.now) (happens t.probing c.args.came c.args.now 0 0) t.server c.has_room.new.self (λ honest. ap (λ (x : Came). happens t.probing x c.args.now 0 0 (setting t.server) (running t.server)) c.in-Room.is) does,
+      does_as g.D.Disk.view g.K.Sink.takes g.K.Sink.fails g.K.Sink.faults g.L.Link.story g.L.Link.counts (room c.in-Room.connection c.args.now) (happens t.probing c.args.came c.args.now 0 0) t.server c.has_room.new.doer (λ honest. ap (λ (x : Came). happens t.probing x c.args.now 0 0 (setting t.server) (running t.server)) c.in-Room.is) does,
     )
 
 pub returns-in_ok-has_room-in-Room-clause-hurries : goal.returns-in_ok-has_room-in-Room-clause-hurries
@@ -70,7 +70,7 @@ returns-in_err-has_room-in-Room-clause-breaks g c =
       0,
       0,
       subst (λ (x : Came). IsMeasured t.probing x c.args.now 0) (sym c.in-Room.is) tt,
-      stops_as g.D.Disk.view g.K.Sink.takes g.K.Sink.fails g.K.Sink.faults g.L.Link.story g.L.Link.counts c.in_err-has_room-in-Room.field-0.0 (room c.in-Room.connection c.args.now) (happens t.probing c.args.came c.args.now 0 0) t.server c.has_room.new.self (λ honest. ap (λ (x : Came). happens t.probing x c.args.now 0 0 (setting t.server) (running t.server)) c.in-Room.is) stops,
+      stops_as g.D.Disk.view g.K.Sink.takes g.K.Sink.fails g.K.Sink.faults g.L.Link.story g.L.Link.counts c.in_err-has_room-in-Room.field-0.0 (room c.in-Room.connection c.args.now) (happens t.probing c.args.came c.args.now 0 0) t.server c.has_room.new.doer (λ honest. ap (λ (x : Came). happens t.probing x c.args.now 0 0 (setting t.server) (running t.server)) c.in-Room.is) stops,
     )
 
 pub returns-in_err-has_room-in-Room-clause-probing : goal.returns-in_err-has_room-in-Room-clause-probing
@@ -83,7 +83,7 @@ returns-in_ok-loses-in-Gone-clause-did g c =
       0,
       0,
       subst (λ (x : Came). IsMeasured t.probing x c.args.now 0) (sym c.in-Gone.is) tt,
-      does_as g.D.Disk.view g.K.Sink.takes g.K.Sink.fails g.K.Sink.faults g.L.Link.story g.L.Link.counts (gone c.in-Gone.connection c.in-Gone.loss) (happens t.probing c.args.came c.args.now 0 0) t.server c.loses.new.self (λ honest. ap (λ (x : Came). happens t.probing x c.args.now 0 0 (setting t.server) (running t.server)) c.in-Gone.is) does,
+      does_as g.D.Disk.view g.K.Sink.takes g.K.Sink.fails g.K.Sink.faults g.L.Link.story g.L.Link.counts (gone c.in-Gone.connection c.in-Gone.loss) (happens t.probing c.args.came c.args.now 0 0) t.server c.loses.new.doer (λ honest. ap (λ (x : Came). happens t.probing x c.args.now 0 0 (setting t.server) (running t.server)) c.in-Gone.is) does,
     )
 
 pub returns-in_ok-loses-in-Gone-clause-hurries : goal.returns-in_ok-loses-in-Gone-clause-hurries
@@ -101,7 +101,7 @@ returns-in_err-loses-in-Gone-clause-breaks g c =
       0,
       0,
       subst (λ (x : Came). IsMeasured t.probing x c.args.now 0) (sym c.in-Gone.is) tt,
-      stops_as g.D.Disk.view g.K.Sink.takes g.K.Sink.fails g.K.Sink.faults g.L.Link.story g.L.Link.counts c.in_err-loses-in-Gone.field-0.0 (gone c.in-Gone.connection c.in-Gone.loss) (happens t.probing c.args.came c.args.now 0 0) t.server c.loses.new.self (λ honest. ap (λ (x : Came). happens t.probing x c.args.now 0 0 (setting t.server) (running t.server)) c.in-Gone.is) stops,
+      stops_as g.D.Disk.view g.K.Sink.takes g.K.Sink.fails g.K.Sink.faults g.L.Link.story g.L.Link.counts c.in_err-loses-in-Gone.field-0.0 (gone c.in-Gone.connection c.in-Gone.loss) (happens t.probing c.args.came c.args.now 0 0) t.server c.loses.new.doer (λ honest. ap (λ (x : Came). happens t.probing x c.args.now 0 0 (setting t.server) (running t.server)) c.in-Gone.is) stops,
     )
 
 pub returns-in_err-loses-in-Gone-clause-probing : goal.returns-in_err-loses-in-Gone-clause-probing
@@ -114,7 +114,7 @@ returns-in_ok-takes_brought-in-Reply-clause-did g c =
       0,
       0,
       subst (λ (x : Came). IsMeasured t.probing x c.args.now 0) (sym c.in-Reply.is) tt,
-      does_as g.D.Disk.view g.K.Sink.takes g.K.Sink.fails g.K.Sink.faults g.L.Link.story g.L.Link.counts (brought c.in-Reply.input) (happens t.probing c.args.came c.args.now 0 0) t.server c.takes_brought.new.self (λ honest. ap (λ (x : Came). happens t.probing x c.args.now 0 0 (setting t.server) (running t.server)) c.in-Reply.is) does,
+      does_as g.D.Disk.view g.K.Sink.takes g.K.Sink.fails g.K.Sink.faults g.L.Link.story g.L.Link.counts (brought c.in-Reply.input) (happens t.probing c.args.came c.args.now 0 0) t.server c.takes_brought.new.doer (λ honest. ap (λ (x : Came). happens t.probing x c.args.now 0 0 (setting t.server) (running t.server)) c.in-Reply.is) does,
     )
 
 pub returns-in_ok-takes_brought-in-Reply-clause-hurries : goal.returns-in_ok-takes_brought-in-Reply-clause-hurries
@@ -132,7 +132,7 @@ returns-in_err-takes_brought-in-Reply-clause-breaks g c =
       0,
       0,
       subst (λ (x : Came). IsMeasured t.probing x c.args.now 0) (sym c.in-Reply.is) tt,
-      stops_as g.D.Disk.view g.K.Sink.takes g.K.Sink.fails g.K.Sink.faults g.L.Link.story g.L.Link.counts c.in_err-takes_brought-in-Reply.field-0.0 (brought c.in-Reply.input) (happens t.probing c.args.came c.args.now 0 0) t.server c.takes_brought.new.self (λ honest. ap (λ (x : Came). happens t.probing x c.args.now 0 0 (setting t.server) (running t.server)) c.in-Reply.is) stops,
+      stops_as g.D.Disk.view g.K.Sink.takes g.K.Sink.fails g.K.Sink.faults g.L.Link.story g.L.Link.counts c.in_err-takes_brought-in-Reply.field-0.0 (brought c.in-Reply.input) (happens t.probing c.args.came c.args.now 0 0) t.server c.takes_brought.new.doer (λ honest. ap (λ (x : Came). happens t.probing x c.args.now 0 0 (setting t.server) (running t.server)) c.in-Reply.is) stops,
     )
 
 pub returns-in_err-takes_brought-in-Reply-clause-probing : goal.returns-in_err-takes_brought-in-Reply-clause-probing

@@ -44,7 +44,7 @@ returns-in-Some-clause-did g c =
     done_then c.notes_fault.result (λ does. (
       0,
       subst (λ (f : Option ProbeFault). IsMeasured t.probing (comes.Probed c.args.peer c.args.since f) c.args.now 0) (sym c.in-Some.is) tt,
-      does_as g.D.Disk.view g.K.Sink.takes g.K.Sink.fails g.K.Sink.faults g.L.Link.story g.L.Link.counts (notes_fault c.args.peer c.in-Some.fault) (measures t.probing c.args.peer c.args.fault 0) t.server c.notes_fault.new.self
+      does_as g.D.Disk.view g.K.Sink.takes g.K.Sink.fails g.K.Sink.faults g.L.Link.story g.L.Link.counts (notes_fault c.args.peer c.in-Some.fault) (measures t.probing c.args.peer c.args.fault 0) t.server c.notes_fault.new.doer
           (λ honest. ap (λ (f : Option ProbeFault). measures t.probing c.args.peer f 0 (setting t.server) (running t.server)) c.in-Some.is) does,
     )) c.notes_fault.ensures.did
 
@@ -59,6 +59,6 @@ returns-in-Some-clause-breaks g c =
     err_then c.notes_fault.result (λ end stops. (
       0,
       subst (λ (f : Option ProbeFault). IsMeasured t.probing (comes.Probed c.args.peer c.args.since f) c.args.now 0) (sym c.in-Some.is) tt,
-      stops_as g.D.Disk.view g.K.Sink.takes g.K.Sink.fails g.K.Sink.faults g.L.Link.story g.L.Link.counts end (notes_fault c.args.peer c.in-Some.fault) (measures t.probing c.args.peer c.args.fault 0) t.server c.notes_fault.new.self
+      stops_as g.D.Disk.view g.K.Sink.takes g.K.Sink.fails g.K.Sink.faults g.L.Link.story g.L.Link.counts end (notes_fault c.args.peer c.in-Some.fault) (measures t.probing c.args.peer c.args.fault 0) t.server c.notes_fault.new.doer
           (λ honest. ap (λ (f : Option ProbeFault). measures t.probing c.args.peer f 0 (setting t.server) (running t.server)) c.in-Some.is) stops,
     )) c.notes_fault.ensures.breaks

@@ -20,7 +20,7 @@ returns-in-Some-clause-did g c =
     ap (λ (ds : List Dialling). next_peer t.probing ds) (sym c.list.ensures) ∙ sym c.next_peer.ensures.peer ∙ c.in-Some.is in
     done_then c.probes_it.result (λ does. (
       does.0,
-      does_as g.D.Disk.view g.K.Sink.takes g.K.Sink.fails g.K.Sink.faults g.L.Link.story g.L.Link.counts (probes_it (Some c.in-Some.peer) does.0) (probes_next t.probing does.0) t.server c.probes_it.new.self
+      does_as g.D.Disk.view g.K.Sink.takes g.K.Sink.fails g.K.Sink.faults g.L.Link.story g.L.Link.counts (probes_it (Some c.in-Some.peer) does.0) (probes_next t.probing does.0) t.server c.probes_it.new.doer
           (λ honest. ap (λ (o : Option ℕ). probes_it o does.0 (setting t.server) (running t.server)) is) does.1,
     )) c.probes_it.ensures.did
 
@@ -31,7 +31,7 @@ returns-in-Some-clause-breaks g c =
     ap (λ (ds : List Dialling). next_peer t.probing ds) (sym c.list.ensures) ∙ sym c.next_peer.ensures.peer ∙ c.in-Some.is in
     err_then c.probes_it.result (λ end stops. (
       stops.0,
-      stops_as g.D.Disk.view g.K.Sink.takes g.K.Sink.fails g.K.Sink.faults g.L.Link.story g.L.Link.counts end (probes_it (Some c.in-Some.peer) stops.0) (probes_next t.probing stops.0) t.server c.probes_it.new.self
+      stops_as g.D.Disk.view g.K.Sink.takes g.K.Sink.fails g.K.Sink.faults g.L.Link.story g.L.Link.counts end (probes_it (Some c.in-Some.peer) stops.0) (probes_next t.probing stops.0) t.server c.probes_it.new.doer
           (λ honest. ap (λ (o : Option ℕ). probes_it o stops.0 (setting t.server) (running t.server)) is) stops.1,
     )) c.probes_it.ensures.breaks
 

@@ -20,7 +20,7 @@ returns-in-Some-clause-did g c =
     done_then c.takes_measure.result (λ does. (
       m,
       median_of t.probing c.args.peer c.args.rate m is,
-      does_as g.D.Disk.view g.K.Sink.takes g.K.Sink.fails g.K.Sink.faults g.L.Link.story g.L.Link.counts (measured c.args.peer c.min.result) (takes_median t.probing c.args.peer m) t.server c.takes_measure.new.self
+      does_as g.D.Disk.view g.K.Sink.takes g.K.Sink.fails g.K.Sink.faults g.L.Link.story g.L.Link.counts (measured c.args.peer c.min.result) (takes_median t.probing c.args.peer m) t.server c.takes_measure.new.doer
           (λ honest. median_part t.probing c.args.peer c.args.rate m (setting t.server) (running t.server) is ∙ ap (λ (n : ℕ). measured c.args.peer n (setting t.server) (running t.server)) (sym c.min.ensures)) does,
     )) c.takes_measure.ensures.did
 
@@ -32,7 +32,7 @@ returns-in-Some-clause-breaks g c =
     err_then c.takes_measure.result (λ end stops. (
       m,
       median_of t.probing c.args.peer c.args.rate m is,
-      stops_as g.D.Disk.view g.K.Sink.takes g.K.Sink.fails g.K.Sink.faults g.L.Link.story g.L.Link.counts end (measured c.args.peer c.min.result) (takes_median t.probing c.args.peer m) t.server c.takes_measure.new.self
+      stops_as g.D.Disk.view g.K.Sink.takes g.K.Sink.fails g.K.Sink.faults g.L.Link.story g.L.Link.counts end (measured c.args.peer c.min.result) (takes_median t.probing c.args.peer m) t.server c.takes_measure.new.doer
           (λ honest. median_part t.probing c.args.peer c.args.rate m (setting t.server) (running t.server) is ∙ ap (λ (n : ℕ). measured c.args.peer n (setting t.server) (running t.server)) (sym c.min.ensures)) stops,
     )) c.takes_measure.ensures.breaks
 

@@ -20,7 +20,7 @@ returns-clause-did g c =
     let t = c.args.self.now in
     let seconds = c.in_ok-seconds.seconds in (
       seconds,
-      does_as g.D.Disk.view g.K.Sink.takes g.K.Sink.fails g.K.Sink.faults g.L.Link.story g.L.Link.counts (ticked t.pace.second seconds) (ticks t.pace c.args.now seconds) t.server c.ticks.new.self
+      does_as g.D.Disk.view g.K.Sink.takes g.K.Sink.fails g.K.Sink.faults g.L.Link.story g.L.Link.counts (ticked t.pace.second seconds) (ticks t.pace c.args.now seconds) t.server c.ticks.new.doer
           (λ honest. a_tick t.pace c.args.now c.wait.result seconds (setting t.server) (running t.server) c.wait.ensures c.if-wait-ne0.false) c.in_ok-seconds.ensures.did,
       c.look.ensures ∙ a_tick_paced t.pace c.args.now c.wait.result seconds c.wait.ensures c.if-wait-ne0.false,
     )
@@ -32,6 +32,6 @@ returns-in_err-seconds-clause-breaks g c =
     let stops = c.in_err-seconds.ensures.breaks in
     rw (p.1, p.2) (
       stops.0,
-      stops_as g.D.Disk.view g.K.Sink.takes g.K.Sink.fails g.K.Sink.faults g.L.Link.story g.L.Link.counts c.in_err-seconds.field-0.0 (ticked t.pace.second stops.0) (ticks t.pace c.args.now stops.0) t.server c.ticks.new.self
+      stops_as g.D.Disk.view g.K.Sink.takes g.K.Sink.fails g.K.Sink.faults g.L.Link.story g.L.Link.counts c.in_err-seconds.field-0.0 (ticked t.pace.second stops.0) (ticks t.pace c.args.now stops.0) t.server c.ticks.new.doer
           (λ honest. a_tick t.pace c.args.now c.wait.result stops.0 (setting t.server) (running t.server) c.wait.ensures c.if-wait-ne0.false) stops.1,
     )

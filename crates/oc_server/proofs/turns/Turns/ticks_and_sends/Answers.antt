@@ -15,13 +15,13 @@ pub returns-clause-did : goal.returns-clause-did
 returns-clause-did g c =
     let t = c.args.self.now in
     let did = c.in_ok-ticks.ensures.did in
-    done_then c.sends.result (λ does. (did.0, does_then g.D.Disk.view g.K.Sink.takes g.K.Sink.fails g.K.Sink.faults g.L.Link.story g.L.Link.counts g.met.K.Sink.takes_then (ticks t.pace c.args.now did.0) (sends MAX_DIALS) t.server c.ticks.new.self.server c.sends.new.self did.1 does, did.2)) c.sends.ensures.did
+    done_then c.sends.result (λ does. (did.0, does_then g.D.Disk.view g.K.Sink.takes g.K.Sink.fails g.K.Sink.faults g.L.Link.story g.L.Link.counts g.met.K.Sink.takes_then (ticks t.pace c.args.now did.0) (sends MAX_DIALS) t.server c.ticks.new.self.server c.sends.new.doer did.1 does, did.2)) c.sends.ensures.did
 
 pub returns-clause-breaks : goal.returns-clause-breaks
 returns-clause-breaks g c =
     let t = c.args.self.now in
     let did = c.in_ok-ticks.ensures.did in
-    err_then c.sends.result (λ end stops. (did.0, stops_behind g.D.Disk.view g.K.Sink.takes g.K.Sink.fails g.K.Sink.faults g.L.Link.story g.L.Link.counts g.met.K.Sink.takes_then end (ticks t.pace c.args.now did.0) (sends MAX_DIALS) t.server c.ticks.new.self.server c.sends.new.self did.1 stops)) c.sends.ensures.breaks
+    err_then c.sends.result (λ end stops. (did.0, stops_behind g.D.Disk.view g.K.Sink.takes g.K.Sink.fails g.K.Sink.faults g.L.Link.story g.L.Link.counts g.met.K.Sink.takes_then end (ticks t.pace c.args.now did.0) (sends MAX_DIALS) t.server c.ticks.new.self.server c.sends.new.doer did.1 stops)) c.sends.ensures.breaks
 
 pub returns-in_err-ticks-clause-breaks : goal.returns-in_err-ticks-clause-breaks
 returns-in_err-ticks-clause-breaks g c =

@@ -14,13 +14,13 @@ use Rattle.oc_model.specs.declared.mode.Mode.TheVariants.{Acting, Asking, Idle, 
 use Rattle.oc_model.specs.Adopting.{in_tree, is_acting}
 use Rattle.oc_model.specs.Asking.{is_asking}
 use Rattle.oc_model.specs.Checking.{is_joined_to}
-use Rattle.oc_model.specs.Looking.{children}
 use Rattle.oc_model.specs.Node.{Control, Node}
 use Rattle.oc_model.specs.Step.{step}
 use Rattle.oc_model.specs.Table.{leased_by}
 use Rattle.oc_replay.specs.Bodies.{rank_or_dash}
 use Rattle.oc_replay.specs.Lines.{answer_text}
 use Rattle.oc_replay.specs.Shows.{mode_text}
+use Rattle.oc_state.specs.Children.{told_children}
 use Rattle.oc_state.specs.Modes.{is_idle}
 use Rattle.oc_deeds.specs.Records.{record_head}
 use Rattle.oc_deeds.specs.declared.log.Log.{Log}
@@ -49,7 +49,7 @@ asked_line (b ∷ bs) answer = (b ∷ bs) ++ told_answer answer ++ codes "\n"
 
 -- the children that an input may lose: a tick ends leases
 abbrev pub at_stake : Control → Input → List Child
-at_stake n (inputs.Tick t) = children n
+at_stake n (inputs.Tick t) = told_children n.kept.table n.me n.rates
 at_stake n i = []
 
 abbrev pub has_lease : Control → ℕ → Bool

@@ -1,7 +1,6 @@
 //! How a record begins.
 
 ghost use Rattle.std.specs.Prelude.{◌≡◌, ◌++◌, IfOk, OnOk};
-ghost use Rattle.oc_model.specs.Node.{Header};
 ghost use Rattle.oc_deeds.specs.Brief.{told_first};
 ghost use Rattle.oc_deeds.specs.Records.{network_of, network_text, record_head, up_line};
 

@@ -11,9 +11,10 @@ use Rattle.oc_model.specs.declared.mode.Mode.TheVariants as modes
 use Rattle.oc_model.specs.declared.record.Record.TheVariants as records
 use Rattle.oc_model.specs.declared.soft.Search.{Search}
 use Rattle.oc_model.specs.declared.soft.Search.TheVariants.{Descend}
+use Rattle.oc_model.specs.declared.soft.Soft.{Soft}
 use Rattle.oc_model.specs.Adoption.{rank_or_last, precedes_any}
 use Rattle.oc_base.specs.declared.limits.TheConstants.{MAX_DEPTH, MAX_ANCESTORS}
-use Rattle.oc_model.specs.Asking.{lost_from, lost, send_ask, ask, next_epoch, act, descend, try_at, try_first, next_try, set_tries, round, ask_before, is_asking, ancestors_by, joins, took_yes, refused, took_no, not_seen, not_reached, unreachable, relocate}
+use Rattle.oc_model.specs.Asking.{lost_from, lost, send_ask, ask, next_epoch, act, descend, try_at, earlier, waits_awhile, try_first, next_try, set_tries, round, ask_before, is_asking, ancestors_by, patience_at, joins, took_yes, refused, took_no, not_seen, not_reached, unreachable, relocate}
 use Rattle.oc_model.specs.Choice.{ask_order}
 use Rattle.oc_model.specs.Numbers.{number_end, is_empty}
 use Rattle.oc_model.specs.Plan.{Plan, write, answers, with_soft, searching, ignored, is_member}
@@ -51,8 +52,13 @@ goes_descend e k o p =
 goes_try_at : (o : Plan) (p : ℕ) → Goes 0 1 o (try_at o p)
 goes_try_at o p = either (not (is_member o.node) && is_empty o.node.kept.ancestors) (Goes 0 1 o) (descend o p) (ask o p) (goes_descend 0 1 o p) (goes_ask o p)
 
+goes_waits_awhile : (e k : ℕ) (o : Plan) → Goes e k o (waits_awhile o)
+goes_waits_awhile e k o =
+    let later : Soft = record o.node.soft { due = Some (earlier o.node.soft.due (o.node.soft.clock + 4)) } in
+    goes_free e k o (waits_awhile o) (then_answers 0 0 o (with_soft o later) words.Waiting (goes_soft o later))
+
 goes_try_first : (ps : List ℕ) (o : Plan) → Goes 0 2 o (try_first ps o)
-goes_try_first [] o = either (is_member o.node && o.node.soft.silent) (Goes 0 2 o) (act o) (answers o words.Waiting) (goes_act o) (goes_says 0 2 o words.Waiting)
+goes_try_first [] o = either (is_member o.node && o.node.soft.silent) (Goes 0 2 o) (act o) (waits_awhile o) (goes_act o) (goes_waits_awhile 0 2 o)
 goes_try_first (p ∷ ps) o =
     goes_within 0 1 0 2 o (try_first (p ∷ ps) o) (omega arith) (omega arith)
     (goes_then 0 0 0 1 o (with_soft o (record o.node.soft { tries = ps })) (try_first (p ∷ ps) o) (goes_soft o (record o.node.soft { tries = ps }))
@@ -76,7 +82,8 @@ few_ancestors p xs = let e : length (take 999 xs) ≡ min 999 (length xs) = leng
 
 goes_joins : (o : Plan) (p : ℕ) (r : Rank) (xs : List ℕ) → Goes 0 2 o (joins o p r xs)
 goes_joins o p r xs =
-    then_soft 0 2 o (write (write o (records.Joined p (beneath_of r))) (records.Ancestors (ancestors_by p xs))) (record o.node.soft { due = None; tries = []; search = None })
+    then_soft 0 2 o (write (write o (records.Joined p (beneath_of r))) (records.Ancestors (ancestors_by p xs)))
+    (record o.node.soft { due = None; tries = []; search = None; wish = None; waits = 0; patience = patience_at o.node p })
     (then_other 1 o (write o (records.Joined p (beneath_of r))) (records.Ancestors (ancestors_by p xs)) refl (few_ancestors p xs) (goes_write o (records.Joined p (beneath_of r)) tt))
 
 pub goes_took_yes : (o : Plan) (p seq : ℕ) (r : Rank) (xs : List ℕ) → Goes 0 2 o (took_yes o p seq r xs)

@@ -10,13 +10,14 @@ use Rattle.oc_model.specs.declared.message.Body.TheVariants as bodies
 use Rattle.oc_model.specs.declared.mode.Mode.{Mode}
 use Rattle.oc_model.specs.declared.mode.Mode.TheVariants as modes
 use Rattle.oc_model.specs.declared.record.Record.TheVariants as records
-use Rattle.oc_model.specs.declared.soft.Search.TheVariants.{Review}
+use Rattle.oc_model.specs.declared.soft.Search.{Search}
+use Rattle.oc_model.specs.declared.soft.Search.TheVariants.{Descend, Review}
 use Rattle.oc_model.specs.Adopting.{raises, has_lease, sends_rejoin}
 use Rattle.oc_model.specs.Adoption.{rank_or_last, is_better}
 use Rattle.oc_model.specs.Asking.{send_ask, ask_before, ancestors_by}
 use Rattle.oc_base.specs.declared.limits.TheConstants.{MAX_ANCESTORS}
 use Rattle.oc_model.specs.ChangeLog.{is_ahead}
-use Rattle.oc_model.specs.Checking.{counts_clients, reports, checks_as, next_check, checks, merges, merges_all, at_time, starts_leases, dies, ends_each, ends_leases, looks_at_each, looks_round, is_due, forgets_refusal, checks_in_time, has_news, reports_news_as, reports_news, checks_if_due, fetches_as, tick, acknowledges, life, checked_in, is_joined_to, takes_place, takes_rank, same_ids, takes_ancestors, took_ack, is_peer, took_rejoin}
+use Rattle.oc_model.specs.Checking.{counts_clients, reports, checks_as, next_check, sets_due, checks, merges, merges_all, at_time, starts_leases, dies, ends_each, ends_leases, looks_at_each, looks_round, is_due, forgets_refusal, goes_on, tick_checks_as, tick_checks, checks_in_time, has_news, reports_news_as, reports_news, checks_if_due, fetches_as, tick, acknowledges, life, checked_in, is_joined_to, takes_place, takes_rank, takes_rank_unless, same_ids, takes_ancestors, took_ack, is_peer, took_rejoin}
 use Rattle.oc_model.specs.Choice.{below}
 use Rattle.oc_model.specs.Leases.{start_if, start_each, is_over, ended}
 use Rattle.oc_model.specs.Numbers.{number_end, raise, capped, at}
@@ -53,11 +54,11 @@ goes_checks_as modes.Acting o =
 goes_checks_as modes.Idle o = goes_round o None
 goes_checks_as (modes.Asking p) o = goes_free 0 2 o (send_ask o p) (goes_send o p (bodies.Ask o.node.kept.seq o.node.kept.rank))
 
-abbrev dated : Plan → Plan
-dated o = with_soft o (record o.node.soft { due = Some (next_check o.node) })
+goes_sets_due : (o : Plan) → Goes 0 0 o (sets_due o)
+goes_sets_due o = goes_soft o (record o.node.soft { due = Some (next_check o.node) })
 
 pub goes_checks : (o : Plan) → Goes 0 2 o (checks o)
-goes_checks o = goes_then 0 0 0 2 o (dated o) (checks o) (goes_soft o (record o.node.soft { due = Some (next_check o.node) })) (goes_checks_as o.node.kept.mode (dated o))
+goes_checks o = goes_then 0 0 0 2 o (sets_due o) (checks o) (goes_sets_due o) (goes_checks_as o.node.kept.mode (sets_due o))
 
 -- Tick
 
@@ -128,12 +129,26 @@ goes_forgets : (due : Option ℕ) (o : Plan) → Goes 0 0 o (forgets_refusal due
 goes_forgets None o = goes_itself o
 goes_forgets (Some t) o = goes_soft o (record o.node.soft { refused = false })
 
+goes_goes_on : (s : Option Search) (o : Plan) → Goes 0 2 o (goes_on s o)
+goes_goes_on (Some (Descend p)) o = goes_free 0 2 o (send o p bodies.Look) (goes_send o p bodies.Look)
+goes_goes_on (Some Review) o = goes_round o None
+goes_goes_on None o = goes_round o None
+
+goes_tick_checks_as : (m : Mode) (o : Plan) → Goes 0 2 o (tick_checks_as m o)
+goes_tick_checks_as modes.Idle o = goes_goes_on o.node.soft.search o
+goes_tick_checks_as (modes.Joined p) o = goes_checks_as (modes.Joined p) o
+goes_tick_checks_as (modes.Asking p) o = goes_checks_as (modes.Asking p) o
+goes_tick_checks_as modes.Acting o = goes_checks_as modes.Acting o
+
+goes_tick_checks : (o : Plan) → Goes 0 2 o (tick_checks o)
+goes_tick_checks o = goes_then 0 0 0 2 o (sets_due o) (tick_checks o) (goes_sets_due o) (goes_tick_checks_as o.node.kept.mode (sets_due o))
+
 goes_checks_in_time : (o : Plan) → Goes 0 2 o (checks_in_time o)
 goes_checks_in_time o =
     let begins : Plan = forgets_refusal o.node.soft.due o in
-    goes_then 0 2 0 0 o (checks begins) (checks_in_time o)
-    (goes_then 0 0 0 2 o begins (checks begins) (goes_forgets o.node.soft.due o) (goes_checks begins))
-    (goes_looks_round o.node.kept.mode (checks begins))
+    goes_then 0 2 0 0 o (tick_checks begins) (checks_in_time o)
+    (goes_then 0 0 0 2 o begins (tick_checks begins) (goes_forgets o.node.soft.due o) (goes_tick_checks begins))
+    (goes_looks_round o.node.kept.mode (tick_checks begins))
 
 goes_reports_news_as : (m : Mode) (o : Plan) → Goes 0 2 o (reports_news_as m o)
 goes_reports_news_as (modes.Joined p) o =
@@ -202,18 +217,22 @@ goes_takes_rank o told =
     either (is_better o.node.kept.rank told) (Goes 0 1 o) (write o (records.Ranked (beneath_of told))) o
     (goes_write o (records.Ranked (beneath_of told)) tt) (goes_free 0 1 o o (goes_itself o))
 
+goes_takes_rank_unless : (wish : Option ℕ) (o : Plan) (told : Rank) → Goes 0 1 o (takes_rank_unless wish o told)
+goes_takes_rank_unless None o told = goes_takes_rank o told
+goes_takes_rank_unless (Some g) o told = goes_free 0 1 o o (goes_itself o)
+
 goes_takes_ancestors : (o : Plan) (xs : List ℕ) → length xs ≤ MAX_ANCESTORS → Goes 0 1 o (takes_ancestors o xs)
 goes_takes_ancestors o xs few =
     either (same_ids xs o.node.kept.ancestors) (Goes 0 1 o) o (write o (records.Ancestors xs)) (goes_free 0 1 o o (goes_itself o)) (goes_write o (records.Ancestors xs) few)
 
 abbrev raised : Plan → ℕ → Rank → Plan
-raised o upto told = takes_rank (takes_place o upto) told
+raised o upto told = takes_rank_unless o.node.soft.wish (takes_place o upto) told
 
 pub goes_took_ack : (o : Plan) (p seq upto : ℕ) (told : Rank) (xs : List ℕ) → Goes 0 3 o (took_ack o p seq upto told xs)
 goes_took_ack o p seq upto told xs =
     either (is_joined_to o.node.kept.mode p && seq == o.node.kept.seq) (Goes 0 3 o) (takes_ancestors (raised o upto told) (ancestors_by p xs)) (ignored o)
     (goes_then 0 2 0 1 o (raised o upto told) (takes_ancestors (raised o upto told) (ancestors_by p xs))
-    (goes_then 0 1 0 1 o (takes_place o upto) (raised o upto told) (goes_takes_place o upto) (goes_takes_rank (takes_place o upto) told))
+    (goes_then 0 1 0 1 o (takes_place o upto) (raised o upto told) (goes_takes_place o upto) (goes_takes_rank_unless o.node.soft.wish (takes_place o upto) told))
     (goes_takes_ancestors (raised o upto told) (ancestors_by p xs) (few_ancestors p xs)))
     (goes_says 0 3 o words.Ignored)
 

@@ -12,9 +12,10 @@ use Rattle.oc_model.specs.declared.mode.Mode.TheVariants as modes
 use Rattle.oc_model.specs.declared.record.Record.TheVariants as records
 use Rattle.oc_model.specs.declared.soft.Search.{Search}
 use Rattle.oc_model.specs.declared.soft.Search.TheVariants.{Descend, Review}
+use Rattle.oc_model.specs.declared.soft.Soft.{Soft}
 use Rattle.oc_model.specs.Adoption.{rank_or_last, precedes_any}
 use Rattle.oc_base.specs.declared.limits.TheConstants.{MAX_DEPTH}
-use Rattle.oc_model.specs.Asking.{lost_from, lost, send_ask, ask, next_epoch, act, descend, try_at, try_first, next_try, set_tries, round, ask_before, is_asking, ancestors_by, joins, took_yes, refused, took_no, not_seen, not_reached, unreachable, relocate}
+use Rattle.oc_model.specs.Asking.{lost_from, lost, send_ask, ask, next_epoch, act, descend, try_at, earlier, waits_awhile, try_first, next_try, set_tries, round, ask_before, is_asking, ancestors_by, patience_at, joins, took_yes, refused, took_no, not_seen, not_reached, unreachable, relocate}
 use Rattle.oc_model.specs.Choice.{ask_order}
 use Rattle.oc_base.specs.Lawful.{IsNode, AreNodes, AreAncestors, IsCount, IsRank, IsRefusal}
 use Rattle.oc_model.specs.Numbers.{number_end, is_empty}
@@ -65,9 +66,15 @@ module _ (nodes : ℕ) where
   lawful_try_at o p to ok =
       either (not (is_member o.node) && is_empty o.node.kept.ancestors) (IsLawfulPlan nodes) (descend o p) (ask o p) (lawful_descend o p to ok) (lawful_ask o p to ok)
 
+  lawful_waits_awhile : (o : Plan) → IsLawfulPlan nodes o → IsLawfulPlan nodes (waits_awhile o)
+  lawful_waits_awhile o ok =
+      let later : Soft = record o.node.soft { due = Some (earlier o.node.soft.due (o.node.soft.clock + 4)) } in
+      lawful_answers nodes (with_soft o later) words.Waiting
+      (lawful_soft nodes o later (record { clock = ok.node.soft.clock; tries = ok.node.soft.tries; search = ok.node.soft.search }) ok)
+
   lawful_try_first : (ps : List ℕ) (o : Plan) → AreNodes nodes ps → IsLawfulPlan nodes o → IsLawfulPlan nodes (try_first ps o)
   lawful_try_first [] o to ok =
-      either (is_member o.node && o.node.soft.silent) (IsLawfulPlan nodes) (act o) (answers o words.Waiting) (lawful_act o ok) (lawful_answers nodes o words.Waiting ok)
+      either (is_member o.node && o.node.soft.silent) (IsLawfulPlan nodes) (act o) (waits_awhile o) (lawful_act o ok) (lawful_waits_awhile o ok)
   lawful_try_first (p ∷ ps) o to ok =
       lawful_try_at (with_soft o (record o.node.soft { tries = ps })) p to.0
       (lawful_soft nodes o (record o.node.soft { tries = ps }) (record { clock = ok.node.soft.clock; tries = to.1; search = ok.node.soft.search }) ok)
@@ -101,7 +108,8 @@ module _ (nodes : ℕ) where
   lawful_joins : (o : Plan) (p : ℕ) (r : Rank) (xs : List ℕ) → IsNode nodes p → IsRank r → nat_lt r.depth MAX_DEPTH ≡ true → AreNodes nodes xs → IsLawfulPlan nodes o → IsLawfulPlan nodes (joins o p r xs)
   lawful_joins o p r xs from told deep all ok =
       let less : r.depth < MAX_DEPTH = ltb-true r.depth MAX_DEPTH deep in
-      lawful_soft nodes (joined_to o p r xs) (record o.node.soft { due = None; tries = []; search = None }) (record { clock = ok.node.soft.clock; tries = tt; search = tt })
+      lawful_soft nodes (joined_to o p r xs) (record o.node.soft { due = None; tries = []; search = None; wish = None; waits = 0; patience = patience_at o.node p })
+      (record { clock = ok.node.soft.clock; tries = tt; search = tt })
       (lawful_write nodes (write o (records.Joined p (beneath_of r))) (records.Ancestors (ancestors_by p xs)) (lawful_ancestors p xs from all)
       (lawful_write nodes o (records.Joined p (beneath_of r)) (from, (told.0, omega (arith, less))) ok))
 

@@ -9,13 +9,14 @@ use Rattle.oc_model.specs.declared.message.Body.TheVariants as bodies
 use Rattle.oc_model.specs.declared.mode.Mode.{Mode}
 use Rattle.oc_model.specs.declared.mode.Mode.TheVariants as modes
 use Rattle.oc_model.specs.declared.record.Record.TheVariants as records
-use Rattle.oc_model.specs.declared.soft.Search.TheVariants.{Review}
+use Rattle.oc_model.specs.declared.soft.Search.{Search}
+use Rattle.oc_model.specs.declared.soft.Search.TheVariants.{Descend, Review}
 use Rattle.oc_model.specs.Adopting.{has_lease, sends_rejoin}
 use Rattle.oc_model.specs.Adoption.{rank_or_last, is_better, precedes_any}
 use Rattle.oc_base.specs.declared.limits.TheConstants.{MAX_DEPTH, MAX_CHECK_IN_CERTS, LAST_SECOND}
 use Rattle.oc_model.specs.Asking.{ask_before, ancestors_by}
 use Rattle.oc_model.specs.ChangeLog.{is_ahead, next_certs, place_after}
-use Rattle.oc_model.specs.Checking.{counts_clients, checks_in, reports, checks_as, next_check, checks, merges, merges_all, at_time, starts_leases, dies, ends_each, ends_leases, looks_at_each, looks_round, is_due, forgets_refusal, checks_in_time, has_news, reports_news_as, reports_news, checks_if_due, fetches_as, fetches, tick, acknowledges, life, checked_in, is_joined_to, takes_place, takes_rank, same_ids, takes_ancestors, took_ack, is_peer, took_rejoin}
+use Rattle.oc_model.specs.Checking.{counts_clients, checks_in, reports, checks_as, next_check, sets_due, checks, merges, merges_all, at_time, starts_leases, dies, ends_each, ends_leases, looks_at_each, looks_round, is_due, forgets_refusal, goes_on, tick_checks_as, tick_checks, checks_in_time, has_news, reports_news_as, reports_news, checks_if_due, fetches_as, fetches, tick, acknowledges, life, checked_in, is_joined_to, takes_place, takes_rank, takes_rank_unless, same_ids, takes_ancestors, took_ack, is_peer, took_rejoin}
 use Rattle.oc_model.specs.Choice.{below}
 use Rattle.oc_base.specs.Lawful.{IsNode, AreNodes, IsLong, IsCount, IsRank, IsRate, IsCert, AreCerts, AreAncestors}
 use Rattle.oc_base.specs.Shelves.{IsShelf}
@@ -23,7 +24,7 @@ use Rattle.oc_model.specs.Leases.{renew, start_all, ended}
 use Rattle.oc_model.specs.Numbers.{number_end, raise, capped, put_at}
 use Rattle.oc_model.specs.Plan.{Plan, write, send, with_soft, searching, ignored, is_member, rate_to}
 use Rattle.oc_model.specs.Table.{newest, is_news}
-use Rattle.oc_laws_step.specs.LawfulNode.{IsLawfulMode, IsLawfulPlan}
+use Rattle.oc_laws_step.specs.LawfulNode.{IsLawfulMode, IsLawfulSearch, IsLawfulPlan}
 use Rattle.oc_laws_step.proofs.Goes.{either, either_by}
 use Rattle.oc_laws_step.proofs.LawfulAdopts.{lawful_raises, lawful_rejoin}
 use Rattle.oc_laws_step.proofs.LawfulAsks.{lawful_ignored, lawful_round, lawful_ask_before, lawful_ancestors}
@@ -81,11 +82,11 @@ module _ (nodes : ℕ) where
   lawful_checks_as modes.Idle o mode ok = lawful_round nodes o None ok
   lawful_checks_as (modes.Asking p) o mode ok = lawful_send nodes o p (bodies.Ask o.node.kept.seq o.node.kept.rank) mode.1 ((mode.0, ok.node.kept.seq), ok.node.kept.rank) ok
 
-  abbrev dated : Plan → Plan
-  dated o = with_soft o (record o.node.soft { due = Some (next_check o.node) })
+  lawful_sets_due : (o : Plan) → IsLawfulPlan nodes o → IsLawfulPlan nodes (sets_due o)
+  lawful_sets_due o ok = lawful_due nodes o (Some (next_check o.node)) ok
 
   pub lawful_checks : (o : Plan) → IsLawfulPlan nodes o → IsLawfulPlan nodes (checks o)
-  lawful_checks o ok = lawful_checks_as o.node.kept.mode (dated o) ok.node.kept.mode (lawful_due nodes o (Some (next_check o.node)) ok)
+  lawful_checks o ok = lawful_checks_as o.node.kept.mode (sets_due o) ok.node.kept.mode (lawful_sets_due o ok)
 
   -- Tick
 
@@ -131,10 +132,24 @@ module _ (nodes : ℕ) where
   lawful_forgets None o ok = ok
   lawful_forgets (Some t) o ok = lawful_soft nodes o (record o.node.soft { refused = false }) (record { clock = ok.node.soft.clock; tries = ok.node.soft.tries; search = ok.node.soft.search }) ok
 
+  lawful_goes_on : (s : Option Search) (o : Plan) → IsLawfulSearch nodes s → IsLawfulPlan nodes o → IsLawfulPlan nodes (goes_on s o)
+  lawful_goes_on (Some (Descend p)) o to ok = lawful_send nodes o p bodies.Look to tt ok
+  lawful_goes_on (Some Review) o to ok = lawful_round nodes o None ok
+  lawful_goes_on None o to ok = lawful_round nodes o None ok
+
+  lawful_tick_checks_as : (m : Mode) (o : Plan) → IsLawfulMode nodes o.node.kept.seq m → IsLawfulPlan nodes o → IsLawfulPlan nodes (tick_checks_as m o)
+  lawful_tick_checks_as modes.Idle o mode ok = lawful_goes_on o.node.soft.search o ok.node.soft.search ok
+  lawful_tick_checks_as (modes.Joined p) o mode ok = lawful_checks_as (modes.Joined p) o mode ok
+  lawful_tick_checks_as (modes.Asking p) o mode ok = lawful_checks_as (modes.Asking p) o mode ok
+  lawful_tick_checks_as modes.Acting o mode ok = lawful_checks_as modes.Acting o mode ok
+
+  lawful_tick_checks : (o : Plan) → IsLawfulPlan nodes o → IsLawfulPlan nodes (tick_checks o)
+  lawful_tick_checks o ok = lawful_tick_checks_as o.node.kept.mode (sets_due o) ok.node.kept.mode (lawful_sets_due o ok)
+
   lawful_checks_in_time : (o : Plan) → IsLawfulPlan nodes o → IsLawfulPlan nodes (checks_in_time o)
   lawful_checks_in_time o ok =
       let begins : Plan = forgets_refusal o.node.soft.due o in
-      lawful_looks_round o.node.kept.mode o.node.kept.seq (checks begins) ok.node.kept.mode (lawful_checks begins (lawful_forgets o.node.soft.due o ok))
+      lawful_looks_round o.node.kept.mode o.node.kept.seq (tick_checks begins) ok.node.kept.mode (lawful_tick_checks begins (lawful_forgets o.node.soft.due o ok))
 
   lawful_reports_news_as : (m : Mode) (o : Plan) → IsLawfulMode nodes o.node.kept.seq m → IsLawfulPlan nodes o → IsLawfulPlan nodes (reports_news_as m o)
   lawful_reports_news_as (modes.Joined p) o mode ok = either (has_news o.node) (IsLawfulPlan nodes) (reports o p) o (lawful_reports o p mode.1 mode.0 ok) ok
@@ -193,15 +208,20 @@ module _ (nodes : ℕ) where
       lawful_write nodes o (records.Ranked (beneath_of told)) (here.0, omega (arith, less)) ok)
       (λ _. ok)
 
+  lawful_takes_rank_unless : (wish : Option ℕ) (o : Plan) (told : Rank) → IsRank told → IsLawfulPlan nodes o → IsLawfulPlan nodes (takes_rank_unless wish o told)
+  lawful_takes_rank_unless None o told here ok = lawful_takes_rank o told here ok
+  lawful_takes_rank_unless (Some g) o told here ok = ok
+
   lawful_takes_ancestors : (o : Plan) (xs : List ℕ) → AreAncestors nodes xs → IsLawfulPlan nodes o → IsLawfulPlan nodes (takes_ancestors o xs)
   lawful_takes_ancestors o xs here ok =
       either (same_ids xs o.node.kept.ancestors) (IsLawfulPlan nodes) o (write o (records.Ancestors xs)) ok (lawful_write nodes o (records.Ancestors xs) here ok)
 
   pub lawful_took_ack : (o : Plan) (p seq upto : ℕ) (told : Rank) (xs : List ℕ) → IsNode nodes p → IsRank told → AreNodes nodes xs → IsLawfulPlan nodes o → IsLawfulPlan nodes (took_ack o p seq upto told xs)
   lawful_took_ack o p seq upto told xs from here all ok =
-      either (is_joined_to o.node.kept.mode p && seq == o.node.kept.seq) (IsLawfulPlan nodes) (takes_ancestors (takes_rank (takes_place o upto) told) (ancestors_by p xs)) (ignored o)
-      (lawful_takes_ancestors (takes_rank (takes_place o upto) told) (ancestors_by p xs) (lawful_ancestors nodes p xs from all)
-      (lawful_takes_rank (takes_place o upto) told here (lawful_takes_place o upto ok)))
+      let ranked : Plan = takes_rank_unless o.node.soft.wish (takes_place o upto) told in
+      either (is_joined_to o.node.kept.mode p && seq == o.node.kept.seq) (IsLawfulPlan nodes) (takes_ancestors ranked (ancestors_by p xs)) (ignored o)
+      (lawful_takes_ancestors ranked (ancestors_by p xs) (lawful_ancestors nodes p xs from all)
+      (lawful_takes_rank_unless o.node.soft.wish (takes_place o upto) told here (lawful_takes_place o upto ok)))
       (lawful_ignored nodes o ok)
 
   pub lawful_took_rejoin : (o : Plan) (p seq : ℕ) → IsNode nodes p → IsLawfulPlan nodes o → IsLawfulPlan nodes (took_rejoin o p seq)

@@ -1,5 +1,5 @@
 -- The rule Look keeps a node lawful, and writes and sends what is lawful.
-use Rattle.std.proofs.Common.{ℕ, ◌-◌, ◌<◌, not, ◌&&◌, ◌||◌, ◌==◌, nat_lt, nat_le, Option, Some, None, List, [], ◌∷◌, map, filter, arith}
+use Rattle.std.proofs.Common.{ℕ, ◌+◌, ◌-◌, ◌<◌, Bool, not, ◌&&◌, ◌||◌, ◌==◌, nat_lt, nat_le, if◌then◌else◌, Option, Some, None, List, [], ◌∷◌, map, filter, arith}
 use Rattle.std.specs.List.{AllByRecursion}
 use Rattle.std.proofs.lemmas.Bool.{cond_both}
 use Rattle.oc_base.specs.declared.cert.Cert.{Cert}
@@ -11,39 +11,45 @@ use Rattle.oc_model.specs.declared.place.Review.{Review}
 use Rattle.oc_model.specs.declared.place.Review.TheVariants as reviews
 use Rattle.oc_model.specs.declared.soft.Search.{Search}
 use Rattle.oc_model.specs.declared.soft.Search.TheVariants as searches
+use Rattle.oc_model.specs.declared.soft.Soft.{Soft}
+use Rattle.oc_model.specs.declared.soft.TheConstants.{MAX_MOVES}
 use Rattle.oc_model.specs.Adopting.{in_tree}
 use Rattle.oc_model.specs.Asking.{ask_before, next_try}
 use Rattle.oc_model.specs.Choice.{chosen, reviewed}
 use Rattle.oc_base.specs.Lawful.{IsNode, IsNodeOrNone, IsRate, AreCerts, AreChildren}
-use Rattle.oc_model.specs.Looking.{parent_of, rate_to_some, children, looked, Stand, candidate, candidates, goes_down, descends, grandparent, view, goes_where, reviews_place, prefers, keeps_line, sees_as, sees}
+use Rattle.oc_model.specs.Looking.{parent_of, rate_to_some, children, looked, Stand, candidate, candidates, goes_down, descends, grandparent, view, place_in, is_place, wishes, leaves_for, goes_where, weighs, reviews_place, prefers, keeps_line, sees_as, sees}
 use Rattle.oc_model.specs.Node.{Control}
-use Rattle.oc_model.specs.Numbers.{at}
-use Rattle.oc_model.specs.Plan.{Plan, searching, ignored, is_member, rate_to}
+use Rattle.oc_model.specs.Numbers.{at, has}
+use Rattle.oc_model.specs.Plan.{Plan, with_soft, searching, ignored, is_member, rate_to}
 use Rattle.oc_model.specs.Table.{is_lease_of, leased_children}
 use Rattle.oc_laws_step.specs.LawfulNode.{IsLawfulMode, IsLawfulControl, IsLawfulPlan}
 use Rattle.oc_laws_step.specs.Sound.{IsTable}
 use Rattle.oc_laws_step.proofs.Goes.{either}
 use Rattle.oc_laws_step.proofs.LawfulAsks.{lawful_ignored, lawful_ask, lawful_ask_before, lawful_descend, lawful_next_try}
-use Rattle.oc_laws_step.proofs.LawfulFolds.{lawful_send, lawful_searching}
+use Rattle.oc_laws_step.proofs.LawfulFolds.{lawful_send, lawful_soft, lawful_searching}
 use Rattle.oc_laws_step.proofs.Ranges.{IfFound, IfReviewed, all_filter, all_map, all_at, reading_rate, chosen_one, reviewed_one}
 
 -- a child with the rate that it told last
 abbrev child_of : List ℕ → ℕ → Child
 child_of rates x = record { id = x; rate = at rates x 0 }
 
--- the leased children ascend, as the table does
-children_lawful : (nodes y : ℕ) (rates : List ℕ) (t : List Cert) → AllByRecursion IsRate rates → IsTable t → AreCerts nodes t → AreChildren nodes (map (child_of rates) (leased_children t y))
-children_lawful nodes y rates [] fast up all = tt
-children_lawful nodes y rates (k ∷ ks) fast up all =
-    cond_both (is_lease_of y k) (k ∷ filter (is_lease_of y) ks) (filter (is_lease_of y) ks) (λ rows. AreChildren nodes (map (child_of rates) (map (λ c. c.subject) rows)))
+-- the leased children ascend, as the table does, and so does any part of them
+children_lawful : (nodes y : ℕ) (rates : List ℕ) (told : ℕ → Bool) (t : List Cert) → AllByRecursion IsRate rates → IsTable t → AreCerts nodes t
+    → AreChildren nodes (map (child_of rates) (filter told (leased_children t y)))
+children_lawful nodes y rates told [] fast up all = tt
+children_lawful nodes y rates told (k ∷ ks) fast up all =
+    cond_both (is_lease_of y k) (k ∷ filter (is_lease_of y) ks) (filter (is_lease_of y) ks) (λ rows. AreChildren nodes (map (child_of rates) (filter told (map (λ c. c.subject) rows))))
+    (λ _. cond_both (told k.subject) (k.subject ∷ filter told (leased_children ks y)) (filter told (leased_children ks y)) (λ xs. AreChildren nodes (map (child_of rates) xs))
     (λ _. (
       all.0.subject,
       all_at IsRate rates (k.subject - 1) 0 (omega arith) fast,
-      all_map (λ d. k.subject < d.id) (child_of rates) (map (λ c. c.subject) (filter (is_lease_of y) ks))
-          (all_map (λ x. k.subject < x) (λ c. c.subject) (filter (is_lease_of y) ks) (all_filter (λ c. k.subject < c.subject) (is_lease_of y) ks up.0)),
-      children_lawful nodes y rates ks fast up.1 all.1,
+      all_map (λ d. k.subject < d.id) (child_of rates) (filter told (leased_children ks y))
+          (all_filter (λ x. k.subject < x) told (leased_children ks y)
+          (all_map (λ x. k.subject < x) (λ c. c.subject) (filter (is_lease_of y) ks) (all_filter (λ c. k.subject < c.subject) (is_lease_of y) ks up.0))),
+      children_lawful nodes y rates told ks fast up.1 all.1,
     ))
-    (λ _. children_lawful nodes y rates ks fast up.1 all.1)
+    (λ _. children_lawful nodes y rates told ks fast up.1 all.1))
+    (λ _. children_lawful nodes y rates told ks fast up.1 all.1)
 
 -- children that were told are nodes
 told_nodes : (nodes : ℕ) (cs : List Child) → AreChildren nodes cs → AllByRecursion (λ c. IsNode nodes c.id) cs
@@ -79,7 +85,7 @@ module _ (nodes : ℕ) where
       lawful_send nodes o p (bodies.LookIs (in_tree o.node.kept.mode) (parent_of o.node.kept.mode) (rate_to_some o.node (parent_of o.node.kept.mode)) (children o.node)) to (
         parent_node o.node.kept.mode o.node.kept.seq ok.node.kept.mode,
         parent_rate o.node (parent_of o.node.kept.mode) ok.node,
-        children_lawful nodes o.node.me o.node.rates o.node.kept.table ok.node.rates ok.node.kept.sorted ok.node.kept.table,
+        children_lawful nodes o.node.me o.node.rates (λ x. not (has o.node.kept.ancestors x)) o.node.kept.table ok.node.rates ok.node.kept.sorted ok.node.kept.table,
       )
       ok
 
@@ -94,15 +100,42 @@ module _ (nodes : ℕ) where
       (chosen_one (IsNode nodes) (rate_to o.node p) (candidates o.node s.children) (candidates_nodes nodes o.node s.children told.children)) to ok)
       (lawful_next_try nodes (searching o None) (lawful_searching nodes o None tt ok))
 
-  lawful_goes_where : (r : Review) (o : Plan) → IfReviewed (IsNode nodes) r → IsLawfulPlan nodes o → IsLawfulPlan nodes (goes_where r o)
-  lawful_goes_where reviews.Stay o to ok = ok
-  lawful_goes_where (reviews.Up g) o to ok = lawful_ask_before nodes o g to ok
-  lawful_goes_where (reviews.Beneath k) o to ok = lawful_ask_before nodes o k to ok
+  lawful_wishes : (o : Plan) (place : Option ℕ) (count : ℕ) → IsLawfulPlan nodes o → IsLawfulPlan nodes (wishes o place count)
+  lawful_wishes o place count ok =
+      lawful_soft nodes o (record o.node.soft { wish = place; waits = count }) (record { clock = ok.node.soft.clock; tries = ok.node.soft.tries; search = ok.node.soft.search }) ok
+
+  lawful_leaves_for : (o : Plan) (p g : ℕ) → IsNode nodes g → IsLawfulPlan nodes o → IsLawfulPlan nodes (leaves_for o p g)
+  lawful_leaves_for o p g to ok =
+      let left : Soft = record o.node.soft { left = Some p; moves = o.node.soft.moves + 1 } in
+      lawful_ask_before nodes (with_soft o left) g to (lawful_soft nodes o left (record { clock = ok.node.soft.clock; tries = ok.node.soft.tries; search = ok.node.soft.search }) ok)
+
+  lawful_goes_where : (place : Option ℕ) (o : Plan) (p : ℕ) → IfFound (IsNode nodes) place → IsLawfulPlan nodes o → IsLawfulPlan nodes (goes_where place o p)
+  lawful_goes_where None o p to ok = ok
+  lawful_goes_where (Some g) o p to ok =
+      either (nat_lt o.node.soft.waits (o.node.soft.patience + 2)) (IsLawfulPlan nodes) (wishes o (Some g) (o.node.soft.waits + 1)) (leaves_for o p g)
+      (lawful_wishes o (Some g) (o.node.soft.waits + 1) ok) (lawful_leaves_for o p g to ok)
+
+  lawful_weighs : (o : Plan) (p : ℕ) (place : Option ℕ) → IfFound (IsNode nodes) place → IsLawfulPlan nodes o → IsLawfulPlan nodes (weighs o p place)
+  lawful_weighs o p place to ok =
+      let soft : Soft = o.node.soft in
+      let doubted : Plan = wishes o soft.wish (soft.waits - 1) in
+      let wished : Plan = wishes o place soft.waits in
+      either (nat_le MAX_MOVES soft.moves) (IsLawfulPlan nodes) (wishes o None 0)
+      (if not (is_place place soft.wish) && nat_lt 0 soft.waits then doubted else goes_where place wished p)
+      (lawful_wishes o None 0 ok)
+      (either (not (is_place place soft.wish) && nat_lt 0 soft.waits) (IsLawfulPlan nodes) doubted (goes_where place wished p)
+      (lawful_wishes o soft.wish (soft.waits - 1) ok) (lawful_goes_where place wished p to (lawful_wishes o place soft.waits ok)))
+
+  place_found : (r : Review) → IfReviewed (IsNode nodes) r → IfFound (IsNode nodes) (place_in r)
+  place_found reviews.Stay to = tt
+  place_found (reviews.Up g) to = to
+  place_found (reviews.Beneath k) to = to
 
   lawful_reviews : (o : Plan) (p : ℕ) (s : Stand) → IsLawfulStand nodes s → IsLawfulPlan nodes o → IsLawfulPlan nodes (reviews_place o p s)
   lawful_reviews o p s told ok =
-      lawful_goes_where (reviewed (view o.node p s)) (searching o None)
-      (reviewed_one (IsNode nodes) (view o.node p s) (grand_node nodes o.node p s.parent told.parent) (candidates_nodes nodes o.node s.children told.children))
+      lawful_weighs (searching o None) p (place_in (reviewed (view o.node p s)))
+      (place_found (reviewed (view o.node p s))
+      (reviewed_one (IsNode nodes) (view o.node p s) (grand_node nodes o.node p s.parent told.parent) (candidates_nodes nodes o.node s.children told.children)))
       (lawful_searching nodes o None tt ok)
 
   lawful_keeps_line : (o : Plan) (p : ℕ) (s : Stand) → IsNode nodes p → IsLawfulPlan nodes o → IsLawfulPlan nodes (keeps_line o p s)

@@ -8,7 +8,7 @@ use Rattle.oc_base.specs.Lawful.{IsNode, IsRate}
 use Rattle.oc_model.specs.Measures.{reading_of, same_reading}
 use Rattle.oc_model.specs.Numbers.{capped, at, put_at}
 use Rattle.oc_model.specs.Plan.{Plan, write, answers, with_soft}
-use Rattle.oc_model.specs.Serving.{serves, redirects, server_for, client_of, client, measured}
+use Rattle.oc_model.specs.Serving.{serves, redirects, server_for, client_of, client, may_move, measured}
 use Rattle.oc_base.specs.Shelves.{line_of}
 use Rattle.oc_laws_step.specs.LawfulNode.{IsLawfulPlan}
 use Rattle.oc_laws_step.proofs.Goes.{either}
@@ -35,8 +35,11 @@ module _ (nodes : ℕ) where
 
   pub lawful_measured : (o : Plan) (p rate hops : ℕ) → IsNode nodes p → IsRate rate → hops ≤ MAX_HOPS → IsLawfulPlan nodes o → IsLawfulPlan nodes (measured o p rate hops)
   lawful_measured o p rate hops to fast near ok =
+      let wrote : Plan = write o (records.Rate p rate hops) in
       either (p == o.node.me) (IsLawfulPlan nodes) (answers o words.Own)
-      (if same_reading (reading_of o.node.kept.measures p) (record { rate = rate; hops = hops }) then o else write o (records.Rate p rate hops))
+      (if same_reading (reading_of o.node.kept.measures p) (record { rate = rate; hops = hops }) then o else may_move wrote)
       (lawful_answers nodes o words.Own ok)
-      (either (same_reading (reading_of o.node.kept.measures p) (record { rate = rate; hops = hops })) (IsLawfulPlan nodes) o (write o (records.Rate p rate hops))
-      ok (lawful_write nodes o (records.Rate p rate hops) (to, fast, near) ok))
+      (either (same_reading (reading_of o.node.kept.measures p) (record { rate = rate; hops = hops })) (IsLawfulPlan nodes) o (may_move wrote)
+      ok
+      (lawful_soft nodes wrote (record o.node.soft { moves = 0 }) (record { clock = ok.node.soft.clock; tries = ok.node.soft.tries; search = ok.node.soft.search })
+      (lawful_write nodes o (records.Rate p rate hops) (to, fast, near) ok)))

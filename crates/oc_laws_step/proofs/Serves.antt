@@ -6,9 +6,9 @@ use Rattle.oc_model.specs.declared.record.Record.TheVariants as records
 use Rattle.oc_model.specs.Measures.{reading_of, same_reading}
 use Rattle.oc_model.specs.Numbers.{capped}
 use Rattle.oc_model.specs.Plan.{Plan, write, answers, with_soft}
-use Rattle.oc_model.specs.Serving.{serves, redirects, server_for, client_of, client, measured}
+use Rattle.oc_model.specs.Serving.{serves, redirects, server_for, client_of, client, may_move, measured}
 use Rattle.oc_base.specs.Shelves.{line_of}
-use Rattle.oc_laws_step.proofs.Goes.{Goes, either, goes_itself, goes_still, goes_write, goes_soft, then_answers, goes_free, goes_says}
+use Rattle.oc_laws_step.proofs.Goes.{Goes, either, goes_itself, goes_still, goes_write, goes_soft, then_answers, then_soft, goes_free, goes_says}
 
 goes_serves : (o : Plan) (count : ℕ) → Goes 0 0 o (serves o count)
 goes_serves o count =
@@ -31,8 +31,9 @@ goes_client o shelf area start g = goes_client_of (line_of g shelf) o area start
 
 pub goes_measured : (o : Plan) (p rate hops : ℕ) → Goes 0 1 o (measured o p rate hops)
 goes_measured o p rate hops =
+    let wrote : Plan = write o (records.Rate p rate hops) in
     either (p == o.node.me) (Goes 0 1 o) (answers o words.Own)
-    (if same_reading (reading_of o.node.kept.measures p) (record { rate = rate; hops = hops }) then o else write o (records.Rate p rate hops))
+    (if same_reading (reading_of o.node.kept.measures p) (record { rate = rate; hops = hops }) then o else may_move wrote)
     (goes_says 0 1 o words.Own)
-    (either (same_reading (reading_of o.node.kept.measures p) (record { rate = rate; hops = hops })) (Goes 0 1 o) o (write o (records.Rate p rate hops))
-    (goes_free 0 1 o o (goes_itself o)) (goes_write o (records.Rate p rate hops) tt))
+    (either (same_reading (reading_of o.node.kept.measures p) (record { rate = rate; hops = hops })) (Goes 0 1 o) o (may_move wrote)
+    (goes_free 0 1 o o (goes_itself o)) (then_soft 0 1 o wrote (record o.node.soft { moves = 0 }) (goes_write o (records.Rate p rate hops) tt)))

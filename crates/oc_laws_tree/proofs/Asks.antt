@@ -177,7 +177,7 @@ line_refuses n x k r line none = by_tests (x == n.me) (not (in_tree n.kept.mode)
 
 -- the asker has its parent
 pub record TakesYes (n : Control) (q : ℕ) (told : Rank) (xs : List ℕ) (o : Plan) : Type 0 where
-  pub core : core_of o.node ≡ record (core_of n) { mode = Joined q; rank = Some (beneath_of told); ancestors = ancestors_by q xs }
+  pub core : core_of o.node ≡ record (core_of n) { mode = Joined q; rank = Some (beneath_of told); ancestors = ancestors_by q xs; wish = None }
   pub rest : HasSameRest n o.node
 
 pub yes_taken : (n : Control) (q : ℕ) (told : Rank) (xs : List ℕ) → n.kept.mode ≡ Asking q → (n.kept.seq ≡ 0 → ⊥) → told.depth < MAX_DEPTH → precedes_any told n.kept.rank ≡ true → TakesYes n q told xs (took_yes (begun n) q n.kept.seq told xs)
@@ -187,7 +187,7 @@ yes_taken n q told xs asks some shallow above =
     let number : (n.kept.seq == 0) ≡ false = ne_eqb n.kept.seq 0 some in
     subst (λ (b : Bool). TakesYes n q told xs (if b then joins (begun n) q told xs else answers (begun n) words.Ignored)) (sym here)
     record {
-      core = ap (λ b. core_of (record n { kept = record (kept_if b) { ancestors = ancestors_by q xs } })) number;
+      core = ap (λ b. core_of (record n { kept = record (kept_if b) { ancestors = ancestors_by q xs }; soft = record n.soft { wish = None } })) number;
       rest = record { table = ap (λ b. (kept_if b).table) number; leases = refl; clock = refl };
     } where
       kept_if : Bool → Durable

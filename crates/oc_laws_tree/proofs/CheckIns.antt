@@ -11,7 +11,7 @@ use Rattle.oc_model.specs.declared.message.Body.{Body}
 use Rattle.oc_model.specs.declared.message.Body.TheVariants.{CheckIn, CheckAck}
 use Rattle.oc_model.specs.declared.message.Message.{Message}
 use Rattle.oc_model.specs.Adopting.{is_number, has_lease}
-use Rattle.oc_model.specs.Adoption.{rank_or_last, take_rank}
+use Rattle.oc_model.specs.Adoption.{rank_or_last}
 use Rattle.oc_model.specs.Asking.{ancestors_by}
 use Rattle.oc_model.specs.ChangeLog.{next_certs, place_after, ack}
 use Rattle.oc_model.specs.Chains.{IsUp, IsJoined}
@@ -33,7 +33,7 @@ use Rattle.oc_model.proofs.Processes.{process_in-me, process_in-with_up, process
 use Rattle.oc_model.proofs.Rules.{IsClosed, keeps_checks, keeps_checked_in}
 use Rattle.oc_laws_world.proofs.Lifts.{control_of}
 use Rattle.oc_laws_tree.specs.Sessions.{log_of}
-use Rattle.oc_laws_tree.proofs.Checks.{from_to, HasSameRest, SendsCheckIn, check_sends, TakesCheckIn, check_in_taken, TakesAck, ack_taken}
+use Rattle.oc_laws_tree.proofs.Checks.{from_to, HasSameRest, SendsCheckIn, check_sends, TakesCheckIn, check_in_taken, rank_unless, TakesAck, ack_taken}
 use Rattle.oc_laws_tree.proofs.Core.{Core, core_of, has_uncounted, with_count, counted}
 
 -- Acts
@@ -209,7 +209,7 @@ takes_at w p x seq upto rate number clients certs last up leased =
 -- The acknowledgement at the child
 
 pub record AckedAt (w : World) (x p upto : ℕ) (told : Rank) (xs : List ℕ) (v : World) : Type 0 where
-  pub core : core_of (control_of v x) ≡ record (core_of (control_of w x)) { rank = take_rank (control_of w x).kept.rank told; ancestors = ancestors_by p xs }
+  pub core : core_of (control_of v x) ≡ record (core_of (control_of w x)) { rank = rank_unless (control_of w x).soft.wish (control_of w x).kept.rank told; ancestors = ancestors_by p xs }
   pub rest : HasSameRest (control_of w x) (control_of v x)
   pub log : log_of v x ≡ ack (log_of w x) upto
   pub others : (y : ℕ) → (x ≡ y → ⊥) → control_of v y ≡ control_of w y
@@ -239,7 +239,10 @@ pub record ChecksIn (w : World) (x p : ℕ) (r : Run) : Type 0 where
   pub up : (y : ℕ) → is_up r.world y ≡ is_up w y
   pub others : (y : ℕ) → (x ≡ y → ⊥) → (p ≡ y → ⊥) → control_of r.world y ≡ control_of w y
   -- of the child: its own count may rise; its rank, ancestors and place in its log are taken
-  pub child : core_of (control_of r.world x) ≡ record (counted (core_of (control_of w x))) { rank = take_rank (control_of w x).kept.rank (rank_or_last (control_of w p).kept.rank); ancestors = ancestors_by p (control_of w p).kept.ancestors }
+  pub child : core_of (control_of r.world x) ≡ record (counted (core_of (control_of w x))) {
+    rank = rank_unless (control_of w x).soft.wish (control_of w x).kept.rank (rank_or_last (control_of w p).kept.rank);
+    ancestors = ancestors_by p (control_of w p).kept.ancestors;
+  }
   pub rest : HasSameRest (control_of w x) (control_of r.world x)
   pub log : log_of r.world x ≡ ack (log_of w x) (place_after (log_of w x))
   -- of the parent: what the child told is merged, and its lease begins anew
@@ -251,6 +254,9 @@ pub record ChecksIn (w : World) (x p : ℕ) (r : Run) : Type 0 where
 -- counting leaves the place
 pub counted_joined : (k : Core) → ((counted k).mode ≡ k.mode) × ((counted k).seq ≡ k.seq) × ((counted k).rank ≡ k.rank)
 counted_joined k = cond_both (has_uncounted k) (with_count k) k (λ (j : Core). (j.mode ≡ k.mode) × (j.seq ≡ k.seq) × (j.rank ≡ k.rank)) (λ _. (refl, refl, refl)) (λ _. (refl, refl, refl))
+
+counted_wish : (k : Core) → (counted k).wish ≡ k.wish
+counted_wish k = cond_both (has_uncounted k) (with_count k) k (λ (j : Core). j.wish ≡ k.wish) (λ _. refl) (λ _. refl)
 
 pub checks_in_once : (w : World) (x p : ℕ) → (x ≡ p → ⊥) → IsUp w x → IsJoined w x p → IsUp w p → HoldsLease w p x (seq_of w x) → ChecksIn w x p (checks_in x w)
 checks_in_once w x p apart up joins parent_up leased =
@@ -282,8 +288,9 @@ checks_in_once w x p apart up joins parent_up leased =
       acts = refl;
       up = λ y. third.up y ∙ (second.up y ∙ first.up y);
       others = λ y not_x not_p. third.others y not_x ∙ (second.others y not_p ∙ first.others y not_x);
-      child = third.core ∙ (ap₂ (λ (k : Core) (m : Control). record k { rank = take_rank k.rank (rank_or_last m.kept.rank); ancestors = ancestors_by p m.kept.ancestors }) core2 parent1
-          ∙ ap (λ (r : Option Rank). record (counted (core_of (control_of w x))) { rank = take_rank r (rank_or_last (control_of w p).kept.rank); ancestors = ancestors_by p (control_of w p).kept.ancestors }) still.2);
+      child = third.core ∙ (ap₂ (λ (k : Core) (m : Control). record k { rank = rank_unless k.wish k.rank (rank_or_last m.kept.rank); ancestors = ancestors_by p m.kept.ancestors }) core2 parent1
+          ∙ ap₂ (λ (wish : Option ℕ) (r : Option Rank). record (counted (core_of (control_of w x))) { rank = rank_unless wish r (rank_or_last (control_of w p).kept.rank); ancestors = ancestors_by p (control_of w p).kept.ancestors })
+          (counted_wish (core_of (control_of w x))) still.2);
       rest = record {
         table = third.rest.table ∙ (ap (λ (k : Control). k.kept.table) child2 ∙ first.rest.table);
         leases = third.rest.leases ∙ (ap (λ (k : Control). k.leases) child2 ∙ first.rest.leases);

@@ -40,7 +40,7 @@ use Rattle.oc_laws_step.proofs.RankOrder.{precedes_irreflexive}
 use Rattle.oc_laws_step.proofs.Tables.{merge_keeps}
 use Rattle.oc_base.specs.declared.rank.Rank.{Rank}
 use Rattle.oc_base.specs.Rank.{beneath_of}
-use Rattle.oc_model.specs.Adoption.{rank_or_last, is_better, take_rank}
+use Rattle.oc_model.specs.Adoption.{rank_or_last, is_better}
 use Rattle.oc_model.specs.Heal.{epoch_in}
 use Rattle.oc_model.specs.Table.{lease_number}
 use Rattle.oc_model.proofs.Rules.{either}
@@ -51,7 +51,7 @@ use Rattle.oc_laws_tree.specs.Sessions.{log_of}
 use Rattle.oc_laws_tree.proofs.Known.{Knows}
 use Rattle.oc_laws_tree.proofs.Rising.{row_anywhere}
 use Rattle.oc_laws_tree.proofs.Rows.{IsLiveRow, lease_row}
-use Rattle.oc_laws_tree.proofs.Checks.{from_to, HasSameRest, check_in_refused}
+use Rattle.oc_laws_tree.proofs.Checks.{from_to, HasSameRest, check_in_refused, rank_unless}
 use Rattle.oc_laws_tree.proofs.CheckIns.{Goes, IsLast, last_goes, last_rests, last_body_is, goes_last, dry, dry_sends, lease_test, ChecksAt, checks_at, ChecksIn, checks_in_once, counted_joined}
 use Rattle.oc_laws_tree.proofs.Core.{Core, core_of, counted, IsCounted, is_counted}
 use Rattle.oc_laws_tree.proofs.Held.{Steady, stays_same, IsHeld, held_on, held_before, all_hold, known_own, known_child}
@@ -207,8 +207,9 @@ vain_keeps h w x p reached up joins none =
 -- Acknowledged
 
 -- no rank that is taken has a greater epoch than both
-taken_epoch : (own told : Option Rank) (most : ℕ) → epoch_in own ≤ most → epoch_in told ≤ most → epoch_in (take_rank own (rank_or_last told)) ≤ most
-taken_epoch own told most here there = either (is_better own (rank_or_last told)) (λ (r : Option Rank). epoch_in r ≤ most) (Some (beneath_of (rank_or_last told))) own (omega (arith, epoch_or_last told, there)) here
+taken_epoch : (wish : Option ℕ) (own told : Option Rank) (most : ℕ) → epoch_in own ≤ most → epoch_in told ≤ most → epoch_in (rank_unless wish own (rank_or_last told)) ≤ most
+taken_epoch (Some g) own told most here there = here
+taken_epoch None own told most here there = either (is_better own (rank_or_last told)) (λ (r : Option Rank). epoch_in r ≤ most) (Some (beneath_of (rank_or_last told))) own (omega (arith, epoch_or_last told, there)) here
 
 module _ (h : Header) (w : World) (x p : ℕ) (reached : Reached h w) (held : IsHeld w p x) where
   abbrev v : World
@@ -357,7 +358,7 @@ module _ (h : Header) (w : World) (x p : ℕ) (reached : Reached h w) (held : Is
     counted = subst IsCounted (sym checked.child) (is_counted (core_of (control_of w x)));
     seqs = seqs;
     epochs = λ most all z is_up. by_three (λ u k. IsUp w u → epoch_in k.kept.rank ≤ most)
-        (λ child_up. subst (λ (r : Option Rank). epoch_in r ≤ most) (sym (ap (λ (k : Core). k.rank) checked.child)) (taken_epoch (own_rank w x) (own_rank w p) most (all x held.up) (all p held.host)))
+        (λ child_up. subst (λ (r : Option Rank). epoch_in r ≤ most) (sym (ap (λ (k : Core). k.rank) checked.child)) (taken_epoch (control_of w x).soft.wish (own_rank w x) (own_rank w p) most (all x held.up) (all p held.host)))
         (λ parent_up. subst (λ (r : Option Rank). epoch_in r ≤ most) (sym (ap (λ (k : Core). k.rank) checked.parent)) (all p held.host))
         (λ u not_child not_parent was_up. all u was_up) z (sym (checked.up z) ∙ is_up);
     clocks = clocks;

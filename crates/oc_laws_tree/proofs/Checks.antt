@@ -1,5 +1,5 @@
 -- What a check of a joined node, its check-in and the acknowledgement do, each to the node that takes it.
-use Rattle.std.proofs.Common.{◌≡◌, ℕ, ◌+◌, Bool, true, false, ◌&&◌, ◌==◌, if◌then◌else◌, Option, Some, List, [], ◌∷◌, ◌++◌, refl, ap, ap₂, sym, subst, ◌∙◌, eqb-true, eq-eqb}
+use Rattle.std.proofs.Common.{◌≡◌, ℕ, ◌+◌, Bool, true, false, ◌&&◌, ◌==◌, if◌then◌else◌, Option, Some, None, List, [], ◌∷◌, ◌++◌, refl, ap, ap₂, sym, subst, ◌∙◌, eqb-true, eq-eqb}
 use Rattle.std.proofs.lemmas.Bool.{and_parts}
 use Rattle.oc_base.specs.declared.cert.Cert.{Cert}
 use Rattle.oc_base.specs.declared.rank.Rank.{Rank}
@@ -14,7 +14,7 @@ use Rattle.oc_model.specs.Adopting.{has_lease, sends_rejoin}
 use Rattle.oc_model.specs.Adoption.{rank_or_last, is_better, take_rank}
 use Rattle.oc_model.specs.Asking.{ancestors_by}
 use Rattle.oc_model.specs.ChangeLog.{next_certs, place_after, ack, is_ahead}
-use Rattle.oc_model.specs.Checking.{checks_in, checks_as, next_check, checks, merges, merges_all, acknowledges, life, checked_in, is_joined_to, takes_place, takes_rank, same_ids, takes_ancestors, took_ack}
+use Rattle.oc_model.specs.Checking.{checks_in, checks_as, next_check, checks, merges, merges_all, acknowledges, life, checked_in, is_joined_to, takes_place, takes_rank, takes_rank_unless, same_ids, takes_ancestors, took_ack}
 use Rattle.oc_model.specs.Leases.{renew}
 use Rattle.oc_model.specs.Node.{Control}
 use Rattle.oc_model.specs.Numbers.{capped}
@@ -112,9 +112,14 @@ check_in_refused n x seq upto rate number clients certs none = rw none refl
 
 -- The acknowledgement
 
--- the node has taken it: its place in the log, the rank beneath its parent's if that is better, and the ancestors
+-- a node that wishes for another place keeps its rank
+abbrev pub rank_unless : Option ℕ → Option Rank → Rank → Option Rank
+rank_unless None own told = take_rank own told
+rank_unless (Some g) own told = own
+
+-- the node has taken it: its place in the log, the rank beneath its parent's if that is better and it has no wish, and the ancestors
 pub record TakesAck (n : Control) (p upto : ℕ) (told : Rank) (xs : List ℕ) (o : Plan) : Type 0 where
-  pub core : core_of o.node ≡ record (core_of n) { rank = take_rank n.kept.rank told; ancestors = ancestors_by p xs }
+  pub core : core_of o.node ≡ record (core_of n) { rank = rank_unless n.soft.wish n.kept.rank told; ancestors = ancestors_by p xs }
   pub rest : HasSameRest n o.node
   pub log : o.node.kept.log ≡ ack n.kept.log upto
 
@@ -131,6 +136,12 @@ rank_taken o told = by_test (is_better o.node.kept.rank told) where
       (core_of q.node ≡ record (core_of o.node) { rank = if b then Some (beneath_of told) else o.node.kept.rank }) × HasSameRest o.node q.node × (q.node.kept.log ≡ o.node.kept.log)
   by_test true = (refl, record { table = refl; leases = refl; clock = refl }, refl)
   by_test false = (refl, record { table = refl; leases = refl; clock = refl }, refl)
+
+rank_taken_unless : (wish : Option ℕ) (o : Plan) (told : Rank)
+    → (core_of (takes_rank_unless wish o told).node ≡ record (core_of o.node) { rank = rank_unless wish o.node.kept.rank told }) × HasSameRest o.node (takes_rank_unless wish o told).node
+    × ((takes_rank_unless wish o told).node.kept.log ≡ o.node.kept.log)
+rank_taken_unless None o told = rank_taken o told
+rank_taken_unless (Some g) o told = (refl, record { table = refl; leases = refl; clock = refl }, refl)
 
 -- lists that are tested as the same are
 ids_same : (xs ys : List ℕ) → same_ids xs ys ≡ true → xs ≡ ys
@@ -149,14 +160,14 @@ ancestors_taken o xs = by_test (same_ids xs o.node.kept.ancestors) refl where
 pub ack_taken : (n : Control) (p upto : ℕ) (told : Rank) (xs : List ℕ) → n.kept.mode ≡ Joined p → TakesAck n p upto told xs (took_ack (begun n) p n.kept.seq upto told xs)
 ack_taken n p upto told xs joins =
     let placed : Plan = takes_place (begun n) upto in
-    let ranked : Plan = takes_rank placed told in
+    let ranked : Plan = takes_rank_unless n.soft.wish placed told in
     let first = place_taken (begun n) upto in
-    let second = rank_taken placed told in
+    let second = rank_taken_unless n.soft.wish placed told in
     let third = ancestors_taken ranked (ancestors_by p xs) in
     let here : (is_joined_to n.kept.mode p && n.kept.seq == n.kept.seq) ≡ true = rw (joins, eq-eqb p p refl, eq-eqb n.kept.seq n.kept.seq refl) refl in
     rw here record {
       core = third.0 ∙ (ap (λ (k : Core). record k { ancestors = ancestors_by p xs }) second.0
-          ∙ ap (λ (k : Core). record k { rank = take_rank k.rank told; ancestors = ancestors_by p xs }) first.0);
+          ∙ ap (λ (k : Core). record k { rank = rank_unless n.soft.wish k.rank told; ancestors = ancestors_by p xs }) first.0);
       rest = record { table = third.1.table ∙ (second.1.table ∙ first.1.table); leases = third.1.leases ∙ (second.1.leases ∙ first.1.leases); clock = third.1.clock ∙ (second.1.clock ∙ first.1.clock) };
       log = third.2 ∙ (second.2 ∙ first.2);
     }

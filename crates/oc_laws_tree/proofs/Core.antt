@@ -8,11 +8,12 @@ use Rattle.oc_model.specs.declared.message.Body.TheVariants as bodies
 use Rattle.oc_model.specs.declared.mode.Mode.{Mode}
 use Rattle.oc_model.specs.declared.mode.Mode.TheVariants as modes
 use Rattle.oc_model.specs.declared.record.Record.TheVariants as records
+use Rattle.oc_model.specs.declared.soft.Search.{Search}
 use Rattle.oc_model.specs.declared.soft.Search.TheVariants as searches
 use Rattle.oc_model.specs.Adopting.{raises}
 use Rattle.oc_model.specs.Adoption.{rank_or_last}
-use Rattle.oc_model.specs.Asking.{lost_from, lost, send_ask, ask, next_epoch, act, descend, try_at, try_first, set_tries, round}
-use Rattle.oc_model.specs.Checking.{counts_clients, notes_time, reports, checks_as, next_check, checks, merges, merges_all, at_time, starts_leases, dies, ends_each, ends_leases, looks_at_each, looks_round, is_due, forgets_refusal, checks_in_time, has_news, reports_news_as, reports_news, checks_if_due, fetches_as, tick}
+use Rattle.oc_model.specs.Asking.{lost_from, lost, send_ask, ask, next_epoch, act, descend, try_at, waits_awhile, try_first, set_tries, round}
+use Rattle.oc_model.specs.Checking.{counts_clients, notes_time, reports, checks_as, sets_due, checks, merges, merges_all, at_time, starts_leases, dies, ends_each, ends_leases, looks_at_each, looks_round, is_due, forgets_refusal, goes_on, tick_checks_as, tick_checks, checks_in_time, has_news, reports_news_as, reports_news, checks_if_due, fetches_as, tick}
 use Rattle.oc_model.specs.Choice.{below}
 use Rattle.oc_model.specs.Heal.{epoch_in}
 use Rattle.oc_model.specs.Leases.{ended}
@@ -32,6 +33,7 @@ pub record Core : Type 0 where
   pub clients : ℕ
   pub ancestors : List ℕ
   pub served : ℕ
+  pub wish : Option ℕ
 
 abbrev pub core_of : Control → Core
 core_of n = record {
@@ -44,6 +46,7 @@ core_of n = record {
   clients = n.kept.clients;
   ancestors = n.kept.ancestors;
   served = n.soft.served;
+  wish = n.soft.wish;
 }
 
 -- whether clients were served that are not in the own count, and can come into it
@@ -103,7 +106,7 @@ module _ (P : Core → Type 0) where
   core_try_at o p idle k = either (not (is_member o.node) && is_empty o.node.kept.ancestors) OfCore (descend o p) (ask o p) k.still (core_ask o p idle k)
 
   core_try_first : (ps : List ℕ) (o : Plan) → o.node.kept.mode ≡ modes.Idle → IsCheckClosed P (core_of o.node) → OfCore (try_first ps o)
-  core_try_first [] o idle k = either (is_member o.node && o.node.soft.silent) OfCore (act o) (answers o words.Waiting) (k.acts idle) k.still
+  core_try_first [] o idle k = either (is_member o.node && o.node.soft.silent) OfCore (act o) (waits_awhile o) (k.acts idle) k.still
   core_try_first (p ∷ ps) o idle k = core_try_at (with_soft o (record o.node.soft { tries = ps })) p idle k
 
   core_round : (o : Plan) (without : Option ℕ) → o.node.kept.mode ≡ modes.Idle → IsCheckClosed P (core_of o.node) → OfCore (round o without)
@@ -132,7 +135,22 @@ module _ (P : Core → Type 0) where
 
   -- a check
   pub core_checks : (o : Plan) → IsCheckClosed P (core_of o.node) → OfCore (checks o)
-  core_checks o k = core_checks_as o.node.kept.mode (with_soft o (record o.node.soft { due = Some (next_check o.node) })) refl k
+  core_checks o k = core_checks_as o.node.kept.mode (sets_due o) refl k
+
+  core_goes_on : (s : Option Search) (o : Plan) → o.node.kept.mode ≡ modes.Idle → IsCheckClosed P (core_of o.node) → OfCore (goes_on s o)
+  core_goes_on (Some (searches.Descend p)) o is k = k.still
+  core_goes_on (Some searches.Review) o is k = core_round o None is k
+  core_goes_on None o is k = core_round o None is k
+
+  core_tick_checks_as : (m : Mode) (o : Plan) → o.node.kept.mode ≡ m → IsCheckClosed P (core_of o.node) → OfCore (tick_checks_as m o)
+  core_tick_checks_as modes.Idle o is k = core_goes_on o.node.soft.search o is k
+  core_tick_checks_as (modes.Asking p) o is k = core_checks_as (modes.Asking p) o is k
+  core_tick_checks_as (modes.Joined p) o is k = core_checks_as (modes.Joined p) o is k
+  core_tick_checks_as modes.Acting o is k = core_checks_as modes.Acting o is k
+
+  -- the check of a tick
+  core_tick_checks : (o : Plan) → IsCheckClosed P (core_of o.node) → OfCore (tick_checks o)
+  core_tick_checks o k = core_tick_checks_as o.node.kept.mode (sets_due o) refl k
 
   core_looks_at_each : (xs : List ℕ) (o : Plan) → OfCore o → OfCore (looks_at_each xs o)
   core_looks_at_each [] o h = h
@@ -154,7 +172,7 @@ module _ (P : Core → Type 0) where
   core_checks_in_time : (o : Plan) → IsCheckClosed P (core_of o.node) → OfCore (checks_in_time o)
   core_checks_in_time o k =
       let begins : Plan = forgets_refusal o.node.soft.due o in
-      core_looks_round o.node.kept.mode (checks begins) (core_checks begins (subst (IsCheckClosed P) (sym (core_forgets_refusal o.node.soft.due o)) k))
+      core_looks_round o.node.kept.mode (tick_checks begins) (core_tick_checks begins (subst (IsCheckClosed P) (sym (core_forgets_refusal o.node.soft.due o)) k))
 
   core_reports_news_as : (m : Mode) (o : Plan) → o.node.kept.mode ≡ m → IsCheckClosed P (core_of o.node) → OfCore (reports_news_as m o)
   core_reports_news_as modes.Idle o is k = k.still

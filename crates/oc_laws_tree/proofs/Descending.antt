@@ -23,6 +23,9 @@ use Rattle.oc_laws_world.specs.Ranks.{own_rank, ParentsPrecede}
 use Rattle.oc_laws_world.proofs.Lifts.{control_of}
 use Rattle.oc_laws_tree.proofs.Points.{parents_after}
 use Rattle.oc_laws_tree.proofs.CheckIns.{ChecksIn, checks_in_once}
+use Rattle.oc_laws_tree.proofs.Checks.{rank_unless}
+use Rattle.oc_laws_tree.proofs.LineHolds.{in_line, is_member_of, earlier_parent}
+use Rattle.oc_laws_tree.proofs.Spans.{up_id}
 use Rattle.oc_laws_tree.proofs.Core.{Core, core_of}
 use Rattle.oc_laws_tree.proofs.Held.{Steady, steady_itself, stays_then, IsHeld}
 use Rattle.oc_laws_tree.proofs.Levels.{for_each-append}
@@ -109,10 +112,11 @@ link_held w y d m ds chain leased = record {
   lease = subst (λ (p : ℕ). HoldsLease w p y (seq_of w y)) (joined_once w y leased.0 d leased.1 chain.2) leased.2;
 }
 
-pub tells_down : (h : Header) (w : World) (x m y epoch : ℕ) (c : List ℕ) → Reached h w → IsTrueChain w y m c → AreLeased w c → (IsOneOf x c → ⊥) → length c ≤ MAX_DEPTH
+-- the chain is one of chain members: these take the rank that they are told
+pub tells_down : (h : Header) (w : World) (x m y epoch : ℕ) (c : List ℕ) → Reached h w → y ≤ h.chain → IsTrueChain w y m c → AreLeased w c → (IsOneOf x c → ⊥) → length c ≤ MAX_DEPTH
     → own_rank w m ≡ Some (record { epoch = epoch; depth = 0 }) → (control_of w m).kept.ancestors ≡ [] → TellsDown h w x m y epoch c (for_each (top_down (Some c)) checks_in w)
-tells_down h w x m y epoch [] reached chain leased out short rank top = absurd chain
-tells_down h w x m y epoch (a ∷ []) reached chain leased out short rank top = record {
+tells_down h w x m y epoch [] reached member chain leased out short rank top = absurd chain
+tells_down h w x m y epoch (a ∷ []) reached member chain leased out short rank top = record {
   acts = omega arith;
   reached = reached;
   steady = steady_itself w;
@@ -125,9 +129,10 @@ tells_down h w x m y epoch (a ∷ []) reached chain leased out short rank top = 
   rank = (0, ap (own_rank w) chain.1 ∙ rank, omega arith);
   stranger = ap (λ (z : ℕ). has (control_of w z).kept.ancestors x) chain.1 ∙ ap (λ xs. has xs x) top;
 }
-tells_down h w x m y epoch (a ∷ d ∷ ds) reached chain leased out short rank top =
+tells_down h w x m y epoch (a ∷ d ∷ ds) reached member chain leased out short rank top =
     let above : List ℕ = top_down (Some (d ∷ ds)) in
-    let first : TellsDown h w x m d epoch (d ∷ ds) (for_each above checks_in w) = tells_down h w x m d epoch (d ∷ ds) reached chain.3 leased.1 (λ one. out (inr one)) (omega (arith, short)) rank top in
+    let earlier : d < y = earlier_parent h w y d reached (up_id h w y reached chain.1) member chain.2 in
+    let first : TellsDown h w x m d epoch (d ∷ ds) (for_each above checks_in w) = tells_down h w x m d epoch (d ∷ ds) reached (omega (arith, earlier, member)) chain.3 leased.1 (λ one. out (inr one)) (omega (arith, short)) rank top in
     let u : World = (for_each above checks_in w).world in
     let here : IsHeld u d y = first.held d y (link_held w y d m ds (refl, chain.1, chain.2, chain.3) (subst (IsLeased w) chain.0 leased.0)) in
     let v : World = (checks_in y u).world in
@@ -141,7 +146,9 @@ tells_down h w x m y epoch (a ∷ d ∷ ds) reached chain leased out short rank 
     let parents : ParentsPrecede u = of_reached ParentsPrecede parents_after h u first.reached in
     let precedes_own : Precedes host (rank_or_last (own_rank u y)) = subst (λ (r : Rank). Precedes r (rank_or_last (own_rank u y))) told (parents y d here.joined).1 in
     let taken : IsOfEpoch epoch (first.rank.0 + 1) (take_rank (own_rank u y) host) = taken_beneath (own_rank u y) host (omega (arith, first.rank.2, short)) precedes_own in
-    let took : own_rank v y ≡ take_rank (own_rank u y) host = ap (λ (k : Core). k.rank) checked.child ∙ ap (take_rank (own_rank u y)) told in
+    let content : (control_of u y).soft.wish ≡ None = (in_line h u y first.reached).content (is_member_of h u y first.reached (up_id h u y first.reached here.up) member) in
+    let took : own_rank v y ≡ take_rank (own_rank u y) host =
+    ap (λ (k : Core). k.rank) checked.child ∙ (ap (λ (wish : Option ℕ). rank_unless wish (own_rank u y) (rank_or_last (own_rank u d))) content ∙ ap (take_rank (own_rank u y)) told) in
     subst (λ (xs : List ℕ). TellsDown h w x m y epoch (a ∷ d ∷ ds) (for_each xs checks_in w)) (sym (ap (λ (z : ℕ). top_down (Some (z ∷ d ∷ ds))) chain.0 ∙ top_down_then y d ds))
     (subst (TellsDown h w x m y epoch (a ∷ d ∷ ds)) (sym (for_each-append checks_in above (y ∷ []) w)) record {
       acts = omega (arith, length-append (for_each above checks_in w).acts ((checks_in y u).acts ++ []), length-append (checks_in y u).acts [], checked.acts, first.acts);

@@ -124,7 +124,7 @@ refuses_at w q x seq r o last up raised refuses =
 
 -- x takes the yes
 record JoinsAt (w : World) (x q : ℕ) (told : Rank) (xs : List ℕ) (v : World) : Type 0 where
-  core : core_of (control_of v x) ≡ record (core_of (control_of w x)) { mode = Joined q; rank = Some (beneath_of told); ancestors = ancestors_by q xs }
+  core : core_of (control_of v x) ≡ record (core_of (control_of w x)) { mode = Joined q; rank = Some (beneath_of told); ancestors = ancestors_by q xs; wish = None }
   rest : HasSameRest (control_of w x) (control_of v x)
   others : (y : ℕ) → (x ≡ y → ⊥) → control_of v y ≡ control_of w y
   up : (y : ℕ) → is_up v y ≡ is_up w y
@@ -170,7 +170,12 @@ pub record ComesBeneath (h : Header) (w : World) (x q : ℕ) (o : Plan) (r : Run
   pub reached : Reached h r.world
   pub up : (y : ℕ) → is_up r.world y ≡ is_up w y
   pub others : (y : ℕ) → (x ≡ y → ⊥) → (q ≡ y → ⊥) → control_of r.world y ≡ control_of w y
-  pub child : core_of (control_of r.world x) ≡ record (asking (core_of (control_of w x)) q) { mode = Joined q; rank = Some (beneath_of (rank_or_last o.node.kept.rank)); ancestors = ancestors_by q (control_of w q).kept.ancestors }
+  pub child : core_of (control_of r.world x) ≡ record (asking (core_of (control_of w x)) q) {
+    mode = Joined q;
+    rank = Some (beneath_of (rank_or_last o.node.kept.rank));
+    ancestors = ancestors_by q (control_of w q).kept.ancestors;
+    wish = None;
+  }
   pub child_table : table_of r.world x ≡ table_of w x
   pub host : core_of (control_of r.world q) ≡ record (core_of (control_of w q)) { rank = o.node.kept.rank }
   pub table : table_of r.world q ≡ merge (table_of w q) (birth x (seq_of w x + 1) q)
@@ -201,7 +206,7 @@ comes_beneath h w x q o reached can up raised has may =
       reached = reached_delivers h w2 (reached_delivers h w1 (reached_act h w (acts.At x (inputs.Relocate q)) reached));
       up = λ y. third.up y ∙ (second.up y ∙ first.up y);
       others = λ y not_x not_q. third.others y not_x ∙ (second.others y not_q ∙ first.others y not_x);
-      child = third.core ∙ ap₂ (λ (k : Core) (m : Control). record k { mode = Joined q; rank = Some (beneath_of told); ancestors = ancestors_by q m.kept.ancestors }) core2 host1;
+      child = third.core ∙ ap₂ (λ (k : Core) (m : Control). record k { mode = Joined q; rank = Some (beneath_of told); ancestors = ancestors_by q m.kept.ancestors; wish = None }) core2 host1;
       child_table = third.rest.table ∙ (ap (λ (k : Control). k.kept.table) child2 ∙ first.rest.table);
       host = ap core_of host3 ∙ (second.core ∙ ap (λ (k : Control). record (core_of k) { rank = o.node.kept.rank }) host1);
       table = ap (λ (k : Control). k.kept.table) host3 ∙ (second.table ∙ ap (λ (k : Control). merge k.kept.table (birth x s q)) host1);

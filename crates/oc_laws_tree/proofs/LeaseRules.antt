@@ -1,6 +1,6 @@
 -- What every rule leaves as it is but those for a tick, an ask and a check-in: the id, the table, the lease ends and the clock. So
 -- whatever is said of these four goes on through them.
-use Rattle.std.proofs.Common.{ℕ, ◌+◌, Bool, true, false, not, ◌&&◌, ◌||◌, ◌==◌, nat_lt, if◌then◌else◌, Option, Some, None, List, [], ◌∷◌, filter, length}
+use Rattle.std.proofs.Common.{ℕ, ◌+◌, ◌-◌, Bool, true, false, not, ◌&&◌, ◌||◌, ◌==◌, nat_lt, nat_le, if◌then◌else◌, Option, Some, None, List, [], ◌∷◌, filter, length}
 use Rattle.oc_base.specs.declared.cert.Cert.{Cert}
 use Rattle.oc_base.specs.declared.rank.Rank.{Rank}
 use Rattle.oc_base.specs.declared.refusal.Refusal.{Refusal}
@@ -12,25 +12,25 @@ use Rattle.oc_model.specs.declared.answer.Answer.TheVariants as words
 use Rattle.oc_model.specs.declared.message.Body.TheVariants as bodies
 use Rattle.oc_model.specs.declared.mode.Mode.{Mode}
 use Rattle.oc_model.specs.declared.mode.Mode.TheVariants as modes
-use Rattle.oc_model.specs.declared.place.Review.{Review}
-use Rattle.oc_model.specs.declared.place.Review.TheVariants as reviews
 use Rattle.oc_model.specs.declared.record.Record.TheVariants as records
 use Rattle.oc_model.specs.declared.soft.Search.{Search}
 use Rattle.oc_model.specs.declared.soft.Search.TheVariants as searches
+use Rattle.oc_model.specs.declared.soft.Soft.{Soft}
+use Rattle.oc_model.specs.declared.soft.TheConstants.{MAX_MOVES}
 use Rattle.oc_model.specs.Adopting.{is_acting, raises, raises_over}
 use Rattle.oc_model.specs.Adoption.{precedes, precedes_any, rank_or_last, is_better}
 use Rattle.oc_base.specs.declared.limits.TheConstants.{MAX_DEPTH}
-use Rattle.oc_model.specs.Asking.{lost_from, lost, send_ask, ask, act, descend, try_at, try_first, next_try, set_tries, round, ask_before, is_asking, ancestors_by, joins, took_yes, refused, took_no, not_seen, not_reached, unreachable, relocate}
+use Rattle.oc_model.specs.Asking.{lost_from, lost, send_ask, ask, act, descend, try_at, waits_awhile, try_first, next_try, set_tries, round, ask_before, is_asking, ancestors_by, joins, took_yes, refused, took_no, not_seen, not_reached, unreachable, relocate}
 use Rattle.oc_model.specs.ChangeLog.{begun_with, is_ahead}
-use Rattle.oc_model.specs.Checking.{counts_clients, notes_time, reports, checks_as, next_check, checks, looks_at_each, looks_round, is_due, forgets_refusal, checks_in_time, has_news, reports_news_as, reports_news, checks_if_due, fetches_as, is_joined_to, takes_place, takes_rank, same_ids, takes_ancestors, took_ack, is_peer, took_rejoin}
+use Rattle.oc_model.specs.Checking.{counts_clients, notes_time, reports, checks_as, sets_due, checks, looks_at_each, looks_round, is_due, forgets_refusal, goes_on, tick_checks_as, tick_checks, checks_in_time, has_news, reports_news_as, reports_news, checks_if_due, fetches_as, is_joined_to, takes_place, takes_rank, takes_rank_unless, same_ids, takes_ancestors, took_ack, is_peer, took_rejoin}
 use Rattle.oc_model.specs.Choice.{below, chosen, reviewed}
 use Rattle.oc_model.specs.Content.{unless, keeps, grows, publish_to, published, seal_line, sealed_at, pulled, answers_fetch, fetched, adds_seal, adds, grown_line, asks_on, keeps_chunk, chunk_to, took_chunk}
-use Rattle.oc_model.specs.Looking.{Stand, goes_down, candidates, descends, goes_where, view, reviews_place, prefers, keeps_line, sees_as, sees}
+use Rattle.oc_model.specs.Looking.{Stand, goes_down, candidates, descends, place_in, is_place, wishes, leaves_for, goes_where, weighs, view, reviews_place, prefers, keeps_line, sees_as, sees}
 use Rattle.oc_model.specs.Measures.{reading_of, same_reading}
 use Rattle.oc_model.specs.Node.{Control, Durable}
 use Rattle.oc_model.specs.Numbers.{number_end, raise, capped, is_empty}
 use Rattle.oc_model.specs.Plan.{Plan, write, send, answers, with_soft, searching, ignored, is_member, rate_to}
-use Rattle.oc_model.specs.Serving.{redirects, server_for, client_of, client, measured}
+use Rattle.oc_model.specs.Serving.{redirects, server_for, client_of, client, may_move, measured}
 use Rattle.oc_model.specs.Shelves.{line_at, with_line, limit, next_behind}
 use Rattle.oc_base.specs.Shelves.{line_of}
 use Rattle.oc_model.proofs.Rules.{either}
@@ -63,7 +63,7 @@ module _ (Q : ℕ → List Cert → List (Option ℕ) → ℕ → Type 0) where
   stays_try_at o p h = either (not (is_member o.node) && is_empty o.node.kept.ancestors) (OfPlan Q) (descend o p) (ask o p) h (stays_ask o p h)
 
   stays_try_first : (ps : List ℕ) (o : Plan) → OfPlan Q o → OfPlan Q (try_first ps o)
-  stays_try_first [] o h = either (is_member o.node && o.node.soft.silent) (OfPlan Q) (act o) (answers o words.Waiting) h h
+  stays_try_first [] o h = either (is_member o.node && o.node.soft.silent) (OfPlan Q) (act o) (waits_awhile o) h h
   stays_try_first (p ∷ ps) o h = stays_try_at (with_soft o (record o.node.soft { tries = ps })) p h
 
   stays_next_try : (o : Plan) → OfPlan Q o → OfPlan Q (next_try o)
@@ -145,7 +145,21 @@ module _ (Q : ℕ → List Cert → List (Option ℕ) → ℕ → Type 0) where
   stays_checks_as (modes.Asking p) o h = h
 
   pub stays_checks : (o : Plan) → OfPlan Q o → OfPlan Q (checks o)
-  stays_checks o h = stays_checks_as o.node.kept.mode (with_soft o (record o.node.soft { due = Some (next_check o.node) })) h
+  stays_checks o h = stays_checks_as o.node.kept.mode (sets_due o) h
+
+  stays_goes_on : (s : Option Search) (o : Plan) → OfPlan Q o → OfPlan Q (goes_on s o)
+  stays_goes_on (Some (searches.Descend p)) o h = h
+  stays_goes_on (Some searches.Review) o h = stays_round o None h
+  stays_goes_on None o h = stays_round o None h
+
+  stays_tick_checks_as : (m : Mode) (o : Plan) → OfPlan Q o → OfPlan Q (tick_checks_as m o)
+  stays_tick_checks_as modes.Idle o h = stays_goes_on o.node.soft.search o h
+  stays_tick_checks_as (modes.Joined p) o h = stays_checks_as (modes.Joined p) o h
+  stays_tick_checks_as (modes.Asking p) o h = stays_checks_as (modes.Asking p) o h
+  stays_tick_checks_as modes.Acting o h = stays_checks_as modes.Acting o h
+
+  stays_tick_checks : (o : Plan) → OfPlan Q o → OfPlan Q (tick_checks o)
+  stays_tick_checks o h = stays_tick_checks_as o.node.kept.mode (sets_due o) h
 
   stays_looks_at_each : (xs : List ℕ) (o : Plan) → OfPlan Q o → OfPlan Q (looks_at_each xs o)
   stays_looks_at_each [] o h = h
@@ -167,7 +181,7 @@ module _ (Q : ℕ → List Cert → List (Option ℕ) → ℕ → Type 0) where
   stays_checks_in_time : (o : Plan) → OfPlan Q o → OfPlan Q (checks_in_time o)
   stays_checks_in_time o h =
       let begins : Plan = forgets_refusal o.node.soft.due o in
-      stays_looks_round o.node.kept.mode (checks begins) (stays_checks begins (stays_forgets_refusal o.node.soft.due o h))
+      stays_looks_round o.node.kept.mode (tick_checks begins) (stays_tick_checks begins (stays_forgets_refusal o.node.soft.due o h))
 
   stays_reports_news_as : (m : Mode) (o : Plan) → OfPlan Q o → OfPlan Q (reports_news_as m o)
   stays_reports_news_as (modes.Joined p) o h = either (has_news o.node) (OfPlan Q) (reports o p) o (stays_counts_clients (notes_time o) h) h
@@ -194,14 +208,18 @@ module _ (Q : ℕ → List Cert → List (Option ℕ) → ℕ → Type 0) where
   stays_takes_rank : (o : Plan) (told : Rank) → OfPlan Q o → OfPlan Q (takes_rank o told)
   stays_takes_rank o told h = either (is_better o.node.kept.rank told) (OfPlan Q) (write o (records.Ranked (beneath_of told))) o h h
 
+  stays_takes_rank_unless : (wish : Option ℕ) (o : Plan) (told : Rank) → OfPlan Q o → OfPlan Q (takes_rank_unless wish o told)
+  stays_takes_rank_unless None o told h = stays_takes_rank o told h
+  stays_takes_rank_unless (Some g) o told h = h
+
   stays_takes_ancestors : (o : Plan) (xs : List ℕ) → OfPlan Q o → OfPlan Q (takes_ancestors o xs)
   stays_takes_ancestors o xs h = either (same_ids xs o.node.kept.ancestors) (OfPlan Q) o (write o (records.Ancestors xs)) h h
 
   pub stays_took_ack : (o : Plan) (p seq upto : ℕ) (told : Rank) (xs : List ℕ) → OfPlan Q o → OfPlan Q (took_ack o p seq upto told xs)
   stays_took_ack o p seq upto told xs h =
-      let ranked : Plan = takes_rank (takes_place o upto) told in
+      let ranked : Plan = takes_rank_unless o.node.soft.wish (takes_place o upto) told in
       either (is_joined_to o.node.kept.mode p && seq == o.node.kept.seq) (OfPlan Q) (takes_ancestors ranked (ancestors_by p xs)) (ignored o)
-      (stays_takes_ancestors ranked (ancestors_by p xs) (stays_takes_rank (takes_place o upto) told (stays_takes_place o upto h))) h
+      (stays_takes_ancestors ranked (ancestors_by p xs) (stays_takes_rank_unless o.node.soft.wish (takes_place o upto) told (stays_takes_place o upto h))) h
 
   pub stays_took_rejoin : (o : Plan) (p seq : ℕ) → OfPlan Q o → OfPlan Q (took_rejoin o p seq)
   stays_took_rejoin o p seq h = either (is_peer o.node.kept.mode p && seq == o.node.kept.seq) (OfPlan Q) (ask_before o p) (ignored o) (stays_ask_before o p h) h
@@ -217,13 +235,25 @@ module _ (Q : ℕ → List Cert → List (Option ℕ) → ℕ → Type 0) where
       let way : Option ℕ = chosen (rate_to o.node p) (candidates o.node s.children) in
       either s.in_tree (OfPlan Q) (goes_down way o p) (next_try (searching o None)) (stays_goes_down way o p h) (stays_next_try (searching o None) h)
 
-  stays_goes_where : (r : Review) (o : Plan) → OfPlan Q o → OfPlan Q (goes_where r o)
-  stays_goes_where reviews.Stay o h = h
-  stays_goes_where (reviews.Up g) o h = stays_ask_before o g h
-  stays_goes_where (reviews.Beneath q) o h = stays_ask_before o q h
+  stays_leaves_for : (o : Plan) (p g : ℕ) → OfPlan Q o → OfPlan Q (leaves_for o p g)
+  stays_leaves_for o p g h = stays_ask_before (with_soft o (record o.node.soft { left = Some p; moves = o.node.soft.moves + 1 })) g h
+
+  stays_goes_where : (place : Option ℕ) (o : Plan) (p : ℕ) → OfPlan Q o → OfPlan Q (goes_where place o p)
+  stays_goes_where None o p h = h
+  stays_goes_where (Some g) o p h =
+      either (nat_lt o.node.soft.waits (o.node.soft.patience + 2)) (OfPlan Q) (wishes o (Some g) (o.node.soft.waits + 1)) (leaves_for o p g) h (stays_leaves_for o p g h)
+
+  stays_weighs : (o : Plan) (p : ℕ) (place : Option ℕ) → OfPlan Q o → OfPlan Q (weighs o p place)
+  stays_weighs o p place h =
+      let soft : Soft = o.node.soft in
+      let doubts : Bool = not (is_place place soft.wish) && nat_lt 0 soft.waits in
+      let doubted : Plan = wishes o soft.wish (soft.waits - 1) in
+      let wished : Plan = wishes o place soft.waits in
+      either (nat_le MAX_MOVES soft.moves) (OfPlan Q) (wishes o None 0) (if doubts then doubted else goes_where place wished p) h
+      (either doubts (OfPlan Q) doubted (goes_where place wished p) h (stays_goes_where place wished p h))
 
   stays_reviews_place : (o : Plan) (p : ℕ) (s : Stand) → OfPlan Q o → OfPlan Q (reviews_place o p s)
-  stays_reviews_place o p s h = stays_goes_where (reviewed (view o.node p s)) (searching o None) h
+  stays_reviews_place o p s h = stays_weighs (searching o None) p (place_in (reviewed (view o.node p s))) h
 
   stays_keeps_line : (o : Plan) (p : ℕ) (s : Stand) → OfPlan Q o → OfPlan Q (keeps_line o p s)
   stays_keeps_line o p s h =
@@ -259,7 +289,7 @@ module _ (Q : ℕ → List Cert → List (Option ℕ) → ℕ → Type 0) where
   stays_measured o p rate hops h =
       let is_old : Bool = same_reading (reading_of o.node.kept.measures p) (record { rate = rate; hops = hops }) in
       let wrote : Plan = write o (records.Rate p rate hops) in
-      either (p == o.node.me) (OfPlan Q) (answers o words.Own) (if is_old then o else wrote) h (either is_old (OfPlan Q) o wrote h h)
+      either (p == o.node.me) (OfPlan Q) (answers o words.Own) (if is_old then o else may_move wrote) h (either is_old (OfPlan Q) o (may_move wrote) h h)
 
   -- Content
 

@@ -13,18 +13,18 @@ use Rattle.oc_model.specs.declared.answer.Answer.TheVariants as words
 use Rattle.oc_model.specs.declared.message.Body.TheVariants as bodies
 use Rattle.oc_model.specs.declared.mode.Mode.{Mode}
 use Rattle.oc_model.specs.declared.mode.Mode.TheVariants as modes
-use Rattle.oc_model.specs.declared.place.Review.{Review}
-use Rattle.oc_model.specs.declared.place.Review.TheVariants as reviews
 use Rattle.oc_model.specs.declared.record.Record.TheVariants as records
 use Rattle.oc_model.specs.declared.soft.Search.{Search}
 use Rattle.oc_model.specs.declared.soft.Search.TheVariants as searches
+use Rattle.oc_model.specs.declared.soft.Soft.{Soft}
+use Rattle.oc_model.specs.declared.soft.TheConstants.{MAX_MOVES}
 use Rattle.oc_model.specs.Adopting.{is_acting, raises, raises_over}
 use Rattle.oc_model.specs.Adoption.{precedes, precedes_any, rank_or_last, is_better}
-use Rattle.oc_model.specs.Asking.{lost_from, lost, send_ask, ask, next_epoch, act, descend, try_at, try_first, next_try, set_tries, round, ask_before, is_asking, ancestors_by, joins, took_yes, refused, took_no, not_seen, not_reached, unreachable, relocate}
+use Rattle.oc_model.specs.Asking.{lost_from, lost, send_ask, ask, next_epoch, act, descend, try_at, waits_awhile, try_first, next_try, set_tries, round, ask_before, is_asking, ancestors_by, joins, took_yes, refused, took_no, not_seen, not_reached, unreachable, relocate}
 use Rattle.oc_model.specs.ChangeLog.{is_ahead}
-use Rattle.oc_model.specs.Checking.{counts_clients, notes_time, reports, checks_as, next_check, checks, looks_at_each, looks_round, is_due, forgets_refusal, checks_in_time, has_news, reports_news_as, reports_news, checks_if_due, fetches_as, is_joined_to, takes_place, takes_rank, same_ids, takes_ancestors, took_ack, is_peer, took_rejoin}
+use Rattle.oc_model.specs.Checking.{counts_clients, notes_time, reports, checks_as, sets_due, checks, looks_at_each, looks_round, is_due, forgets_refusal, goes_on, tick_checks_as, tick_checks, checks_in_time, has_news, reports_news_as, reports_news, checks_if_due, fetches_as, is_joined_to, takes_place, takes_rank_unless, same_ids, takes_ancestors, took_ack, is_peer, took_rejoin}
 use Rattle.oc_model.specs.Choice.{below, each_once, ask_order, chosen, reviewed}
-use Rattle.oc_model.specs.Looking.{Stand, goes_down, candidates, descends, goes_where, view, reviews_place, prefers, keeps_line, sees_as, sees}
+use Rattle.oc_model.specs.Looking.{Stand, goes_down, candidates, descends, place_in, is_place, wishes, leaves_for, goes_where, weighs, view, reviews_place, prefers, keeps_line, sees_as, sees}
 use Rattle.oc_model.specs.Node.{Control}
 use Rattle.oc_model.specs.Numbers.{number_end, raise, capped, has, is_empty}
 use Rattle.oc_model.specs.Plan.{Plan, write, send, answers, with_soft, searching, ignored, is_member, rate_to}
@@ -67,16 +67,18 @@ order_below me chain ancestors without member =
 abbrev pub IsTop : Option Rank → Type 0
 IsTop rank = (r : Rank) × (rank ≡ Some r) × (r.depth ≡ 0)
 
--- a root has no ancestors and is at depth 0; a chain member has earlier members alone as peer and to try, and looks for no place
-pub record InLine (me chain : ℕ) (mode : Mode) (tries : List ℕ) (search : Option Search) (ancestors : List ℕ) (rank : Option Rank) : Type 0 where
+-- a root has no ancestors and is at depth 0; a chain member has earlier members alone as peer and to try, and neither looks nor wishes for
+-- a place
+pub record InLine (me chain : ℕ) (mode : Mode) (tries : List ℕ) (search : Option Search) (wish : Option ℕ) (ancestors : List ℕ) (rank : Option Rank) : Type 0 where
   pub root : mode ≡ modes.Acting → (ancestors ≡ []) × IsTop rank
   pub peer : nat_le me chain ≡ true → (p : ℕ) → is_peer mode p ≡ true → p < me
   pub earlier : nat_le me chain ≡ true → AreBelow me tries
   pub few : nat_le me chain ≡ true → length tries ≤ me - 1
   pub still : nat_le me chain ≡ true → search ≡ None
+  pub content : nat_le me chain ≡ true → wish ≡ None
 
 abbrev pub IsInLine : Control → Type 0
-IsInLine n = InLine n.me n.chain n.kept.mode n.soft.tries n.soft.search n.kept.ancestors n.kept.rank
+IsInLine n = InLine n.me n.chain n.kept.mode n.soft.tries n.soft.search n.soft.wish n.kept.ancestors n.kept.rank
 
 abbrev pub OfLine : Plan → Type 0
 OfLine o = IsInLine o.node
@@ -87,32 +89,32 @@ MayAsk o p = is_member o.node ≡ true → p < o.node.me
 
 -- Changes
 
-module _ {me chain : ℕ} {mode : Mode} {tries : List ℕ} {search : Option Search} {ancestors : List ℕ} {rank : Option Rank} (h : InLine me chain mode tries search ancestors rank) where
-  line_idle : InLine me chain modes.Idle tries search ancestors rank
-  line_idle = record { root = λ e. absurd cc; peer = λ member p e. absurd cc; earlier = h.earlier; few = h.few; still = h.still }
+module _ {me chain : ℕ} {mode : Mode} {tries : List ℕ} {search : Option Search} {wish : Option ℕ} {ancestors : List ℕ} {rank : Option Rank} (h : InLine me chain mode tries search wish ancestors rank) where
+  line_idle : InLine me chain modes.Idle tries search wish ancestors rank
+  line_idle = record { root = λ e. absurd cc; peer = λ member p e. absurd cc; earlier = h.earlier; few = h.few; still = h.still; content = h.content }
 
-  line_asking : (p : ℕ) → (nat_le me chain ≡ true → p < me) → InLine me chain (modes.Asking p) tries None ancestors rank
-  line_asking p may = record { root = λ e. absurd cc; peer = λ member q e. let same : p ≡ q = eqb-true p q e in let less : p < me = may member in omega (arith, same, less); earlier = h.earlier; few = h.few; still = λ member. refl }
+  line_asking : (p : ℕ) → (nat_le me chain ≡ true → p < me) → InLine me chain (modes.Asking p) tries None wish ancestors rank
+  line_asking p may = record { root = λ e. absurd cc; peer = λ member q e. let same : p ≡ q = eqb-true p q e in let less : p < me = may member in omega (arith, same, less); earlier = h.earlier; few = h.few; still = λ member. refl; content = h.content }
 
-  line_acting : (r : Rank) → r.depth ≡ 0 → InLine me chain modes.Acting tries search [] (Some r)
-  line_acting r top = record { root = λ e. (refl, (r, refl, top)); peer = λ member p e. absurd cc; earlier = h.earlier; few = h.few; still = h.still }
+  line_acting : (r : Rank) → r.depth ≡ 0 → InLine me chain modes.Acting tries search wish [] (Some r)
+  line_acting r top = record { root = λ e. (refl, (r, refl, top)); peer = λ member p e. absurd cc; earlier = h.earlier; few = h.few; still = h.still; content = h.content }
 
-  line_raised : (r : Rank) → r.depth ≡ 0 → InLine me chain mode tries search ancestors (Some r)
-  line_raised r top = record { root = λ e. ((h.root e).0, (r, refl, top)); peer = h.peer; earlier = h.earlier; few = h.few; still = h.still }
+  line_raised : (r : Rank) → r.depth ≡ 0 → InLine me chain mode tries search wish ancestors (Some r)
+  line_raised r top = record { root = λ e. ((h.root e).0, (r, refl, top)); peer = h.peer; earlier = h.earlier; few = h.few; still = h.still; content = h.content }
 
-  line_looks : (s : Option Search) → (nat_le me chain ≡ true → s ≡ None) → InLine me chain mode tries s ancestors rank
-  line_looks s none = record { root = h.root; peer = h.peer; earlier = h.earlier; few = h.few; still = none }
+  line_looks : (s : Option Search) → (nat_le me chain ≡ true → s ≡ None) → InLine me chain mode tries s wish ancestors rank
+  line_looks s none = record { root = h.root; peer = h.peer; earlier = h.earlier; few = h.few; still = none; content = h.content }
 
-  line_tries : (without : Option ℕ) → InLine me chain mode (ask_order me chain ancestors without) search ancestors rank
-  line_tries without = record { root = h.root; peer = h.peer; earlier = λ member. (order_below me chain ancestors without member).0; few = λ member. (order_below me chain ancestors without member).1; still = h.still }
+  line_tries : (without : Option ℕ) → InLine me chain mode (ask_order me chain ancestors without) search wish ancestors rank
+  line_tries without = record { root = h.root; peer = h.peer; earlier = λ member. (order_below me chain ancestors without member).0; few = λ member. (order_below me chain ancestors without member).1; still = h.still; content = h.content }
 
   -- what is no root may have any rank and ancestors
-  line_below : (xs : List ℕ) (r : Option Rank) → (mode ≡ modes.Acting → ⊥) → InLine me chain mode tries search xs r
-  line_below xs r other = record { root = λ e. absurd (other e); peer = h.peer; earlier = h.earlier; few = h.few; still = h.still }
+  line_below : (xs : List ℕ) (r : Option Rank) → (mode ≡ modes.Acting → ⊥) → InLine me chain mode tries search wish xs r
+  line_below xs r other = record { root = λ e. absurd (other e); peer = h.peer; earlier = h.earlier; few = h.few; still = h.still; content = h.content }
 
 -- the first try is taken off
-line_rest : {me chain : ℕ} {mode : Mode} {search : Option Search} {ancestors : List ℕ} {rank : Option Rank} (p : ℕ) (ps : List ℕ) → InLine me chain mode (p ∷ ps) search ancestors rank → InLine me chain mode ps search ancestors rank
-line_rest p ps h = record { root = h.root; peer = h.peer; earlier = λ member. (h.earlier member).1; few = λ member. omega (arith, h.few member); still = h.still }
+line_rest : {me chain : ℕ} {mode : Mode} {search : Option Search} {wish : Option ℕ} {ancestors : List ℕ} {rank : Option Rank} (p : ℕ) (ps : List ℕ) → InLine me chain mode (p ∷ ps) search wish ancestors rank → InLine me chain mode ps search wish ancestors rank
+line_rest p ps h = record { root = h.root; peer = h.peer; earlier = λ member. (h.earlier member).1; few = λ member. omega (arith, h.few member); still = h.still; content = h.content }
 
 -- Asks
 
@@ -142,10 +144,10 @@ line_try_at o p may h = cond_both (not (is_member o.node) && is_empty o.node.kep
     (λ _. line_ask o p may h)
 
 line_try_first : (ps : List ℕ) (o : Plan) → o.node.soft.tries ≡ ps → OfLine o → OfLine (try_first ps o)
-line_try_first [] o e h = either (is_member o.node && o.node.soft.silent) OfLine (act o) (answers o words.Waiting) (line_act o h) h
+line_try_first [] o e h = either (is_member o.node && o.node.soft.silent) OfLine (act o) (waits_awhile o) (line_act o h) h
 line_try_first (p ∷ ps) o e h =
-    let all : InLine o.node.me o.node.chain o.node.kept.mode (p ∷ ps) o.node.soft.search o.node.kept.ancestors o.node.kept.rank =
-    subst (λ (xs : List ℕ). InLine o.node.me o.node.chain o.node.kept.mode xs o.node.soft.search o.node.kept.ancestors o.node.kept.rank) e h in
+    let all : InLine o.node.me o.node.chain o.node.kept.mode (p ∷ ps) o.node.soft.search o.node.soft.wish o.node.kept.ancestors o.node.kept.rank =
+    subst (λ (xs : List ℕ). InLine o.node.me o.node.chain o.node.kept.mode xs o.node.soft.search o.node.soft.wish o.node.kept.ancestors o.node.kept.rank) e h in
     line_try_at (with_soft o (record o.node.soft { tries = ps })) p (λ member. (all.earlier member).0) (line_rest p ps all)
 
 line_next_try : (o : Plan) → OfLine o → OfLine (next_try o)
@@ -170,10 +172,10 @@ asking_peer modes.Acting p e = absurd cc
 line_joins : (o : Plan) (p : ℕ) (r : Rank) (xs : List ℕ) → is_asking o.node.kept.mode p ≡ true → OfLine o → OfLine (joins o p r xs)
 line_joins o p r xs asks h =
     let is = asking_peer o.node.kept.mode p asks in
-    either (o.node.kept.seq == 0) (λ d. InLine o.node.me o.node.chain d.mode [] None (ancestors_by p xs) d.rank)
+    either (o.node.kept.seq == 0) (λ d. InLine o.node.me o.node.chain d.mode [] None None (ancestors_by p xs) d.rank)
     o.node.kept (record o.node.kept { mode = modes.Joined p; rank = Some (beneath_of r); log = _ })
-    (record { root = λ e. absurd (is.1 e); peer = h.peer; earlier = λ member. tt; few = λ member. omega arith; still = λ member. refl })
-    (record { root = λ e. absurd cc; peer = λ member q e. let same : p ≡ q = eqb-true p q e in let less : p < o.node.me = h.peer member p is.0 in omega (arith, same, less); earlier = λ member. tt; few = λ member. omega arith; still = λ member. refl })
+    (record { root = λ e. absurd (is.1 e); peer = h.peer; earlier = λ member. tt; few = λ member. omega arith; still = λ member. refl; content = λ member. refl })
+    (record { root = λ e. absurd cc; peer = λ member q e. let same : p ≡ q = eqb-true p q e in let less : p < o.node.me = h.peer member p is.0 in omega (arith, same, less); earlier = λ member. tt; few = λ member. omega arith; still = λ member. refl; content = λ member. refl })
 
 -- the first and the third of four tests that all hold
 and_first : (a b c d : Bool) → (a && b && c && d) ≡ true → a ≡ true
@@ -263,7 +265,21 @@ line_checks_as modes.Idle o h = line_round o None h
 line_checks_as (modes.Asking p) o h = h
 
 pub line_checks : (o : Plan) → OfLine o → OfLine (checks o)
-line_checks o h = line_checks_as o.node.kept.mode (with_soft o (record o.node.soft { due = Some (next_check o.node) })) h
+line_checks o h = line_checks_as o.node.kept.mode (sets_due o) h
+
+line_goes_on : (s : Option Search) (o : Plan) → OfLine o → OfLine (goes_on s o)
+line_goes_on (Some (searches.Descend p)) o h = h
+line_goes_on (Some searches.Review) o h = line_round o None h
+line_goes_on None o h = line_round o None h
+
+line_tick_checks_as : (m : Mode) (o : Plan) → OfLine o → OfLine (tick_checks_as m o)
+line_tick_checks_as modes.Idle o h = line_goes_on o.node.soft.search o h
+line_tick_checks_as (modes.Joined p) o h = line_checks_as (modes.Joined p) o h
+line_tick_checks_as (modes.Asking p) o h = line_checks_as (modes.Asking p) o h
+line_tick_checks_as modes.Acting o h = line_checks_as modes.Acting o h
+
+line_tick_checks : (o : Plan) → OfLine o → OfLine (tick_checks o)
+line_tick_checks o h = line_tick_checks_as o.node.kept.mode (sets_due o) h
 
 line_looks_at_each : (xs : List ℕ) (o : Plan) → OfLine o → OfLine (looks_at_each xs o)
 line_looks_at_each [] o h = h
@@ -286,7 +302,7 @@ line_forgets_refusal (Some t) o h = h
 line_checks_in_time : (o : Plan) → OfLine o → OfLine (checks_in_time o)
 line_checks_in_time o h =
     let begins : Plan = forgets_refusal o.node.soft.due o in
-    line_looks_round o.node.kept.mode (checks begins) (line_checks begins (line_forgets_refusal o.node.soft.due o h))
+    line_looks_round o.node.kept.mode (tick_checks begins) (line_tick_checks begins (line_forgets_refusal o.node.soft.due o h))
 
 line_reports_news_as : (m : Mode) (o : Plan) → OfLine o → OfLine (reports_news_as m o)
 line_reports_news_as (modes.Joined p) o h = either (has_news o.node) OfLine (reports o p) o (line_counts_clients (notes_time o) h) h
@@ -317,17 +333,19 @@ line_takes_place o upto h = either (is_ahead o.node.kept.log upto) OfLine (write
 
 pub line_took_ack : (o : Plan) (p seq upto : ℕ) (told : Rank) (xs : List ℕ) → OfLine o → OfLine (took_ack o p seq upto told xs)
 line_took_ack o p seq upto told xs h =
-    cond_both (is_joined_to o.node.kept.mode p && seq == o.node.kept.seq) (takes_ancestors (takes_rank (takes_place o upto) told) (ancestors_by p xs)) (ignored o) OfLine
+    cond_both (is_joined_to o.node.kept.mode p && seq == o.node.kept.seq) (takes_ancestors (takes_rank_unless o.node.soft.wish (takes_place o upto) told) (ancestors_by p xs)) (ignored o) OfLine
     (λ here. taken (joined_below o.node.kept.mode p (and_parts (is_joined_to o.node.kept.mode p) (seq == o.node.kept.seq) here).0)) (λ _. h) where
-      ranked : (q : Plan) → OfLine q → (q.node.kept.mode ≡ modes.Acting → ⊥) → OfLine (takes_ancestors (takes_rank q told) (ancestors_by p xs))
-      ranked q k other = either (is_better q.node.kept.rank told) (λ (u : Plan). OfLine (takes_ancestors u (ancestors_by p xs))) (write q (records.Ranked (beneath_of told))) q
-          (known (write q (records.Ranked (beneath_of told))) (line_below k q.node.kept.ancestors (Some (beneath_of told)) other) other) (known q k other) where
-            known : (u : Plan) → OfLine u → (u.node.kept.mode ≡ modes.Acting → ⊥) → OfLine (takes_ancestors u (ancestors_by p xs))
-            known u k other = either (same_ids (ancestors_by p xs) u.node.kept.ancestors) OfLine u (write u (records.Ancestors (ancestors_by p xs))) k (line_below k (ancestors_by p xs) u.node.kept.rank other)
+      known : (u : Plan) → OfLine u → (u.node.kept.mode ≡ modes.Acting → ⊥) → OfLine (takes_ancestors u (ancestors_by p xs))
+      known u k other = either (same_ids (ancestors_by p xs) u.node.kept.ancestors) OfLine u (write u (records.Ancestors (ancestors_by p xs))) k (line_below k (ancestors_by p xs) u.node.kept.rank other)
 
-      taken : (o.node.kept.mode ≡ modes.Acting → ⊥) → OfLine (takes_ancestors (takes_rank (takes_place o upto) told) (ancestors_by p xs))
-      taken other = either (is_ahead o.node.kept.log upto) (λ (q : Plan). OfLine (takes_ancestors (takes_rank q told) (ancestors_by p xs))) (write o (records.Acked upto)) o
-          (ranked (write o (records.Acked upto)) h other) (ranked o h other)
+      ranked : (wish : Option ℕ) (q : Plan) → OfLine q → (q.node.kept.mode ≡ modes.Acting → ⊥) → OfLine (takes_ancestors (takes_rank_unless wish q told) (ancestors_by p xs))
+      ranked (Some g) q k other = known q k other
+      ranked None q k other = either (is_better q.node.kept.rank told) (λ (u : Plan). OfLine (takes_ancestors u (ancestors_by p xs))) (write q (records.Ranked (beneath_of told))) q
+          (known (write q (records.Ranked (beneath_of told))) (line_below k q.node.kept.ancestors (Some (beneath_of told)) other) other) (known q k other)
+
+      taken : (o.node.kept.mode ≡ modes.Acting → ⊥) → OfLine (takes_ancestors (takes_rank_unless o.node.soft.wish (takes_place o upto) told) (ancestors_by p xs))
+      taken other = either (is_ahead o.node.kept.log upto) (λ (q : Plan). OfLine (takes_ancestors (takes_rank_unless o.node.soft.wish q told) (ancestors_by p xs))) (write o (records.Acked upto)) o
+          (ranked o.node.soft.wish (write o (records.Acked upto)) h other) (ranked o.node.soft.wish o h other)
 
 pub line_took_rejoin : (o : Plan) (p seq : ℕ) → OfLine o → OfLine (took_rejoin o p seq)
 line_took_rejoin o p seq h = cond_both (is_peer o.node.kept.mode p && seq == o.node.kept.seq) (ask_before o p) (ignored o) OfLine
@@ -347,13 +365,30 @@ line_descends o p s past h =
     let way : Option ℕ = chosen (rate_to o.node p) (candidates o.node s.children) in
     either s.in_tree OfLine (goes_down way o p) (next_try (searching o None)) (line_goes_down way o p past h) (line_next_try (searching o None) (line_unsearching o h))
 
-line_goes_where : (r : Review) (o : Plan) → (is_member o.node ≡ true → ⊥) → OfLine o → OfLine (goes_where r o)
-line_goes_where reviews.Stay o past h = h
-line_goes_where (reviews.Up g) o past h = line_ask_before o g (λ member. absurd (past member)) h
-line_goes_where (reviews.Beneath q) o past h = line_ask_before o q (λ member. absurd (past member)) h
+-- a node past the chain may wish for a place
+line_wishes : (o : Plan) (place : Option ℕ) (count : ℕ) → (is_member o.node ≡ true → ⊥) → OfLine o → OfLine (wishes o place count)
+line_wishes o place count past h = record { root = h.root; peer = h.peer; earlier = h.earlier; few = h.few; still = h.still; content = λ member. absurd (past member) }
+
+line_leaves_for : (o : Plan) (p g : ℕ) → (is_member o.node ≡ true → ⊥) → OfLine o → OfLine (leaves_for o p g)
+line_leaves_for o p g past h = line_ask_before (with_soft o (record o.node.soft { left = Some p; moves = o.node.soft.moves + 1 })) g (λ member. absurd (past member)) h
+
+line_goes_where : (place : Option ℕ) (o : Plan) (p : ℕ) → (is_member o.node ≡ true → ⊥) → OfLine o → OfLine (goes_where place o p)
+line_goes_where None o p past h = h
+line_goes_where (Some g) o p past h =
+    either (nat_lt o.node.soft.waits (o.node.soft.patience + 2)) OfLine (wishes o (Some g) (o.node.soft.waits + 1)) (leaves_for o p g)
+    (line_wishes o (Some g) (o.node.soft.waits + 1) past h) (line_leaves_for o p g past h)
+
+line_weighs : (o : Plan) (p : ℕ) (place : Option ℕ) → (is_member o.node ≡ true → ⊥) → OfLine o → OfLine (weighs o p place)
+line_weighs o p place past h =
+    let soft : Soft = o.node.soft in
+    let doubts : Bool = not (is_place place soft.wish) && nat_lt 0 soft.waits in
+    let doubted : Plan = wishes o soft.wish (soft.waits - 1) in
+    let wished : Plan = wishes o place soft.waits in
+    either (nat_le MAX_MOVES soft.moves) OfLine (wishes o None 0) (if doubts then doubted else goes_where place wished p) (line_wishes o None 0 past h)
+    (either doubts OfLine doubted (goes_where place wished p) (line_wishes o soft.wish (soft.waits - 1) past h) (line_goes_where place wished p past (line_wishes o place soft.waits past h)))
 
 line_reviews_place : (o : Plan) (p : ℕ) (s : Stand) → (is_member o.node ≡ true → ⊥) → OfLine o → OfLine (reviews_place o p s)
-line_reviews_place o p s past h = line_goes_where (reviewed (view o.node p s)) (searching o None) past (line_unsearching o h)
+line_reviews_place o p s past h = line_weighs (searching o None) p (place_in (reviewed (view o.node p s))) past (line_unsearching o h)
 
 line_keeps_line : (o : Plan) (p : ℕ) (s : Stand) → OfLine o → OfLine (keeps_line o p s)
 line_keeps_line o p s h = cond_both (is_member o.node && prefers o.node.kept.mode p && nat_lt p o.node.me && s.in_tree) (ask_before o p) (ignored o) OfLine

@@ -26,7 +26,7 @@ use Rattle.oc_model.specs.Measures.{reading_of, same_reading}
 use Rattle.oc_model.specs.NextWorld.{next_world, stopped}
 use Rattle.oc_model.specs.Node.{Header, Node, restarted}
 use Rattle.oc_model.specs.Plan.{Plan, begun, write, answers, is_member}
-use Rattle.oc_model.specs.Serving.{redirects, server_for, client_of, client, measured}
+use Rattle.oc_model.specs.Serving.{redirects, server_for, client_of, client, may_move, measured}
 use Rattle.oc_model.specs.Step.{received, step}
 use Rattle.oc_model.specs.Table.{newest, is_news}
 use Rattle.oc_model.specs.World.{World, Process, node, process, process_in, with_process, mode_of, after_act, new_world}
@@ -94,7 +94,7 @@ line_measured : (o : Plan) (p rate hops : ℕ) → OfLine o → OfLine (measured
 line_measured o p rate hops h =
     let is_old : Bool = same_reading (reading_of o.node.kept.measures p) (record { rate = rate; hops = hops }) in
     let wrote : Plan = write o (records.Rate p rate hops) in
-    either (p == o.node.me) OfLine (answers o words.Own) (if is_old then o else wrote) h (either is_old OfLine o wrote h h)
+    either (p == o.node.me) OfLine (answers o words.Own) (if is_old then o else may_move wrote) h (either is_old OfLine o (may_move wrote) h h)
 
 -- Steps
 
@@ -129,7 +129,7 @@ AreInLine w = (y : ℕ) → IsInLine (control_of w y)
 
 -- a start clears what a node looks for
 line_restarted : (n : Node) → IsInLine n.control → IsInLine (restarted n).control
-line_restarted n h = record { root = h.root; peer = h.peer; earlier = λ member. tt; few = λ member. omega arith; still = λ member. refl }
+line_restarted n h = record { root = h.root; peer = h.peer; earlier = λ member. tt; few = λ member. omega arith; still = λ member. refl; content = λ member. refl }
 
 line_put : (w : World) (q : Process) → IsInLine q.node.control → AreInLine w → (y : ℕ) → IsInLine (process_in (with_process w.processes q) y).node.control
 line_put w q here all y = at_put w.processes q (λ (n : Node). IsInLine n.control) y (λ _. here) (all y)
@@ -151,7 +151,7 @@ line_new : (h : Header) → AreInLine (new_world h)
 line_new h y =
     let new : IsNew y (process (new_world h) y) = process_in-new h (range_with_len 1 h.nodes) y in
     subst (λ (p : Process). IsInLine p.node.control) (sym new.1)
-    record { root = λ e. absurd cc; peer = λ member p e. absurd cc; earlier = λ member. tt; few = λ member. omega arith; still = λ member. refl }
+    record { root = λ e. absurd cc; peer = λ member p e. absurd cc; earlier = λ member. tt; few = λ member. omega arith; still = λ member. refl; content = λ member. refl }
 
 -- so it is in each world that is reached
 pub in_line : (h : Header) (w : World) (y : ℕ) → Reached h w → IsInLine (control_of w y)

@@ -10,7 +10,7 @@ use Rattle.oc_model.specs.declared.mode.Mode.{Mode}
 use Rattle.oc_model.specs.declared.mode.Mode.TheVariants as modes
 use Rattle.oc_model.specs.declared.record.Record.TheVariants as records
 use Rattle.oc_model.specs.Adoption.{rank_or_last}
-use Rattle.oc_model.specs.Asking.{lost_from, lost, send_ask, ask, act, descend, try_at, try_first, next_try, set_tries, round, not_seen, not_reached, unreachable}
+use Rattle.oc_model.specs.Asking.{lost_from, lost, send_ask, ask, act, descend, try_at, waits_awhile, try_first, next_try, set_tries, round, not_seen, not_reached, unreachable}
 use Rattle.oc_model.specs.Chains.{IsUp}
 use Rattle.oc_model.specs.Checking.{next_check, checks_as, checks}
 use Rattle.oc_model.specs.ClaimsTree.{seq_of}
@@ -63,14 +63,14 @@ risen_acting o most = record { few = omega arith; seq = omega arith; epoch = ome
 
 risen_first : (ps : List ℕ) (o : Plan) → CanAsk o.node → HasRisen o.node (tries_left o.node.soft.silent (length ps) o.node.me) (try_first ps o).node
 risen_first [] o can = by_silent o.node.soft.silent refl where
-  waits : (silent : Bool) → o.node.soft.silent ≡ silent → HasRisen o.node (tries_left silent 0 o.node.me) (if true && silent then act o else answers o words.Waiting).node
+  waits : (silent : Bool) → o.node.soft.silent ≡ silent → HasRisen o.node (tries_left silent 0 o.node.me) (if true && silent then act o else waits_awhile o).node
   waits true e = risen_acting o 0
   waits false e = record { few = subst (λ (m : Mode). left m o.node.soft.silent (length o.node.soft.tries) o.node.me ≤ 0 + o.node.me) (sym can.idle) (omega arith); seq = omega arith; epoch = omega arith }
 
   by_silent : (silent : Bool) → o.node.soft.silent ≡ silent → HasRisen o.node (tries_left o.node.soft.silent 0 o.node.me) (try_first [] o).node
   by_silent silent e =
-      subst (λ (b : Bool). HasRisen o.node (tries_left o.node.soft.silent 0 o.node.me) (if b && o.node.soft.silent then act o else answers o words.Waiting).node) (sym can.member)
-      (subst (λ (s : Bool). HasRisen o.node (tries_left s 0 o.node.me) (if true && s then act o else answers o words.Waiting).node) (sym e) (waits silent e))
+      subst (λ (b : Bool). HasRisen o.node (tries_left o.node.soft.silent 0 o.node.me) (if b && o.node.soft.silent then act o else waits_awhile o).node) (sym can.member)
+      (subst (λ (s : Bool). HasRisen o.node (tries_left s 0 o.node.me) (if true && s then act o else waits_awhile o).node) (sym e) (waits silent e))
 risen_first (p ∷ ps) o can =
     let tried : Plan = with_soft o (record o.node.soft { tries = ps }) in
     let asks : try_at tried p ≡ ask tried p = ap (λ b. if not b && is_empty o.node.kept.ancestors then descend tried p else ask tried p) can.member in

@@ -132,7 +132,7 @@ module _ (h : Header) (m : ℕ) (w : World) (x p most : ℕ) (can : CanPut h m w
   tells =
       let found : below m p u2 ≡ top_down (Some chain2.0) = ap top_down (chain_to-finds u2 p m chain2.0 chain2.1) in
       subst (λ (xs : List ℕ). TellsDown h u2 x m p (epoch + 1) chain2.0 (for_each xs checks_in u2)) (sym found)
-      (tells_down h u2 x m p (epoch + 1) chain2.0 healing2.reached chain2.1 chain2.2 (λ one. let most_id : x ≤ p = climb2.below x one in omega (arith, most_id, can.less))
+      (tells_down h u2 x m p (epoch + 1) chain2.0 healing2.reached can.member chain2.1 chain2.2 (λ one. let most_id : x ≤ p = climb2.below x one in omega (arith, most_id, can.less))
       (omega (arith, climb2.short, climb2.above, can.member, can.short)) (ap (λ (k : Core). k.rank) checked.core) (root_top h u2 m healing2.reached healing2.root.1).0)
 
   changes3 : ChangesAt h x u2 u3

@@ -1,5 +1,5 @@
 -- No rule but that of clients answers by sending a client on.
-use Rattle.std.proofs.Common.{ℕ, ◌+◌, Bool, true, false, not, ◌&&◌, ◌||◌, ◌==◌, nat_lt, nat_le, if◌then◌else◌, Option, Some, None, is_some, List, [], ◌∷◌, length, filter}
+use Rattle.std.proofs.Common.{ℕ, ◌+◌, ◌-◌, Bool, true, false, not, ◌&&◌, ◌||◌, ◌==◌, nat_lt, nat_le, if◌then◌else◌, Option, Some, None, is_some, List, [], ◌∷◌, length, filter}
 use Rattle.oc_base.specs.declared.cert.Cert.{Cert}
 use Rattle.oc_base.specs.declared.rank.Rank.{Rank}
 use Rattle.oc_base.specs.declared.refusal.Refusal.{Refusal}
@@ -14,24 +14,24 @@ use Rattle.oc_model.specs.declared.message.Body.{Body}
 use Rattle.oc_model.specs.declared.message.Body.TheVariants as bodies
 use Rattle.oc_model.specs.declared.mode.Mode.{Mode}
 use Rattle.oc_model.specs.declared.mode.Mode.TheVariants as modes
-use Rattle.oc_model.specs.declared.place.Review.{Review}
-use Rattle.oc_model.specs.declared.place.Review.TheVariants as reviews
 use Rattle.oc_model.specs.declared.record.Record.TheVariants as records
 use Rattle.oc_model.specs.declared.soft.Search.{Search}
 use Rattle.oc_model.specs.declared.soft.Search.TheVariants as searches
+use Rattle.oc_model.specs.declared.soft.Soft.{Soft}
+use Rattle.oc_model.specs.declared.soft.TheConstants.{MAX_MOVES}
 use Rattle.oc_model.specs.Adopting.{is_acting, raises, raises_over, host, birth, has_lease, grants, sends_rejoin, adopts, answers_ask, asked}
 use Rattle.oc_model.specs.Adoption.{precedes, precedes_any, rank_or_last, is_better, adoption_refusal}
-use Rattle.oc_model.specs.Asking.{lost_from, lost, send_ask, ask, act, descend, try_at, try_first, next_try, set_tries, round, ask_before, is_asking, ancestors_by, joins, took_yes, refused, took_no, not_seen, not_reached, unreachable, relocate}
+use Rattle.oc_model.specs.Asking.{lost_from, lost, send_ask, ask, act, descend, try_at, waits_awhile, try_first, next_try, set_tries, round, ask_before, is_asking, ancestors_by, joins, took_yes, refused, took_no, not_seen, not_reached, unreachable, relocate}
 use Rattle.oc_model.specs.ChangeLog.{is_ahead}
-use Rattle.oc_model.specs.Checking.{notes_time, reports, checks_as, next_check, checks, merges, merges_all, at_time, starts_leases, dies, ends_each, ends_leases, looks_at_each, looks_round, is_due, forgets_refusal, checks_in_time, has_news, reports_news_as, reports_news, checks_if_due, fetches_as, tick, acknowledges, life, checked_in, is_joined_to, takes_place, takes_rank, same_ids, takes_ancestors, took_ack, is_peer, took_rejoin}
+use Rattle.oc_model.specs.Checking.{notes_time, reports, checks_as, sets_due, checks, merges, merges_all, at_time, starts_leases, dies, ends_each, ends_leases, looks_at_each, looks_round, is_due, forgets_refusal, goes_on, tick_checks_as, tick_checks, checks_in_time, has_news, reports_news_as, reports_news, checks_if_due, fetches_as, tick, acknowledges, life, checked_in, is_joined_to, takes_place, takes_rank_unless, same_ids, takes_ancestors, took_ack, is_peer, took_rejoin}
 use Rattle.oc_model.specs.Choice.{below, chosen, reviewed}
 use Rattle.oc_model.specs.Content.{unless, keeps, grows, publish_to, published, seal_line, sealed_at, pulled, answers_fetch, adds_seal, adds, grown_line, asks_on, keeps_chunk, chunk_to, took_chunk}
 use Rattle.oc_model.specs.Leases.{ended}
-use Rattle.oc_model.specs.Looking.{Stand, goes_down, candidates, descends, goes_where, view, reviews_place, prefers, keeps_line, sees_as, sees}
+use Rattle.oc_model.specs.Looking.{Stand, goes_down, candidates, descends, place_in, is_place, wishes, leaves_for, goes_where, weighs, view, reviews_place, prefers, keeps_line, sees_as, sees}
 use Rattle.oc_model.specs.Measures.{reading_of, same_reading}
 use Rattle.oc_model.specs.Numbers.{number_end, raise, capped, is_empty}
 use Rattle.oc_model.specs.Plan.{Plan, write, send, answers, with_soft, searching, ignored, is_member, rate_to}
-use Rattle.oc_model.specs.Serving.{measured}
+use Rattle.oc_model.specs.Serving.{may_move, measured}
 use Rattle.oc_model.specs.Shelves.{line_at, with_line, limit, next_behind}
 use Rattle.oc_model.specs.Step.{received}
 use Rattle.oc_model.specs.Table.{newest, is_news}
@@ -64,7 +64,7 @@ stays_try_at : (o : Plan) (p : ℕ) → Stays o → Stays (try_at o p)
 stays_try_at o p h = either (not (is_member o.node) && is_empty o.node.kept.ancestors) Stays (descend o p) (ask o p) h (stays_ask o p h)
 
 stays_try_first : (ps : List ℕ) (o : Plan) → Stays o → Stays (try_first ps o)
-stays_try_first [] o h = either (is_member o.node && o.node.soft.silent) Stays (act o) (answers o words.Waiting) h tt
+stays_try_first [] o h = either (is_member o.node && o.node.soft.silent) Stays (act o) (waits_awhile o) h tt
 stays_try_first (p ∷ ps) o h = stays_try_at (with_soft o (record o.node.soft { tries = ps })) p h
 
 stays_next_try : (o : Plan) → Stays o → Stays (next_try o)
@@ -151,7 +151,7 @@ stays_checks_as modes.Idle o h = stays_round o None h
 stays_checks_as (modes.Asking p) o h = h
 
 pub stays_checks : (o : Plan) → Stays o → Stays (checks o)
-stays_checks o h = stays_checks_as o.node.kept.mode (with_soft o (record o.node.soft { due = Some (next_check o.node) })) h
+stays_checks o h = stays_checks_as o.node.kept.mode (sets_due o) h
 
 stays_merges : (o : Plan) (c : Cert) → Stays o → Stays (merges o c)
 stays_merges o c h = either (is_news o.node.kept.table c) Stays (write o (records.Entry c)) o h h
@@ -185,10 +185,24 @@ stays_forgets_refusal : (due : Option ℕ) (o : Plan) → Stays o → Stays (for
 stays_forgets_refusal None o h = h
 stays_forgets_refusal (Some t) o h = h
 
+stays_goes_on : (s : Option Search) (o : Plan) → Stays o → Stays (goes_on s o)
+stays_goes_on (Some (searches.Descend p)) o h = h
+stays_goes_on (Some searches.Review) o h = stays_round o None h
+stays_goes_on None o h = stays_round o None h
+
+stays_tick_checks_as : (m : Mode) (o : Plan) → Stays o → Stays (tick_checks_as m o)
+stays_tick_checks_as modes.Idle o h = stays_goes_on o.node.soft.search o h
+stays_tick_checks_as (modes.Joined p) o h = stays_checks_as (modes.Joined p) o h
+stays_tick_checks_as (modes.Asking p) o h = h
+stays_tick_checks_as modes.Acting o h = stays_checks_as modes.Acting o h
+
+stays_tick_checks : (o : Plan) → Stays o → Stays (tick_checks o)
+stays_tick_checks o h = stays_tick_checks_as o.node.kept.mode (sets_due o) h
+
 stays_checks_in_time : (o : Plan) → Stays o → Stays (checks_in_time o)
 stays_checks_in_time o h =
     let begins : Plan = forgets_refusal o.node.soft.due o in
-    stays_looks_round o.node.kept.mode (checks begins) (stays_checks begins (stays_forgets_refusal o.node.soft.due o h))
+    stays_looks_round o.node.kept.mode (tick_checks begins) (stays_tick_checks begins (stays_forgets_refusal o.node.soft.due o h))
 
 stays_reports_news : (m : Mode) (o : Plan) → Stays o → Stays (reports_news_as m o)
 stays_reports_news (modes.Joined p) o h = either (has_news o.node) Stays (reports o p) o (stays_reports o p h) h
@@ -220,15 +234,16 @@ stays_checked_in o x seq upto rate number clients certs h =
 stays_took_ack : (o : Plan) (p seq upto : ℕ) (told : Rank) (xs : List ℕ) → Stays o → Stays (took_ack o p seq upto told xs)
 stays_took_ack o p seq upto told xs h =
     let placed : Plan = takes_place o upto in
-    let ranked : Plan = takes_rank placed told in
+    let ranked : Plan = takes_rank_unless o.node.soft.wish placed told in
     let above : List ℕ = ancestors_by p xs in
     either (is_joined_to o.node.kept.mode p && seq == o.node.kept.seq) Stays (takes_ancestors ranked above) (ignored o)
-    (either (same_ids above ranked.node.kept.ancestors) Stays ranked (write ranked (records.Ancestors above)) ranked_stays ranked_stays) tt where
+    (either (same_ids above ranked.node.kept.ancestors) Stays ranked (write ranked (records.Ancestors above)) (ranked_stays o.node.soft.wish) (ranked_stays o.node.soft.wish)) tt where
       placed_stays : Stays (takes_place o upto)
       placed_stays = either (is_ahead o.node.kept.log upto) Stays (write o (records.Acked upto)) o h h
 
-      ranked_stays : Stays (takes_rank (takes_place o upto) told)
-      ranked_stays =
+      ranked_stays : (wish : Option ℕ) → Stays (takes_rank_unless wish (takes_place o upto) told)
+      ranked_stays (Some g) = placed_stays
+      ranked_stays None =
           either (is_better (takes_place o upto).node.kept.rank told) Stays (write (takes_place o upto) (records.Ranked (beneath_of told))) (takes_place o upto) placed_stays placed_stays
 
 stays_took_rejoin : (o : Plan) (p seq : ℕ) → Stays o → Stays (took_rejoin o p seq)
@@ -245,10 +260,22 @@ stays_descends o p s h =
     let way : Option ℕ = chosen (rate_to o.node p) (candidates o.node s.children) in
     either s.in_tree Stays (goes_down way o p) (next_try (searching o None)) (stays_goes_down way o p h) (stays_next_try (searching o None) h)
 
-stays_goes_where : (r : Review) (o : Plan) → Stays o → Stays (goes_where r o)
-stays_goes_where reviews.Stay o h = h
-stays_goes_where (reviews.Up g) o h = stays_ask_before o g h
-stays_goes_where (reviews.Beneath q) o h = stays_ask_before o q h
+stays_leaves_for : (o : Plan) (p g : ℕ) → Stays o → Stays (leaves_for o p g)
+stays_leaves_for o p g h = stays_ask_before (with_soft o (record o.node.soft { left = Some p; moves = o.node.soft.moves + 1 })) g h
+
+stays_goes_where : (place : Option ℕ) (o : Plan) (p : ℕ) → Stays o → Stays (goes_where place o p)
+stays_goes_where None o p h = h
+stays_goes_where (Some g) o p h =
+    either (nat_lt o.node.soft.waits (o.node.soft.patience + 2)) Stays (wishes o (Some g) (o.node.soft.waits + 1)) (leaves_for o p g) h (stays_leaves_for o p g h)
+
+stays_weighs : (o : Plan) (p : ℕ) (place : Option ℕ) → Stays o → Stays (weighs o p place)
+stays_weighs o p place h =
+    let soft : Soft = o.node.soft in
+    let doubts : Bool = not (is_place place soft.wish) && nat_lt 0 soft.waits in
+    let doubted : Plan = wishes o soft.wish (soft.waits - 1) in
+    let wished : Plan = wishes o place soft.waits in
+    either (nat_le MAX_MOVES soft.moves) Stays (wishes o None 0) (if doubts then doubted else goes_where place wished p) h
+    (either doubts Stays doubted (goes_where place wished p) h (stays_goes_where place wished p h))
 
 stays_keeps_line : (o : Plan) (p : ℕ) (s : Stand) → Stays o → Stays (keeps_line o p s)
 stays_keeps_line o p s h =
@@ -259,7 +286,7 @@ stays_sees_as modes.Idle (Some (searches.Descend q)) o p s h = either (q == p) S
 stays_sees_as modes.Idle (Some searches.Review) o p s h = stays_keeps_line o p s h
 stays_sees_as modes.Idle None o p s h = stays_keeps_line o p s h
 stays_sees_as (modes.Joined q) (Some searches.Review) o p s h =
-    either (q == p) Stays (reviews_place o p s) (keeps_line o p s) (stays_goes_where (reviewed (view o.node p s)) (searching o None) h) (stays_keeps_line o p s h)
+    either (q == p) Stays (reviews_place o p s) (keeps_line o p s) (stays_weighs (searching o None) p (place_in (reviewed (view o.node p s))) h) (stays_keeps_line o p s h)
 stays_sees_as (modes.Joined q) (Some (searches.Descend y)) o p s h = stays_keeps_line o p s h
 stays_sees_as (modes.Joined q) None o p s h = stays_keeps_line o p s h
 stays_sees_as (modes.Asking q) search o p s h = stays_keeps_line o p s h
@@ -274,7 +301,7 @@ pub stays_measured : (o : Plan) (p rate hops : ℕ) → Stays o → Stays (measu
 stays_measured o p rate hops h =
     let same : Bool = same_reading (reading_of o.node.kept.measures p) (record { rate = rate; hops = hops }) in
     let wrote : Plan = write o (records.Rate p rate hops) in
-    either (p == o.node.me) Stays (answers o words.Own) (if same then o else wrote) tt (either same Stays o wrote h h)
+    either (p == o.node.me) Stays (answers o words.Own) (if same then o else may_move wrote) tt (either same Stays o (may_move wrote) h h)
 
 pub stays_pulled : (o : Plan) (shelf : List Shelf) (p : ℕ) → Stays o → Stays (pulled o shelf p)
 stays_pulled o shelf p h = either (p == o.node.me) Stays (answers o words.Own) (send o p (bodies.Fetch shelf)) tt h

@@ -15,9 +15,10 @@ use Rattle.oc_model.specs.declared.mode.Mode.TheVariants as modes
 use Rattle.oc_model.specs.declared.record.Record.TheVariants as records
 use Rattle.oc_model.specs.declared.soft.Search.{Search}
 use Rattle.oc_model.specs.declared.soft.Search.TheVariants as searches
+use Rattle.oc_model.specs.declared.soft.Soft.{Soft}
 use Rattle.oc_model.specs.Adoption.{precedes_any}
 use Rattle.oc_base.specs.declared.limits.TheConstants.{MAX_DEPTH}
-use Rattle.oc_model.specs.Asking.{lost_from, lost, send_ask, ask, act, descend, try_at, try_first, next_try, set_tries, round, ask_before, is_asking, ancestors_by, joins, took_yes, refused, took_no, not_seen, not_reached, unreachable, relocate}
+use Rattle.oc_model.specs.Asking.{lost_from, lost, send_ask, ask, act, descend, try_at, earlier, waits_awhile, try_first, next_try, set_tries, round, ask_before, is_asking, ancestors_by, patience_at, joins, took_yes, refused, took_no, not_seen, not_reached, unreachable, relocate}
 use Rattle.oc_model.specs.Choice.{ask_order}
 use Rattle.oc_model.specs.Node.{Control}
 use Rattle.oc_model.specs.Numbers.{number_end, is_empty}
@@ -62,8 +63,11 @@ module _ (came : ℕ → Body → Type 0) (P : Control → List Message → Type
   walks_try_at : (o : Plan) (p : ℕ) → Of P o → Of P (try_at o p)
   walks_try_at o p h = cond_both (not (is_member o.node) && is_empty o.node.kept.ancestors) (descend o p) (ask o p) (Of P) (λ _. walks_descend o p h) (λ _. walks_ask o p h)
 
+  walks_waits_awhile : (o : Plan) → Of P o → Of P (waits_awhile o)
+  walks_waits_awhile o h = k.soft o.node o.sends (record o.node.soft { due = Some (earlier o.node.soft.due (o.node.soft.clock + 4)) }) h
+
   walks_try_first : (ps : List ℕ) (o : Plan) → Of P o → Of P (try_first ps o)
-  walks_try_first [] o h = cond_both (is_member o.node && o.node.soft.silent) (act o) (answers o words.Waiting) (Of P) (λ _. walks_act o h) (λ _. h)
+  walks_try_first [] o h = cond_both (is_member o.node && o.node.soft.silent) (act o) (waits_awhile o) (Of P) (λ _. walks_act o h) (λ _. walks_waits_awhile o h)
   walks_try_first (p ∷ ps) o h = walks_try_at (with_soft o (record o.node.soft { tries = ps })) p (k.soft o.node o.sends (record o.node.soft { tries = ps }) h)
 
   pub walks_next_try : (o : Plan) → Of P o → Of P (next_try o)
@@ -78,16 +82,16 @@ module _ (came : ℕ → Body → Type 0) (P : Control → List Message → Type
   pub walks_ask_before : (o : Plan) (p : ℕ) → Of P o → Of P (ask_before o p)
   walks_ask_before o p h = walks_ask (set_tries o (Some p)) p (walks_set_tries o (Some p) h)
 
-  -- what a join leaves besides: the ancestors, and no search
-  walks_placed : (o : Plan) (p : ℕ) (xs : List ℕ) → Of P o → Of P (with_soft (write o (records.Ancestors (ancestors_by p xs))) (record o.node.soft { due = None; tries = []; search = None }))
-  walks_placed o p xs h =
+  -- what a join leaves besides: the ancestors, and what a start clears
+  walks_placed : (o : Plan) (s : Soft) (p : ℕ) (xs : List ℕ) → Of P o → Of P (with_soft (write o (records.Ancestors (ancestors_by p xs))) s)
+  walks_placed o s p xs h =
       let placed : Plan = write o (records.Ancestors (ancestors_by p xs)) in
-      k.soft placed.node placed.sends (record o.node.soft { due = None; tries = []; search = None }) (k.aside o.node o.sends (ancestors_by p xs) o.node.kept.measures h)
+      k.soft placed.node placed.sends s (k.aside o.node o.sends (ancestors_by p xs) o.node.kept.measures h)
 
   walks_joins : (o : Plan) (p : ℕ) (r : Rank) (xs : List ℕ) → came p (bodies.Yes o.node.kept.seq r xs) → o.node.kept.mode ≡ modes.Asking p → nat_lt r.depth MAX_DEPTH ≡ true → precedes_any r o.node.kept.rank ≡ true
       → Of P o → Of P (joins o p r xs)
   walks_joins o p r xs came_yes asking shallow before h =
-      walks_placed (write o (records.Joined p (beneath_of r))) p xs
+      walks_placed (write o (records.Joined p (beneath_of r))) (record o.node.soft { due = None; tries = []; search = None; wish = None; waits = 0; patience = patience_at o.node p }) p xs
       (cond_both (o.node.kept.seq == 0) o.node.kept (record o.node.kept { mode = modes.Joined p; rank = Some (beneath_of r); log = _ }) (λ d. P (record o.node { kept = d }) o.sends)
       (λ _. h) (λ _. k.joins o.node o.sends p r xs came_yes asking shallow before h))
 

@@ -12,12 +12,13 @@ use Rattle.oc_model.specs.declared.message.Message.{Message}
 use Rattle.oc_model.specs.declared.mode.Mode.{Mode}
 use Rattle.oc_model.specs.declared.mode.Mode.TheVariants as modes
 use Rattle.oc_model.specs.declared.record.Record.TheVariants as records
+use Rattle.oc_model.specs.declared.soft.Search.{Search}
 use Rattle.oc_model.specs.declared.soft.Search.TheVariants as searches
 use Rattle.oc_model.specs.Adopting.{has_lease, sends_rejoin}
 use Rattle.oc_model.specs.Adoption.{rank_or_last, is_better}
 use Rattle.oc_model.specs.Asking.{ask_before, ancestors_by}
 use Rattle.oc_model.specs.ChangeLog.{is_ahead}
-use Rattle.oc_model.specs.Checking.{counts_clients, checks_in, notes_time, reports, checks_as, next_check, checks, merges, merges_all, at_time, starts_leases, dies, ends_each, ends_leases, looks_at_each, looks_round, is_due, forgets_refusal, checks_in_time, has_news, reports_news_as, reports_news, checks_if_due, fetches_as, tick, acknowledges, life, checked_in, is_joined_to, takes_place, takes_rank, same_ids, takes_ancestors, took_ack, is_peer, took_rejoin}
+use Rattle.oc_model.specs.Checking.{counts_clients, checks_in, notes_time, reports, checks_as, next_check, sets_due, checks, merges, merges_all, at_time, starts_leases, dies, ends_each, ends_leases, looks_at_each, looks_round, is_due, forgets_refusal, goes_on, tick_checks_as, tick_checks, checks_in_time, has_news, reports_news_as, reports_news, checks_if_due, fetches_as, tick, acknowledges, life, checked_in, is_joined_to, takes_place, takes_rank, takes_rank_unless, same_ids, takes_ancestors, took_ack, is_peer, took_rejoin}
 use Rattle.oc_model.specs.Choice.{below}
 use Rattle.oc_model.specs.Leases.{renew, start_all, ended}
 use Rattle.oc_model.specs.Node.{Control}
@@ -78,10 +79,11 @@ module _ (came : ℕ → Body → Type 0) (P : Control → List Message → Type
   walks_checks_as modes.Idle o e h = walks_round came P k o None h
   walks_checks_as (modes.Asking p) o e h = k.says_ask o.node o.sends p e h
 
+  walks_sets_due : (o : Plan) → Of P o → Of P (sets_due o)
+  walks_sets_due o h = k.soft o.node o.sends (record o.node.soft { due = Some (next_check o.node) }) h
+
   pub walks_checks : (o : Plan) → Of P o → Of P (checks o)
-  walks_checks o h =
-      let due : Plan = with_soft o (record o.node.soft { due = Some (next_check o.node) }) in
-      walks_checks_as o.node.kept.mode due refl (k.soft o.node o.sends (record o.node.soft { due = Some (next_check o.node) }) h)
+  walks_checks o h = walks_checks_as o.node.kept.mode (sets_due o) refl (walks_sets_due o h)
 
   -- Ticks
 
@@ -121,10 +123,24 @@ module _ (came : ℕ → Body → Type 0) (P : Control → List Message → Type
   walks_forgets None o h = h
   walks_forgets (Some t) o h = k.soft o.node o.sends (record o.node.soft { refused = false }) h
 
+  walks_goes_on : (s : Option Search) (o : Plan) → Of P o → Of P (goes_on s o)
+  walks_goes_on (Some (searches.Descend p)) o h = k.says o.node o.sends p bodies.Look tt h
+  walks_goes_on (Some searches.Review) o h = walks_round came P k o None h
+  walks_goes_on None o h = walks_round came P k o None h
+
+  walks_tick_checks_as : (m : Mode) (o : Plan) → o.node.kept.mode ≡ m → Of P o → Of P (tick_checks_as m o)
+  walks_tick_checks_as modes.Idle o e h = walks_goes_on o.node.soft.search o h
+  walks_tick_checks_as (modes.Joined p) o e h = walks_checks_as (modes.Joined p) o e h
+  walks_tick_checks_as (modes.Asking p) o e h = walks_checks_as (modes.Asking p) o e h
+  walks_tick_checks_as modes.Acting o e h = walks_checks_as modes.Acting o e h
+
+  walks_tick_checks : (o : Plan) → Of P o → Of P (tick_checks o)
+  walks_tick_checks o h = walks_tick_checks_as o.node.kept.mode (sets_due o) refl (walks_sets_due o h)
+
   walks_checks_in_time : (o : Plan) → Of P o → Of P (checks_in_time o)
   walks_checks_in_time o h =
       let begins : Plan = forgets_refusal o.node.soft.due o in
-      walks_looks_round o.node.kept.mode (checks begins) (walks_checks begins (walks_forgets o.node.soft.due o h))
+      walks_looks_round o.node.kept.mode (tick_checks begins) (walks_tick_checks begins (walks_forgets o.node.soft.due o h))
 
   walks_reports_news_as : (m : Mode) (o : Plan) → o.node.kept.mode ≡ m → Of P o → Of P (reports_news_as m o)
   walks_reports_news_as (modes.Joined p) o e h = cond_both (has_news o.node) (reports o p) o (Of P) (λ _. walks_reports p o e h) (λ _. h)
@@ -191,21 +207,26 @@ module _ (came : ℕ → Body → Type 0) (P : Control → List Message → Type
   walks_takes_rank o p upto r xs came_ack joined h =
       cond_both (is_better o.node.kept.rank r) (write o (records.Ranked (beneath_of r))) o (Of P) (λ better. k.ranks o.node o.sends p upto r xs came_ack joined better h) (λ _. h)
 
+  walks_takes_rank_unless : (wish : Option ℕ) (o : Plan) (p upto : ℕ) (r : Rank) (xs : List ℕ) → came p (bodies.CheckAck o.node.kept.seq upto r xs) → o.node.kept.mode ≡ modes.Joined p
+      → Of P o → Of P (takes_rank_unless wish o r)
+  walks_takes_rank_unless None o p upto r xs came_ack joined h = walks_takes_rank o p upto r xs came_ack joined h
+  walks_takes_rank_unless (Some g) o p upto r xs came_ack joined h = h
+
   walks_takes_ancestors : (o : Plan) (xs : List ℕ) → Of P o → Of P (takes_ancestors o xs)
   walks_takes_ancestors o xs h =
       cond_both (same_ids xs o.node.kept.ancestors) o (write o (records.Ancestors xs)) (Of P) (λ _. h) (λ _. k.aside o.node o.sends xs o.node.kept.measures h)
 
   pub walks_took_ack : (o : Plan) (p seq upto : ℕ) (r : Rank) (xs : List ℕ) → came p (bodies.CheckAck seq upto r xs) → Of P o → Of P (took_ack o p seq upto r xs)
   walks_took_ack o p seq upto r xs came_ack h =
-      let ranked : Plan = takes_rank (takes_place o upto) r in
+      let ranked : Plan = takes_rank_unless o.node.soft.wish (takes_place o upto) r in
       cond_both (is_joined_to o.node.kept.mode p && seq == o.node.kept.seq) (takes_ancestors ranked (ancestors_by p xs)) (ignored o) (Of P)
       (λ e.
       let both = and_parts (is_joined_to o.node.kept.mode p) (seq == o.node.kept.seq) e in
       let joined : o.node.kept.mode ≡ modes.Joined p = joined_true o.node.kept.mode p both.0 in
       let here : came p (bodies.CheckAck o.node.kept.seq upto r xs) = subst (λ (s : ℕ). came p (bodies.CheckAck s upto r xs)) (eqb-true seq o.node.kept.seq both.1) came_ack in
       walks_takes_ancestors ranked (ancestors_by p xs)
-      (walks_takes_place o p upto r xs here joined (λ q. Of P (takes_rank q r))
-      (λ q same_seq same_mode g. walks_takes_rank q p upto r xs (subst (λ (s : ℕ). came p (bodies.CheckAck s upto r xs)) (sym same_seq) here) (same_mode ∙ joined) g) h))
+      (walks_takes_place o p upto r xs here joined (λ q. Of P (takes_rank_unless o.node.soft.wish q r))
+      (λ q same_seq same_mode g. walks_takes_rank_unless o.node.soft.wish q p upto r xs (subst (λ (s : ℕ). came p (bodies.CheckAck s upto r xs)) (sym same_seq) here) (same_mode ∙ joined) g) h))
       (λ _. h)
 
   pub walks_took_rejoin : (o : Plan) (p seq : ℕ) → Of P o → Of P (took_rejoin o p seq)

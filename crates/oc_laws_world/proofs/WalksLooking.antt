@@ -1,5 +1,5 @@
 -- The rules Look, Client and Measured are made of the small changes.
-use Rattle.std.proofs.Common.{ℕ, ◌+◌, ◌-◌, Bool, ◌&&◌, ◌==◌, nat_lt, if◌then◌else◌, Option, Some, None, List}
+use Rattle.std.proofs.Common.{ℕ, ◌+◌, ◌-◌, Bool, not, ◌&&◌, ◌==◌, nat_lt, nat_le, if◌then◌else◌, Option, Some, None, List}
 use Rattle.std.proofs.lemmas.Bool.{cond_both}
 use Rattle.oc_base.specs.declared.shelf.Shelf.{Shelf}
 use Rattle.oc_model.specs.declared.answer.Answer.TheVariants as words
@@ -8,20 +8,20 @@ use Rattle.oc_model.specs.declared.message.Body.TheVariants as bodies
 use Rattle.oc_model.specs.declared.message.Message.{Message}
 use Rattle.oc_model.specs.declared.mode.Mode.{Mode}
 use Rattle.oc_model.specs.declared.mode.Mode.TheVariants as modes
-use Rattle.oc_model.specs.declared.place.Review.{Review}
-use Rattle.oc_model.specs.declared.place.Review.TheVariants as reviews
 use Rattle.oc_model.specs.declared.record.Record.TheVariants as records
 use Rattle.oc_model.specs.declared.soft.Search.{Search}
 use Rattle.oc_model.specs.declared.soft.Search.TheVariants as searches
+use Rattle.oc_model.specs.declared.soft.Soft.{Soft}
+use Rattle.oc_model.specs.declared.soft.TheConstants.{MAX_MOVES}
 use Rattle.oc_model.specs.Adopting.{in_tree}
 use Rattle.oc_model.specs.Asking.{ask_before, next_try}
 use Rattle.oc_model.specs.Choice.{chosen, reviewed}
-use Rattle.oc_model.specs.Looking.{Stand, parent_of, rate_to_some, children, looked, goes_down, candidates, descends, goes_where, view, reviews_place, prefers, keeps_line, sees_as, sees}
+use Rattle.oc_model.specs.Looking.{Stand, parent_of, rate_to_some, children, looked, goes_down, candidates, descends, place_in, is_place, wishes, leaves_for, goes_where, weighs, view, reviews_place, prefers, keeps_line, sees_as, sees}
 use Rattle.oc_model.specs.Measures.{reading_of, same_reading, with_reading}
 use Rattle.oc_model.specs.Node.{Control}
 use Rattle.oc_model.specs.Numbers.{capped, at, put_at}
-use Rattle.oc_model.specs.Plan.{Plan, write, answers, searching, ignored, is_member, rate_to}
-use Rattle.oc_model.specs.Serving.{serves, redirects, server_for, client_of, client, measured}
+use Rattle.oc_model.specs.Plan.{Plan, write, answers, with_soft, searching, ignored, is_member, rate_to}
+use Rattle.oc_model.specs.Serving.{serves, redirects, server_for, client_of, client, may_move, measured}
 use Rattle.oc_base.specs.Shelves.{line_of}
 use Rattle.oc_laws_world.proofs.Machine.{IsMachine, Of}
 use Rattle.oc_laws_world.proofs.WalksAsking.{walks_searching, walks_ask, walks_ask_before, walks_descend, walks_next_try}
@@ -41,13 +41,33 @@ module _ (came : ℕ → Body → Type 0) (P : Control → List Message → Type
       cond_both s.in_tree (goes_down way o p) (next_try (searching o None)) (Of P)
       (λ _. walks_goes_down way o p h) (λ _. walks_next_try came P k (searching o None) (walks_searching came P k o None h))
 
-  walks_goes_where : (r : Review) (o : Plan) → Of P o → Of P (goes_where r o)
-  walks_goes_where reviews.Stay o h = h
-  walks_goes_where (reviews.Up g) o h = walks_ask_before came P k o g h
-  walks_goes_where (reviews.Beneath q) o h = walks_ask_before came P k o q h
+  walks_wishes : (o : Plan) (place : Option ℕ) (count : ℕ) → Of P o → Of P (wishes o place count)
+  walks_wishes o place count h = k.soft o.node o.sends (record o.node.soft { wish = place; waits = count }) h
+
+  walks_leaves_for : (o : Plan) (p g : ℕ) → Of P o → Of P (leaves_for o p g)
+  walks_leaves_for o p g h =
+      let left : Soft = record o.node.soft { left = Some p; moves = o.node.soft.moves + 1 } in
+      walks_ask_before came P k (with_soft o left) g (k.soft o.node o.sends left h)
+
+  walks_goes_where : (place : Option ℕ) (o : Plan) (p : ℕ) → Of P o → Of P (goes_where place o p)
+  walks_goes_where None o p h = h
+  walks_goes_where (Some g) o p h =
+      cond_both (nat_lt o.node.soft.waits (o.node.soft.patience + 2)) (wishes o (Some g) (o.node.soft.waits + 1)) (leaves_for o p g) (Of P)
+      (λ _. walks_wishes o (Some g) (o.node.soft.waits + 1) h) (λ _. walks_leaves_for o p g h)
+
+  walks_weighs : (o : Plan) (p : ℕ) (place : Option ℕ) → Of P o → Of P (weighs o p place)
+  walks_weighs o p place h =
+      let soft : Soft = o.node.soft in
+      let doubts : Bool = not (is_place place soft.wish) && nat_lt 0 soft.waits in
+      let doubted : Plan = wishes o soft.wish (soft.waits - 1) in
+      let wished : Plan = wishes o place soft.waits in
+      cond_both (nat_le MAX_MOVES soft.moves) (wishes o None 0) (if doubts then doubted else goes_where place wished p) (Of P)
+      (λ _. walks_wishes o None 0 h)
+      (λ _. cond_both doubts doubted (goes_where place wished p) (Of P)
+      (λ _. walks_wishes o soft.wish (soft.waits - 1) h) (λ _. walks_goes_where place wished p (walks_wishes o place soft.waits h)))
 
   walks_reviews_place : (o : Plan) (p : ℕ) (s : Stand) → Of P o → Of P (reviews_place o p s)
-  walks_reviews_place o p s h = walks_goes_where (reviewed (view o.node p s)) (searching o None) (walks_searching came P k o None h)
+  walks_reviews_place o p s h = walks_weighs (searching o None) p (place_in (reviewed (view o.node p s))) (walks_searching came P k o None h)
 
   walks_keeps_line : (o : Plan) (p : ℕ) (s : Stand) → Of P o → Of P (keeps_line o p s)
   walks_keeps_line o p s h =
@@ -86,6 +106,7 @@ module _ (came : ℕ → Body → Type 0) (P : Control → List Message → Type
   walks_measured o p rate hops h =
       let is_old : Bool = same_reading (reading_of o.node.kept.measures p) (record { rate = rate; hops = hops }) in
       let wrote : Plan = write o (records.Rate p rate hops) in
-      cond_both (p == o.node.me) (answers o words.Own) (if is_old then o else wrote) (Of P)
+      cond_both (p == o.node.me) (answers o words.Own) (if is_old then o else may_move wrote) (Of P)
       (λ _. h)
-      (λ _. cond_both is_old o wrote (Of P) (λ _. h) (λ _. k.aside o.node o.sends o.node.kept.ancestors (with_reading o.node.kept.measures p (record { rate = rate; hops = hops })) h))
+      (λ _. cond_both is_old o (may_move wrote) (Of P) (λ _. h)
+      (λ _. k.soft wrote.node wrote.sends (record o.node.soft { moves = 0 }) (k.aside o.node o.sends o.node.kept.ancestors (with_reading o.node.kept.measures p (record { rate = rate; hops = hops })) h)))

@@ -1,5 +1,5 @@
 -- What every rule of the control step keeps, if each single change of a step under way keeps it.
-use Rattle.std.proofs.Common.{◌≡◌, ℕ, ◌+◌, Bool, true, false, not, ◌&&◌, ◌||◌, ◌==◌, nat_lt, if◌then◌else◌, Option, Some, None, List, [], ◌∷◌, filter, refl, ap, sym}
+use Rattle.std.proofs.Common.{◌≡◌, ℕ, ◌+◌, ◌-◌, Bool, true, false, not, ◌&&◌, ◌||◌, ◌==◌, nat_lt, nat_le, if◌then◌else◌, Option, Some, None, List, [], ◌∷◌, filter, refl, ap, sym}
 use Rattle.oc_base.specs.declared.cert.Cert.{Cert}
 use Rattle.oc_base.specs.declared.rank.Rank.{Rank}
 use Rattle.oc_base.specs.declared.refusal.Refusal.{Refusal}
@@ -19,20 +19,21 @@ use Rattle.oc_model.specs.declared.record.Record.TheVariants as records
 use Rattle.oc_model.specs.declared.soft.Search.{Search}
 use Rattle.oc_model.specs.declared.soft.Search.TheVariants as searches
 use Rattle.oc_model.specs.declared.soft.Soft.{Soft}
+use Rattle.oc_model.specs.declared.soft.TheConstants.{MAX_MOVES}
 use Rattle.oc_model.specs.Adopting.{is_acting, raises, raises_over, host, birth, has_lease, grants, sends_rejoin, adopts, answers_ask, asked}
 use Rattle.oc_model.specs.Adoption.{precedes, precedes_any, rank_or_last, is_better, adoption_refusal}
 use Rattle.oc_base.specs.declared.limits.TheConstants.{MAX_DEPTH}
-use Rattle.oc_model.specs.Asking.{lost_from, lost, send_ask, ask, next_epoch, act, descend, try_at, try_first, next_try, set_tries, round, ask_before, is_asking, ancestors_by, joins, took_yes, refused, took_no, not_seen, not_reached, unreachable, relocate}
+use Rattle.oc_model.specs.Asking.{lost_from, lost, send_ask, ask, next_epoch, act, descend, try_at, earlier, waits_awhile, try_first, next_try, set_tries, round, ask_before, is_asking, ancestors_by, patience_at, joins, took_yes, refused, took_no, not_seen, not_reached, unreachable, relocate}
 use Rattle.oc_model.specs.ChangeLog.{next_certs, place_after, is_ahead}
-use Rattle.oc_model.specs.Checking.{counts_clients, checks_in, notes_time, reports, checks_as, next_check, checks, merges, merges_all, at_time, starts_leases, dies, ends_each, ends_leases, looks_at_each, looks_round, is_due, forgets_refusal, checks_in_time, has_news, reports_news_as, reports_news, checks_if_due, fetches_as, fetches, tick, acknowledges, life, checked_in, is_joined_to, takes_place, takes_rank, same_ids, takes_ancestors, took_ack, is_peer, took_rejoin}
+use Rattle.oc_model.specs.Checking.{counts_clients, checks_in, notes_time, reports, checks_as, next_check, sets_due, checks, merges, merges_all, at_time, starts_leases, dies, ends_each, ends_leases, looks_at_each, looks_round, is_due, forgets_refusal, goes_on, tick_checks_as, tick_checks, checks_in_time, has_news, reports_news_as, reports_news, checks_if_due, fetches_as, fetches, tick, acknowledges, life, checked_in, is_joined_to, takes_place, takes_rank, takes_rank_unless, same_ids, takes_ancestors, took_ack, is_peer, took_rejoin}
 use Rattle.oc_model.specs.Choice.{ask_order, below, chosen, reviewed}
 use Rattle.oc_model.specs.Content.{pulled}
 use Rattle.oc_model.specs.Leases.{renew, start_all, ended}
-use Rattle.oc_model.specs.Looking.{Stand, looked, goes_down, candidates, descends, goes_where, view, reviews_place, prefers, keeps_line, sees_as, sees}
+use Rattle.oc_model.specs.Looking.{Stand, looked, goes_down, candidates, descends, place_in, is_place, wishes, leaves_for, goes_where, weighs, view, reviews_place, prefers, keeps_line, sees_as, sees}
 use Rattle.oc_model.specs.Measures.{reading_of, same_reading}
 use Rattle.oc_model.specs.Numbers.{number_end, raise, capped, at, put_at, is_empty}
 use Rattle.oc_model.specs.Plan.{Plan, write, send, answers, with_soft, with_leases, searching, ignored, is_member, rate_to}
-use Rattle.oc_model.specs.Serving.{serves, redirects, server_for, client_of, client, measured}
+use Rattle.oc_model.specs.Serving.{serves, redirects, server_for, client_of, client, may_move, measured}
 use Rattle.oc_base.specs.Shelves.{line_of}
 use Rattle.oc_model.specs.Table.{newest, is_news}
 
@@ -101,8 +102,13 @@ module _ (shelf : List Shelf) (P : Plan → Type 0) (k : IsClosed shelf P) where
   keeps_try_at : (o : Plan) (p : ℕ) → P o → P (try_at o p)
   keeps_try_at o p h = either (not (is_member o.node) && is_empty o.node.kept.ancestors) P (descend o p) (ask o p) (keeps_descend o p h) (keeps_ask o p h)
 
+  keeps_waits_awhile : (o : Plan) → P o → P (waits_awhile o)
+  keeps_waits_awhile o h =
+      let later : Soft = record o.node.soft { due = Some (earlier o.node.soft.due (o.node.soft.clock + 4)) } in
+      k.answers (with_soft o later) words.Waiting (k.soft o later refl h)
+
   keeps_try_first : (ps : List ℕ) (o : Plan) → P o → P (try_first ps o)
-  keeps_try_first [] o h = either (is_member o.node && o.node.soft.silent) P (act o) (answers o words.Waiting) (keeps_act o h) (k.answers o words.Waiting h)
+  keeps_try_first [] o h = either (is_member o.node && o.node.soft.silent) P (act o) (waits_awhile o) (keeps_act o h) (keeps_waits_awhile o h)
   keeps_try_first (p ∷ ps) o h = keeps_try_at (with_soft o (record o.node.soft { tries = ps })) p (k.soft o (record o.node.soft { tries = ps }) refl h)
 
   keeps_next_try : (o : Plan) → P o → P (next_try o)
@@ -119,7 +125,8 @@ module _ (shelf : List Shelf) (P : Plan → Type 0) (k : IsClosed shelf P) where
 
   keeps_joins : (o : Plan) (p : ℕ) (r : Rank) (xs : List ℕ) → P o → P (joins o p r xs)
   keeps_joins o p r xs h =
-      k.soft (write (write o (records.Joined p (beneath_of r))) (records.Ancestors (ancestors_by p xs))) (record o.node.soft { due = None; tries = []; search = None }) refl
+      k.soft (write (write o (records.Joined p (beneath_of r))) (records.Ancestors (ancestors_by p xs)))
+      (record o.node.soft { due = None; tries = []; search = None; wish = None; waits = 0; patience = patience_at o.node p }) refl
       (k.write (write o (records.Joined p (beneath_of r))) (records.Ancestors (ancestors_by p xs)) (k.write o (records.Joined p (beneath_of r)) h))
 
   pub keeps_took_yes : (o : Plan) (p seq : ℕ) (r : Rank) (xs : List ℕ) → P o → P (took_yes o p seq r xs)
@@ -221,10 +228,25 @@ module _ (shelf : List Shelf) (P : Plan → Type 0) (k : IsClosed shelf P) where
   keeps_checks_as modes.Idle o h = keeps_round o None h
   keeps_checks_as (modes.Asking p) o h = keeps_send_ask o p h
 
+  keeps_sets_due : (o : Plan) → P o → P (sets_due o)
+  keeps_sets_due o h = k.soft o (record o.node.soft { due = Some (next_check o.node) }) refl h
+
   pub keeps_checks : (o : Plan) → P o → P (checks o)
-  keeps_checks o h =
-      let due : Plan = with_soft o (record o.node.soft { due = Some (next_check o.node) }) in
-      keeps_checks_as o.node.kept.mode due (k.soft o (record o.node.soft { due = Some (next_check o.node) }) refl h)
+  keeps_checks o h = keeps_checks_as o.node.kept.mode (sets_due o) (keeps_sets_due o h)
+
+  keeps_goes_on : (s : Option Search) (o : Plan) → P o → P (goes_on s o)
+  keeps_goes_on (Some (searches.Descend p)) o h = k.send o p bodies.Look tt h
+  keeps_goes_on (Some searches.Review) o h = keeps_round o None h
+  keeps_goes_on None o h = keeps_round o None h
+
+  keeps_tick_checks_as : (m : Mode) (o : Plan) → P o → P (tick_checks_as m o)
+  keeps_tick_checks_as modes.Idle o h = keeps_goes_on o.node.soft.search o h
+  keeps_tick_checks_as (modes.Joined p) o h = keeps_reports o p h
+  keeps_tick_checks_as modes.Acting o h = keeps_checks_as modes.Acting o h
+  keeps_tick_checks_as (modes.Asking p) o h = keeps_send_ask o p h
+
+  keeps_tick_checks : (o : Plan) → P o → P (tick_checks o)
+  keeps_tick_checks o h = keeps_tick_checks_as o.node.kept.mode (sets_due o) (keeps_sets_due o h)
 
   keeps_merges : (o : Plan) (c : Cert) → P o → P (merges o c)
   keeps_merges o c h = either (is_news o.node.kept.table c) P (write o (records.Entry c)) o (k.write o (records.Entry c) h) h
@@ -269,7 +291,7 @@ module _ (shelf : List Shelf) (P : Plan → Type 0) (k : IsClosed shelf P) where
   keeps_checks_in_time : (o : Plan) → P o → P (checks_in_time o)
   keeps_checks_in_time o h =
       let begins : Plan = forgets_refusal o.node.soft.due o in
-      keeps_looks_round o.node.kept.mode (checks begins) (keeps_checks begins (keeps_forgets_refusal o.node.soft.due o h))
+      keeps_looks_round o.node.kept.mode (tick_checks begins) (keeps_tick_checks begins (keeps_forgets_refusal o.node.soft.due o h))
 
   keeps_reports_news_as : (m : Mode) (o : Plan) → P o → P (reports_news_as m o)
   keeps_reports_news_as (modes.Joined p) o h = either (has_news o.node) P (reports o p) o (keeps_reports o p h) h
@@ -314,14 +336,18 @@ module _ (shelf : List Shelf) (P : Plan → Type 0) (k : IsClosed shelf P) where
   keeps_takes_rank : (o : Plan) (told : Rank) → P o → P (takes_rank o told)
   keeps_takes_rank o told h = either (is_better o.node.kept.rank told) P (write o (records.Ranked (beneath_of told))) o (k.write o (records.Ranked (beneath_of told)) h) h
 
+  keeps_takes_rank_unless : (wish : Option ℕ) (o : Plan) (told : Rank) → P o → P (takes_rank_unless wish o told)
+  keeps_takes_rank_unless None o told h = keeps_takes_rank o told h
+  keeps_takes_rank_unless (Some g) o told h = h
+
   keeps_takes_ancestors : (o : Plan) (xs : List ℕ) → P o → P (takes_ancestors o xs)
   keeps_takes_ancestors o xs h = either (same_ids xs o.node.kept.ancestors) P o (write o (records.Ancestors xs)) h (k.write o (records.Ancestors xs) h)
 
   pub keeps_took_ack : (o : Plan) (p seq upto : ℕ) (told : Rank) (xs : List ℕ) → P o → P (took_ack o p seq upto told xs)
   keeps_took_ack o p seq upto told xs h =
-      let ranked : Plan = takes_rank (takes_place o upto) told in
+      let ranked : Plan = takes_rank_unless o.node.soft.wish (takes_place o upto) told in
       either (is_joined_to o.node.kept.mode p && seq == o.node.kept.seq) P (takes_ancestors ranked (ancestors_by p xs)) (ignored o)
-      (keeps_takes_ancestors ranked (ancestors_by p xs) (keeps_takes_rank (takes_place o upto) told (keeps_takes_place o upto h))) (keeps_ignored o h)
+      (keeps_takes_ancestors ranked (ancestors_by p xs) (keeps_takes_rank_unless o.node.soft.wish (takes_place o upto) told (keeps_takes_place o upto h))) (keeps_ignored o h)
 
   pub keeps_took_rejoin : (o : Plan) (p seq : ℕ) → P o → P (took_rejoin o p seq)
   keeps_took_rejoin o p seq h = either (is_peer o.node.kept.mode p && seq == o.node.kept.seq) P (ask_before o p) (ignored o) (keeps_ask_before o p h) (keeps_ignored o h)
@@ -340,13 +366,32 @@ module _ (shelf : List Shelf) (P : Plan → Type 0) (k : IsClosed shelf P) where
       let way : Option ℕ = chosen (rate_to o.node p) (candidates o.node s.children) in
       either s.in_tree P (goes_down way o p) (next_try (searching o None)) (keeps_goes_down way o p h) (keeps_next_try (searching o None) (keeps_searching o None h))
 
-  keeps_goes_where : (r : Review) (o : Plan) → P o → P (goes_where r o)
-  keeps_goes_where reviews.Stay o h = h
-  keeps_goes_where (reviews.Up g) o h = keeps_ask_before o g h
-  keeps_goes_where (reviews.Beneath q) o h = keeps_ask_before o q h
+  keeps_wishes : (o : Plan) (place : Option ℕ) (count : ℕ) → P o → P (wishes o place count)
+  keeps_wishes o place count h = k.soft o (record o.node.soft { wish = place; waits = count }) refl h
+
+  keeps_leaves_for : (o : Plan) (p g : ℕ) → P o → P (leaves_for o p g)
+  keeps_leaves_for o p g h =
+      let left : Soft = record o.node.soft { left = Some p; moves = o.node.soft.moves + 1 } in
+      keeps_ask_before (with_soft o left) g (k.soft o left refl h)
+
+  keeps_goes_where : (place : Option ℕ) (o : Plan) (p : ℕ) → P o → P (goes_where place o p)
+  keeps_goes_where None o p h = h
+  keeps_goes_where (Some g) o p h =
+      either (nat_lt o.node.soft.waits (o.node.soft.patience + 2)) P (wishes o (Some g) (o.node.soft.waits + 1)) (leaves_for o p g)
+      (keeps_wishes o (Some g) (o.node.soft.waits + 1) h) (keeps_leaves_for o p g h)
+
+  keeps_weighs : (o : Plan) (p : ℕ) (place : Option ℕ) → P o → P (weighs o p place)
+  keeps_weighs o p place h =
+      let soft : Soft = o.node.soft in
+      let doubted : Plan = wishes o soft.wish (soft.waits - 1) in
+      let wished : Plan = wishes o place soft.waits in
+      either (nat_le MAX_MOVES soft.moves) P (wishes o None 0) (if not (is_place place soft.wish) && nat_lt 0 soft.waits then doubted else goes_where place wished p)
+      (keeps_wishes o None 0 h)
+      (either (not (is_place place soft.wish) && nat_lt 0 soft.waits) P doubted (goes_where place wished p)
+      (keeps_wishes o soft.wish (soft.waits - 1) h) (keeps_goes_where place wished p (keeps_wishes o place soft.waits h)))
 
   keeps_reviews_place : (o : Plan) (p : ℕ) (s : Stand) → P o → P (reviews_place o p s)
-  keeps_reviews_place o p s h = keeps_goes_where (reviewed (view o.node p s)) (searching o None) (keeps_searching o None h)
+  keeps_reviews_place o p s h = keeps_weighs (searching o None) p (place_in (reviewed (view o.node p s))) (keeps_searching o None h)
 
   keeps_keeps_line : (o : Plan) (p : ℕ) (s : Stand) → P o → P (keeps_line o p s)
   keeps_keeps_line o p s h =
@@ -388,9 +433,10 @@ module _ (shelf : List Shelf) (P : Plan → Type 0) (k : IsClosed shelf P) where
   pub keeps_measured : (o : Plan) (p rate hops : ℕ) → P o → P (measured o p rate hops)
   keeps_measured o p rate hops h =
       let wrote : Plan = write o (records.Rate p rate hops) in
-      either (p == o.node.me) P (answers o words.Own) (if same_reading (reading_of o.node.kept.measures p) (record { rate = rate; hops = hops }) then o else wrote)
+      either (p == o.node.me) P (answers o words.Own) (if same_reading (reading_of o.node.kept.measures p) (record { rate = rate; hops = hops }) then o else may_move wrote)
       (k.answers o words.Own h)
-      (either (same_reading (reading_of o.node.kept.measures p) (record { rate = rate; hops = hops })) P o wrote h (k.write o (records.Rate p rate hops) h))
+      (either (same_reading (reading_of o.node.kept.measures p) (record { rate = rate; hops = hops })) P o (may_move wrote) h
+      (k.soft wrote (record wrote.node.soft { moves = 0 }) refl (k.write o (records.Rate p rate hops) h)))
 
   pub keeps_pulled : (o : Plan) (p : ℕ) → P o → P (pulled o shelf p)
   keeps_pulled o p h = either (p == o.node.me) P (answers o words.Own) (send o p (bodies.Fetch shelf)) (k.answers o words.Own h) (k.send o p (bodies.Fetch shelf) refl h)

@@ -1,4 +1,4 @@
-use Rattle.std.specs.Prelude.{ℕ, ◌+◌, Bool, true, false, not, ◌&&◌, ◌||◌, ◌==◌, nat_lt, if◌then◌else◌, Option, Some, None, unwrap_or, List, [], ◌∷◌, take}
+use Rattle.std.specs.Prelude.{ℕ, ◌+◌, ◌%◌, min, Bool, true, false, not, ◌&&◌, ◌||◌, ◌==◌, nat_lt, if◌then◌else◌, Option, Some, None, unwrap_or, List, [], ◌∷◌, take}
 use Rattle.oc_base.specs.declared.rank.Rank.{Rank}
 use Rattle.oc_base.specs.declared.refusal.Refusal.{Refusal}
 use Rattle.oc_base.specs.declared.refusal.Refusal.TheVariants as refusals
@@ -9,10 +9,12 @@ use Rattle.oc_model.specs.declared.mode.Mode.{Mode}
 use Rattle.oc_model.specs.declared.mode.Mode.TheVariants as modes
 use Rattle.oc_model.specs.declared.record.Record.TheVariants as records
 use Rattle.oc_model.specs.declared.soft.Search.{Search}
+use Rattle.oc_model.specs.declared.soft.TheConstants.{MAX_PATIENCE}
 use Rattle.oc_model.specs.declared.soft.Search.TheVariants.{Descend}
 use Rattle.oc_model.specs.Adoption.{rank_or_last, precedes_any}
 use Rattle.oc_base.specs.declared.limits.TheConstants.{MAX_ANCESTORS, MAX_DEPTH}
 use Rattle.oc_model.specs.Choice.{ask_order}
+use Rattle.oc_model.specs.Node.{Control}
 use Rattle.oc_model.specs.Numbers.{number_end, raise, is_empty}
 use Rattle.oc_model.specs.Plan.{Plan, write, send, answers, with_soft, searching, ignored, is_member}
 
@@ -58,9 +60,18 @@ descend o p = send (searching o (Some (Descend p))) p bodies.Look
 abbrev pub try_at : Plan → ℕ → Plan
 try_at o p = if not (is_member o.node) && is_empty o.node.kept.ancestors then descend o p else ask o p
 
+-- the earlier of these times
+abbrev pub earlier : Option ℕ → ℕ → ℕ
+earlier None t = t
+earlier (Some due) t = min due t
+
+-- nobody is left to be asked: the node asks all again four seconds later
+abbrev pub waits_awhile : Plan → Plan
+waits_awhile o = answers (with_soft o (record o.node.soft { due = Some (earlier o.node.soft.due (o.node.soft.clock + 4)) })) words.Waiting
+
 -- the first of the tries is taken off; with none, a chain member that is silent is a root
 abbrev pub try_first : List ℕ → Plan → Plan
-try_first [] o = if is_member o.node && o.node.soft.silent then act o else answers o words.Waiting
+try_first [] o = if is_member o.node && o.node.soft.silent then act o else waits_awhile o
 try_first (p ∷ ps) o = try_at (with_soft o (record o.node.soft { tries = ps })) p
 
 abbrev pub next_try : Plan → Plan
@@ -88,11 +99,29 @@ is_asking mode p = false
 abbrev pub ancestors_by : ℕ → List ℕ → List ℕ
 ancestors_by p xs = take MAX_ANCESTORS (p ∷ xs)
 
+-- whether an id is this one
+abbrev pub is_id : Option ℕ → ℕ → Bool
+is_id None p = false
+is_id (Some q) p = q == p
+
+-- whether a node that had a wish comes back to the parent that it left for it: it was refused there
+abbrev pub comes_back : Option ℕ → Control → ℕ → Bool
+comes_back None n p = false
+comes_back (Some g) n p = is_id n.soft.left p
+
+-- more patience, by what its id leaves, so that two that want each other's places do not move together
+abbrev pub more_patience : Control → ℕ
+more_patience n = min (n.soft.patience + (1 + n.me % 3)) MAX_PATIENCE
+
+-- the patience of a node that p takes in
+abbrev pub patience_at : Control → ℕ → ℕ
+patience_at n p = if comes_back n.soft.wish n p then more_patience n else 0
+
 -- p is the parent
 abbrev pub joins : Plan → ℕ → Rank → List ℕ → Plan
 joins o p r xs =
     with_soft (write (write o (records.Joined p (beneath_of r))) (records.Ancestors (ancestors_by p xs)))
-    (record o.node.soft { due = None; tries = []; search = None })
+    (record o.node.soft { due = None; tries = []; search = None; wish = None; waits = 0; patience = patience_at o.node p })
 
 abbrev pub took_yes : Plan → ℕ → ℕ → Rank → List ℕ → Plan
 took_yes o p seq r xs =

@@ -7,7 +7,8 @@ use Rattle.oc_model.specs.declared.message.Body.TheVariants as bodies
 use Rattle.oc_model.specs.declared.mode.Mode.{Mode}
 use Rattle.oc_model.specs.declared.mode.Mode.TheVariants as modes
 use Rattle.oc_model.specs.declared.record.Record.TheVariants as records
-use Rattle.oc_model.specs.declared.soft.Search.TheVariants.{Review}
+use Rattle.oc_model.specs.declared.soft.Search.{Search}
+use Rattle.oc_model.specs.declared.soft.Search.TheVariants.{Descend, Review}
 use Rattle.oc_model.specs.Adopting.{raises, has_lease, sends_rejoin}
 use Rattle.oc_model.specs.Adoption.{rank_or_last, is_better}
 use Rattle.oc_model.specs.Asking.{send_ask, round, ask_before, ancestors_by}
@@ -49,12 +50,16 @@ checks_as modes.Acting o = raises o (raise (rank_or_last o.node.kept.rank).epoch
 checks_as modes.Idle o = round o None
 checks_as (modes.Asking p) o = send_ask o p
 
--- the second of the next check, which is not the same at all nodes
+-- the second of the next check, which is not the same at all nodes, and well before a lease of 30 seconds ends
 abbrev pub next_check : Control → ℕ
-next_check n = n.soft.clock + 30 - (1 + n.me % 3)
+next_check n = n.soft.clock + 20 - n.me % 3
+
+-- the next check is due in its time
+abbrev pub sets_due : Plan → Plan
+sets_due o = with_soft o (record o.node.soft { due = Some (next_check o.node) })
 
 abbrev pub checks : Plan → Plan
-checks o = checks_as o.node.kept.mode (with_soft o (record o.node.soft { due = Some (next_check o.node) }))
+checks o = checks_as o.node.kept.mode (sets_due o)
 
 -- The rule Tick
 
@@ -110,9 +115,22 @@ abbrev pub forgets_refusal : Option ℕ → Plan → Plan
 forgets_refusal None o = o
 forgets_refusal (Some t) o = with_soft o (record o.node.soft { refused = false })
 
+-- an idle node on its way down asks there again: a search that an answer did not reach goes on
+abbrev pub goes_on : Option Search → Plan → Plan
+goes_on (Some (Descend p)) o = send o p bodies.Look
+goes_on search o = round o None
+
+abbrev pub tick_checks_as : Mode → Plan → Plan
+tick_checks_as modes.Idle o = goes_on o.node.soft.search o
+tick_checks_as mode o = checks_as mode o
+
+-- the check of a tick
+abbrev pub tick_checks : Plan → Plan
+tick_checks o = tick_checks_as o.node.kept.mode (sets_due o)
+
 -- the check that is due, and what the node looks at after it
 abbrev pub checks_in_time : Plan → Plan
-checks_in_time o = looks_round o.node.kept.mode (checks (forgets_refusal o.node.soft.due o))
+checks_in_time o = looks_round o.node.kept.mode (tick_checks (forgets_refusal o.node.soft.due o))
 
 -- whether the last check-in was two seconds ago, or more
 abbrev pub is_past : Option ℕ → ℕ → Bool
@@ -173,6 +191,11 @@ takes_place o upto = if is_ahead o.node.kept.log upto then write o (records.Acke
 abbrev pub takes_rank : Plan → Rank → Plan
 takes_rank o told = if is_better o.node.kept.rank told then write o (records.Ranked (beneath_of told)) else o
 
+-- while a node wishes for another place it keeps its rank, so that a sibling's precedes it when the node asks there
+abbrev pub takes_rank_unless : Option ℕ → Plan → Rank → Plan
+takes_rank_unless None o told = takes_rank o told
+takes_rank_unless (Some g) o told = o
+
 abbrev pub same_ids : List ℕ → List ℕ → Bool
 same_ids [] [] = true
 same_ids (x ∷ xs) (y ∷ ys) = x == y && same_ids xs ys
@@ -184,7 +207,7 @@ takes_ancestors o xs = if same_ids xs o.node.kept.ancestors then o else write o 
 -- an acknowledgement of the parent p
 abbrev pub took_ack : Plan → ℕ → ℕ → ℕ → Rank → List ℕ → Plan
 took_ack o p seq upto told xs =
-    if is_joined_to o.node.kept.mode p && seq == o.node.kept.seq then takes_ancestors (takes_rank (takes_place o upto) told) (ancestors_by p xs)
+    if is_joined_to o.node.kept.mode p && seq == o.node.kept.seq then takes_ancestors (takes_rank_unless o.node.soft.wish (takes_place o upto) told) (ancestors_by p xs)
     else ignored o
 
 -- whether p is the parent, or is asked to be

@@ -4,9 +4,11 @@ use Rattle.oc_base.specs.declared.refusal.Refusal.TheVariants as refusals
 use Rattle.oc_model.specs.declared.event.Act.TheVariants.{At, Deliver}
 use Rattle.oc_model.specs.declared.event.Event.{Event}
 use Rattle.oc_model.specs.declared.event.Event.TheVariants.{Up, Do}
-use Rattle.oc_model.specs.declared.input.Input.TheVariants.{Tick, CheckNow, Measured}
+use Rattle.oc_model.specs.declared.answer.Answer.TheVariants.{Waiting}
+use Rattle.oc_model.specs.declared.input.Input.TheVariants.{Tick, CheckNow, Unreachable, Measured}
 use Rattle.oc_model.specs.declared.message.Body.TheVariants.{Look, LookIs, Ask, Yes, No, CheckIn, Fetch}
 use Rattle.oc_model.specs.declared.place.Candidate.{Candidate}
+use Rattle.oc_model.specs.declared.word.Word.TheVariants.{Node}
 use Rattle.oc_model.specs.Choice.{chosen}
 use Rattle.oc_model.specs.ExampleRuns.{told, header, join, from_to, alive, dead, rank, ok}
 use Rattle.oc_model.specs.Table.{is_news, merge, merge_all}
@@ -34,21 +36,67 @@ Descent = told (header 3 1 (0 ∷ 0 ∷ 0 ∷ [])) descending 12 4 [] ≡ record
   shown = [];
 }
 
--- A review sends a node beneath a sibling, which refuses it. It reviews its place again at its next check in time, and not at the
--- first one in the place that it then found.
+-- An idle node that looks for a place asks again at its check; where nobody is left to be asked it begins anew four seconds later.
+
+abbrev searching : List Event
+searching =
+    Up 1 ∷ Up 2 ∷ Do (At 2 (Tick 0)) ∷ Do (At 2 (Tick 17)) ∷ Do (At 2 (Tick 18)) ∷ Do (At 2 (Unreachable 1)) ∷ Do (At 2 (Tick 21)) ∷ Do (At 2 (Tick 22)) ∷ []
+
+abbrev pub DescentGoesOn : Type 0
+DescentGoesOn = told (header 2 1 (0 ∷ 0 ∷ [])) searching 2 0 [] ≡ record {
+  words = ok ∷ ok ∷ ok ∷ Node Waiting ∷ ok ∷ ok ∷ [];
+  sent = from_to 2 1 Look ∷ from_to 2 1 Look ∷ from_to 2 1 Look ∷ [];
+  messages = 3;
+  shown = [];
+}
+
+-- Two children of node 1, of which 3 is about as near to 2 as to 1: it reviews its place for the first time.
+
+abbrev siblings : List Event
+siblings =
+    (Up 1 ∷ Up 2 ∷ Up 3 ∷ Do (At 1 (Tick 0)) ∷ []) ++ join 2 1 1 ++ join 3 1 3
+    ++ (Do (At 2 (Measured 1 100 1)) ∷ Do (At 3 (Measured 1 100 1)) ∷ Do (At 3 (Measured 2 100 1)) ∷ Do (At 2 CheckNow) ∷ Do (Deliver 5) ∷ Do (At 3 (Tick 3))
+    ∷ Do (Deliver 8) ∷ Do (Deliver 10) ∷ [])
+
+-- The third review that gives the same place sends a node there. Meanwhile it leaves its rank, and the sibling takes up a newer one,
+-- which precedes it.
+
+abbrev descending_later : List Event
+descending_later =
+    siblings
+    ++ (Do (At 1 CheckNow) ∷ Do (At 2 CheckNow) ∷ Do (Deliver 11) ∷ Do (Deliver 12) ∷ Do (At 3 (Tick 23)) ∷ Do (Deliver 13) ∷ Do (Deliver 16) ∷ Do (Deliver 14)
+    ∷ Do (Deliver 17) ∷ Do (At 3 (Tick 43)) ∷ Do (Deliver 19) ∷ Do (Deliver 21) ∷ Do (Deliver 22) ∷ Do (Deliver 23) ∷ [])
+
+abbrev pub SiblingReview : Type 0
+SiblingReview = told (header 3 1 (0 ∷ 0 ∷ 0 ∷ [])) descending_later 27 17 [] ≡ record {
+  words = ok ∷ ok ∷ ok ∷ ok ∷ ok ∷ [];
+  sent =
+      from_to 3 1 (CheckIn 1 0 100 0 0 [])
+      ∷ from_to 3 1 Look
+      ∷ from_to 3 1 (Fetch [])
+      ∷ from_to 1 3 (LookIs true None 0 (record { id = 2; rate = 100 } ∷ record { id = 3; rate = 100 } ∷ []))
+      ∷ from_to 3 2 (Ask 2 (Some (rank 1 1)))
+      ∷ from_to 2 3 (Yes 2 (rank 2 1) (1 ∷ []))
+      ∷ [];
+  messages = 23;
+  shown = [];
+}
+
+-- Where the sibling's rank is no newer it refuses. The node reviews its place again at its next check in time, and not at the first
+-- one in the place to which it came back; and it has more patience there: the third review in a row does not send it away.
 
 abbrev refusing : List Event
 refusing =
-    (Up 1 ∷ Up 2 ∷ Up 3 ∷ Do (At 1 (Tick 0)) ∷ []) ++ join 2 1 1 ++ join 3 1 3
-    ++ (Do (At 2 (Measured 1 100 1)) ∷ Do (At 3 (Measured 1 100 1)) ∷ Do (At 3 (Measured 2 100 1)) ∷ Do (At 2 CheckNow) ∷ Do (Deliver 5) ∷ Do (At 3 (Tick 3))
-    ∷ Do (Deliver 8) ∷ Do (Deliver 10) ∷ Do (Deliver 11) ∷ Do (Deliver 12) ∷ Do (Deliver 13) ∷ Do (Deliver 14) ∷ Do (At 3 (Tick 4)) ∷ Do (At 3 (Tick 33)) ∷ [])
+    siblings
+    ++ (Do (At 3 (Tick 23)) ∷ Do (Deliver 12) ∷ Do (Deliver 14) ∷ Do (At 3 (Tick 43)) ∷ Do (Deliver 16) ∷ Do (Deliver 18) ∷ Do (Deliver 19) ∷ Do (Deliver 20)
+    ∷ Do (Deliver 21) ∷ Do (Deliver 22) ∷ Do (At 3 (Tick 44)) ∷ Do (At 3 (Tick 64)) ∷ Do (Deliver 26) ∷ Do (Deliver 28) ∷ Do (At 3 (Tick 84)) ∷ Do (Deliver 30)
+    ∷ Do (Deliver 32) ∷ Do (At 3 (Tick 104)) ∷ Do (Deliver 34) ∷ Do (Deliver 36) ∷ [])
 
 abbrev pub RefusedReview : Type 0
-RefusedReview = told (header 3 1 (0 ∷ 0 ∷ 0 ∷ [])) refusing 16 9 [] ≡ record {
-  words = ok ∷ ok ∷ ok ∷ ok ∷ ok ∷ ok ∷ ok ∷ ok ∷ [];
+RefusedReview = told (header 3 1 (0 ∷ 0 ∷ 0 ∷ [])) refusing 23 18 [] ≡ record {
+  words = ok ∷ ok ∷ ok ∷ ok ∷ ok ∷ ok ∷ ok ∷ ok ∷ ok ∷ ok ∷ ok ∷ ok ∷ ok ∷ ok ∷ ok ∷ [];
   sent =
-      from_to 1 3 (LookIs true None 0 (record { id = 2; rate = 100 } ∷ record { id = 3; rate = 0 } ∷ []))
-      ∷ from_to 3 2 (Ask 2 (Some (rank 1 1)))
+      from_to 3 2 (Ask 2 (Some (rank 1 1)))
       ∷ from_to 2 3 (No 2 refusals.Rank)
       ∷ from_to 3 1 (Ask 3 (Some (rank 1 1)))
       ∷ from_to 1 3 (Yes 3 (rank 1 0) [])
@@ -57,8 +105,17 @@ RefusedReview = told (header 3 1 (0 ∷ 0 ∷ 0 ∷ [])) refusing 16 9 [] ≡ re
       ∷ from_to 3 1 (CheckIn 3 0 100 0 0 [])
       ∷ from_to 3 1 Look
       ∷ from_to 3 1 (Fetch [])
+      ∷ from_to 1 3 (LookIs true None 0 (record { id = 2; rate = 100 } ∷ record { id = 3; rate = 0 } ∷ []))
+      ∷ from_to 3 1 (CheckIn 3 0 100 0 0 [])
+      ∷ from_to 3 1 Look
+      ∷ from_to 3 1 (Fetch [])
+      ∷ from_to 1 3 (LookIs true None 0 (record { id = 2; rate = 100 } ∷ record { id = 3; rate = 0 } ∷ []))
+      ∷ from_to 3 1 (CheckIn 3 0 100 0 0 [])
+      ∷ from_to 3 1 Look
+      ∷ from_to 3 1 (Fetch [])
+      ∷ from_to 1 3 (LookIs true None 0 (record { id = 2; rate = 100 } ∷ record { id = 3; rate = 0 } ∷ []))
       ∷ [];
-  messages = 19;
+  messages = 36;
   shown = [];
 }
 

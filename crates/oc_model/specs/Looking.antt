@@ -1,4 +1,4 @@
-use Rattle.std.specs.Prelude.{ℕ, Bool, true, false, not, ◌&&◌, ◌||◌, ◌==◌, nat_lt, nat_le, if◌then◌else◌, Option, Some, None, List, map, filter}
+use Rattle.std.specs.Prelude.{ℕ, ◌+◌, ◌-◌, Bool, true, false, not, ◌&&◌, ◌||◌, ◌==◌, nat_lt, nat_le, if◌then◌else◌, Option, Some, None, List, map, filter}
 use Rattle.oc_base.specs.declared.cert.Child.{Child}
 use Rattle.oc_model.specs.declared.message.Body.TheVariants as bodies
 use Rattle.oc_model.specs.declared.mode.Mode.{Mode}
@@ -8,13 +8,14 @@ use Rattle.oc_model.specs.declared.place.Review.{Review}
 use Rattle.oc_model.specs.declared.place.Review.TheVariants as reviews
 use Rattle.oc_model.specs.declared.soft.Search.{Search}
 use Rattle.oc_model.specs.declared.soft.Search.TheVariants as searches
+use Rattle.oc_model.specs.declared.soft.TheConstants.{MAX_MOVES}
 use Rattle.oc_model.specs.Adopting.{in_tree}
 use Rattle.oc_model.specs.Asking.{ask, ask_before, descend, next_try}
 use Rattle.oc_model.specs.Choice.{View, chosen, reviewed}
 use Rattle.oc_model.specs.Measures.{reading_of}
 use Rattle.oc_model.specs.Node.{Control}
-use Rattle.oc_model.specs.Numbers.{at}
-use Rattle.oc_model.specs.Plan.{Plan, send, searching, ignored, is_member, rate_to}
+use Rattle.oc_model.specs.Numbers.{at, has}
+use Rattle.oc_model.specs.Plan.{Plan, send, with_soft, searching, ignored, is_member, rate_to}
 use Rattle.oc_model.specs.Table.{leased_children}
 
 -- The rule Look: how a node finds a good place.
@@ -27,9 +28,9 @@ abbrev pub rate_to_some : Control → Option ℕ → ℕ
 rate_to_some n None = 0
 rate_to_some n (Some p) = rate_to n p
 
--- the leased children, ascending, with the rates that they told last
+-- the leased children, ascending, with the rates that they told last; none that is an ancestor, beneath which nobody can go from here
 abbrev pub children : Control → List Child
-children n = map (λ x. record { id = x; rate = at n.rates x 0 }) (leased_children n.kept.table n.me)
+children n = map (λ x. record { id = x; rate = at n.rates x 0 }) (filter (λ x. not (has n.kept.ancestors x)) (leased_children n.kept.table n.me))
 
 -- p is told the node's position
 abbrev pub looked : Plan → ℕ → Plan
@@ -70,14 +71,43 @@ grandparent n p (Some g) = if g == n.me || (nat_le p n.chain && nat_le g n.chain
 abbrev pub view : Control → ℕ → Stand → View
 view n p s = record { direct = rate_to n p; up = s.rate; grand = grandparent n p s.parent; siblings = candidates n s.children }
 
-abbrev pub goes_where : Review → Plan → Plan
-goes_where reviews.Stay o = o
-goes_where (reviews.Up g) o = ask_before o g
-goes_where (reviews.Beneath k) o = ask_before o k
+-- the node beneath which a review finds a better place
+abbrev pub place_in : Review → Option ℕ
+place_in reviews.Stay = None
+place_in (reviews.Up g) = Some g
+place_in (reviews.Beneath k) = Some k
+
+abbrev pub is_place : Option ℕ → Option ℕ → Bool
+is_place None None = true
+is_place (Some g) (Some k) = g == k
+is_place one another = false
+
+-- this place is the wish, and has been waited for by this count of reviews
+abbrev pub wishes : Plan → Option ℕ → ℕ → Plan
+wishes o place count = with_soft o (record o.node.soft { wish = place; waits = count })
+
+-- the node leaves the parent p for g
+abbrev pub leaves_for : Plan → ℕ → ℕ → Plan
+leaves_for o p g = ask_before (with_soft o (record o.node.soft { left = Some p; moves = o.node.soft.moves + 1 })) g
+
+-- g is asked once enough reviews gave it
+abbrev pub goes_where : Option ℕ → Plan → ℕ → Plan
+goes_where None o p = o
+goes_where (Some g) o p =
+    if nat_lt o.node.soft.waits (o.node.soft.patience + 2) then wishes o (Some g) (o.node.soft.waits + 1)
+    else leaves_for o p g
+
+-- a review at the parent p gives this place: measures of one line differ from time to time, so another place than the wish only
+-- makes it doubtful, and a node that has moved often stays
+abbrev pub weighs : Plan → ℕ → Option ℕ → Plan
+weighs o p place =
+    if nat_le MAX_MOVES o.node.soft.moves then wishes o None 0
+    else if not (is_place place o.node.soft.wish) && nat_lt 0 o.node.soft.waits then wishes o o.node.soft.wish (o.node.soft.waits - 1)
+    else goes_where place (wishes o place o.node.soft.waits) p
 
 -- a joined node sees the position of its parent p
 abbrev pub reviews_place : Plan → ℕ → Stand → Plan
-reviews_place o p s = goes_where (reviewed (view o.node p s)) (searching o None)
+reviews_place o p s = weighs (searching o None) p (place_in (reviewed (view o.node p s)))
 
 -- whether a chain member would rather be beneath p: it is a root, or its parent is an earlier member than p
 abbrev pub prefers : Mode → ℕ → Bool

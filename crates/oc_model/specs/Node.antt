@@ -88,7 +88,21 @@ new_durable nodes = record {
 
 -- what a start clears, cleared
 abbrev pub new_soft : Soft
-new_soft = record { clock = 0; due = None; tries = []; silent = false; refused = false; checked = None; search = None; served = 0 }
+new_soft = record {
+  clock = 0;
+  due = None;
+  tries = [];
+  silent = false;
+  refused = false;
+  checked = None;
+  search = None;
+  served = 0;
+  wish = None;
+  left = None;
+  waits = 0;
+  patience = 0;
+  moves = 0;
+}
 
 -- a node with these durable parts, just started
 abbrev pub started_with : Header → ℕ → Durable → Control

@@ -32,9 +32,13 @@ client_of (Some l) o area start = redirects (server_for o.node area) o (l.held -
 abbrev pub client : Plan → List Shelf → ℕ → ℕ → List ℕ → Plan
 client o shelf area start g = client_of (line_of g shelf) o area start
 
+-- reviews may lead the node elsewhere again
+abbrev pub may_move : Plan → Plan
+may_move o = with_soft o (record o.node.soft { moves = 0 })
+
 -- what was measured of a peer is kept
 abbrev pub measured : Plan → ℕ → ℕ → ℕ → Plan
 measured o p rate hops =
     if p == o.node.me then answers o words.Own
     else if same_reading (reading_of o.node.kept.measures p) (record { rate = rate; hops = hops }) then o
-    else write o (records.Rate p rate hops)
+    else may_move (write o (records.Rate p rate hops))

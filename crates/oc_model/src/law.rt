@@ -1,4 +1,4 @@
-ghost use Rattle.oc_model.specs.ExamplesChoice.{Descent, RefusedReview, ChainReview, ChooseAmong, CertificateRace, MergedCounts};
+ghost use Rattle.oc_model.specs.ExamplesChoice.{Descent, DescentGoesOn, SiblingReview, RefusedReview, ChainReview, ChooseAmong, CertificateRace, MergedCounts};
 ghost use Rattle.oc_model.specs.ExamplesContent.{FirstPath, FirstPathHeld, SealedGroup, SealedGroupHeld, ServedCounts, TornGate, TornGateHeld, DownAndUnknown, PublishElsewhere, PublishElsewhereHeld};
 ghost use Rattle.oc_model.specs.ExamplesLeases.{FalseDeath, Quash, FailedParent, EarlyCheckIn};
 ghost use Rattle.oc_model.specs.ExamplesMoves.{CrossingMoves, StaleAncestors, StaleAncestorsSettled, StaleLines, StaleSettles, ReverseMove};
@@ -21,6 +21,8 @@ pub fn content_computes()
 /// How a place is chosen, and which certificate stays.
 pub fn choices_compute()
     ensures descent { Descent }
+    ensures descent_goes_on { DescentGoesOn }
+    ensures sibling_review { SiblingReview }
     ensures refused_review { RefusedReview }
     ensures chain_review { ChainReview }
     ensures choose_among { ChooseAmong }

@@ -32,7 +32,7 @@ pub use mode::Mode;
 pub use place::{Candidate, Review};
 pub use reading::Reading;
 pub use record::Record;
-pub use soft::{Search, Soft};
+pub use soft::{MAX_MOVES, MAX_PATIENCE, Search, Soft};
 pub use status::NodeStatus;
 pub use want::Want;
 pub use word::Word;

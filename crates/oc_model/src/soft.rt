@@ -9,6 +9,12 @@ pub enum Search {
     Review,
 }
 
+/// How often a node moves by reviews, until a measure changes: so measures that never rest do not keep it moving.
+pub const MAX_MOVES: u8 = 8;
+
+/// The most patience that a node gains.
+pub const MAX_PATIENCE: u8 = 60;
+
 /// What a start clears of a node, except for what it keeps by the number of another node.
 #[derive(Clone, Debug, Drop)]
 pub struct Soft {
@@ -27,4 +33,14 @@ pub struct Soft {
     pub search: Option<Search>,
     /// The clients served that are not in the node's own count yet.
     pub served: u64,
+    /// The place that reviews gave, until the node has a parent anew.
+    pub wish: Option<NodeId>,
+    /// The parent from which the wish was last asked for.
+    pub left: Option<NodeId>,
+    /// How many reviews gave the wish, less those that gave another place since.
+    pub waits: u64,
+    /// How many reviews more than two have to give the wish before it is asked for.
+    pub patience: u8,
+    /// How often a review led to an ask, since a measure changed.
+    pub moves: u8,
 }

@@ -1,6 +1,6 @@
 ghost use Rattle.std.specs.Prelude.{◌≡◌, OnOk};
 ghost use Rattle.oc_base.specs.Lawful.{IsNode};
-ghost use Rattle.oc_model.specs.Checking.{merges_all, acknowledges, checked_in, takes_place, takes_rank, takes_ancestors, took_ack, took_rejoin};
+ghost use Rattle.oc_model.specs.Checking.{merges_all, acknowledges, checked_in, takes_place, takes_rank, takes_rank_unless, takes_ancestors, took_ack, took_rejoin};
 ghost use Rattle.oc_step.specs.StepView.{goes};
 
 use crate::adopting::{has_lease, send_rejoin};
@@ -90,6 +90,17 @@ fn take_rank(step: &mut Step, told: Rank) -> Result<(), Memory>
     }
 }
 
+/// While the node wishes for another place it keeps its rank, so that a sibling's precedes it when it asks
+/// there.
+fn take_rank_unless(step: &mut Step, wish: Option<NodeId>, told: Rank) -> Result<(), Memory>
+    ensures { OnOk result (step.new ≡ goes step.old (takes_rank_unless wish step.old.plan told)) }
+{
+    match wish {
+        Some(_) => Ok(()),
+        None => take_rank(step, told),
+    }
+}
+
 #[tactic(auto, using(crate::proofs::SameIds::same_ids_is))]
 fn take_ancestors(step: &mut Step, ids: IdList) -> Result<(), Memory>
     ensures { OnOk result (step.new ≡ goes step.old (takes_ancestors step.old.plan ids)) }
@@ -115,8 +126,9 @@ pub fn took_ack(
 {
     let position = step.position();
     if position.mode.is_joined_to(from) && seq == position.seq {
+        let wish = step.volatile().wish;
         take_place(step, upto)?;
-        take_rank(step, told)?;
+        take_rank_unless(step, wish, told)?;
         let ids = ancestors_by(step.alloc(), from, above)?;
         take_ancestors(step, ids)
     } else {

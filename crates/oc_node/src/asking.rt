@@ -1,9 +1,9 @@
 ghost use Rattle.std.specs.Prelude.{◌≡◌, ◌<◌, OnOk};
-ghost use Rattle.oc_model.specs.Asking.{lost, send_ask, ask, next_epoch, act, descend, try_at, try_first, next_try, round, ask_before, joins, took_yes, refused, took_no, not_seen, unreachable, relocate};
+ghost use Rattle.oc_model.specs.Asking.{lost, send_ask, ask, next_epoch, act, descend, try_at, earlier, waits_awhile, try_first, next_try, round, ask_before, comes_back, patience_at, joins, took_yes, refused, took_no, not_seen, unreachable, relocate};
 ghost use Rattle.oc_step.specs.StepView.{goes};
 
 use oc_base::{MAX_DEPTH, Memory, NodeId, Rank, Refusal};
-use oc_model::{Answer, Body, Mode, Record, Search};
+use oc_model::{Answer, Body, MAX_PATIENCE, Mode, Record, Search};
 use oc_state::Volatile;
 use oc_state::modes::{is_asking, is_descending};
 use oc_state::ranks::{ancestors_by, next_epoch, precedes_any, rank_or_last};
@@ -11,6 +11,9 @@ use oc_step::Step;
 
 // How a node comes by a parent, and becomes a root: the rules Ask, Next try, Round, Become acting, Take
 // a yes, Take a no, Unreachable and Relocate.
+
+/// How long a node that nobody takes in waits before it asks all again, in seconds.
+const WAITING_TIME: u64 = 4;
 
 // The rule Ask
 
@@ -87,6 +90,26 @@ fn try_at(step: &mut Step, peer: NodeId) -> Result<(), Memory>
     }
 }
 
+/// The earlier of a time, if there is one, and another.
+fn earlier(due: Option<u64>, time: u64) -> u64
+    ensures { result ≡ earlier due time }
+{
+    match due {
+        Some(due) => due.min(time),
+        None => time,
+    }
+}
+
+/// Nobody is left to be asked: the node asks all again four seconds later.
+fn wait_awhile(step: &mut Step) -> Result<(), Memory>
+    ensures { OnOk result (step.new ≡ goes step.old (waits_awhile step.old.plan)) }
+{
+    let volatile = step.volatile();
+    let due = Some(earlier(volatile.due, volatile.clock + WAITING_TIME));
+    step.set_volatile(Volatile { due, ..volatile });
+    step.answer(Answer::Waiting)
+}
+
 /// The first of the tries is taken off. With none, a chain member that is silent is a root.
 fn try_first(step: &mut Step) -> Result<(), Memory>
     ensures { OnOk result (step.new ≡ goes step.old (try_first step.old.plan.node.soft.tries step.old.plan)) }
@@ -94,7 +117,7 @@ fn try_first(step: &mut Step) -> Result<(), Memory>
     match step.take_try() {
         Some(peer) => try_at(step, peer),
         None if step.is_member() && step.volatile().silent => act(step),
-        None => step.answer(Answer::Waiting),
+        None => wait_awhile(step),
     }
 }
 
@@ -128,12 +151,37 @@ pub fn ask_before(step: &mut Step, peer: NodeId) -> Result<(), Memory>
 
 // The rule Take a yes
 
+/// Whether a node that had a wish comes back to the parent that it left for it: it was refused there.
+fn comes_back(volatile: &Volatile, parent: NodeId) -> bool
+    ensures { result ≡ comes_back volatile.now.wish volatile.now.left parent }
+{
+    match (volatile.wish, volatile.left) {
+        (Some(_), Some(left)) => left == parent,
+        _ => false,
+    }
+}
+
+/// The patience of a node that this parent takes in: more where it comes back, by what its id leaves, so
+/// that two nodes that want each other's places do not move together.
+fn patience_at(step: &Step, parent: NodeId) -> u8
+    ensures { result ≡ patience_at step.now.plan.node parent }
+{
+    let volatile = step.volatile();
+    if comes_back(&volatile, parent) {
+        let more = 1 + (step.id().0 % 3) as u8;
+        volatile.patience.saturating_add(more).min(MAX_PATIENCE)
+    } else {
+        0
+    }
+}
+
 /// A node is the parent.
 fn join(step: &mut Step, parent: NodeId, rank: Rank, above: &[NodeId]) -> Result<(), Memory>
     requires { rank.depth < MAX_DEPTH }
     ensures { OnOk result (step.new ≡ goes step.old (joins step.old.plan parent rank above.now)) }
 {
     let ids = ancestors_by(step.alloc(), parent, above)?;
+    let patience = patience_at(step, parent);
     step.write(Record::Joined {
         peer: parent,
         rank: rank.beneath(),
@@ -144,6 +192,9 @@ fn join(step: &mut Step, parent: NodeId, rank: Rank, above: &[NodeId]) -> Result
     step.set_volatile(Volatile {
         due: None,
         search: None,
+        wish: None,
+        waits: 0,
+        patience,
         ..volatile
     });
     Ok(())

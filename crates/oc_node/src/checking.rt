@@ -1,6 +1,6 @@
 ghost use Rattle.std.specs.Prelude.{◌≡◌, ◌≤◌, [], ◌∷◌, true, OnOk, filter, nat_lt};
 ghost use Rattle.oc_base.specs.declared.limits.TheConstants.{LAST_SECOND};
-ghost use Rattle.oc_model.specs.Checking.{counts_clients, checks_in, notes_time, reports, checks_as, next_check, checks, merges, at_time, starts_leases, dies, ends_leases, looks_at_each, looks_round, is_due, forgets_refusal, checks_in_time, is_past, has_news, reports_news_as, checks_if_due, fetches_as, tick};
+ghost use Rattle.oc_model.specs.Checking.{counts_clients, checks_in, notes_time, reports, checks_as, next_check, sets_due, checks, merges, at_time, starts_leases, dies, ends_leases, looks_at_each, looks_round, is_due, forgets_refusal, goes_on, tick_checks_as, tick_checks, checks_in_time, is_past, has_news, reports_news_as, checks_if_due, fetches_as, tick};
 ghost use Rattle.oc_model.specs.Choice.{below};
 ghost use Rattle.oc_model.specs.Leases.{start_all};
 ghost use Rattle.oc_model.specs.Plan.{begun};
@@ -18,9 +18,11 @@ use oc_place::raise;
 use oc_state::ranks::rank_or_last;
 use oc_state::{ListUpdate, Volatile};
 use oc_step::Step;
-use oc_updown::LEASE_TIME;
 
 // How leases are kept up and changes are told: the rules Check now and Tick.
+
+/// How long it takes until the next check at most, in seconds: well before a lease ends.
+const CHECK_TIME: u64 = 20;
 
 // The rule Check now
 
@@ -110,16 +112,23 @@ fn check_as(step: &mut Step, mode: Mode) -> Result<(), Memory>
 fn next_check(step: &Step) -> u64
     ensures { result ≡ next_check step.now.plan.node }
 {
-    step.volatile().clock + LEASE_TIME - (1 + u64::from(step.id().0 % 3))
+    step.volatile().clock + CHECK_TIME - u64::from(step.id().0 % 3)
+}
+
+/// The next check is due in its time.
+fn set_due(step: &mut Step)
+    ensures { step.new ≡ goes step.old (sets_due step.old.plan) }
+{
+    let due = Some(next_check(step));
+    let volatile = step.volatile();
+    step.set_volatile(Volatile { due, ..volatile });
 }
 
 pub fn check(step: &mut Step) -> Result<(), Memory>
     requires { AreTold step.old.plan.records }
     ensures { OnOk result (step.new ≡ goes step.old (checks step.old.plan)) }
 {
-    let due = Some(next_check(step));
-    let volatile = step.volatile();
-    step.set_volatile(Volatile { due, ..volatile });
+    set_due(step);
     let mode = step.position().mode;
     check_as(step, mode)
 }
@@ -247,6 +256,37 @@ fn forget_refusal(step: &mut Step)
     }
 }
 
+/// An idle node on its way down asks there again: a search that an answer did not reach goes on.
+fn go_on(step: &mut Step) -> Result<(), Memory>
+    ensures { OnOk result (step.new ≡ goes step.old (goes_on step.old.plan.node.soft.search step.old.plan)) }
+{
+    match step.volatile().search {
+        Some(Search::Descend(peer)) => step.send(peer, Body::Look),
+        _ => round(step, None),
+    }
+}
+
+fn tick_check_as(step: &mut Step, mode: Mode) -> Result<(), Memory>
+    requires told { AreTold step.old.plan.records }
+    requires mode { mode ≡ step.old.plan.node.kept.mode }
+    ensures { OnOk result (step.new ≡ goes step.old (tick_checks_as mode step.old.plan)) }
+{
+    match mode {
+        Mode::Idle => go_on(step),
+        _ => check_as(step, mode),
+    }
+}
+
+/// The check of a tick.
+fn tick_check(step: &mut Step) -> Result<(), Memory>
+    requires { AreTold step.old.plan.records }
+    ensures { OnOk result (step.new ≡ goes step.old (tick_checks step.old.plan)) }
+{
+    set_due(step);
+    let mode = step.position().mode;
+    tick_check_as(step, mode)
+}
+
 /// The check that is due, and what the node looks at after it.
 #[tactic(auto, using(crate::proofs::Ticks::forgets_told))]
 fn check_in_time(step: &mut Step) -> Result<(), Memory>
@@ -255,7 +295,7 @@ fn check_in_time(step: &mut Step) -> Result<(), Memory>
 {
     let mode = step.position().mode;
     forget_refusal(step);
-    check(step)?;
+    tick_check(step)?;
     look_round(step, mode)
 }
 

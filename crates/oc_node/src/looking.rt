@@ -1,7 +1,8 @@
-ghost use Rattle.std.specs.Prelude.{◌≡◌, ◌&&◌, [], ◌∷◌, ◌++◌, OnOk, IfOk};
+ghost use Rattle.std.specs.Prelude.{◌≡◌, ◌<◌, ◌&&◌, [], ◌∷◌, ◌++◌, OnOk, IfOk};
+ghost use Rattle.oc_model.specs.declared.soft.TheConstants.{MAX_MOVES};
 ghost use Rattle.oc_model.specs.Checking.{is_joined_to};
 ghost use Rattle.oc_model.specs.Choice.{reviewed};
-ghost use Rattle.oc_model.specs.Looking.{rate_to_some, looked, candidate, candidates, goes_down, descends, grandparent, view, goes_where, reviews_place, keeps_line, sees};
+ghost use Rattle.oc_model.specs.Looking.{rate_to_some, looked, candidate, candidates, goes_down, descends, grandparent, view, place_in, wishes, leaves_for, goes_where, weighs, reviews_place, keeps_line, sees};
 ghost use Rattle.oc_model.specs.Plan.{begun};
 ghost use Rattle.oc_step.specs.StepView.{goes};
 ghost use Rattle.oc_step.specs.Since.{AreTold};
@@ -10,9 +11,10 @@ ghost use Rattle.oc_state.specs.Modes.{is_reviewing};
 use crate::asking::{ask, ask_before, descend, next_try};
 use crate::stand::Stand;
 use oc_base::{Child, ChildList, Memory, NodeId};
-use oc_model::{Body, Candidate, Review};
+use oc_model::{Body, Candidate, MAX_MOVES, Review};
 use oc_place::{View, choose};
 use oc_state::modes::{in_tree, is_descending, is_idle, is_reviewing, parent_of, prefers};
+use oc_state::Volatile;
 use oc_step::Step;
 
 // The rule Look: how a node finds a good place.
@@ -143,13 +145,75 @@ fn review(step: &Step, parent: NodeId, stand: &Stand) -> Result<Review, Memory>
     }))
 }
 
-fn go_where(step: &mut Step, review: Review) -> Result<(), Memory>
-    ensures { OnOk result (step.new ≡ goes step.old (goes_where review step.old.plan)) }
+/// The node beneath which a review finds a better place.
+fn place_in(review: Review) -> Option<NodeId>
+    ensures { result ≡ place_in review }
 {
     match review {
-        Review::Stay => Ok(()),
-        Review::Up(node) => ask_before(step, node),
-        Review::Beneath(node) => ask_before(step, node),
+        Review::Stay => None,
+        Review::Up(node) | Review::Beneath(node) => Some(node),
+    }
+}
+
+/// This place is the wish, and has been waited for by this count of reviews.
+fn set_wish(step: &mut Step, wish: Option<NodeId>, waits: u64)
+    ensures { step.new ≡ goes step.old (wishes step.old.plan wish waits) }
+{
+    let volatile = step.volatile();
+    step.set_volatile(Volatile {
+        wish,
+        waits,
+        ..volatile
+    });
+}
+
+/// The node leaves its parent for another place.
+fn leave_for(step: &mut Step, parent: NodeId, place: NodeId) -> Result<(), Memory>
+    requires { step.old.plan.node.soft.moves < MAX_MOVES }
+    ensures { OnOk result (step.new ≡ goes step.old (leaves_for step.old.plan parent place)) }
+{
+    let volatile = step.volatile();
+    let moves = volatile.moves + 1;
+    step.set_volatile(Volatile {
+        left: Some(parent),
+        moves,
+        ..volatile
+    });
+    ask_before(step, place)
+}
+
+/// A place is asked for once enough reviews gave it.
+fn go_where(step: &mut Step, place: Option<NodeId>, parent: NodeId) -> Result<(), Memory>
+    requires { step.old.plan.node.soft.moves < MAX_MOVES }
+    ensures { OnOk result (step.new ≡ goes step.old (goes_where place step.old.plan parent)) }
+{
+    let Some(node) = place else {
+        return Ok(());
+    };
+    let volatile = step.volatile();
+    if volatile.waits < u64::from(volatile.patience) + 2 {
+        set_wish(step, place, volatile.waits + 1);
+        Ok(())
+    } else {
+        leave_for(step, parent, node)
+    }
+}
+
+/// A review at the parent gives this place: measures of one line differ from time to time, so another place
+/// than the wish only makes it doubtful, and a node that has moved often stays.
+fn weigh(step: &mut Step, parent: NodeId, place: Option<NodeId>) -> Result<(), Memory>
+    ensures { OnOk result (step.new ≡ goes step.old (weighs step.old.plan parent place)) }
+{
+    let volatile = step.volatile();
+    if MAX_MOVES <= volatile.moves {
+        set_wish(step, None, 0);
+        Ok(())
+    } else if place != volatile.wish && 0 < volatile.waits {
+        set_wish(step, volatile.wish, volatile.waits - 1);
+        Ok(())
+    } else {
+        set_wish(step, place, volatile.waits);
+        go_where(step, place, parent)
     }
 }
 
@@ -160,7 +224,7 @@ fn review_place(step: &mut Step, from: NodeId, stand: &Stand) -> Result<(), Memo
 {
     let review = review(step, from, stand)?;
     step.search(None);
-    go_where(step, review)
+    weigh(step, from, place_in(review))
 }
 
 /// A chain member goes beneath the nearest earlier member that is in the tree.

@@ -1,7 +1,7 @@
 ghost use Rattle.std.specs.Prelude.{◌≡◌, IfSome, OnOk};
 ghost use Rattle.oc_base.specs.Lawful.{IsNode};
 ghost use Rattle.oc_model.specs.Plan.{begun};
-ghost use Rattle.oc_model.specs.Serving.{redirects, client, measured};
+ghost use Rattle.oc_model.specs.Serving.{redirects, client, may_move, measured};
 ghost use Rattle.oc_step.specs.StepView.{goes};
 ghost use Rattle.oc_step.specs.Since.{AreTold};
 
@@ -53,6 +53,17 @@ pub fn client(
     }
 }
 
+/// Reviews may lead the node elsewhere again.
+fn may_move(step: &mut Step)
+    ensures { step.new ≡ goes step.old (may_move step.old.plan) }
+{
+    let volatile = step.volatile();
+    step.set_volatile(Volatile {
+        moves: 0,
+        ..volatile
+    });
+}
+
 /// What was measured of a peer is kept.
 pub fn measured(step: &mut Step, peer: NodeId, rate: u64, hops: u8) -> Result<(), Memory>
     requires { AreTold step.old.plan.records }
@@ -63,6 +74,8 @@ pub fn measured(step: &mut Step, peer: NodeId, rate: u64, hops: u8) -> Result<()
     } else if step.reading(peer) == (rate, hops) {
         Ok(())
     } else {
-        step.write(Record::Rate { peer, rate, hops })
+        step.write(Record::Rate { peer, rate, hops })?;
+        may_move(step);
+        Ok(())
     }
 }

@@ -2,10 +2,10 @@
 use Rattle.std.specs.Prelude.{ℕ, Bool, true, false, ◌==◌, Option, Some, None, List, [], ◌∷◌, ◌++◌, map, drop}
 use Rattle.oc_base.specs.declared.cert.Cert.{Cert}
 use Rattle.oc_base.specs.declared.cert.Child.{Child}
-use Rattle.oc_model.specs.Looking.{children}
 use Rattle.oc_model.specs.Node.{Control}
 use Rattle.oc_model.specs.Numbers.{at}
 use Rattle.oc_model.specs.Table.{is_listed}
+use Rattle.oc_state.specs.Children.{told_children}
 use Rattle.oc_routes.specs.declared.leased.Leased.{Leased}
 use Rattle.oc_routes.specs.declared.rows.Row.{Row}
 
@@ -19,7 +19,7 @@ leased_among ends cs = map (λ c. record { child = c; lease = at ends c.id None 
 
 -- the leased children of a node, ascending
 abbrev pub leased_of : Control → List Leased
-leased_of n = leased_among n.leases (children n)
+leased_of n = leased_among n.leases (told_children n.kept.table n.me n.rates)
 
 -- How the rows are found that are listed, where these nodes are the listed ones of the rows from here on.
 

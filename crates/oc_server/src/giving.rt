@@ -4,7 +4,7 @@ ghost use Rattle.std.specs.Prelude.{◌≡◌, ◌≤◌, ◌∷◌, ◌++◌, [
 ghost use Rattle.oc_link.specs.Told.{AddsAll};
 ghost use Rattle.oc_keep.specs.KeptView.{IsHonest, node_of};
 ghost use Rattle.oc_routes.specs.Contents.{ending, part_of, piece_of};
-ghost use Rattle.oc_deeds.specs.Deeds.{BreaksOff, Gives, LaysAside, Permits, Replies, Waits, finish, first_piece, first_rest, piece, place_behind, rest, takes_request};
+ghost use Rattle.oc_deeds.specs.Deeds.{BreaksOff, Gives, LaysAside, Permits, Replies, Waits, finish, first_piece, first_rest, piece, rest, takes_request};
 ghost use Rattle.oc_server.specs.Giving.{LookBreaks};
 ghost use Rattle.oc_server.specs.Looks.{LooksOnly, LookStops};
 ghost use Rattle.oc_server.specs.Scenes.{Breaks, Did, IsServing};

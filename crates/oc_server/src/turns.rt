@@ -9,7 +9,7 @@ ghost use Rattle.oc_server.specs.Runs.{DealStops, Dealt, NextStops, NextTaken, S
 ghost use Rattle.oc_deeds.specs.Measured.{IsMeasured, IsMedianOf};
 ghost use Rattle.oc_server.specs.Scenes.{IsServing};
 ghost use Rattle.oc_deeds.specs.Turns as turns;
-ghost use Rattle.oc_deeds.specs.Turns.{happens, measures, paced, probed, probes_next, quickened, rotated, takes_due, takes_median, ticks, ticks_and_sends, with_measure};
+ghost use Rattle.oc_deeds.specs.Turns.{happens, measures, paced, probed, probes_next, rotated, takes_due, takes_median, ticks, ticks_and_sends, with_measure};
 
 use crate::server::Server;
 use oc_base::{MAX_RATE, NodeId};

@@ -3,3 +3,4 @@ pub mod NextCerts
 pub mod Steps
 pub mod Rooms
 pub mod Servers
+pub mod ToldChildren

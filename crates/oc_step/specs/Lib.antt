@@ -3,3 +3,4 @@ pub mod Planned
 pub mod Applying
 pub mod StepView
 pub mod Since
+pub mod Told

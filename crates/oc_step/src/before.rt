@@ -5,9 +5,11 @@ ghost use Rattle.oc_model.specs.Leases.{next_ended};
 ghost use Rattle.oc_model.specs.Looking.{children};
 ghost use Rattle.oc_model.specs.Selected.{selected};
 ghost use Rattle.oc_step.specs.NodeView.{IsReached};
+ghost use Rattle.oc_state.specs.Children.{told_children};
 ghost use Rattle.oc_state.specs.Position.{position_of};
 ghost use Rattle.oc_state.specs.Volatile.{volatile_of};
 
+use crate::told::leave_out;
 use oc_base::{Child, Memory, NodeId, Slots};
 use oc_state::children::children;
 use oc_state::{Durable, Position, Tries, Volatile};
@@ -126,10 +128,18 @@ impl Before<'_> {
     }
 
     /// The leased children, ascending, with the rates that they told last.
+    fn all_children(&self) -> Result<Vec<Child>, Memory>
+        ensures { IfOk result (λ made. made.items ≡ told_children self.now.kept.table self.now.me self.now.rates) }
+    {
+        children(self.alloc, self.durable.table().rows(), self.id, self.rates)
+    }
+
+    /// The leased children that are no ancestors, ascending, with the rates that they told last.
     pub(crate) fn children(&self) -> Result<Vec<Child>, Memory>
         ensures { IfOk result (λ made. made.items ≡ children self.now) }
     {
-        children(self.alloc, self.durable.table().rows(), self.id, self.rates)
+        let all = self.all_children()?;
+        leave_out(self.alloc, &all, self.ancestors())
     }
 
     /// The least leased child past a number whose lease has ended.

@@ -15,6 +15,7 @@ mod next_certs;
 mod plan;
 mod since;
 mod step;
+mod told;
 
 pub use before::Before;
 pub use plan::{Changes, Plan};

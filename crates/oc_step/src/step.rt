@@ -170,7 +170,7 @@ impl<'a> Step<'a> {
         chain_child(self.node.table().rows(), self.id(), self.chain(), asker)
     }
 
-    /// The leased children, ascending, with the rates that they told last.
+    /// The leased children that are no ancestors, ascending, with the rates that they told last.
     pub fn children(&self) -> Result<Vec<Child>, Memory>
         requires { self.now.plan ≡ begun self.now.base }
         ensures { IfOk result (λ made. made.items ≡ children self.now.plan.node) }

@@ -4,6 +4,12 @@ use Rattle.oc_model.proofs.law.choices_compute.Goals as goal
 pub returns-clause-descent : goal.returns-clause-descent
 returns-clause-descent c = refl
 
+pub returns-clause-descent_goes_on : goal.returns-clause-descent_goes_on
+returns-clause-descent_goes_on c = refl
+
+pub returns-clause-sibling_review : goal.returns-clause-sibling_review
+returns-clause-sibling_review c = refl
+
 pub returns-clause-choose_among : goal.returns-clause-choose_among
 returns-clause-choose_among c = (refl, refl)
 

@@ -1,11 +1,15 @@
 -- When a tick is due.
-use Rattle.std.specs.Prelude.{ℕ, ◌-◌, ◌*◌, min, max, nat_lt, Bool, true, false, if◌then◌else◌, Option, None, Some}
+use Rattle.std.specs.Prelude.{ℕ, ◌+◌, ◌-◌, ◌*◌, ◌%◌, min, max, nat_lt, Bool, true, false, if◌then◌else◌, Option, None, Some}
 use Rattle.oc_deeds.specs.declared.pace.Pace.{Pace}
 use Rattle.oc_deeds.specs.declared.pace.TheConstants.{LEAST_INTERVAL, MOST_INTERVAL}
 
--- no tick yet, of a node whose ticks are whole seconds apart or not
-abbrev pub first_pace : Bool → Pace
-first_pace whole = record { last = None; interval = LEAST_INTERVAL; whole = whole; second = None }
+-- the greatest interval of a node; of one that probes it is another one by its id, so that probes of nodes that started together fall out of step
+abbrev pub most_interval : Bool → ℕ → ℕ
+most_interval probes me = if probes then MOST_INTERVAL + 7 * (me % 64) else MOST_INTERVAL
+
+-- no tick yet, of a node whose ticks are whole seconds apart or not, and at most this interval apart else
+abbrev pub first_pace : Bool → ℕ → Pace
+first_pace whole most = record { last = None; interval = LEAST_INTERVAL; most = most; whole = whole; second = None }
 
 -- the milliseconds until the interval has passed since that tick
 abbrev pub rest_of : ℕ → ℕ → Option ℕ → ℕ
@@ -37,7 +41,7 @@ second_of false seconds = None
 
 -- a tick was taken at this time
 abbrev pub after_tick : ℕ → ℕ → Pace → Pace
-after_tick now seconds p = record { last = Some now; interval = min (p.interval * 2) MOST_INTERVAL; whole = p.whole; second = second_of p.whole seconds }
+after_tick now seconds p = record { last = Some now; interval = min (p.interval * 2) p.most; most = p.most; whole = p.whole; second = second_of p.whole seconds }
 
 -- the interval had passed at this time, and the clock told these seconds
 abbrev pub looked : ℕ → ℕ → Pace → Pace

@@ -63,14 +63,14 @@ follows = record { count = 40; operation = asks.Client (codes "/a") 0 3 Follow; 
 
 -- a tick was taken at 0
 abbrev ticked_once : Pace
-ticked_once = record { last = Some 0; interval = 100; whole = false; second = None }
+ticked_once = record { last = Some 0; interval = 100; most = 1000; whole = false; second = None }
 
 -- the same node, which writes a record; its tick at 0 was of second 7
 abbrev recording : Setting
 recording = record example { log = Record }
 
 abbrev ticked_at_seven : Pace
-ticked_at_seven = record { last = Some 0; interval = 100; whole = true; second = Some 7 }
+ticked_at_seven = record { last = Some 0; interval = 100; most = 1000; whole = true; second = Some 7 }
 
 pub record AreTurns : Type 0 where
   -- a content is given what is there, and is laid aside until there is more
@@ -86,7 +86,7 @@ pub record AreTurns : Type 0 where
   pub grown : due_place (works.Aside (place 3) ∷ []) (shelf_line 4) 100 ≡ Some 0
   pub late : due_place (works.Content (place 0) ∷ works.Aside (place 3) ∷ []) (shelf_line 3) 30005 ≡ Some 1
   -- how long a turn waits
-  pub first_wait : wait_for (first_pace false) [] 5 ≡ 0
+  pub first_wait : wait_for (first_pace false 1000) [] 5 ≡ 0
   pub tick_wait : wait_for ticked_once (works.Aside (place 3) ∷ []) 10 ≡ 90
   pub work_wait : wait_for ticked_once (works.Aside (place 3) ∷ []) 29990 ≡ 0
   pub second_wait : wait_for ticked_at_seven [] 130 ≡ 100
@@ -103,11 +103,11 @@ pub record AreTurns : Type 0 where
   -- a client that follows a group and has all of it waits
   pub waits : obeys 7 40 (verdicts.Ask follows) 9 example (held []) ≡ Waits (waiting 7 follows 9) ∷ []
   -- a tick
-  pub first_tick : ticks (first_pace false) 5 7 example (started []) ≡ Tells 7 ∷ Says [] ∷ Takes (inputs.Tick 7) ∷ Says [] ∷ []
+  pub first_tick : ticks (first_pace false 1000) 5 7 example (started []) ≡ Tells 7 ∷ Says [] ∷ Takes (inputs.Tick 7) ∷ Says [] ∷ []
   pub no_tick : ticks ticked_once 5 7 example (started []) ≡ []
   -- a tick in a record: its line comes first, and the clock has to pass the second of the last one
-  pub first_recorded : ticks (first_pace true) 5 7 recording (started []) ≡ Tells 7 ∷ Says (codes "tick 1 7\n") ∷ Takes (inputs.Tick 7) ∷ Says [] ∷ []
+  pub first_recorded : ticks (first_pace true 1000) 5 7 recording (started []) ≡ Tells 7 ∷ Says (codes "tick 1 7\n") ∷ Takes (inputs.Tick 7) ∷ Says [] ∷ []
   pub same_second : ticks ticked_at_seven 130 7 recording (started []) ≡ Tells 7 ∷ []
   pub next_second : ticks ticked_at_seven 130 8 recording (started []) ≡ Tells 8 ∷ Says (codes "tick 1 8\n") ∷ Takes (inputs.Tick 8) ∷ Says [] ∷ []
   -- a first turn in which nothing happens
-  pub quiet_turn : turn (first_pace false) None quiet example (started []) ≡ Reads 0 ∷ Sees events.Quiet 0 [] ∷ Reads 5 ∷ Tells 7 ∷ Says [] ∷ Takes (inputs.Tick 7) ∷ Says [] ∷ []
+  pub quiet_turn : turn (first_pace false 1000) None quiet example (started []) ≡ Reads 0 ∷ Sees events.Quiet 0 [] ∷ Reads 5 ∷ Tells 7 ∷ Says [] ∷ Takes (inputs.Tick 7) ∷ Says [] ∷ []

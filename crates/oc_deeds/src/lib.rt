@@ -55,7 +55,7 @@ pub use log::Log;
 pub use moving::{goes_on, has_room, loses};
 pub use obeying::{answers, obeys};
 pub use outbox::{Outbox, is_fetch, put_all};
-pub use pace::{Pace, quickened};
+pub use pace::{Pace, most_interval, quickened};
 pub use sending::sends;
 pub use taking_up::{notes_fault, probes_it, takes_brought, takes_measure, takes_up, ticks};
 pub use told::{accepts_in, takes_ahead, takes_in};

@@ -1,9 +1,12 @@
 ghost use Rattle.std.specs.Prelude.{◌≡◌};
+ghost use Rattle.oc_deeds.specs.Pace.{most_interval};
 ghost use Rattle.oc_deeds.specs.Turns.{quickened};
+
+use oc_base::NodeId;
 
 /// The least time between two ticks, in milliseconds.
 pub const LEAST_INTERVAL: u64 = 100;
-/// The greatest.
+/// The greatest, where a node does not probe its peers.
 pub const MOST_INTERVAL: u64 = 1_000;
 
 /// When a tick is due: at first, and when the interval has passed since the last one. Each tick doubles the
@@ -14,22 +17,38 @@ pub struct Pace {
     /// When the last tick was taken.
     pub last: Option<u64>,
     pub interval: u64,
+    /// The greatest interval.
+    pub most: u64,
     /// Whether ticks are whole seconds apart.
     pub whole: bool,
     /// The second that the clock has to pass, if it has to.
     pub second: Option<u64>,
 }
 
+/// The greatest interval of a node, in milliseconds. That of a node that probes its peers is another one by
+/// its id, so that the probes of nodes that started together fall out of step: each would make the other's
+/// measure too low.
+pub fn most_interval(probes: bool, me: NodeId) -> u64
+    ensures { result ≡ most_interval probes me }
+{
+    if probes {
+        MOST_INTERVAL + 7 * u64::from(me.0 % 64)
+    } else {
+        MOST_INTERVAL
+    }
+}
+
 impl Pace {
     ghost use Rattle.oc_deeds.specs.Pace.{first_pace, wait_until, tick_wait, has_passed, looked, hurried};
 
-    /// No tick yet.
-    pub fn new(whole: bool) -> Pace
-        ensures { result ≡ first_pace whole }
+    /// No tick yet. The greatest interval is in milliseconds.
+    pub fn new(whole: bool, most: u64) -> Pace
+        ensures { result ≡ first_pace whole most }
     {
         Pace {
             last: None,
             interval: LEAST_INTERVAL,
+            most,
             whole,
             second: None,
         }
@@ -72,7 +91,7 @@ impl Pace {
     {
         if self.has_passed(seconds) {
             self.last = Some(now);
-            self.interval = self.interval.saturating_mul(2).min(MOST_INTERVAL);
+            self.interval = self.interval.saturating_mul(2).min(self.most);
             self.second = if self.whole { Some(seconds) } else { None };
         }
     }

@@ -146,9 +146,9 @@ tells_down h w x m y epoch (a ∷ d ∷ ds) reached member chain leased out shor
     let parents : ParentsPrecede u = of_reached ParentsPrecede parents_after h u first.reached in
     let precedes_own : Precedes host (rank_or_last (own_rank u y)) = subst (λ (r : Rank). Precedes r (rank_or_last (own_rank u y))) told (parents y d here.joined).1 in
     let taken : IsOfEpoch epoch (first.rank.0 + 1) (take_rank (own_rank u y) host) = taken_beneath (own_rank u y) host (omega (arith, first.rank.2, short)) precedes_own in
-    let content : (control_of u y).soft.wish ≡ None = (in_line h u y first.reached).content (is_member_of h u y first.reached (up_id h u y first.reached here.up) member) in
+    let no_wish : (control_of u y).soft.wish ≡ None = (in_line h u y first.reached).no_wish (is_member_of h u y first.reached (up_id h u y first.reached here.up) member) in
     let took : own_rank v y ≡ take_rank (own_rank u y) host =
-    ap (λ (k : Core). k.rank) checked.child ∙ (ap (λ (wish : Option ℕ). rank_unless wish (own_rank u y) (rank_or_last (own_rank u d))) content ∙ ap (take_rank (own_rank u y)) told) in
+    ap (λ (k : Core). k.rank) checked.child ∙ (ap (λ (wish : Option ℕ). rank_unless wish (own_rank u y) (rank_or_last (own_rank u d))) no_wish ∙ ap (take_rank (own_rank u y)) told) in
     subst (λ (xs : List ℕ). TellsDown h w x m y epoch (a ∷ d ∷ ds) (for_each xs checks_in w)) (sym (ap (λ (z : ℕ). top_down (Some (z ∷ d ∷ ds))) chain.0 ∙ top_down_then y d ds))
     (subst (TellsDown h w x m y epoch (a ∷ d ∷ ds)) (sym (for_each-append checks_in above (y ∷ []) w)) record {
       acts = omega (arith, length-append (for_each above checks_in w).acts ((checks_in y u).acts ++ []), length-append (checks_in y u).acts [], checked.acts, first.acts);

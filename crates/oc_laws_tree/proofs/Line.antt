@@ -1,4 +1,4 @@
--- The chain is one line: a chain member asks earlier members alone, and looks for no place; a root is above all. What every rule
+-- The chain is one line: a chain member asks earlier members alone, and neither looks nor wishes for a place; a root is above all. What every rule
 -- keeps of that.
 use Rattle.std.proofs.Common.{◌≡◌, ℕ, zero, suc, ◌+◌, ◌-◌, ◌<◌, ◌≤◌, Bool, true, false, not, ◌&&◌, ◌||◌, ◌==◌, nat_lt, nat_le, if◌then◌else◌, Option, Some, None, List, [], ◌∷◌, ◌++◌, filter, length, refl, ap, sym, subst, ◌∙◌, arith, eqb-true, ltb-true, ltb-false, option_to_list}
 use Rattle.std.specs.List.{AllByRecursion, range_with_len}
@@ -75,7 +75,7 @@ pub record InLine (me chain : ℕ) (mode : Mode) (tries : List ℕ) (search : Op
   pub earlier : nat_le me chain ≡ true → AreBelow me tries
   pub few : nat_le me chain ≡ true → length tries ≤ me - 1
   pub still : nat_le me chain ≡ true → search ≡ None
-  pub content : nat_le me chain ≡ true → wish ≡ None
+  pub no_wish : nat_le me chain ≡ true → wish ≡ None
 
 abbrev pub IsInLine : Control → Type 0
 IsInLine n = InLine n.me n.chain n.kept.mode n.soft.tries n.soft.search n.soft.wish n.kept.ancestors n.kept.rank
@@ -91,30 +91,30 @@ MayAsk o p = is_member o.node ≡ true → p < o.node.me
 
 module _ {me chain : ℕ} {mode : Mode} {tries : List ℕ} {search : Option Search} {wish : Option ℕ} {ancestors : List ℕ} {rank : Option Rank} (h : InLine me chain mode tries search wish ancestors rank) where
   line_idle : InLine me chain modes.Idle tries search wish ancestors rank
-  line_idle = record { root = λ e. absurd cc; peer = λ member p e. absurd cc; earlier = h.earlier; few = h.few; still = h.still; content = h.content }
+  line_idle = record { root = λ e. absurd cc; peer = λ member p e. absurd cc; earlier = h.earlier; few = h.few; still = h.still; no_wish = h.no_wish }
 
   line_asking : (p : ℕ) → (nat_le me chain ≡ true → p < me) → InLine me chain (modes.Asking p) tries None wish ancestors rank
-  line_asking p may = record { root = λ e. absurd cc; peer = λ member q e. let same : p ≡ q = eqb-true p q e in let less : p < me = may member in omega (arith, same, less); earlier = h.earlier; few = h.few; still = λ member. refl; content = h.content }
+  line_asking p may = record { root = λ e. absurd cc; peer = λ member q e. let same : p ≡ q = eqb-true p q e in let less : p < me = may member in omega (arith, same, less); earlier = h.earlier; few = h.few; still = λ member. refl; no_wish = h.no_wish }
 
   line_acting : (r : Rank) → r.depth ≡ 0 → InLine me chain modes.Acting tries search wish [] (Some r)
-  line_acting r top = record { root = λ e. (refl, (r, refl, top)); peer = λ member p e. absurd cc; earlier = h.earlier; few = h.few; still = h.still; content = h.content }
+  line_acting r top = record { root = λ e. (refl, (r, refl, top)); peer = λ member p e. absurd cc; earlier = h.earlier; few = h.few; still = h.still; no_wish = h.no_wish }
 
   line_raised : (r : Rank) → r.depth ≡ 0 → InLine me chain mode tries search wish ancestors (Some r)
-  line_raised r top = record { root = λ e. ((h.root e).0, (r, refl, top)); peer = h.peer; earlier = h.earlier; few = h.few; still = h.still; content = h.content }
+  line_raised r top = record { root = λ e. ((h.root e).0, (r, refl, top)); peer = h.peer; earlier = h.earlier; few = h.few; still = h.still; no_wish = h.no_wish }
 
   line_looks : (s : Option Search) → (nat_le me chain ≡ true → s ≡ None) → InLine me chain mode tries s wish ancestors rank
-  line_looks s none = record { root = h.root; peer = h.peer; earlier = h.earlier; few = h.few; still = none; content = h.content }
+  line_looks s none = record { root = h.root; peer = h.peer; earlier = h.earlier; few = h.few; still = none; no_wish = h.no_wish }
 
   line_tries : (without : Option ℕ) → InLine me chain mode (ask_order me chain ancestors without) search wish ancestors rank
-  line_tries without = record { root = h.root; peer = h.peer; earlier = λ member. (order_below me chain ancestors without member).0; few = λ member. (order_below me chain ancestors without member).1; still = h.still; content = h.content }
+  line_tries without = record { root = h.root; peer = h.peer; earlier = λ member. (order_below me chain ancestors without member).0; few = λ member. (order_below me chain ancestors without member).1; still = h.still; no_wish = h.no_wish }
 
   -- what is no root may have any rank and ancestors
   line_below : (xs : List ℕ) (r : Option Rank) → (mode ≡ modes.Acting → ⊥) → InLine me chain mode tries search wish xs r
-  line_below xs r other = record { root = λ e. absurd (other e); peer = h.peer; earlier = h.earlier; few = h.few; still = h.still; content = h.content }
+  line_below xs r other = record { root = λ e. absurd (other e); peer = h.peer; earlier = h.earlier; few = h.few; still = h.still; no_wish = h.no_wish }
 
 -- the first try is taken off
 line_rest : {me chain : ℕ} {mode : Mode} {search : Option Search} {wish : Option ℕ} {ancestors : List ℕ} {rank : Option Rank} (p : ℕ) (ps : List ℕ) → InLine me chain mode (p ∷ ps) search wish ancestors rank → InLine me chain mode ps search wish ancestors rank
-line_rest p ps h = record { root = h.root; peer = h.peer; earlier = λ member. (h.earlier member).1; few = λ member. omega (arith, h.few member); still = h.still; content = h.content }
+line_rest p ps h = record { root = h.root; peer = h.peer; earlier = λ member. (h.earlier member).1; few = λ member. omega (arith, h.few member); still = h.still; no_wish = h.no_wish }
 
 -- Asks
 
@@ -174,8 +174,8 @@ line_joins o p r xs asks h =
     let is = asking_peer o.node.kept.mode p asks in
     either (o.node.kept.seq == 0) (λ d. InLine o.node.me o.node.chain d.mode [] None None (ancestors_by p xs) d.rank)
     o.node.kept (record o.node.kept { mode = modes.Joined p; rank = Some (beneath_of r); log = _ })
-    (record { root = λ e. absurd (is.1 e); peer = h.peer; earlier = λ member. tt; few = λ member. omega arith; still = λ member. refl; content = λ member. refl })
-    (record { root = λ e. absurd cc; peer = λ member q e. let same : p ≡ q = eqb-true p q e in let less : p < o.node.me = h.peer member p is.0 in omega (arith, same, less); earlier = λ member. tt; few = λ member. omega arith; still = λ member. refl; content = λ member. refl })
+    (record { root = λ e. absurd (is.1 e); peer = h.peer; earlier = λ member. tt; few = λ member. omega arith; still = λ member. refl; no_wish = λ member. refl })
+    (record { root = λ e. absurd cc; peer = λ member q e. let same : p ≡ q = eqb-true p q e in let less : p < o.node.me = h.peer member p is.0 in omega (arith, same, less); earlier = λ member. tt; few = λ member. omega arith; still = λ member. refl; no_wish = λ member. refl })
 
 -- the first and the third of four tests that all hold
 and_first : (a b c d : Bool) → (a && b && c && d) ≡ true → a ≡ true
@@ -367,7 +367,7 @@ line_descends o p s past h =
 
 -- a node past the chain may wish for a place
 line_wishes : (o : Plan) (place : Option ℕ) (count : ℕ) → (is_member o.node ≡ true → ⊥) → OfLine o → OfLine (wishes o place count)
-line_wishes o place count past h = record { root = h.root; peer = h.peer; earlier = h.earlier; few = h.few; still = h.still; content = λ member. absurd (past member) }
+line_wishes o place count past h = record { root = h.root; peer = h.peer; earlier = h.earlier; few = h.few; still = h.still; no_wish = λ member. absurd (past member) }
 
 line_leaves_for : (o : Plan) (p g : ℕ) → (is_member o.node ≡ true → ⊥) → OfLine o → OfLine (leaves_for o p g)
 line_leaves_for o p g past h = line_ask_before (with_soft o (record o.node.soft { left = Some p; moves = o.node.soft.moves + 1 })) g (λ member. absurd (past member)) h

@@ -129,7 +129,7 @@ AreInLine w = (y : ℕ) → IsInLine (control_of w y)
 
 -- a start clears what a node looks for
 line_restarted : (n : Node) → IsInLine n.control → IsInLine (restarted n).control
-line_restarted n h = record { root = h.root; peer = h.peer; earlier = λ member. tt; few = λ member. omega arith; still = λ member. refl; content = λ member. refl }
+line_restarted n h = record { root = h.root; peer = h.peer; earlier = λ member. tt; few = λ member. omega arith; still = λ member. refl; no_wish = λ member. refl }
 
 line_put : (w : World) (q : Process) → IsInLine q.node.control → AreInLine w → (y : ℕ) → IsInLine (process_in (with_process w.processes q) y).node.control
 line_put w q here all y = at_put w.processes q (λ (n : Node). IsInLine n.control) y (λ _. here) (all y)
@@ -151,7 +151,7 @@ line_new : (h : Header) → AreInLine (new_world h)
 line_new h y =
     let new : IsNew y (process (new_world h) y) = process_in-new h (range_with_len 1 h.nodes) y in
     subst (λ (p : Process). IsInLine p.node.control) (sym new.1)
-    record { root = λ e. absurd cc; peer = λ member p e. absurd cc; earlier = λ member. tt; few = λ member. omega arith; still = λ member. refl; content = λ member. refl }
+    record { root = λ e. absurd cc; peer = λ member p e. absurd cc; earlier = λ member. tt; few = λ member. omega arith; still = λ member. refl; no_wish = λ member. refl }
 
 -- so it is in each world that is reached
 pub in_line : (h : Header) (w : World) (y : ℕ) → Reached h w → IsInLine (control_of w y)

@@ -104,7 +104,7 @@ abbrev pub is_id : Option ℕ → ℕ → Bool
 is_id None p = false
 is_id (Some q) p = q == p
 
--- whether a node that had a wish comes back to the parent that it left for it: it was refused there
+-- whether a node that had a wish comes back to the parent that it left for it, mostly since it was refused there
 abbrev pub comes_back : Option ℕ → Control → ℕ → Bool
 comes_back None n p = false
 comes_back (Some g) n p = is_id n.soft.left p

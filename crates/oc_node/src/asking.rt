@@ -151,10 +151,11 @@ pub fn ask_before(step: &mut Step, peer: NodeId) -> Result<(), Memory>
 
 // The rule Take a yes
 
-/// Whether a node that had a wish comes back to the parent that it left for it: it was refused there.
-fn comes_back(volatile: &Volatile, parent: NodeId) -> bool
-    ensures { result ≡ comes_back volatile.now.wish volatile.now.left parent }
+/// Whether a node that had a wish comes back to the parent that it left for it, mostly since it was refused there.
+fn comes_back(step: &Step, parent: NodeId) -> bool
+    ensures { result ≡ comes_back step.now.plan.node.soft.wish step.now.plan.node parent }
 {
+    let volatile = step.volatile();
     match (volatile.wish, volatile.left) {
         (Some(_), Some(left)) => left == parent,
         _ => false,
@@ -166,10 +167,12 @@ fn comes_back(volatile: &Volatile, parent: NodeId) -> bool
 fn patience_at(step: &Step, parent: NodeId) -> u8
     ensures { result ≡ patience_at step.now.plan.node parent }
 {
-    let volatile = step.volatile();
-    if comes_back(&volatile, parent) {
+    if comes_back(step, parent) {
         let more = 1 + (step.id().0 % 3) as u8;
-        volatile.patience.saturating_add(more).min(MAX_PATIENCE)
+        step.volatile()
+            .patience
+            .saturating_add(more)
+            .min(MAX_PATIENCE)
     } else {
         0
     }

@@ -257,11 +257,11 @@ fn forget_refusal(step: &mut Step)
 }
 
 /// An idle node on its way down asks there again: a search that an answer did not reach goes on.
-fn go_on(step: &mut Step) -> Result<(), Memory>
-    ensures { OnOk result (step.new ≡ goes step.old (goes_on step.old.plan.node.soft.search step.old.plan)) }
+fn go_on(step: &mut Step, search: &Option<Search>) -> Result<(), Memory>
+    ensures { OnOk result (step.new ≡ goes step.old (goes_on search.now step.old.plan)) }
 {
-    match step.volatile().search {
-        Some(Search::Descend(peer)) => step.send(peer, Body::Look),
+    match search {
+        Some(Search::Descend(peer)) => step.send(*peer, Body::Look),
         _ => round(step, None),
     }
 }
@@ -272,7 +272,10 @@ fn tick_check_as(step: &mut Step, mode: Mode) -> Result<(), Memory>
     ensures { OnOk result (step.new ≡ goes step.old (tick_checks_as mode step.old.plan)) }
 {
     match mode {
-        Mode::Idle => go_on(step),
+        Mode::Idle => {
+            let search = step.volatile().search;
+            go_on(step, &search)
+        }
         _ => check_as(step, mode),
     }
 }

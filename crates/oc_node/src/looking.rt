@@ -13,8 +13,8 @@ use crate::stand::Stand;
 use oc_base::{Child, ChildList, Memory, NodeId};
 use oc_model::{Body, Candidate, MAX_MOVES, Review};
 use oc_place::{View, choose};
-use oc_state::modes::{in_tree, is_descending, is_idle, is_reviewing, parent_of, prefers};
 use oc_state::Volatile;
+use oc_state::modes::{in_tree, is_descending, is_idle, is_reviewing, parent_of, prefers};
 use oc_step::Step;
 
 // The rule Look: how a node finds a good place.

@@ -1,5 +1,5 @@
 -- A calm node stays calm, whatever its inputs.
-use Rattle.std.proofs.Common.{◌≡◌, ℕ, ◌+◌, ◌≤◌, Bool, true, false, not, ◌&&◌, ◌||◌, ◌==◌, nat_lt, if◌then◌else◌, Option, Some, None, List, [], ◌∷◌, filter, refl, sym, subst, ◌∙◌}
+use Rattle.std.proofs.Common.{◌≡◌, ℕ, ◌+◌, ◌-◌, ◌≤◌, Bool, true, false, not, ◌&&◌, ◌||◌, ◌==◌, nat_lt, nat_le, if◌then◌else◌, Option, Some, None, List, [], ◌∷◌, filter, refl, sym, subst, ◌∙◌}
 use Rattle.oc_base.specs.declared.cert.Cert.{Cert}
 use Rattle.oc_base.specs.declared.limits.TheConstants.{MAX_DEPTH}
 use Rattle.oc_base.specs.declared.rank.Rank.{Rank}
@@ -15,27 +15,27 @@ use Rattle.oc_model.specs.declared.message.Body.{Body}
 use Rattle.oc_model.specs.declared.message.Body.TheVariants as bodies
 use Rattle.oc_model.specs.declared.mode.Mode.{Mode}
 use Rattle.oc_model.specs.declared.mode.Mode.TheVariants as modes
-use Rattle.oc_model.specs.declared.place.Review.{Review}
-use Rattle.oc_model.specs.declared.place.Review.TheVariants as reviews
 use Rattle.oc_model.specs.declared.record.Record.{Record}
 use Rattle.oc_model.specs.declared.record.Record.TheVariants as records
 use Rattle.oc_model.specs.declared.soft.Search.{Search}
 use Rattle.oc_model.specs.declared.soft.Search.TheVariants.{Descend, Review as Reviewing}
+use Rattle.oc_model.specs.declared.soft.Soft.{Soft}
+use Rattle.oc_model.specs.declared.soft.TheConstants.{MAX_MOVES}
 use Rattle.oc_model.specs.Adopting.{is_acting, raises, host, birth, has_lease, grants, sends_rejoin, adopts, answers_ask, asked_at, asked}
 use Rattle.oc_model.specs.Adoption.{rank_or_last, precedes, precedes_any, is_better, adoption_refusal}
-use Rattle.oc_model.specs.Asking.{lost_from, lost, next_try, round, ask_before, is_asking, ancestors_by, joins, took_yes, refused, took_no, descend, not_seen, not_reached, relocate}
+use Rattle.oc_model.specs.Asking.{lost_from, lost, next_try, round, ask_before, is_asking, ancestors_by, patience_at, joins, took_yes, refused, took_no, descend, not_seen, not_reached, relocate}
 use Rattle.oc_model.specs.ChangeLog.{is_ahead, begun_with}
-use Rattle.oc_model.specs.Checking.{counts_clients, notes_time, reports, checks_as, next_check, checks, merges, merges_all, at_time, starts_leases, dies, ends_each, ends_leases, looks_at_each, looks_round, is_due, forgets_refusal, checks_in_time, has_news, reports_news_as, reports_news, checks_if_due, fetches_as, tick, acknowledges, life, checked_in, is_joined_to, takes_place, takes_rank, same_ids, takes_ancestors, took_ack, is_peer, took_rejoin}
+use Rattle.oc_model.specs.Checking.{counts_clients, notes_time, reports, checks_as, next_check, sets_due, checks, merges, merges_all, at_time, starts_leases, dies, ends_each, ends_leases, looks_at_each, looks_round, is_due, forgets_refusal, goes_on, tick_checks_as, tick_checks, checks_in_time, has_news, reports_news_as, reports_news, checks_if_due, fetches_as, tick, acknowledges, life, checked_in, is_joined_to, takes_place, takes_rank_unless, same_ids, takes_ancestors, took_ack, is_peer, took_rejoin}
 use Rattle.oc_model.specs.Choice.{below, chosen, reviewed}
 use Rattle.oc_model.specs.Content.{published, sealed_at, fetched, took_chunk}
 use Rattle.oc_model.specs.Leases.{ended}
-use Rattle.oc_model.specs.Looking.{Stand, candidates, goes_down, descends, view, goes_where, reviews_place, prefers, keeps_line, sees_as}
+use Rattle.oc_model.specs.Looking.{Stand, candidates, goes_down, descends, view, place_in, is_place, wishes, leaves_for, goes_where, weighs, reviews_place, prefers, keeps_line, sees_as}
 use Rattle.oc_model.specs.Measures.{reading_of, same_reading}
 use Rattle.oc_model.specs.Node.{Control, Durable, Header, started_with}
 use Rattle.oc_model.specs.Numbers.{number_end, raise, capped}
 use Rattle.oc_model.specs.Plan.{Plan, begun, write, send, answers, with_soft, searching, ignored, is_member, rate_to}
 use Rattle.oc_model.specs.Records.{fold_one}
-use Rattle.oc_model.specs.Serving.{redirects, server_for, client_of, measured}
+use Rattle.oc_model.specs.Serving.{redirects, server_for, client_of, may_move, measured}
 use Rattle.oc_model.specs.Step.{received, plan}
 use Rattle.oc_model.specs.Table.{newest, is_news}
 use Rattle.oc_record.specs.SeeksNoPlace.{NoDescent, SeeksNoPlace}
@@ -79,7 +79,8 @@ calm_asked o x seq r calm =
 
 calm_joins : (o : Plan) (p : ℕ) (r : Rank) (xs : List ℕ) → Calm o → Calm (joins o p r xs)
 calm_joins o p r xs calm =
-    calm_soft (write (write o (records.Joined p (beneath_of r))) (records.Ancestors (ancestors_by p xs))) (record o.node.soft { due = None; tries = []; search = None }) (λ none. tt)
+    calm_soft (write (write o (records.Joined p (beneath_of r))) (records.Ancestors (ancestors_by p xs)))
+    (record o.node.soft { due = None; tries = []; search = None; wish = None; waits = 0; patience = patience_at o.node p }) (λ none. tt)
     (calm_keep (write o (records.Joined p (beneath_of r))) (records.Ancestors (ancestors_by p xs)) refl
     (calm_write o (records.Joined p (beneath_of r)) (by_number (o.node.kept.seq == 0)) calm)) where
       by_number : (b : Bool) → (if b then o.node.kept else record o.node.kept { mode = modes.Joined p; rank = Some (beneath_of r); log = begun_with o.node.kept.table }).mode ≡ modes.Acting → o.node.kept.mode ≡ modes.Acting
@@ -176,9 +177,25 @@ calm_checks_as modes.Acting o is calm = calm_raises o (raise (rank_or_last o.nod
 calm_checks_as modes.Idle o is calm = calm_round o None (not_acting o is) calm
 calm_checks_as (modes.Asking p) o is calm = calm
 
+calm_sets_due : (o : Plan) → Calm o → Calm (sets_due o)
+calm_sets_due o calm = calm_soft o (record o.node.soft { due = Some (next_check o.node) }) (λ none. none) calm
+
 calm_checks : (o : Plan) → Calm o → Calm (checks o)
-calm_checks o calm =
-    calm_checks_as o.node.kept.mode (with_soft o (record o.node.soft { due = Some (next_check o.node) })) refl (calm_soft o (record o.node.soft { due = Some (next_check o.node) }) (λ none. none) calm)
+calm_checks o calm = calm_checks_as o.node.kept.mode (sets_due o) refl (calm_sets_due o calm)
+
+calm_goes_on : (s : Option Search) (o : Plan) → o.node.kept.mode ≡ modes.Idle → Calm o → Calm (goes_on s o)
+calm_goes_on (Some (Descend p)) o is calm = calm
+calm_goes_on (Some Reviewing) o is calm = calm_round o None (not_acting o is) calm
+calm_goes_on None o is calm = calm_round o None (not_acting o is) calm
+
+calm_tick_checks_as : (m : Mode) (o : Plan) → o.node.kept.mode ≡ m → Calm o → Calm (tick_checks_as m o)
+calm_tick_checks_as modes.Idle o is calm = calm_goes_on o.node.soft.search o is calm
+calm_tick_checks_as (modes.Joined p) o is calm = calm_checks_as (modes.Joined p) o is calm
+calm_tick_checks_as (modes.Asking p) o is calm = calm_checks_as (modes.Asking p) o is calm
+calm_tick_checks_as modes.Acting o is calm = calm_checks_as modes.Acting o is calm
+
+calm_tick_checks : (o : Plan) → Calm o → Calm (tick_checks o)
+calm_tick_checks o calm = calm_tick_checks_as o.node.kept.mode (sets_due o) refl (calm_sets_due o calm)
 
 calm_merges : (o : Plan) (c : Cert) → Calm o → Calm (merges o c)
 calm_merges o c calm = either (is_news o.node.kept.table c) Calm (write o (records.Entry c)) o (calm_keep o (records.Entry c) refl calm) calm
@@ -215,7 +232,7 @@ calm_forgets (Some t) o calm = calm_soft o (record o.node.soft { refused = false
 calm_checks_in_time : (o : Plan) → Calm o → Calm (checks_in_time o)
 calm_checks_in_time o calm =
     let begins : Plan = forgets_refusal o.node.soft.due o in
-    calm_looks_round o.node.kept.mode (checks begins) (calm_checks begins (calm_forgets o.node.soft.due o calm))
+    calm_looks_round o.node.kept.mode (tick_checks begins) (calm_tick_checks begins (calm_forgets o.node.soft.due o calm))
 
 calm_reports_news_as : (m : Mode) (o : Plan) → Calm o → Calm (reports_news_as m o)
 calm_reports_news_as (modes.Joined p) o calm = either (has_news o.node) Calm (reports o p) o (calm_counts (notes_time o) (calm_noted o calm)) calm
@@ -255,13 +272,15 @@ calm_checked_in o x seq upto rate number clients certs calm =
 
 calm_took_ack : (o : Plan) (p seq upto : ℕ) (told : Rank) (xs : List ℕ) → Calm o → Calm (took_ack o p seq upto told xs)
 calm_took_ack o p seq upto told xs calm =
-    either (is_joined_to o.node.kept.mode p && seq == o.node.kept.seq) Calm (takes_ancestors (takes_rank (takes_place o upto) told) (ancestors_by p xs)) (ignored o)
-    (calm_ancestors (takes_rank (takes_place o upto) told) (ancestors_by p xs) (calm_rank (takes_place o upto) calm_place)) calm where
+    let ranked : Plan = takes_rank_unless o.node.soft.wish (takes_place o upto) told in
+    either (is_joined_to o.node.kept.mode p && seq == o.node.kept.seq) Calm (takes_ancestors ranked (ancestors_by p xs)) (ignored o)
+    (calm_ancestors ranked (ancestors_by p xs) (calm_rank o.node.soft.wish (takes_place o upto) calm_place)) calm where
       calm_place : Calm (takes_place o upto)
       calm_place = either (is_ahead o.node.kept.log upto) Calm (write o (records.Acked upto)) o (calm_keep o (records.Acked upto) refl calm) calm
 
-      calm_rank : (q : Plan) → Calm q → Calm (takes_rank q told)
-      calm_rank q c = either (is_better q.node.kept.rank told) Calm (write q (records.Ranked (beneath_of told))) q (calm_keep q (records.Ranked (beneath_of told)) refl c) c
+      calm_rank : (wish : Option ℕ) (q : Plan) → Calm q → Calm (takes_rank_unless wish q told)
+      calm_rank (Some g) q c = c
+      calm_rank None q c = either (is_better q.node.kept.rank told) Calm (write q (records.Ranked (beneath_of told))) q (calm_keep q (records.Ranked (beneath_of told)) refl c) c
 
       calm_ancestors : (q : Plan) (ys : List ℕ) → Calm q → Calm (takes_ancestors q ys)
       calm_ancestors q ys c = either (same_ids ys q.node.kept.ancestors) Calm q (write q (records.Ancestors ys)) c (calm_keep q (records.Ancestors ys) refl c)
@@ -282,10 +301,28 @@ calm_descends o p s out other calm =
     (calm_goes_down (chosen (rate_to o.node p) (candidates o.node s.children)) o p out other calm)
     (calm_next_try (searching o None) other (calm_soft o (record o.node.soft { search = None }) (λ none. tt) calm))
 
-calm_goes_where : (r : Review) (o : Plan) → Calm o → Calm (goes_where r o)
-calm_goes_where reviews.Stay o calm = calm
-calm_goes_where (reviews.Up g) o calm = calm_ask_before o g calm
-calm_goes_where (reviews.Beneath k) o calm = calm_ask_before o k calm
+calm_wishes : (o : Plan) (place : Option ℕ) (count : ℕ) → Calm o → Calm (wishes o place count)
+calm_wishes o place count calm = calm_soft o (record o.node.soft { wish = place; waits = count }) (λ none. none) calm
+
+calm_leaves_for : (o : Plan) (p g : ℕ) → Calm o → Calm (leaves_for o p g)
+calm_leaves_for o p g calm =
+    let left : Soft = record o.node.soft { left = Some p; moves = o.node.soft.moves + 1 } in
+    calm_ask_before (with_soft o left) g (calm_soft o left (λ none. none) calm)
+
+calm_goes_where : (place : Option ℕ) (o : Plan) (p : ℕ) → Calm o → Calm (goes_where place o p)
+calm_goes_where None o p calm = calm
+calm_goes_where (Some g) o p calm =
+    either (nat_lt o.node.soft.waits (o.node.soft.patience + 2)) Calm (wishes o (Some g) (o.node.soft.waits + 1)) (leaves_for o p g)
+    (calm_wishes o (Some g) (o.node.soft.waits + 1) calm) (calm_leaves_for o p g calm)
+
+calm_weighs : (o : Plan) (p : ℕ) (place : Option ℕ) → Calm o → Calm (weighs o p place)
+calm_weighs o p place calm =
+    let soft : Soft = o.node.soft in
+    let doubts : Bool = not (is_place place soft.wish) && nat_lt 0 soft.waits in
+    let doubted : Plan = wishes o soft.wish (soft.waits - 1) in
+    let wished : Plan = wishes o place soft.waits in
+    either (nat_le MAX_MOVES soft.moves) Calm (wishes o None 0) (if doubts then doubted else goes_where place wished p) (calm_wishes o None 0 calm)
+    (either doubts Calm doubted (goes_where place wished p) (calm_wishes o soft.wish (soft.waits - 1) calm) (calm_goes_where place wished p (calm_wishes o place soft.waits calm)))
 
 calm_keeps_line : (o : Plan) (p : ℕ) (s : Stand) → Calm o → Calm (keeps_line o p s)
 calm_keeps_line o p s calm =
@@ -297,7 +334,7 @@ calm_sees_as modes.Idle (Some (Descend q)) o p s is calm =
     (calm_descends o p s (λ e. subst NoDescent (sym is) (calm.member e)) (λ e. subst NoDescent (sym is) (calm.acting e)) calm) (calm_keeps_line o p s calm)
 calm_sees_as (modes.Joined q) (Some Reviewing) o p s is calm =
     either (q == p) Calm (reviews_place o p s) (keeps_line o p s)
-    (calm_goes_where (reviewed (view o.node p s)) (searching o None) (calm_soft o (record o.node.soft { search = None }) (λ none. tt) calm)) (calm_keeps_line o p s calm)
+    (calm_weighs (searching o None) p (place_in (reviewed (view o.node p s))) (calm_soft o (record o.node.soft { search = None }) (λ none. tt) calm)) (calm_keeps_line o p s calm)
 calm_sees_as m search o p s is calm = calm_keeps_line o p s calm
 
 -- Client and measured
@@ -312,10 +349,10 @@ calm_client_of (Some l) o area start calm = calm_redirects (server_for o.node ar
 
 calm_measured : (o : Plan) (p rate hops : ℕ) → Calm o → Calm (measured o p rate hops)
 calm_measured o p rate hops calm =
-    either (p == o.node.me) Calm (answers o words.Own)
-    (if same_reading (reading_of o.node.kept.measures p) (record { rate = rate; hops = hops }) then o else write o (records.Rate p rate hops))
-    calm
-    (either (same_reading (reading_of o.node.kept.measures p) (record { rate = rate; hops = hops })) Calm o (write o (records.Rate p rate hops)) calm (calm_keep o (records.Rate p rate hops) refl calm))
+    let is_old : Bool = same_reading (reading_of o.node.kept.measures p) (record { rate = rate; hops = hops }) in
+    let wrote : Plan = write o (records.Rate p rate hops) in
+    either (p == o.node.me) Calm (answers o words.Own) (if is_old then o else may_move wrote) calm
+    (either is_old Calm o (may_move wrote) calm (calm_soft wrote (record o.node.soft { moves = 0 }) (λ none. none) (calm_keep o (records.Rate p rate hops) refl calm)))
 
 -- Each step
 

@@ -8,7 +8,7 @@ use Rattle.oc_model.specs.declared.mode.Mode.TheVariants as modes
 use Rattle.oc_model.specs.declared.record.Record.{Record}
 use Rattle.oc_model.specs.declared.record.Record.TheVariants as records
 use Rattle.oc_model.specs.declared.soft.Soft.{Soft}
-use Rattle.oc_model.specs.Asking.{lost_from, lost, send_ask, ask, act, descend, try_at, try_first, next_try, set_tries, round, ask_before}
+use Rattle.oc_model.specs.Asking.{lost_from, lost, send_ask, ask, act, descend, try_at, earlier, waits_awhile, try_first, next_try, set_tries, round, ask_before}
 use Rattle.oc_model.specs.Choice.{ask_order}
 use Rattle.oc_model.specs.Node.{Control, Durable}
 use Rattle.oc_model.specs.Numbers.{number_end, is_empty}
@@ -45,8 +45,8 @@ module _ (Q : Type 0) (d : Durable) where
 
   moved_try_first : (ps : List ℕ) (o : Plan) → (d.mode ≡ modes.Acting → ⊥) → Begins d o → Moved Q d (try_first ps o)
   moved_try_first [] o other b =
-      either (is_member o.node && o.node.soft.silent) (Moved Q d) (act o) (answers o words.Waiting) (moved_act o other b)
-      (begins_moved Q d (answers o words.Waiting) (begins_along d o (answers o words.Waiting) refl refl b))
+      either (is_member o.node && o.node.soft.silent) (Moved Q d) (act o) (waits_awhile o) (moved_act o other b)
+      (begins_moved Q d (waits_awhile o) (begins_along d o (waits_awhile o) refl refl b))
   moved_try_first (p ∷ ps) o other b = moved_try_at (with_soft o (record o.node.soft { tries = ps })) p (begins_along d o (with_soft o (record o.node.soft { tries = ps })) refl refl b)
 
   pub moved_next_try : (o : Plan) → (d.mode ≡ modes.Acting → ⊥) → Begins d o → Moved Q d (next_try o)
@@ -103,10 +103,13 @@ calm_try_at o p other calm =
     (λ e. calm_descend o p (outside (is_member o.node) (and_parts (not (is_member o.node)) (is_empty o.node.kept.ancestors) e).0) other calm)
     (λ e. calm_ask o p calm)
 
+calm_waits_awhile : (o : Plan) → SeeksNoPlace o.node → SeeksNoPlace (waits_awhile o).node
+calm_waits_awhile o calm = calm_soft o (record o.node.soft { due = Some (earlier o.node.soft.due (o.node.soft.clock + 4)) }) (λ none. none) calm
+
 calm_try_first : (ps : List ℕ) (o : Plan) → (o.node.kept.mode ≡ modes.Acting → ⊥) → SeeksNoPlace o.node → SeeksNoPlace (try_first ps o).node
 calm_try_first [] o other calm =
-    either_by (is_member o.node && o.node.soft.silent) (λ q. SeeksNoPlace q.node) (act o) (answers o words.Waiting)
-    (λ e. calm_act o (calm.member (and_parts (is_member o.node) o.node.soft.silent e).0) calm) (λ e. calm)
+    either_by (is_member o.node && o.node.soft.silent) (λ q. SeeksNoPlace q.node) (act o) (waits_awhile o)
+    (λ e. calm_act o (calm.member (and_parts (is_member o.node) o.node.soft.silent e).0) calm) (λ e. calm_waits_awhile o calm)
 calm_try_first (p ∷ ps) o other calm =
     calm_try_at (with_soft o (record o.node.soft { tries = ps })) p other (calm_soft o (record o.node.soft { tries = ps }) (λ none. none) calm)
 

@@ -17,11 +17,13 @@ use Rattle.oc_model.specs.declared.reading.Reading.{Reading}
 use Rattle.oc_model.specs.declared.record.Record.TheVariants as records
 use Rattle.oc_model.specs.declared.soft.Search.{Search}
 use Rattle.oc_model.specs.declared.soft.Search.TheVariants.{Descend, Review}
+use Rattle.oc_model.specs.declared.soft.Soft.{Soft}
+use Rattle.oc_model.specs.declared.soft.TheConstants.{MAX_MOVES}
 use Rattle.oc_model.specs.Adopting.{is_acting, raises, host, birth, has_lease, grants, sends_rejoin, adopts, answers_ask, asked_at, asked}
 use Rattle.oc_model.specs.Adoption.{rank_or_last, precedes, precedes_any, is_better, adoption_refusal}
 use Rattle.oc_model.specs.Asking.{lost, next_try, round, ask_before, is_asking, ancestors_by, joins, took_yes, refused, took_no, descend, not_seen, not_reached, unreachable, relocate}
 use Rattle.oc_model.specs.ChangeLog.{ack, is_ahead}
-use Rattle.oc_model.specs.Checking.{counts_clients, notes_time, reports, checks_as, next_check, checks, merges, merges_all, at_time, starts_leases, dies, ends_each, ends_leases, looks_at_each, looks_round, is_due, forgets_refusal, checks_in_time, has_news, reports_news_as, reports_news, checks_if_due, fetches_as, tick, acknowledges, life, checked_in, is_joined_to, takes_place, takes_rank, same_ids, takes_ancestors, took_ack, is_peer, took_rejoin}
+use Rattle.oc_model.specs.Checking.{counts_clients, notes_time, reports, checks_as, sets_due, checks, merges, merges_all, at_time, starts_leases, dies, ends_each, ends_leases, looks_at_each, looks_round, is_due, forgets_refusal, goes_on, tick_checks_as, tick_checks, checks_in_time, has_news, reports_news_as, reports_news, checks_if_due, fetches_as, tick, acknowledges, life, checked_in, is_joined_to, takes_place, takes_rank, takes_rank_unless, same_ids, takes_ancestors, took_ack, is_peer, took_rejoin}
 use Rattle.oc_model.specs.Choice.{below, chosen, reviewed}
 use Rattle.oc_model.specs.Leases.{ended}
 use Rattle.oc_model.specs.Measures.{reading_of, with_reading, same_reading}
@@ -29,19 +31,17 @@ use Rattle.oc_model.specs.Node.{Control, Durable, Log, no_reading}
 use Rattle.oc_model.specs.Numbers.{number_end, raise, capped}
 use Rattle.oc_model.specs.Plan.{Plan, begun, write, send, answers, with_soft, searching, ignored, is_member, rate_to}
 use Rattle.oc_model.specs.Content.{published, sealed_at, fetched, took_chunk}
-use Rattle.oc_model.specs.Looking.{Stand, candidates, goes_down, descends, view, goes_where, reviews_place, prefers, keeps_line, sees_as, sees}
-use Rattle.oc_model.specs.Serving.{redirects, server_for, client_of, measured}
+use Rattle.oc_model.specs.Looking.{Stand, candidates, goes_down, descends, view, place_in, is_place, wishes, leaves_for, goes_where, weighs, reviews_place, prefers, keeps_line, sees_as, sees}
+use Rattle.oc_model.specs.Serving.{redirects, server_for, client_of, may_move, measured}
 use Rattle.oc_model.specs.Step.{received, plan}
 use Rattle.oc_model.specs.declared.input.Input.{Input}
 use Rattle.oc_model.specs.declared.input.Input.TheVariants as inputs
 use Rattle.oc_model.specs.declared.message.Body.{Body}
-use Rattle.oc_model.specs.declared.place.Review.{Review as Reviewed}
-use Rattle.oc_model.specs.declared.place.Review.TheVariants as reviews
 use Rattle.oc_laws_step.proofs.Contents.{Stays as Unmoved, stays_published, stays_sealed_at, stays_fetched, stays_took_chunk}
 use Rattle.oc_model.specs.Table.{newest, is_news}
 use Rattle.oc_record.specs.Quash.{LogTakes}
 use Rattle.oc_laws_step.proofs.Goes.{either, either_by}
-use Rattle.oc_record.proofs.Moves.{Left, Stays, Moved, still, left, joined, stays, tail_none, IsNewer, Fresh, same, newer, Keeps, fresh_entry, fresh_mode, fresh_moved, fresh_part, Begins, fresh, begins_along, begins_lost}
+use Rattle.oc_record.proofs.Moves.{Left, Stays, Moved, still, left, joined, stays, tail_none, IsNewer, Fresh, same, newer, Keeps, fresh_entry, fresh_mode, fresh_moved, fresh_part, Begins, fresh, begins_along, begins_moved, begins_lost}
 use Rattle.oc_record.proofs.MovesAsking.{moved_ask, moved_descend, moved_next_try, moved_round, moved_ask_before}
 use Rattle.oc_laws_step.proofs.RankOrder.{fact_precedes, precedes_fact, precedes_irreflexive}
 
@@ -303,11 +303,8 @@ module _ (Q : Type 0) (n : Control) (sound : Q → (p : ℕ) → n.kept.mode ≡
   moved_checks_as modes.Idle o is f = moved_round Q n.kept o None (not_acting modes.Idle (sym (fresh_mode n.kept o f) ∙ is) (λ a. absurd (cc a))) (fresh f)
   moved_checks_as (modes.Asking p) o is f = fresh_moved Q n.kept (send o p (bodies.Ask o.node.kept.seq o.node.kept.rank)) (fresh_along o (send o p (bodies.Ask o.node.kept.seq o.node.kept.rank)) refl refl f)
 
-  abbrev dated : Plan → Plan
-  dated o = with_soft o (record o.node.soft { due = Some (next_check o.node) })
-
   moved_checks : (o : Plan) → Fresh n.kept o → M (checks o)
-  moved_checks o f = moved_checks_as o.node.kept.mode (dated o) refl (fresh_along o (dated o) refl refl f)
+  moved_checks o f = moved_checks_as o.node.kept.mode (sets_due o) refl (fresh_along o (sets_due o) refl refl f)
 
   pub moves_checks : M (checks (begun n))
   moves_checks = moved_checks (begun n) at_start
@@ -346,10 +343,24 @@ module _ (Q : Type 0) (n : Control) (sound : Q → (p : ℕ) → n.kept.mode ≡
   fresh_forgets None o f = f
   fresh_forgets (Some t) o f = fresh_along o (with_soft o (record o.node.soft { refused = false })) refl refl f
 
+  moved_goes_on : (s : Option Search) (o : Plan) → o.node.kept.mode ≡ modes.Idle → Fresh n.kept o → M (goes_on s o)
+  moved_goes_on (Some (Descend p)) o is f = fresh_moved Q n.kept (send o p bodies.Look) (fresh_along o (send o p bodies.Look) refl refl f)
+  moved_goes_on (Some Review) o is f = moved_checks_as modes.Idle o is f
+  moved_goes_on None o is f = moved_checks_as modes.Idle o is f
+
+  moved_tick_checks_as : (m : Mode) (o : Plan) → o.node.kept.mode ≡ m → Fresh n.kept o → M (tick_checks_as m o)
+  moved_tick_checks_as modes.Idle o is f = moved_goes_on o.node.soft.search o is f
+  moved_tick_checks_as (modes.Joined p) o is f = moved_checks_as (modes.Joined p) o is f
+  moved_tick_checks_as (modes.Asking p) o is f = moved_checks_as (modes.Asking p) o is f
+  moved_tick_checks_as modes.Acting o is f = moved_checks_as modes.Acting o is f
+
+  moved_tick_checks : (o : Plan) → Fresh n.kept o → M (tick_checks o)
+  moved_tick_checks o f = moved_tick_checks_as o.node.kept.mode (sets_due o) refl (fresh_along o (sets_due o) refl refl f)
+
   moved_checks_in_time : (o : Plan) → Fresh n.kept o → M (checks_in_time o)
   moved_checks_in_time o f =
       let begins : Plan = forgets_refusal o.node.soft.due o in
-      moved_looks_round o.node.kept.mode (checks begins) (moved_checks begins (fresh_forgets o.node.soft.due o f))
+      moved_looks_round o.node.kept.mode (tick_checks begins) (moved_tick_checks begins (fresh_forgets o.node.soft.due o f))
 
   moved_reports_news_as : (m : Mode) (o : Plan) → Fresh n.kept o → M (reports_news_as m o)
   moved_reports_news_as (modes.Joined p) o f = either (has_news o.node) M (reports o p) o (moved_reports o p f) (fresh_moved Q n.kept o f)
@@ -426,6 +437,10 @@ module _ (Q : Type 0) (n : Control) (sound : Q → (p : ℕ) → n.kept.mode ≡
       ))
       (λ e. (n.kept.rank, h))
 
+  acks_rank_unless : (wish : Option ℕ) (o : Plan) (told : Rank) → Acks o n.kept.rank n.kept.ancestors → (r : Option Rank) × Acks (takes_rank_unless wish o told) r n.kept.ancestors
+  acks_rank_unless None o told h = acks_rank o told h
+  acks_rank_unless (Some g) o told h = (n.kept.rank, h)
+
   acks_ancestors : (o : Plan) (r : Option Rank) (xs : List ℕ) → Acks o r n.kept.ancestors → (ys : List ℕ) × Acks (takes_ancestors o xs) r ys
   acks_ancestors o r xs h =
       either_by (same_ids xs o.node.kept.ancestors) (λ q. (ys : List ℕ) × Acks q r ys) o (write o (records.Ancestors xs))
@@ -454,22 +469,24 @@ module _ (Q : Type 0) (n : Control) (sound : Q → (p : ℕ) → n.kept.mode ≡
 
   pub moves_took_ack : (p seq upto : ℕ) (told : Rank) (xs : List ℕ) → M (took_ack (begun n) p seq upto told xs)
   moves_took_ack p seq upto told xs =
-      either (is_joined_to n.kept.mode p && seq == n.kept.seq) M (takes_ancestors (takes_rank (takes_place (begun n) upto) told) (ancestors_by p xs)) (ignored (begun n))
-      (let ranked = acks_rank (takes_place (begun n) upto) told (acks_place upto) in
-      let all = acks_ancestors (takes_rank (takes_place (begun n) upto) told) ranked.0 (ancestors_by p xs) ranked.1 in
-      acks_moved (takes_ancestors (takes_rank (takes_place (begun n) upto) told) (ancestors_by p xs)) ranked.0 all.0 all.1)
+      let took : Plan = takes_rank_unless n.soft.wish (takes_place (begun n) upto) told in
+      either (is_joined_to n.kept.mode p && seq == n.kept.seq) M (takes_ancestors took (ancestors_by p xs)) (ignored (begun n))
+      (let ranked = acks_rank_unless n.soft.wish (takes_place (begun n) upto) told (acks_place upto) in
+      let all = acks_ancestors took ranked.0 (ancestors_by p xs) ranked.1 in
+      acks_moved (takes_ancestors took (ancestors_by p xs)) ranked.0 all.0 all.1)
       ignores
 
   -- Measured
 
   pub moves_measured : (p rate hops : ℕ) → (Q → (1 ≤ p) × (p ≤ length n.kept.measures)) → M (measured (begun n) p rate hops)
   moves_measured p rate hops within =
-      either (p == n.me) M (answers (begun n) words.Own)
-      (if same_reading (reading_of n.kept.measures p) (record { rate = rate; hops = hops }) then begun n else write (begun n) (records.Rate p rate hops))
+      let is_old : Bool = same_reading (reading_of n.kept.measures p) (record { rate = rate; hops = hops }) in
+      let wrote : Plan = write (begun n) (records.Rate p rate hops) in
+      either (p == n.me) M (answers (begun n) words.Own) (if is_old then begun n else may_move wrote)
       (still refl refl)
-      (either_by (same_reading (reading_of n.kept.measures p) (record { rate = rate; hops = hops })) M (begun n) (write (begun n) (records.Rate p rate hops)) (λ e. still refl refl)
-      (λ e. fresh_part Q n.kept (begun n) (records.Rate p rate hops) refl refl refl refl
-      (λ q back. let range = within q in other_readings n.kept.measures p (record { rate = rate; hops = hops }) range.0 range.1 e (ap (λ d. d.measures) back)) at_start))
+      (either_by is_old M (begun n) (may_move wrote) (λ e. still refl refl)
+      (λ e. along wrote (may_move wrote) refl refl (fresh_part Q n.kept (begun n) (records.Rate p rate hops) refl refl refl refl
+      (λ q back. let range = within q in other_readings n.kept.measures p (record { rate = rate; hops = hops }) range.0 range.1 e (ap (λ d. d.measures) back)) at_start)))
 
   -- Look
 
@@ -483,10 +500,28 @@ module _ (Q : Type 0) (n : Control) (sound : Q → (p : ℕ) → n.kept.mode ≡
       (moved_goes_down (chosen (rate_to n p) (candidates n s.children)) (begun n) p begins_start)
       (moved_next_try Q n.kept (searching (begun n) None) other (begins_along n.kept (begun n) (searching (begun n) None) refl refl begins_start))
 
-  moved_goes_where : (r : Reviewed) (o : Plan) → Begins n.kept o → M o → M (goes_where r o)
-  moved_goes_where reviews.Stay o b here = here
-  moved_goes_where (reviews.Up g) o b here = moved_ask_before Q n.kept o g b
-  moved_goes_where (reviews.Beneath k) o b here = moved_ask_before Q n.kept o k b
+  moved_wishes : (o : Plan) (place : Option ℕ) (count : ℕ) → Begins n.kept o → M (wishes o place count)
+  moved_wishes o place count b = begins_moved Q n.kept (wishes o place count) (begins_along n.kept o (wishes o place count) refl refl b)
+
+  moved_leaves_for : (o : Plan) (p g : ℕ) → Begins n.kept o → M (leaves_for o p g)
+  moved_leaves_for o p g b =
+      let left : Plan = with_soft o (record o.node.soft { left = Some p; moves = o.node.soft.moves + 1 }) in
+      moved_ask_before Q n.kept left g (begins_along n.kept o left refl refl b)
+
+  moved_goes_where : (place : Option ℕ) (o : Plan) (p : ℕ) → Begins n.kept o → M (goes_where place o p)
+  moved_goes_where None o p b = begins_moved Q n.kept o b
+  moved_goes_where (Some g) o p b =
+      either (nat_lt o.node.soft.waits (o.node.soft.patience + 2)) M (wishes o (Some g) (o.node.soft.waits + 1)) (leaves_for o p g)
+      (moved_wishes o (Some g) (o.node.soft.waits + 1) b) (moved_leaves_for o p g b)
+
+  moved_weighs : (o : Plan) (p : ℕ) (place : Option ℕ) → Begins n.kept o → M (weighs o p place)
+  moved_weighs o p place b =
+      let soft : Soft = o.node.soft in
+      let doubts : Bool = not (is_place place soft.wish) && nat_lt 0 soft.waits in
+      let doubted : Plan = wishes o soft.wish (soft.waits - 1) in
+      let wished : Plan = wishes o place soft.waits in
+      either (nat_le MAX_MOVES soft.moves) M (wishes o None 0) (if doubts then doubted else goes_where place wished p) (moved_wishes o None 0 b)
+      (either doubts M doubted (goes_where place wished p) (moved_wishes o soft.wish (soft.waits - 1) b) (moved_goes_where place wished p (begins_along n.kept o wished refl refl b)))
 
   moved_keeps_line : (p : ℕ) (s : Stand) → M (keeps_line (begun n) p s)
   moved_keeps_line p s =
@@ -497,7 +532,7 @@ module _ (Q : Type 0) (n : Control) (sound : Q → (p : ℕ) → n.kept.mode ≡
       either (q == p) M (descends (begun n) p s) (keeps_line (begun n) p s) (moved_descends p s (not_acting modes.Idle is (λ a. absurd (cc a)))) (moved_keeps_line p s)
   moved_sees_as (modes.Joined q) (Some Review) p s is =
       either (q == p) M (reviews_place (begun n) p s) (keeps_line (begun n) p s)
-      (moved_goes_where (reviewed (view n p s)) (searching (begun n) None) (begins_along n.kept (begun n) (searching (begun n) None) refl refl begins_start) (still refl refl)) (moved_keeps_line p s)
+      (moved_weighs (searching (begun n) None) p (place_in (reviewed (view n p s))) (begins_along n.kept (begun n) (searching (begun n) None) refl refl begins_start)) (moved_keeps_line p s)
   moved_sees_as m search p s is = moved_keeps_line p s
 
   pub moves_sees : (p : ℕ) (s : Stand) → M (sees (begun n) p s)

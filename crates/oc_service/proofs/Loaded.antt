@@ -14,6 +14,7 @@ use Rattle.oc_policy.specs.declared.deciding.TheConstants.{MAX_RULES}
 use Rattle.oc_probe.specs.declared.probing.Probing.{Probing}
 use Rattle.oc_deeds.specs.Lawful.{IsMadeFor}
 use Rattle.oc_server.specs.Lawful.{IsReady}
+use Rattle.oc_deeds.specs.Pace.{most_interval}
 use Rattle.oc_deeds.specs.Records.{is_record}
 use Rattle.oc_deeds.specs.Lawful.{IsLawfulDial, IsLawfulWork, IsPlaced}
 use Rattle.oc_server.specs.Scenes.{IsServing}
@@ -70,5 +71,5 @@ loaded_machine view c task site turns loaded honest =
     ∙ ap (λ (ws : List Work). record { running = record { node = node_of turns.server.kept; outbox = []; works = ws; dials = turns.server.dials }; pace = turns.pace; probing = turns.probing }) loaded.works
     ∙ ap (λ (ds : List Dialling). record { running = record { node = node_of turns.server.kept; outbox = []; works = []; dials = ds }; pace = turns.pace; probing = turns.probing }) loaded.dials
     ∙ ap (λ (p : Pace). record { running = record { node = node_of turns.server.kept; outbox = []; works = []; dials = [] }; pace = p; probing = turns.probing }) loaded.pace
-    ∙ ap (λ (p : Option Probing). at_first (is_record task.log) p (node_of turns.server.kept)) loaded.probing
-    ∙ ap (λ (n : Node). at_first (is_record task.log) (probing_at_first task.probes task.me (length c.addresses)) n) (loaded.node.node honest)
+    ∙ ap (λ (p : Option Probing). at_first (is_record task.log) (most_interval task.probes task.me) p (node_of turns.server.kept)) loaded.probing
+    ∙ ap (λ (n : Node). at_first (is_record task.log) (most_interval task.probes task.me) (probing_at_first task.probes task.me (length c.addresses)) n) (loaded.node.node honest)

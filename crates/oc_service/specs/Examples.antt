@@ -28,7 +28,7 @@ abbrev idle : Running
 idle = record { node = new_node (record { nodes = 2; chain = 1; chunk = 4096; areas = 0 ∷ 0 ∷ [] }) 1; outbox = []; works = []; dials = [] }
 
 abbrev ticked : Pace
-ticked = record { last = Some 0; interval = 100; whole = false; second = None }
+ticked = record { last = Some 0; interval = 100; most = 1000; whole = false; second = None }
 
 -- what a quiet turn is told
 abbrev quiet : Observation

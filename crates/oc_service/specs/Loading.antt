@@ -12,7 +12,7 @@ use Rattle.oc_model.specs.declared.message.Message.{Message}
 use Rattle.oc_probe.specs.declared.probing.Probing.{Probing}
 use Rattle.oc_deeds.specs.Lawful.{IsMadeFor}
 use Rattle.oc_server.specs.Lawful.{IsReady}
-use Rattle.oc_deeds.specs.Pace.{first_pace}
+use Rattle.oc_deeds.specs.Pace.{first_pace, most_interval}
 use Rattle.oc_deeds.specs.Records.{is_record}
 use Rattle.oc_server.specs.declared.turns.Turns.{Turns}
 use Rattle.oc_service.specs.OnSite.{header_of_settings, probing_at_first}
@@ -35,7 +35,7 @@ pub record IsLoaded {D L K : Type 0} (view : D → DiskView) (c : Settings) (tas
   pub outbox : turns.server.outbox ≡ []
   pub works : turns.server.works ≡ []
   pub dials : turns.server.dials ≡ []
-  pub pace : turns.pace ≡ first_pace (is_record task.log)
+  pub pace : turns.pace ≡ first_pace (is_record task.log) (most_interval task.probes task.me)
   pub probing : turns.probing ≡ probing_at_first task.probes task.me (length c.addresses)
   pub config : turns.server.config ≡ c
   pub log : turns.server.log ≡ task.log

@@ -26,6 +26,7 @@ use Rattle.oc_probe.specs.declared.probing.Probing.{Probing}
 use Rattle.oc_routes.specs.Responses.{address_of}
 use Rattle.oc_routes.specs.Verdicts.{NodeTerms, terms_of}
 use Rattle.oc_deeds.specs.Deeds.{Deed, Setting, calls_of, inputs_of, line, lines}
+use Rattle.oc_deeds.specs.Pace.{most_interval}
 use Rattle.oc_deeds.specs.Under.{Cuts}
 use Rattle.oc_deeds.specs.Recorded.{IsRecordOf}
 use Rattle.oc_deeds.specs.Records.{is_record}
@@ -69,7 +70,7 @@ probing_at_first false me nodes = None
 
 -- the node that its files recover, as the machine of what a node does
 abbrev pub machine_on : {D : Type 0} → (D → DiskView) → Settings → Task → Disks D → Machine
-machine_on view c task d = at_first (is_record task.log) (probing_at_first task.probes task.me (length c.addresses)) (first_node view (header_of_settings c) task.me d)
+machine_on view c task d = at_first (is_record task.log) (most_interval task.probes task.me) (probing_at_first task.probes task.me (length c.addresses)) (first_node view (header_of_settings c) task.me d)
 
 -- Its link
 

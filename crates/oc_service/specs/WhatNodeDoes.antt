@@ -21,9 +21,9 @@ pub record Machine : Type 0 where
   pub pace : Pace
   pub probing : Option Probing
 
--- at first: nothing to send, nothing under way, and no tick yet; in a record ticks are whole seconds apart
-abbrev pub at_first : Bool → Option Probing → Node → Machine
-at_first whole probing n = record { running = record { node = n; outbox = []; works = []; dials = [] }; pace = first_pace whole; probing = probing }
+-- at first: nothing to send, nothing under way, and no tick yet; in a record ticks are whole seconds apart, and this is the greatest interval else
+abbrev pub at_first : Bool → ℕ → Option Probing → Node → Machine
+at_first whole most probing n = record { running = record { node = n; outbox = []; works = []; dials = [] }; pace = first_pace whole most; probing = probing }
 
 -- each measure that is its own is taken as an input
 abbrev pub own_measure : Setting → Measure → List Deed

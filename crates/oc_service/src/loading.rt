@@ -16,7 +16,7 @@ use crate::running::Task;
 use crate::site::Site;
 use oc_base::{Memory, NodeId};
 use oc_config::Config;
-use oc_deeds::{Dials, Outbox, Pace, Works};
+use oc_deeds::{Dials, Outbox, Pace, Works, most_interval};
 use oc_http::HeadReader;
 use oc_io::{Disk, Sink};
 use oc_keep::{KeepLoad, Kept, Seat};
@@ -77,7 +77,7 @@ pub(crate) fn load<D: Disk, L: Link, K: Sink>(
                 sink,
                 heads,
             },
-            pace: Pace::new(task.log.is_record()),
+            pace: Pace::new(task.log.is_record(), most_interval(task.probes, task.me)),
             probing,
         }),
         Err((files, error)) => Err((Site { files, link, sink }, error)),

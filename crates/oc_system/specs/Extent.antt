@@ -1,10 +1,13 @@
 -- Where the message ends that some bytes begin.
-use Rattle.std.specs.Prelude.{◌≡◌, ◌⊎◌, ◌==◌, ℕ, ◌≤◌, if◌then◌else◌, Option, Some, None, List, [], ◌∷◌, drop, length}
+use Rattle.std.specs.Prelude.{◌≡◌, ◌⊎◌, ◌==◌, ℕ, ◌≤◌, if◌then◌else◌, Option, Some, None, List, [], ◌∷◌, ◌++◌, drop, length}
 use Rattle.std.specs.Str.Parse.{digits_value}
-use Rattle.httparse.specs.Grammar.{RequestHead, ReadsRequest, HasNoRequest, NeverHasRequest, ResponseHead, ReadsResponse, HasNoResponse, NeverHasResponse, status_code}
+use Rattle.httparse.specs.Ascii.{line_feed}
+use Rattle.httparse.specs.Grammar.{RequestHead, ReadsRequest, HasNoRequest, NeverHasRequest, MayBecomeRequest, ResponseHead, ReadsResponse, HasNoResponse, NeverHasResponse, status_code}
 use Rattle.httparse.specs.Spans.{RequestExceeds, ResponseExceeds}
 use Rattle.oc_http.specs.Fields.{named, codings, is_length, is_present, lengths}
+use Rattle.oc_http.specs.Lines.{HasNoLineEnd}
 use Rattle.oc_http.specs.Requests.{expects}
+use Rattle.oc_http.specs.Unfinished.{IsUnfinished}
 use Rattle.oc_system.specs.declared.extent.HeadProgress.{HeadProgress}
 use Rattle.oc_system.specs.declared.extent.HeadProgress.TheVariants as progress
 use Rattle.oc_system.specs.declared.extent.Outline.{Outline}
@@ -18,18 +21,37 @@ body_length (value ∷ more) = Some (if is_length value then digits_value 10 val
 abbrev pub response_length : ℕ → List (List ℕ) → Option ℕ
 response_length status values = if status == 204 then Some 0 else body_length values
 
+-- these are the lines that have ended of the bytes
+pub record AreWholeLines (bytes lines : List ℕ) : Type 0 where
+  pub rest : List ℕ
+  pub split : bytes ≡ lines ++ rest
+  pub begun : HasNoLineEnd rest
+  pub ended : (lines ≡ []) ⊎ ((line : List ℕ) × (lines ≡ line ++ line_feed ∷ []))
+
 -- the outline is that of a request whose head these bytes begin with
 pub record OutlinesRequest (bytes : List ℕ) (outline : Outline) : Type 0 where
   pub head : RequestHead
+  pub fits : outline.head ≤ length bytes
   pub reads : ReadsRequest bytes head (drop outline.head bytes)
   pub body : outline.body ≡ body_length (lengths (named head.fields))
   pub expects : outline.expects ≡ expects head.minor (named head.fields)
   pub coded : outline.coded ≡ is_present (codings (named head.fields))
 
--- how far a request has come of which there are these bytes; room is that for fields
+-- how far a request has come of which there are these lines; room is that for fields
+abbrev pub IsLinesExtent : ℕ → List ℕ → HeadProgress → Type 0
+IsLinesExtent room lines progress.Open = HasNoRequest lines × MayBecomeRequest lines
+IsLinesExtent room lines progress.Never = NeverHasRequest lines ⊎ RequestExceeds room lines
+IsLinesExtent room lines (progress.Begun outline) = OutlinesRequest lines outline
+
+-- whatever follows, the bytes begin with no head, and at the end of a line that has come this is known
+abbrev pub IsNoRequest : List ℕ → Type 0
+IsNoRequest bytes = NeverHasRequest bytes × ¬ (IsUnfinished ReadsRequest bytes)
+
+-- how far a request has come of which there are these bytes, for a reader who looks at the end of each line; room is that
+-- for fields
 abbrev pub IsRequestExtent : ℕ → List ℕ → HeadProgress → Type 0
-IsRequestExtent room bytes progress.Open = HasNoRequest bytes
-IsRequestExtent room bytes progress.Never = NeverHasRequest bytes ⊎ RequestExceeds room bytes
+IsRequestExtent room bytes progress.Open = IsUnfinished ReadsRequest bytes
+IsRequestExtent room bytes progress.Never = IsNoRequest bytes ⊎ RequestExceeds room bytes
 IsRequestExtent room bytes (progress.Begun outline) = OutlinesRequest bytes outline
 
 -- the outline is that of a response whose head these bytes begin with

@@ -1,7 +1,10 @@
+ghost use Rattle.std.specs.Prelude.{◌≡◌, IsSome, false, true};
+ghost use Rattle.oc_system.specs.declared.connection.ConnectionStage.TheVariants as stages;
+
 use crate::incoming::Incoming;
 use crate::limits::{
-    BODY_MILLIS, BODY_PAUSE_MILLIS, HEAD_MILLIS, LARGE_BYTES, LARGE_BYTES_A_MILLI, LINGER_MILLIS,
-    LINGER_PAUSE_MILLIS, MOST_MESSAGE, MOST_READS, MOST_UNSENT, REPLY_PAUSE_MILLIS, SHORT_REPLY,
+    BODY_MILLIS, BODY_PAUSE_MILLIS, HEAD_MILLIS, LARGE_BYTES, LARGE_BYTES_A_MILLI, LINGER_BYTES,
+    LINGER_MILLIS, MOST_MESSAGE, MOST_READS, MOST_UNSENT, REPLY_PAUSE_MILLIS, SHORT_REPLY,
 };
 use crate::socket::{Moved, read_some, write_some};
 use crate::times::Deadline;
@@ -87,6 +90,8 @@ pub(crate) struct Connection {
     /// Whether its request was all that came, and how many bytes of its replies there were.
     is_all: bool,
     went: usize,
+    /// How many bytes were read and dropped after its last reply.
+    dropped: usize,
     unsent: Unsent,
     /// Since when it is at its stage, and until when it may be.
     since: u64,
@@ -117,6 +122,7 @@ impl Connection {
             is_watched: false,
             is_all: false,
             went: 0,
+            dropped: 0,
             unsent: Unsent::new(alloc),
             since: now,
             deadline: Deadline::after(now, HEAD_MILLIS),
@@ -155,7 +161,7 @@ impl Connection {
             _ => {}
         }
         if self.stage == ConnectionStage::Lingering {
-            self.drain(tools, now);
+            self.drain(tools);
         }
     }
 
@@ -213,8 +219,11 @@ impl Connection {
             .read(&mut self.stream, tools, most, self.is_fed);
         self.is_readable = !intake.is_drained;
         if intake.has_come {
-            self.is_told = false;
             self.deadline.progress(now);
+        }
+        // Nothing more comes after an end, so that is new too.
+        if intake.has_come || self.incoming.is_over() {
+            self.is_told = false;
         }
         if !had_head && self.incoming.outline.is_some() {
             self.begin_body(now);
@@ -296,6 +305,13 @@ impl Connection {
         rest
     }
 
+    /// Takes back what was lent of its request and not taken: it was left, unless it got the permission to send more.
+    pub(crate) fn take_back(&mut self, bytes: Vec<u8>)
+        ensures { self.new.incoming.was_left ≡ self.old.is_told }
+    {
+        self.incoming.take_back(bytes, self.is_told);
+    }
+
     /// Takes that many of these bytes, which are all that came, as its request, whose reply is then under way.
     pub(crate) fn take(&mut self, tools: &mut Tools, bytes: &[u8], count: u64, now: u64) {
         self.is_all = self.incoming.is_all(bytes, count);
@@ -343,21 +359,27 @@ impl Connection {
         }
         self.stage = ConnectionStage::Lingering;
         self.since = now;
-        self.deadline = Deadline::after(now, LINGER_MILLIS).with_pause(now, LINGER_PAUSE_MILLIS);
+        self.deadline = Deadline::after(now, LINGER_MILLIS);
         self.is_late = false;
         if self.stream.shutdown(Shutdown::Write).is_err() {
             self.stage = ConnectionStage::Over;
         }
     }
 
-    /// Drops what has come, until the peer's end.
-    fn drain(&mut self, tools: &mut Tools, now: u64) {
+    /// Drops what has come, until the peer's end, or until that was as much as is dropped.
+    fn drain(&mut self, tools: &mut Tools) {
         for _ in 0..MOST_READS {
             if !self.is_readable || self.stage != ConnectionStage::Lingering {
                 return;
             }
-            match read_some(&mut self.stream, &mut tools.piece) {
-                Moved::Bytes(_) => self.deadline.progress(now),
+            let room = LINGER_BYTES.saturating_sub(self.dropped);
+            let most = room.min(tools.piece.len());
+            if most == 0 {
+                self.stage = ConnectionStage::Over;
+                return;
+            }
+            match read_some(&mut self.stream, &mut tools.piece[..most]) {
+                Moved::Bytes(count) => self.dropped = self.dropped.saturating_add(count),
                 Moved::Nothing => self.is_readable = false,
                 Moved::End | Moved::Failed => self.stage = ConnectionStage::Over,
             }
@@ -373,17 +395,16 @@ impl Connection {
         !self.is_late && self.deadline.is_over(now)
     }
 
-    /// Notes that its time has run out, where it has. One that was told, can be answered, and was left is dropped in
-    /// the end.
+    /// Notes that its time has run out, where it has. Its request is told as one that failed, unless it can be looked at
+    /// and was not told yet.
     pub(crate) fn expire(&mut self, now: u64) {
         if !self.is_due(now) {
             return;
         }
         match self.stage {
             ConnectionStage::Awaiting if self.unsent.is_empty() => {
-                let is_ripe = self.incoming.is_ripe(self.is_fed);
-                self.is_late = self.is_told || !is_ripe;
-                self.is_told = self.is_told && is_ripe;
+                self.is_late = !self.incoming.is_ripe(self.is_fed);
+                self.is_told = false;
             }
             ConnectionStage::Lingering => self.stage = ConnectionStage::Over,
             _ => self.incoming.has_failed = true,
@@ -445,7 +466,9 @@ impl Connection {
     }
 
     /// What was to be told of it was told.
-    pub(crate) fn note_told(&mut self) {
+    pub(crate) fn note_told(&mut self)
+        ensures { self.old.stage ≡ stages.Awaiting → self.new.is_told ≡ true }
+    {
         match self.stage {
             ConnectionStage::Awaiting => self.is_told = true,
             _ => self.is_fed = false,
@@ -492,10 +515,13 @@ impl Connection {
         }
     }
 
-    /// What it has to say for its place, where it may be asked for it. One whose request has come may not, and
-    /// neither one that has still to be read: its request may be there. Else of many that come at once each would
-    /// drop the one before.
-    pub(crate) fn claim(&self) -> Option<Claim> {
+    /// What it has to say for its place, where it may be asked for it. One whose request has come may not, unless it was
+    /// left, and neither one that has still to be read: its request may be there. Else of many that come at once each
+    /// would drop the one before.
+    pub(crate) fn claim(&self) -> Option<Claim>
+        ensures left { self.now.stage ≡ stages.Awaiting → self.now.incoming.was_left ≡ true
+            → self.now.is_readable ≡ false → IsSome result }
+    {
         let (kind, since) = match self.stage {
             ConnectionStage::Lingering | ConnectionStage::Over => (ClaimKind::ReadOut, self.since),
             _ if !self.unsent.is_empty() => (ClaimKind::Content, self.fed_at),

@@ -1,9 +1,9 @@
 //! Where a message ends, as far as its head tells. This is all that the sockets know of HTTP; what else a head
 //! says is for whoever reads it.
 
-ghost use Rattle.std.specs.Prelude.{◌≡◌, length};
-ghost use Rattle.oc_http.specs.Fields.{lengths};
-ghost use Rattle.oc_system.specs.Extent.{IsRequestExtent, IsResponseExtent, body_length, response_length};
+ghost use Rattle.std.specs.Prelude.{◌≡◌, false, length, unwrap_or};
+ghost use Rattle.oc_http.specs.Fields.{is_unusable, length_of, lengths};
+ghost use Rattle.oc_system.specs.Extent.{AreWholeLines, IsLinesExtent, IsRequestExtent, IsResponseExtent, body_length, response_length};
 
 use httparse::spans::{HeaderSpan, parse_request, parse_response};
 use httparse::{Error, Status};
@@ -33,14 +33,25 @@ pub(crate) enum HeadProgress {
     Begun(Outline),
 }
 
-/// How far a request has come (RFC 9112, sections 2 to 6). The spans are room for its fields; more fields than that
-/// are no head.
+/// How far a request has come (RFC 9112, sections 2 to 6), for a reader who looks at its head at the end of each line:
+/// a line that has not ended tells nothing. The spans are room for its fields; more fields than that are no head.
 pub(crate) fn request_extent(bytes: &[u8], spans: &mut [HeaderSpan]) -> HeadProgress
     ensures { IsRequestExtent (length spans.old) bytes.now result }
 {
-    match parse_request(bytes, spans) {
+    let lines = whole_lines(bytes);
+    if lines.is_empty() {
+        return HeadProgress::Open;
+    }
+    lines_extent(lines, spans)
+}
+
+/// The same of lines that have ended.
+fn lines_extent(lines: &[u8], spans: &mut [HeaderSpan]) -> HeadProgress
+    ensures { IsLinesExtent (length spans.old) lines.now result }
+{
+    match parse_request(lines, spans) {
         Ok(Status::Complete(parts)) => {
-            let fields = Fields::of(bytes, &spans[..parts.headers]);
+            let fields = Fields::of(lines, &spans[..parts.headers]);
             let expects = parts.version == 1 && fields.has_only("expect", "100-continue");
             HeadProgress::Begun(Outline {
                 head: parts.len,
@@ -53,6 +64,19 @@ pub(crate) fn request_extent(bytes: &[u8], spans: &mut [HeaderSpan]) -> HeadProg
         Err(Error::TooManyHeaders) => HeadProgress::Never,
         Err(_) => HeadProgress::Never,
     }
+}
+
+/// The lines that have ended of these bytes.
+fn whole_lines(bytes: &[u8]) -> &[u8]
+    ensures { AreWholeLines bytes.now result.now }
+{
+    let mut lines = bytes;
+    'lines: while let [front @ .., last] = lines
+        && *last != b'\n'
+    {
+        lines = front;
+    }
+    lines
 }
 
 /// How far a response has come (RFC 9112, sections 2 to 6), in the same way.
@@ -86,9 +110,11 @@ fn response_length(status: u16, fields: &Fields) -> Option<u64>
     }
 }
 
-/// The number of the first Content-Length.
+/// The number of the first Content-Length: where a reader of heads finds no fault in it, the length of the body that it
+/// waits for.
 fn told_length(fields: &Fields) -> Option<u64>
-    ensures { result ≡ body_length (lengths fields.now) }
+    ensures number { result ≡ body_length (lengths fields.now) }
+    ensures read { is_unusable (lengths fields.now) ≡ false → unwrap_or result 0 ≡ unwrap_or (length_of (lengths fields.now)) 0 }
 {
     match fields.find("content-length") {
         FieldMatch::Absent => None,

@@ -1,3 +1,5 @@
+ghost use Rattle.std.specs.Prelude.{◌≡◌, false, true};
+
 use crate::extent::{HeadProgress, Outline, request_extent};
 use crate::limits::{MOST_MESSAGE, MOST_READS};
 use crate::socket::{Moved, read_some};
@@ -24,6 +26,8 @@ pub(crate) struct Incoming {
     pub(crate) outline: Option<Outline>,
     /// Whether no head begins so.
     is_hopeless: bool,
+    /// Whether it was told as it is and left, so that more of it is wanted.
+    was_left: bool,
     /// Whether the peer sends no more, and whether a call failed.
     pub(crate) has_ended: bool,
     pub(crate) has_failed: bool,
@@ -35,6 +39,7 @@ impl Incoming {
             bytes: Vec::new(alloc),
             outline: None,
             is_hopeless: false,
+            was_left: false,
             has_ended: false,
             has_failed: false,
         }
@@ -86,6 +91,7 @@ impl Incoming {
         let moved = read_some(stream, &mut tools.piece[..room]);
         if let Moved::Bytes(count) = moved {
             let before = self.bytes.len();
+            self.was_left = false;
             let piece = tools.piece.get(..count).unwrap_or(&[]);
             if self.bytes.extend_from_slice(piece).is_err() {
                 return Moved::Failed;
@@ -96,7 +102,8 @@ impl Incoming {
     }
 
     /// Looks at the head, where a line of it ended after the first `before` bytes or it is as long as it may be.
-    /// So it is looked at once a line, however slowly its bytes come.
+    /// So it is looked at once a line, however slowly its bytes come. Of a line that has not ended nothing is told:
+    /// whoever reads the head waits for its end.
     pub(crate) fn look(&mut self, tools: &mut Tools, before: usize) {
         if self.outline.is_some() || self.is_hopeless {
             return;
@@ -115,8 +122,13 @@ impl Incoming {
     }
 
     /// Whether the request can be looked at: it is whole, or its head asks for the permission to send the body, or
-    /// it has more than a request may have, or no head begins so.
-    pub(crate) fn is_ripe(&self, permitted: bool) -> bool {
+    /// it has more than a request may have, or no head begins so. One that was left cannot, until more of it came.
+    pub(crate) fn is_ripe(&self, permitted: bool) -> bool
+        ensures left { self.now.was_left ≡ true → result ≡ false }
+    {
+        if self.was_left {
+            return false;
+        }
         match &self.outline {
             Some(outline) => {
                 let body = outline.body.unwrap_or(0);
@@ -146,12 +158,21 @@ impl Incoming {
         mem::replace(&mut self.bytes, Vec::new(tools.alloc))
     }
 
+    /// Takes back what was lent and not taken. Where it was left, more of it is wanted before it is told again.
+    pub(crate) fn take_back(&mut self, bytes: Vec<u8>, was_left: bool)
+        ensures { self.new.was_left ≡ was_left }
+    {
+        self.bytes = bytes;
+        self.was_left = was_left;
+    }
+
     /// Takes that many of these bytes, which are all that came, as a request, and looks at what follows them. False
     /// where there is no memory for it.
     pub(crate) fn take(&mut self, tools: &mut Tools, bytes: &[u8], count: usize) -> bool {
         self.bytes = Vec::new(tools.alloc);
         self.outline = None;
         self.is_hopeless = false;
+        self.was_left = false;
         let rest = bytes.get(count..).unwrap_or(&[]);
         let is_kept = self.bytes.extend_from_slice(rest).is_ok();
         self.look(tools, 0);

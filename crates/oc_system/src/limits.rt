@@ -32,11 +32,11 @@ pub(crate) const SEND_BUFFER: i32 = 262_144;
 /// before it acknowledges anything.
 pub(crate) const SHORT_REPLY: usize = 16_384;
 
-/// For how long what still comes on a connection that ends is read and dropped: without progress, and in all. Whoever sends
-/// a body that is too long has a while to end it, and finds the reply then.
-pub(crate) const LINGER_PAUSE_MILLIS: u64 = 2_000;
+/// For how long what still comes on a connection that ends is read and dropped, and how many bytes of it at most. Whoever
+/// sends a body that is too long has a while to end it, and finds the reply then.
+pub(crate) const LINGER_MILLIS: u64 = 2_000;
 
-pub(crate) const LINGER_MILLIS: u64 = 30_000;
+pub(crate) const LINGER_BYTES: usize = 1_048_576;
 
 /// Until a head is whole, from the beginning of a connection or from the end of its last reply.
 pub(crate) const HEAD_MILLIS: u64 = 10_000;

@@ -22,7 +22,7 @@ impl Sockets {
             return;
         };
         if let Some(lender) = self.places.get_mut(place) {
-            lender.incoming.bytes = bytes;
+            lender.take_back(bytes);
             self.turns.push(place);
         }
     }

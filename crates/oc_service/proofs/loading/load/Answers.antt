@@ -1,9 +1,10 @@
-use Rattle.std.proofs.Common.{refl, ap, subst, ◌∙◌}
+use Rattle.std.proofs.Common.{Bool, refl, ap, subst, ◌∙◌}
 use Rattle.oc_config.specs.Settings.{Settings}
 use Rattle.oc_keep.specs.Files.{disks_in}
 use Rattle.oc_keep.specs.KeptView.{disks_of}
 use Rattle.oc_keep.specs.Promises.{IsNodeOf, LoadsSafely}
 use Rattle.oc_deeds.specs.Pace.{first_pace}
+use Rattle.oc_deeds.specs.Records.{is_record}
 use Rattle.oc_service.specs.OnSite.{header_of_settings}
 use Rattle.oc_model.specs.Node.{Header}
 use Rattle.oc_service.proofs.Headers.{settings_header}
@@ -32,7 +33,7 @@ returns-in-Ok-load-clause-loaded g c =
       outbox = c.in-Ok.ensures.empty;
       works = c.new.ensures;
       dials = c.new-in-Ok-load.ensures;
-      pace = c.new-in-Ok-load-2.ensures ∙ ap first_pace c.is_record.ensures;
+      pace = c.new-in-Ok-load-2.ensures ∙ ap (λ (whole : Bool). first_pace whole c.most_interval.result) c.is_record.ensures ∙ ap (first_pace (is_record c.args.task.log)) c.most_interval.ensures;
       probing = c.in-Ok.ensures.first;
       config = refl;
       log = refl;

@@ -8,7 +8,7 @@ pub mod Recorded
 pub mod Outgoing
 pub mod Responding
 pub mod Doing
-pub mod Ticks
+pub mod TickDue
 pub mod Probings
 pub mod WorksOn
 pub mod Grown

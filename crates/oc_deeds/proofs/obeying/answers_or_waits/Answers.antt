@@ -1,4 +1,4 @@
-use Rattle.std.proofs.Common.{◌∷◌, [], Bool, is_some, false, ap, sym, ◌∙◌}
+use Rattle.std.proofs.Common.{◌∷◌, [], Bool, is_some, false, refl, ap, sym, ◌∙◌}
 use Rattle.std.proofs.lemmas.Result.{err_from_is_err_and}
 use Rattle.oc_deeds.specs.Asks.{answers_or_waits, responds, waiting}
 use Rattle.oc_deeds.specs.Deeds.{Waits}

@@ -20,7 +20,7 @@ pub struct Accepted {
     pub back: Option<Message>,
 }
 
-/// A request that waits on this connection since this time, without its input.
+/// A request that waits on this connection since this time, in milliseconds, without its input.
 pub fn waiting(connection: ConnectionId, request: Request, now: u64) -> Waiting
     ensures { result ≡ asks.waiting connection request now }
 {

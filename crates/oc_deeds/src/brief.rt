@@ -26,7 +26,7 @@ pub struct Before {
 
 // Before an input
 
-/// What is known before an input of what is to be told of it, where something is told.
+/// What is known before an input of what is to be told of it, where something is told. `Memory` where it runs out.
 pub fn known_before(
     alloc: Global,
     log: Log,
@@ -106,7 +106,7 @@ fn at_stake(alloc: Global, node: &Node, input: &Input) -> Result<Vec<Child>, Mem
 
 // After it
 
-/// What is told of an input that was taken, by what was known before it.
+/// What is told of an input that was taken, by what was known before it. `Memory` where it runs out.
 pub fn behind(
     alloc: Global,
     before: &Option<Before>,
@@ -208,7 +208,7 @@ fn is_still(before: Mode, now: Mode) -> bool
     }
 }
 
-/// Puts where a node is in the tree.
+/// Puts where a node is in the tree. `Memory` where it runs out.
 pub fn put_place(out: &mut Vec<u8>, node: &Node) -> Result<(), Memory>
     ensures { OnOk result (out.new.items ≡ out.old.items ++ place_line node.now.control) }
 {

@@ -20,7 +20,7 @@ pub const MAX_DIALS: usize = 32;
 /// How many of them may be others than those that ask for content.
 pub const MAX_OTHER_DIALS: usize = 16;
 
-/// The place of the oldest work that is due by itself at this time.
+/// The place of the oldest work that is due by itself at this time, in milliseconds.
 pub fn due_place(works: &[Work], shelf: &[Shelf], now: u64) -> Option<usize>
     ensures { result ≡ due_place works.now shelf.now now }
 {
@@ -55,7 +55,7 @@ fn is_over(waiting: &Waiting, shelf: &[Shelf], now: u64) -> bool
     }
 }
 
-/// What becomes of a content.
+/// What becomes of a content at this time, in milliseconds.
 pub fn prospect_of(place: &Transfer, shelf: &[Shelf], now: u64) -> Prospect
     ensures { result ≡ prospect_of place.now shelf.now now }
 {
@@ -65,7 +65,7 @@ pub fn prospect_of(place: &Transfer, shelf: &[Shelf], now: u64) -> Prospect
         .prospect(holding, now.saturating_sub(place.since))
 }
 
-/// For how many milliseconds a turn may wait: until a tick or some work is due.
+/// For how many milliseconds a turn may wait at this time, in milliseconds: until a tick or some work is due.
 pub fn wait_for(pace: &Pace, works: &[Work], now: u64) -> u64
     ensures { result ≡ wait_for pace.now works.now now }
 {

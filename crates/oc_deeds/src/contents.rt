@@ -18,7 +18,7 @@ use std::alloc::Global;
 /// The end of a chunked text (RFC 9112, section 7.1).
 const LAST_CHUNK: &[u8] = b"0\r\n\r\n";
 
-/// The place from which the content of a response is given, if it has one.
+/// The place from which the content of a response is given, if it has one. The time is in milliseconds.
 pub fn place_of(request: &Pending, response: &Response, now: u64) -> Option<Transfer>
     ensures { result ≡ deeds.place_of request.now response.now now }
 {
@@ -53,7 +53,7 @@ fn content_at(group: GroupName, range: Option<GroupRange>) -> Option<UnderWay>
     Some(UnderWay::begun(group, range))
 }
 
-/// What is left of a content is under way.
+/// What is left of a content is under way. Where memory runs out, all is as before.
 pub fn begin_rest(works: &mut Works, left: &Option<Transfer>) -> Result<(), Memory>
     ensures begun { OnOk result (works.new ≡ with_content left.now works.old) }
     ensures fails { OnErr result (works.new ≡ works.old) }
@@ -74,7 +74,7 @@ pub fn keeps(connection: Persistence) -> bool
     }
 }
 
-/// The place after this many bytes more of its content, if anything is left.
+/// The place after this many bytes more of its content, if anything is left. The time is in milliseconds.
 pub fn place_behind(place: &Transfer, count: usize, now: u64) -> Option<Transfer>
     ensures { result ≡ place_behind place.now now count }
 {
@@ -88,7 +88,8 @@ pub fn place_behind(place: &Transfer, count: usize, now: u64) -> Option<Transfer
     })
 }
 
-/// Bytes of a content as they are sent: plain, or as chunks; what ends a reply goes with its last piece.
+/// Bytes of a content as they are sent: plain, or as chunks; what ends a reply goes with its last piece. `Memory`
+/// where it runs out.
 pub fn piece_text(alloc: Global, content: &UnderWay, bytes: Vec<u8>) -> Result<Vec<u8>, Memory>
     ensures { IfOk result (λ text. text.items ≡ contents.piece_text content.now bytes.items) }
 {

@@ -8,7 +8,7 @@ use oc_base::{Memory, NodeId, put, put_number};
 use oc_probe::ProbeFault;
 use std::alloc::Global;
 
-/// Puts the line `! WHY`.
+/// Puts the line `! WHY`. `Memory` where it runs out.
 pub fn put_note(out: &mut Vec<u8>, why: &[u8]) -> Result<(), Memory>
     ensures { OnOk result (out.new.items ≡ out.old.items ++ note_line why.now) }
 {
@@ -17,7 +17,7 @@ pub fn put_note(out: &mut Vec<u8>, why: &[u8]) -> Result<(), Memory>
     put(out, b"\n")
 }
 
-/// Why a probe took nothing.
+/// Why a probe took nothing. `Memory` where it runs out.
 pub fn probe_note(alloc: Global, peer: NodeId, fault: ProbeFault) -> Result<Vec<u8>, Memory>
     ensures { IfOk result (λ why. why.items ≡ probe_note peer fault) }
 {

@@ -10,7 +10,8 @@ use crate::dials::Dialling;
 use oc_base::NodeId;
 use oc_probe::Probing;
 
-/// Keeps another rate of a peer, and gives the median of its last ones, where they are measured at all.
+/// Keeps another rate of a peer, and gives the median of its last ones, where they are measured at all. Rates are in bytes
+/// per second.
 pub fn measured(probing: &mut Option<Probing>, peer: NodeId, rate: u64) -> Option<u64>
     requires { IfSome probing.old (λ p. IsNode (length p.gauge) peer) }
     ensures kept { probing.new ≡ option_map (with_measure peer rate) probing.old }

@@ -30,7 +30,7 @@ pub struct Hearer<'a> {
     pub key: Option<&'a Key>,
 }
 
-/// What came back on a dial that was made for this: these bytes, which end so.
+/// What came back on a dial that was made for this: these bytes, which end so. `Memory` where it runs out.
 pub fn comes_back(
     alloc: Global,
     heads: &mut HeadReader,

@@ -12,7 +12,8 @@ use oc_replay::put_has_line;
 use oc_schedule::{EventList, Schedule, print};
 use std::alloc::Global;
 
-/// What is told of a node that begins, which is among nodes of these areas and holds these groups.
+/// What is told of a node that begins, which is among nodes of these areas and holds these groups. `Memory` where
+/// it runs out.
 pub fn first(
     alloc: Global,
     log: Log,

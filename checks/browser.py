@@ -5,18 +5,19 @@ import json
 import os
 import shutil
 import subprocess
-import sys
 import tempfile
 import time
+
+from nodes import leave_out
 
 NAMES = ("chromium", "chromium-browser", "google-chrome")
 
 
 def need_browser():
-    """The path of the browser; ends with a line that says what is missing, where there is none."""
+    """The path of the browser; the script is left out where there is none."""
     found = next((path for path in map(shutil.which, NAMES) if path), None)
     if not found:
-        sys.exit("no chromium on this machine; on Debian install it by: apt-get install chromium")
+        leave_out("no chromium on this machine; on Debian install it by: apt-get install chromium")
     return found
 
 

@@ -1,9 +1,12 @@
 """Running nodes of `overcast` for the checks beside this file and for `bench/node`."""
 
 import http.client
+import json
 import os
+import random
 import re
 import resource
+import shutil
 import signal
 import socket
 import subprocess
@@ -13,12 +16,29 @@ import time
 
 TOP = os.path.dirname(os.path.dirname(os.path.abspath(__file__)))
 PROGRAM = os.environ.get("OVERCAST", os.path.join(TOP, "crates", "overcast", "out", "overcast"))
+# The status of a script that cannot run on this machine; `checks/all` counts it as left out.
+LEFT_OUT = 77
+# The ports of nodes begin here, past those of the examples.
+FIRST_PORT = 10_000
 
 
 def need_program():
     """Ends with a line that says how to build the program, where it is not built."""
     if not os.access(PROGRAM, os.X_OK):
         sys.exit("the program is not built; build it by: ./overcast --build")
+
+
+def leave_out(why):
+    """Ends the script with a line that says why it cannot run here."""
+    print(f"left out: {why}", flush=True)
+    sys.exit(LEFT_OUT)
+
+
+def need_tools(*names):
+    """Leaves the script out where one of these tools is missing."""
+    missing = [it for it in names if shutil.which(it) is None]
+    if missing:
+        leave_out(f"{' and '.join(missing)} {'is' if len(missing) == 1 else 'are'} not installed")
 
 
 def processor(pid):
@@ -28,30 +48,72 @@ def processor(pid):
     return (int(fields[11]) + int(fields[12])) / os.sysconf("SC_CLK_TCK")
 
 
+# A name of the system for each port that was given out: the system frees it when the script ends, whatever its end.
+claims = []
+
+
+def is_free(port):
+    """Whether nobody listens at a port of 127.0.0.1 and no other script has it; from then on this one has it."""
+    with socket.socket() as it:
+        # Connections that ended a moment ago do not keep a port from a node.
+        it.setsockopt(socket.SOL_SOCKET, socket.SO_REUSEADDR, 1)
+        try:
+            it.bind(("127.0.0.1", port))
+        except OSError:
+            return False
+    claim = socket.socket(socket.AF_UNIX)
+    try:
+        claim.bind(f"\0overcast-port-{port}")
+    except OSError:
+        claim.close()
+        return False
+    claims.append(claim)
+    return True
+
+
 def free_ports(count):
-    """Ports of 127.0.0.1 on which nobody listens, by the system's choice."""
-    taken = [socket.socket() for _ in range(count)]
-    for it in taken:
-        it.bind(("127.0.0.1", 0))
-    ports = [it.getsockname()[1] for it in taken]
-    for it in taken:
-        it.close()
+    """Ports of 127.0.0.1 on which nobody listens, and which no script beside this one is given. They are none of those that
+    the system gives to whoever connects, so the port of a node that is away for a while stays free."""
+    with open("/proc/sys/net/ipv4/ip_local_port_range") as it:
+        end = max(int(it.read().split()[0]), FIRST_PORT + 1_000)
+    ports = []
+    for port in random.sample(range(FIRST_PORT, end), end - FIRST_PORT):
+        if len(ports) == count:
+            break
+        if is_free(port):
+            ports.append(port)
     return ports
 
 
-class Network:
-    """Nodes on free ports of this machine, each in a folder of its own."""
+def need_ports(*ports):
+    """Waits until no other script has these ports; from then on this one has them."""
+    end = time.monotonic() + 300
+    for port in ports:
+        while not is_free(port):
+            if time.monotonic() > end:
+                sys.exit(f"another program listens at port {port}")
+            time.sleep(0.5)
 
-    def __init__(self, count, chain=1, areas=None, tail=""):
+
+def measured(lines):
+    """The key of a configuration that has these measures."""
+    return 'measures = """\n' + "\n".join(lines) + '\n"""\n\n'
+
+
+class Network:
+    """Nodes on free ports of this machine, or at the port 7001 of these hosts, each in a folder of its own."""
+
+    def __init__(self, count, chain=1, areas=None, tail="", measures=(), hosts=None):
         need_program()
         self.folder = tempfile.TemporaryDirectory(prefix="overcast-")
-        self.ports = free_ports(count)
+        self.hosts = hosts or ["127.0.0.1"] * count
+        self.ports = [7001] * count if hosts else free_ports(count)
         self.nodes = {}
         tables = [
-            f'[[node]]\nid = {at}\naddress = "127.0.0.1:{port}"\narea = {(areas or {}).get(at, 0)}\n'
-            for at, port in enumerate(self.ports, 1)
+            f'[[node]]\nid = {at}\naddress = "{host}:{port}"\narea = {(areas or {}).get(at, 0)}\n'
+            for at, (host, port) in enumerate(zip(self.hosts, self.ports), 1)
         ]
-        self.configuration = f"chain = {chain}\n\n" + "\n".join(tables) + "\n" + tail
+        self.configuration = (f"chain = {chain}\n\n" + (measured(measures) if measures else "") + "\n".join(tables) + "\n" + tail)
 
     def __enter__(self):
         return self
@@ -85,7 +147,10 @@ class Network:
         if self.nodes[node].poll() is not None:
             raise AssertionError(f"node {node} ended with {self.nodes[node].returncode}: {self.errors(node)}")
         with socket.socket() as it:
-            return it.connect_ex(("127.0.0.1", self.ports[node - 1])) == 0
+            return it.connect_ex(self.address(node)) == 0
+
+    def address(self, node):
+        return self.hosts[node - 1], self.ports[node - 1]
 
     def kill(self, node, by=signal.SIGKILL):
         """Ends a node by a signal, and waits for its end."""
@@ -103,17 +168,45 @@ class Network:
             return it.read()
 
     def url(self, node, path):
-        return f"http://127.0.0.1:{self.ports[node - 1]}{path}"
+        return f"http://{self.hosts[node - 1]}:{self.ports[node - 1]}{path}"
 
     def ask(self, node, method, path, body=None, timeout=10, fields=None):
         """The status, the fields and the body that a node answers."""
-        it = http.client.HTTPConnection("127.0.0.1", self.ports[node - 1], timeout=timeout)
+        it = http.client.HTTPConnection(*self.address(node), timeout=timeout)
         try:
             it.request(method, path, body=body, headers=fields or {})
             reply = it.getresponse()
             return reply.status, dict(reply.getheaders()), reply.read()
         finally:
             it.close()
+
+    def status(self, node):
+        """What a node tells of itself."""
+        status, _, body = self.ask(node, "GET", "/!status")
+        assert status == 200, (node, status)
+        return json.loads(body)
+
+    def asks(self):
+        """How often each running node has asked another to be its parent, since it first started."""
+        return {node: self.status(node)["seq"] for node in self.nodes}
+
+    def parents(self):
+        """The parent of each running node, 0 of one that acts as root, and None of one that is not in the tree."""
+        told = {node: self.status(node) for node in self.nodes}
+        return {node: it["parent"] if it["mode"] == "joined" else 0 if it["mode"] == "acting" else None for node, it in told.items()}
+
+    def disturbed(self):
+        """What makes running nodes ask that have a place: dials that failed, and the answer that a lease is not known; and how
+        far apart their ticks were. On a machine that has no time for the nodes there are some."""
+        found = []
+        for node in sorted(self.nodes):
+            lines = self.lines(node)
+            ticks = [int(line.split()[2]) for line in lines if line.startswith("tick ")]
+            failed = sum(line.startswith("fail ") for line in lines)
+            again = sum(re.match(rf"recv {node} [0-9a-f]{{16}}08", line) is not None for line in lines)
+            found.append(f"{node}: {failed} failed dials, told {again} times to join again, ticks at most "
+                         f"{max((b - a for a, b in zip(ticks, ticks[1:])), default=0)} s apart")
+        return "; ".join(found)
 
     def check(self, node, nodes, chain, home=None):
         """The lines of `overcast check` over the files of a node that does not run, in its folder or another."""

@@ -3,8 +3,8 @@ use Rattle.std.proofs.Common.{◌≡◌, ◌≢◌, ◌⊎◌, ℕ, ◌+◌, ◌
 use Rattle.std.specs.List.{AllByRecursion}
 use Rattle.std.specs.Prelude.{⊤}
 use Rattle.oc_client.specs.Efforts.{may_try, LeadsTo, Onward, next_of, end_of_failure, behind_failure, weighed_doing, done, finding, begun}
-use Rattle.oc_client.specs.Publishing.{joined, IsFull, AreSome, AreCut, Sends, Ends, DoesNotBegin, Refuses, Stops, Publishes, Came}
-use Rattle.oc_client.specs.Places.{sends_empty}
+use Rattle.oc_client.specs.Publishing.{joined, IsPart, AreSome, AreCut, Sends, Ends, DoesNotBegin, Refuses, Stops, Publishes, Came}
+use Rattle.oc_client.specs.Places.{least_piece, sends_empty}
 use Rattle.oc_client.specs.PutRequests.{bytes, nothing}
 use Rattle.oc_client.specs.PutTurns.{PutTurn}
 use Rattle.oc_client.specs.declared.answer.PutAnswer.{PutAnswer}
@@ -41,20 +41,25 @@ pub joined_more : (pieces : List (List ℕ)) (piece : List ℕ) → joined (piec
 joined_more [] piece = append-nil piece
 joined_more (first ∷ pieces) piece = ap (λ (x : List ℕ). first ++ x) (joined_more pieces piece) ∙ sym (append_assoc first (joined pieces) piece)
 
-pub full_more : (pieces : List (List ℕ)) (piece : List ℕ) → AllByRecursion IsFull pieces → IsFull piece → AllByRecursion IsFull (pieces ++ piece ∷ [])
-full_more [] piece all full = (full, tt)
-full_more (first ∷ pieces) piece all full = (all.0, full_more pieces piece all.1 full)
+pub part_more : (live : Bool) (pieces : List (List ℕ)) (piece : List ℕ) → AllByRecursion (IsPart live) pieces → IsPart live piece → AllByRecursion (IsPart live) (pieces ++ piece ∷ [])
+part_more live [] piece all part = (part, tt)
+part_more live (first ∷ pieces) piece all part = (all.0, part_more live pieces piece all.1 part)
 
--- full pieces, and one more
-some_more : (pieces : List (List ℕ)) (piece : List ℕ) → AllByRecursion IsFull pieces → 0 < length piece → length piece ≤ PUT_PIECE_BYTES → AreSome (pieces ++ piece ∷ [])
-some_more [] piece all least most = (least, most)
-some_more (first ∷ []) piece all least most = (all.0, (least, most))
-some_more (first ∷ second ∷ pieces) piece all least most = (all.0, some_more (second ∷ pieces) piece all.1 least most)
+-- a piece after which others may come is not empty
+pub least_some : (live : Bool) → 0 < least_piece live
+least_some true = omega arith
+least_some false = omega arith
 
-all_some : (pieces : List (List ℕ)) → AllByRecursion IsFull pieces → AreSome pieces
-all_some [] all = tt
-all_some (piece ∷ []) all = (omega (arith, all.0), omega (arith, all.0))
-all_some (piece ∷ second ∷ pieces) all = (all.0, all_some (second ∷ pieces) all.1)
+-- such pieces, and one more
+some_more : (live : Bool) (pieces : List (List ℕ)) (piece : List ℕ) → AllByRecursion (IsPart live) pieces → 0 < length piece → length piece ≤ PUT_PIECE_BYTES → AreSome live (pieces ++ piece ∷ [])
+some_more live [] piece all least most = (least, most)
+some_more live (first ∷ []) piece all least most = (all.0, (least, most))
+some_more live (first ∷ second ∷ pieces) piece all least most = (all.0, some_more live (second ∷ pieces) piece all.1 least most)
+
+all_some : (live : Bool) (pieces : List (List ℕ)) → AllByRecursion (IsPart live) pieces → AreSome live pieces
+all_some live [] all = tt
+all_some live (piece ∷ []) all = (omega (arith, all.0.0, least_some live), all.0.1)
+all_some live (piece ∷ second ∷ pieces) all = (all.0, all_some live (second ∷ pieces) all.1)
 
 pub no_bytes : (piece : List ℕ) → length piece ≡ 0 → piece ≡ []
 no_bytes [] e = refl
@@ -64,15 +69,15 @@ pub not_nil : (pieces : List (List ℕ)) (piece : List ℕ) → pieces ++ piece 
 not_nil [] piece e = cc
 not_nil (first ∷ pieces) piece e = cc
 
-pub cut_more : (place : WriteMode) (pieces : List (List ℕ)) (piece : List ℕ) → AllByRecursion IsFull pieces → length piece ≤ PUT_PIECE_BYTES → (length piece ≡ 0 → (sends_empty place ≡ true) × (pieces ≡ [])) → AreCut place (pieces ++ piece ∷ [])
-cut_more place pieces [] all most first =
+pub cut_more : (plan : Publication) (pieces : List (List ℕ)) (piece : List ℕ) → AllByRecursion (IsPart plan.live) pieces → length piece ≤ PUT_PIECE_BYTES → (length piece ≡ 0 → (sends_empty plan.place ≡ true) × (pieces ≡ [])) → AreCut plan (pieces ++ piece ∷ [])
+cut_more plan pieces [] all most first =
     let h = first refl in
     inr (ap (λ (ps : List (List ℕ)). ps ++ [] ∷ []) h.1, h.0)
-cut_more place pieces (b ∷ piece) all most first =
-    inl (some_more pieces (b ∷ piece) all (omega arith) most, inr (not_nil pieces (b ∷ piece)))
+cut_more plan pieces (b ∷ piece) all most first =
+    inl (some_more plan.live pieces (b ∷ piece) all (omega arith) most, inr (not_nil pieces (b ∷ piece)))
 
-pub cut_end : (place : WriteMode) (pieces : List (List ℕ)) → AllByRecursion IsFull pieces → (sends_empty place ≡ false) ⊎ (pieces ≢ []) → AreCut place pieces
-cut_end place pieces all why = inl (all_some pieces all, why)
+pub cut_end : (plan : Publication) (pieces : List (List ℕ)) → AllByRecursion (IsPart plan.live) pieces → (sends_empty plan.place ≡ false) ⊎ (pieces ≢ []) → AreCut plan pieces
+cut_end plan pieces all why = inl (all_some plan.live pieces all, why)
 
 -- Which ends turns have
 
@@ -89,6 +94,7 @@ ended_is a b e = cc
 failure_of_turns : (failure : Failure) → IsOfTurns (end_of_failure failure)
 failure_of_turns failures.Link = tt
 failure_of_turns failures.Reply = tt
+failure_of_turns failures.Unavailable = tt
 failure_of_turns failures.Memory = tt
 
 abbrev IsNextOfTurns : Next → Type 0

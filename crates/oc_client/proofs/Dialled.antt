@@ -12,7 +12,7 @@ use Rattle.oc_client.specs.PutReplies.{Answers}
 use Rattle.oc_client.specs.PutTurns.{IsWhole, IsCut, DialsOnce, IsDialled}
 use Rattle.oc_client.specs.declared.answer.PutAnswer.{PutAnswer}
 use Rattle.oc_client.specs.declared.answer.Failure.{Failure}
-use Rattle.oc_client.specs.declared.answer.Failure.TheVariants.{Link, Reply, Memory}
+use Rattle.oc_client.specs.declared.answer.Failure.TheVariants.{Link, Reply, Unavailable, Memory}
 
 -- all of a list is a front of it
 whole_front : (whole : List ℕ) → IsFront whole whole
@@ -84,6 +84,7 @@ told_dials : (address text reply : List ℕ) (over : Bool) (answer : Result PutA
 told_dials address text reply over answer a b None dialled came end = tt
 told_dials address text reply over (Ok value) a None (Some c) dialled came end = absurd came
 told_dials address text reply over (Err Reply) a None (Some c) dialled came end = absurd came
+told_dials address text reply over (Err Unavailable) a None (Some c) dialled came end = absurd came
 told_dials address text reply over (Err Memory) a None (Some c) dialled came end = absurd came
 told_dials address text reply over (Err Link) a None (Some c) dialled came end = absurd came
 told_dials address text reply over answer None (Some b) (Some c) dialled came end = absurd dialled
@@ -91,6 +92,9 @@ told_dials address text reply over (Ok value) (Some a) (Some b) (Some c) dialled
     let p = heard_dial address text reply over a b c c.outgoing refl dialled came end in
     record { dial = p.0; tells = p.1; new_is = p.2 }
 told_dials address text reply over (Err Reply) (Some a) (Some b) (Some c) dialled came end =
+    let p = heard_dial address text reply over a b c c.outgoing refl dialled came end in
+    record { dial = p.0; tells = p.1; new_is = p.2 }
+told_dials address text reply over (Err Unavailable) (Some a) (Some b) (Some c) dialled came end =
     let p = heard_dial address text reply over a b c c.outgoing refl dialled came end in
     record { dial = p.0; tells = p.1; new_is = p.2 }
 told_dials address text reply over (Err Memory) (Some a) (Some b) (Some c) dialled came end =
@@ -113,6 +117,7 @@ told_fails address text (Some a) (Some b) (dial, cut, e) = record {
 came_story : {L : Type 0} (story : L → Option Story) (b c : L) (reply : List ℕ) (answer : Result PutAnswer Failure) → Came (λ o bytes n. Told (OnOutgoing (Hears bytes)) (story o) (story n)) (λ o bytes n. Told (OnOutgoing (HearsThenBreaks bytes)) (story o) (story n)) b reply c answer → Came (λ o bytes n. Told (OnOutgoing (Hears bytes)) o n) (λ o bytes n. Told (OnOutgoing (HearsThenBreaks bytes)) o n) (story b) reply (story c) answer
 came_story story b c reply (Ok value) came = came
 came_story story b c reply (Err Reply) came = came
+came_story story b c reply (Err Unavailable) came = came
 came_story story b c reply (Err Memory) came = came
 came_story story b c reply (Err Link) came = came
 
@@ -139,6 +144,7 @@ unexchanged address text asks a b d fails is = record {
 came_at : {S L : Type 0} (view : S → BorrowView) (story : L → Option Story) (old new : S) (a b : L) (bytes : List ℕ) (answer : Result PutAnswer Failure) → story a ≡ (view old).story → story b ≡ (view new).story → Came (λ o given n. ChangesOutgoing (Hears given) (view o) (view n)) (λ o given n. ChangesOutgoing (HearsThenBreaks given) (view o) (view n)) old bytes new answer → Came (λ o given n. Told (OnOutgoing (Hears given)) (story o) (story n)) (λ o given n. Told (OnOutgoing (HearsThenBreaks given)) (story o) (story n)) a bytes b answer
 came_at view story old new a b bytes (Ok value) first last came = told_at (OnOutgoing (Hears bytes)) (story a) (story b) (view old).story (view new).story first last came.story
 came_at view story old new a b bytes (Err Reply) first last came = told_at (OnOutgoing (Hears bytes)) (story a) (story b) (view old).story (view new).story first last came.story
+came_at view story old new a b bytes (Err Unavailable) first last came = told_at (OnOutgoing (Hears bytes)) (story a) (story b) (view old).story (view new).story first last came.story
 came_at view story old new a b bytes (Err Memory) first last came = told_at (OnOutgoing (Hears bytes)) (story a) (story b) (view old).story (view new).story first last came.story
 came_at view story old new a b bytes (Err Link) first last came = told_at (OnOutgoing (HearsThenBreaks bytes)) (story a) (story b) (view old).story (view new).story first last came.story
 

@@ -94,6 +94,7 @@ link_end effort (Ok (Length told)) e = absurd (subst IsNoLink e (weighed_no_link
 link_end effort (Ok (Refused status)) e = absurd (subst IsNoLink e tt)
 link_end effort (Err failures.Memory) e = absurd (subst IsNoLink e tt)
 link_end effort (Err failures.Reply) e = absurd (subst IsNoLink e (link_test (nat_lt effort.failures (MAX_FAILURES - 1)) (Again (record { doing = behind_failure effort.doing; failures = effort.failures + 1 })) (Ended ends.Reply) tt tt))
+link_end effort (Err failures.Unavailable) e = absurd (subst IsNoLink e (link_test (nat_lt effort.failures (MAX_FAILURES - 1)) (Again (record { doing = behind_failure effort.doing; failures = effort.failures + 1 })) (Ended (ends.Refused 503)) tt tt))
 link_end effort (Err failures.Link) e = refl
 
 -- How often
@@ -115,6 +116,7 @@ failed_less (Checking at behind) failures less = omega arith
 may_less : (failure : Failure) (count : ℕ) → may_try failure count ≡ true → count < MAX_FAILURES - 1
 may_less failures.Memory count e = cc
 may_less failures.Link count e = ltb-true count (MAX_FAILURES - 1) e
+may_less failures.Unavailable count e = ltb-true count (MAX_FAILURES - 1) e
 may_less failures.Reply count e = ltb-true count (MAX_FAILURES - 1) e
 
 tried_less : (effort further : Effort) (failure : Failure) (b : Bool) → may_try failure effort.failures ≡ b → (if b then Again (record { doing = behind_failure effort.doing; failures = effort.failures + 1 }) else Ended (end_of_failure failure)) ≡ Again further → left_of further < left_of effort

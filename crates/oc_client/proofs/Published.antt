@@ -69,9 +69,9 @@ pub unplaced_not_done : {S : Type 0} (gives fails : S → List ℕ → S → Typ
 unplaced_not_done gives fails ended place found s t end off same =
     not_begun_not_done place found off.input off.over (subst (λ (x : PutEnd). DoesNotBegin place found off.input off.over x) same off.why)
 
-pub uncarried_not_done : {S : Type 0} (gives fails : S → List ℕ → S → Type 0) (place : WriteMode) (goal : Goal) (found : Progress) (a b : Option Story) (s t : S) (end : PutEnd) → IsCarryStopped gives fails place goal found a b s t end → end ≡ ends.Done → ⊥
-uncarried_not_done gives fails place goal found a b s t end (inl cut) same = subst (λ (x : PutEnd). IsMissing cut.part x) same cut.missing
-uncarried_not_done gives fails place goal found a b s t end (inr refused) same = subst IsOfTurns same (refuses_of_turns (bytes refused.piece) refused.reached refused.last end refused.refuses)
+pub uncarried_not_done : {S : Type 0} (gives fails : S → List ℕ → S → Type 0) (plan : Publication) (goal : Goal) (found : Progress) (a b : Option Story) (s t : S) (end : PutEnd) → IsCarryStopped gives fails plan goal found a b s t end → end ≡ ends.Done → ⊥
+uncarried_not_done gives fails plan goal found a b s t end (inl cut) same = subst (λ (x : PutEnd). IsMissing cut.part x) same cut.missing
+uncarried_not_done gives fails plan goal found a b s t end (inr refused) same = subst IsOfTurns same (refuses_of_turns (bytes refused.piece) refused.reached refused.last end refused.refuses)
 
 -- the length is not found
 pub not_found : {S : Type 0} (gives fails : S → List ℕ → S → Type 0) (ended : S → Type 0) (plan : Publication) (goal : Goal) (a b : Option Story) (s : S) (end : PutEnd) → gives s [] s → IsStopped goal nothing finding a b end → IsPublishedAt gives fails ended plan goal a b s s end
@@ -114,7 +114,7 @@ has_sent place goal a b found reached before pieces turns led begins sends = rec
 }
 
 -- no next piece comes
-pub not_between : {S : Type 0} (gives fails : S → List ℕ → S → Type 0) (ended : S → Type 0) (joins : Joins gives fails) (plan : Publication) (goal : Goal) (a b c : Option Story) (s t u : S) (found : Progress) (end : PutEnd) → IsLed goal nothing finding a b (Settled found) → IsAtPlace gives plan.place found.length s t → IsCutBetween gives fails goal found b c t u end → IsPublishedAt gives fails ended plan goal a c s u end
+pub not_between : {S : Type 0} (gives fails : S → List ℕ → S → Type 0) (ended : S → Type 0) (joins : Joins gives fails) (plan : Publication) (goal : Goal) (a b c : Option Story) (s t u : S) (found : Progress) (end : PutEnd) → IsLed goal nothing finding a b (Settled found) → IsAtPlace gives plan.place found.length s t → IsCutBetween gives fails plan goal found b c t u end → IsPublishedAt gives fails ended plan goal a c s u end
 not_between gives fails ended joins plan goal a b c s t u found end led placed cut = record {
   turns = led.turns ++ cut.turns;
   input = placed.before ++ (joined cut.pieces ++ cut.part);
@@ -125,7 +125,7 @@ not_between gives fails ended joins plan goal a b c s t u found end led placed c
     came = placed.before ++ joined cut.pieces;
     part = cut.part;
     sent = has_sent plan.place goal a b found cut.reached placed.before cut.pieces cut.turns led placed.begins cut.sends;
-    full = cut.full;
+    parts = cut.parts;
     input_is = sym (append_assoc placed.before (joined cut.pieces) cut.part);
     missing = cut.missing;
   }))));
@@ -135,7 +135,7 @@ not_between gives fails ended joins plan goal a b c s t u found end led placed c
 }
 
 -- a piece is not taken
-pub not_sent : {S : Type 0} (gives fails : S → List ℕ → S → Type 0) (ended : S → Type 0) (joins : Joins gives fails) (plan : Publication) (goal : Goal) (a b c : Option Story) (s t u : S) (found : Progress) (end : PutEnd) → IsLed goal nothing finding a b (Settled found) → IsAtPlace gives plan.place found.length s t → IsRefusedAt gives plan.place goal found b c t u end → IsPublishedAt gives fails ended plan goal a c s u end
+pub not_sent : {S : Type 0} (gives fails : S → List ℕ → S → Type 0) (ended : S → Type 0) (joins : Joins gives fails) (plan : Publication) (goal : Goal) (a b c : Option Story) (s t u : S) (found : Progress) (end : PutEnd) → IsLed goal nothing finding a b (Settled found) → IsAtPlace gives plan.place found.length s t → IsRefusedAt gives plan goal found b c t u end → IsPublishedAt gives fails ended plan goal a c s u end
 not_sent gives fails ended joins plan goal a b c s t u found end led placed at = record {
   turns = led.turns ++ (at.turns ++ at.last);
   input = placed.before ++ (joined at.pieces ++ at.piece);
@@ -159,12 +159,12 @@ not_sent gives fails ended joins plan goal a b c s t u found end led placed at =
 }
 
 -- the rest of the input is not carried
-pub not_carried : {S : Type 0} (gives fails : S → List ℕ → S → Type 0) (ended : S → Type 0) (joins : Joins gives fails) (plan : Publication) (goal : Goal) (a b c : Option Story) (s t u : S) (found : Progress) (end : PutEnd) → IsLed goal nothing finding a b (Settled found) → IsAtPlace gives plan.place found.length s t → IsCarryStopped gives fails plan.place goal found b c t u end → IsPublishedAt gives fails ended plan goal a c s u end
+pub not_carried : {S : Type 0} (gives fails : S → List ℕ → S → Type 0) (ended : S → Type 0) (joins : Joins gives fails) (plan : Publication) (goal : Goal) (a b c : Option Story) (s t u : S) (found : Progress) (end : PutEnd) → IsLed goal nothing finding a b (Settled found) → IsAtPlace gives plan.place found.length s t → IsCarryStopped gives fails plan goal found b c t u end → IsPublishedAt gives fails ended plan goal a c s u end
 not_carried gives fails ended joins plan goal a b c s t u found end led placed (inl cut) = not_between gives fails ended joins plan goal a b c s t u found end led placed cut
 not_carried gives fails ended joins plan goal a b c s t u found end led placed (inr at) = not_sent gives fails ended joins plan goal a b c s t u found end led placed at
 
 -- the group is not closed
-pub not_sealed : {S : Type 0} (gives fails : S → List ℕ → S → Type 0) (ended : S → Type 0) (joins : Joins gives fails) (plan : Publication) (goal : Goal) (a b c d : Option Story) (s t u : S) (found reached : Progress) (end : PutEnd) → IsLed goal nothing finding a b (Settled found) → IsAtPlace gives plan.place found.length s t → IsCarried gives ended plan.place goal found b c t u reached → IsSealStopped goal plan.seal reached c d end → IsPublishedAt gives fails ended plan goal a d s u end
+pub not_sealed : {S : Type 0} (gives fails : S → List ℕ → S → Type 0) (ended : S → Type 0) (joins : Joins gives fails) (plan : Publication) (goal : Goal) (a b c d : Option Story) (s t u : S) (found reached : Progress) (end : PutEnd) → IsLed goal nothing finding a b (Settled found) → IsAtPlace gives plan.place found.length s t → IsCarried gives ended plan goal found b c t u reached → IsSealStopped goal plan.seal reached c d end → IsPublishedAt gives fails ended plan goal a d s u end
 not_sealed gives fails ended joins plan goal a b c d s t u found reached end led placed carried stopped =
     let last = stopped.refused in
     let input = placed.before ++ joined carried.pieces in
@@ -191,7 +191,7 @@ not_sealed gives fails ended joins plan goal a b c d s t u found reached end led
     }
 
 -- all is done
-pub all_done : {S : Type 0} (gives fails : S → List ℕ → S → Type 0) (ended : S → Type 0) (joins : Joins gives fails) (plan : Publication) (goal : Goal) (a b c d : Option Story) (s t u : S) (found reached : Progress) → IsLed goal nothing finding a b (Settled found) → IsAtPlace gives plan.place found.length s t → IsCarried gives ended plan.place goal found b c t u reached → IsSealed goal plan.seal reached c d → IsPublishedAt gives fails ended plan goal a d s u ends.Done
+pub all_done : {S : Type 0} (gives fails : S → List ℕ → S → Type 0) (ended : S → Type 0) (joins : Joins gives fails) (plan : Publication) (goal : Goal) (a b c d : Option Story) (s t u : S) (found reached : Progress) → IsLed goal nothing finding a b (Settled found) → IsAtPlace gives plan.place found.length s t → IsCarried gives ended plan goal found b c t u reached → IsSealed goal plan.seal reached c d → IsPublishedAt gives fails ended plan goal a d s u ends.Done
 all_done gives fails ended joins plan goal a b c d s t u found reached led placed carried sealed =
     let input = placed.before ++ joined carried.pieces in
     record {

@@ -8,7 +8,7 @@ use Rattle.oc_http.specs.declared.fault.HttpFault.TheVariants as faults
 use Rattle.oc_http.specs.declared.reply.Reply.{Reply}
 use Rattle.oc_http.specs.declared.reply.ReplyHead.{ReplyHead}
 use Rattle.oc_client.specs.PutHearing.{Hears}
-use Rattle.oc_client.specs.PutReplies.{Answers, Replies, as_length, answer_to_ask, answer_to_publish, failure_of}
+use Rattle.oc_client.specs.PutReplies.{Answers, Replies, as_length, as_status, answer_to_ask, answer_to_publish, failure_of}
 use Rattle.oc_client.specs.declared.answer.PutAnswer.{PutAnswer}
 use Rattle.oc_client.specs.declared.answer.PutAnswer.TheVariants.{Taken, Length, Refused}
 use Rattle.oc_client.specs.declared.answer.Failure.{Failure}
@@ -24,6 +24,7 @@ unseen e = cc
 abbrev IsOfReply : Result PutAnswer Failure → Type 0
 IsOfReply (Ok answer) = ⊤
 IsOfReply (Err failures.Reply) = ⊤
+IsOfReply (Err failures.Unavailable) = ⊤
 IsOfReply (Err failures.Link) = ⊥
 IsOfReply (Err failures.Memory) = ⊥
 
@@ -35,21 +36,25 @@ of_length : (length : Option ℕ) → IsOfReply (as_length length)
 of_length None = tt
 of_length (Some length) = tt
 
+of_status : (status : ℕ) → IsOfReply (as_status status)
+of_status status = of_test (status == 503) (Err failures.Unavailable) (Ok (Refused status)) tt tt
+
 of_ask : (head : ReplyHead) → IsOfReply (answer_to_ask head)
 of_ask head =
-    let other : Result PutAnswer Failure = if head.status == 404 then Ok (Length 0) else Ok (Refused head.status) in
+    let other : Result PutAnswer Failure = if head.status == 404 then Ok (Length 0) else as_status head.status in
     of_test head.chunked (Err failures.Reply) (if head.status == 200 then as_length head.length else other) tt
-    (of_test (head.status == 200) (as_length head.length) other (of_length head.length) (of_test (head.status == 404) (Ok (Length 0)) (Ok (Refused head.status)) tt tt))
+    (of_test (head.status == 200) (as_length head.length) other (of_length head.length) (of_test (head.status == 404) (Ok (Length 0)) (as_status head.status) tt (of_status head.status)))
 
 of_publish : (reply : Reply) → IsOfReply (answer_to_publish reply)
 of_publish reply =
-    let other : Result PutAnswer Failure = if reply.status == 409 then as_length reply.group_length else Ok (Refused reply.status) in
-    of_test (reply.status == 200) (Ok Taken) other tt (of_test (reply.status == 409) (as_length reply.group_length) (Ok (Refused reply.status)) (of_length reply.group_length) tt)
+    let other : Result PutAnswer Failure = if reply.status == 409 then as_length reply.group_length else as_status reply.status in
+    of_test (reply.status == 200) (Ok Taken) other tt (of_test (reply.status == 409) (as_length reply.group_length) (as_status reply.status) (of_length reply.group_length) (of_status reply.status))
 
 -- such an answer of a reply that came
 by_answer : {S : Type 0} (gives fails : S → List ℕ → S → Type 0) (ended : S → Type 0) (asks : Bool) (reply : List ℕ) (over : Bool) (a c : S) (answer : Result PutAnswer Failure) → IsOfReply answer → gives a reply c → (over ≡ true → ended c) → Replies asks reply over answer → Hears gives fails ended (λ r o. Answers asks r o answer) a c answer
 by_answer gives fails ended asks reply over a c (Ok answer) of came is_over replies = record { reply = reply; over = over; came = came; is_over = is_over; so = replies }
 by_answer gives fails ended asks reply over a c (Err failures.Reply) of came is_over replies = record { reply = reply; over = over; came = came; is_over = is_over; so = inr replies }
+by_answer gives fails ended asks reply over a c (Err failures.Unavailable) of came is_over replies = record { reply = reply; over = over; came = came; is_over = is_over; so = replies }
 by_answer gives fails ended asks reply over a c (Err failures.Link) of came is_over replies = absurd of
 by_answer gives fails ended asks reply over a c (Err failures.Memory) of came is_over replies = absurd of
 

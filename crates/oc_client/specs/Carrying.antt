@@ -3,12 +3,13 @@ use Rattle.std.specs.Prelude.{◌≡◌, ◌⊎◌, ℕ, Bool, true, Option, Res
 use Rattle.std.specs.List.{AllByRecursion}
 use Rattle.oc_link.specs.Calls.{Told}
 use Rattle.oc_link.specs.Story.{Story}
-use Rattle.oc_client.specs.Publishing.{joined, IsFull, AreCut, Sends, Begins, Seals, DoesNotBegin, IsMissing, Refuses, Came}
+use Rattle.oc_client.specs.Publishing.{joined, IsPart, AreCut, Sends, Begins, Seals, DoesNotBegin, IsMissing, Refuses, Came}
 use Rattle.oc_client.specs.PutRequests.{Goal, bytes, seal}
 use Rattle.oc_client.specs.PutTurns.{PutTurn, Makes}
 use Rattle.oc_client.specs.declared.effort.Progress.{Progress}
 use Rattle.oc_client.specs.declared.put_end.PutEnd.{PutEnd}
 use Rattle.oc_client.specs.declared.load.Load.{Load}
+use Rattle.oc_client.specs.declared.publication.Publication.{Publication}
 use Rattle.oc_client.specs.declared.publication.WriteMode.{WriteMode}
 
 -- this was sent, and is taken
@@ -41,53 +42,53 @@ abbrev pub IsPlaced : {S : Type 0} → (S → List ℕ → S → Type 0) → (S 
 IsPlaced gives fails ended place length old new (Ok done) = IsAtPlace gives place length old new
 IsPlaced gives fails ended place length old new (Err end) = IsOffPlace gives fails ended place length old new end
 
--- these pieces came and are taken, all of them full
-pub record HasCarried {S : Type 0} (gives : S → List ℕ → S → Type 0) (goal : Goal) (found : Progress) (old new : Option Story) (before after : S) (reached : Progress) (pieces : List (List ℕ)) : Type 0 where
+-- these pieces came and are taken, and others may come after each
+pub record HasCarried {S : Type 0} (gives : S → List ℕ → S → Type 0) (plan : Publication) (goal : Goal) (found : Progress) (old new : Option Story) (before after : S) (reached : Progress) (pieces : List (List ℕ)) : Type 0 where
   pub turns : List PutTurn
   pub sends : Sends found (map bytes pieces) turns reached
-  pub full : AllByRecursion IsFull pieces
+  pub parts : AllByRecursion (IsPart plan.live) pieces
   pub made : Told (Makes goal turns) old new
   pub came : gives before (joined pieces) after
 
 -- the input came to its end, and all of it is taken
-pub record IsCarried {S : Type 0} (gives : S → List ℕ → S → Type 0) (ended : S → Type 0) (place : WriteMode) (goal : Goal) (found : Progress) (old new : Option Story) (before after : S) (reached : Progress) : Type 0 where
+pub record IsCarried {S : Type 0} (gives : S → List ℕ → S → Type 0) (ended : S → Type 0) (plan : Publication) (goal : Goal) (found : Progress) (old new : Option Story) (before after : S) (reached : Progress) : Type 0 where
   pub pieces : List (List ℕ)
   pub turns : List PutTurn
   pub sends : Sends found (map bytes pieces) turns reached
-  pub cut : AreCut place pieces
+  pub cut : AreCut plan pieces
   pub made : Told (Makes goal turns) old new
   pub came : gives before (joined pieces) after
   pub over : ended after
 
--- after full pieces no further one comes
-pub record IsCutBetween {S : Type 0} (gives fails : S → List ℕ → S → Type 0) (goal : Goal) (found : Progress) (old new : Option Story) (before after : S) (end : PutEnd) : Type 0 where
+-- after such pieces no further one comes
+pub record IsCutBetween {S : Type 0} (gives fails : S → List ℕ → S → Type 0) (plan : Publication) (goal : Goal) (found : Progress) (old new : Option Story) (before after : S) (end : PutEnd) : Type 0 where
   pub pieces : List (List ℕ)
   pub reached : Progress
   pub turns : List PutTurn
   pub part : List ℕ
   pub sends : Sends found (map bytes pieces) turns reached
-  pub full : AllByRecursion IsFull pieces
+  pub parts : AllByRecursion (IsPart plan.live) pieces
   pub made : Told (Makes goal turns) old new
   pub came : Came gives fails before (joined pieces ++ part) after end
   pub missing : IsMissing part end
 
--- after full pieces the next one came, and is not taken
-pub record IsRefusedAt {S : Type 0} (gives : S → List ℕ → S → Type 0) (place : WriteMode) (goal : Goal) (found : Progress) (old new : Option Story) (before after : S) (end : PutEnd) : Type 0 where
+-- after such pieces the next one came, and is not taken
+pub record IsRefusedAt {S : Type 0} (gives : S → List ℕ → S → Type 0) (plan : Publication) (goal : Goal) (found : Progress) (old new : Option Story) (before after : S) (end : PutEnd) : Type 0 where
   pub pieces : List (List ℕ)
   pub reached : Progress
   pub piece : List ℕ
   pub turns : List PutTurn
   pub last : List PutTurn
   pub sends : Sends found (map bytes pieces) turns reached
-  pub cut : AreCut place (pieces ++ piece ∷ [])
+  pub cut : AreCut plan (pieces ++ piece ∷ [])
   pub refuses : Refuses (bytes piece) reached last end
   pub made : Told (Makes goal (turns ++ last)) old new
   pub came : gives before (joined pieces ++ piece) after
 
-abbrev pub IsCarryStopped : {S : Type 0} → (S → List ℕ → S → Type 0) → (S → List ℕ → S → Type 0) → WriteMode → Goal → Progress → Option Story → Option Story → S → S → PutEnd → Type 0
-IsCarryStopped gives fails place goal found old new before after end =
-    IsCutBetween gives fails goal found old new before after end
-    ⊎ IsRefusedAt gives place goal found old new before after end
+abbrev pub IsCarryStopped : {S : Type 0} → (S → List ℕ → S → Type 0) → (S → List ℕ → S → Type 0) → Publication → Goal → Progress → Option Story → Option Story → S → S → PutEnd → Type 0
+IsCarryStopped gives fails plan goal found old new before after end =
+    IsCutBetween gives fails plan goal found old new before after end
+    ⊎ IsRefusedAt gives plan goal found old new before after end
 
 -- the group is closed, where that is wanted
 pub record IsSealed (goal : Goal) (wanted : Bool) (reached : Progress) (old new : Option Story) : Type 0 where

@@ -47,6 +47,7 @@ behind_failure (Checking at behind) = Checking at behind
 abbrev pub end_of_failure : Failure → PutEnd
 end_of_failure failures.Link = ends.Link
 end_of_failure failures.Reply = ends.Reply
+end_of_failure failures.Unavailable = ends.Refused 503
 end_of_failure failures.Memory = ends.Memory
 
 -- a failure may be followed by another try

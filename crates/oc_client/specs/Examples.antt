@@ -5,7 +5,7 @@ use Rattle.oc_client.specs.PutReplies.{answer_in, as_length}
 use Rattle.oc_client.specs.PutRequests.{ask_lines, publish_lines, bytes, seal}
 use Rattle.oc_client.specs.Sources.{SourceGroup, Post, all_arrived, may_take}
 use Rattle.oc_client.specs.declared.answer.PutAnswer.TheVariants.{Taken, Length, Refused}
-use Rattle.oc_client.specs.declared.answer.Failure.TheVariants.{Link, Reply}
+use Rattle.oc_client.specs.declared.answer.Failure.TheVariants.{Link, Reply, Unavailable}
 use Rattle.oc_client.specs.declared.effort.Doing.TheVariants.{Posting, Checking}
 use Rattle.oc_client.specs.declared.effort.Effort.{Effort}
 use Rattle.oc_client.specs.declared.effort.Next.TheVariants.{Again, Ended}
@@ -27,6 +27,7 @@ pub record AreAnswers : Type 0 where
   pub absent : answer_in false 404 (Some 0) ≡ Ok (Length 0)
   pub denied : answer_in false 403 None ≡ Ok (Refused 403)
   pub moved : answer_in false 302 (Some 0) ≡ Ok (Refused 302)
+  pub unavailable : answer_in false 503 (Some 40) ≡ Err Unavailable
   pub coded : answer_in true 200 None ≡ Err Reply
   pub conflict : as_length (Some 7) ≡ Ok (Length 7)
   pub no_conflict : as_length None ≡ Err Reply
@@ -54,6 +55,7 @@ pub record AreSteps : Type 0 where
   pub came_late : next_of (again 1) (Ok (Length 13)) ≡ done 13
   pub fourth : next_of (checking 3) (Err Reply) ≡ Again (checking 4)
   pub fifth : next_of (checking 4) (Err Reply) ≡ Ended ends.Reply
+  pub fifth_unavailable : next_of (checking 4) (Err Unavailable) ≡ Ended (ends.Refused 503)
   pub refused : next_of (sending 0) (Ok (Refused 403)) ≡ Ended (ends.Refused 403)
 
 abbrev group : List ℕ → SourceGroup

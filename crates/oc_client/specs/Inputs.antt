@@ -1,5 +1,7 @@
--- What of an input is passed over, and where it breaks off.
-use Rattle.std.specs.Prelude.{◌≡◌, ℕ, ◌<◌, Result, Ok, Err, List, [], length}
+-- What of an input is passed over, its pieces, and where it breaks off.
+use Rattle.std.specs.Prelude.{◌≡◌, ℕ, ◌+◌, ◌<◌, ◌≤◌, Bool, true, Result, Ok, Err, List, [], length}
+use Rattle.oc_client.specs.Places.{least_piece}
+use Rattle.oc_client.specs.declared.input.TheConstants.{PUT_PIECE_BYTES}
 use Rattle.oc_client.specs.declared.put_end.PutEnd.{PutEnd}
 use Rattle.oc_client.specs.declared.put_end.PutEnd.TheVariants.{Short, Input, Memory}
 
@@ -9,6 +11,13 @@ Passes gives fails ended count old new (Ok done) = (bytes : List ℕ) × gives o
 Passes gives fails ended count old new (Err Short) = (bytes : List ℕ) × gives old bytes new × (length bytes < count) × ended new
 Passes gives fails ended count old new (Err Input) = (bytes : List ℕ) × fails old bytes new × (length bytes < count)
 Passes gives fails ended count old new (Err end) = ⊥
+
+-- the next piece of an input: live what one read gave, and else as much as a piece can have, or what came up to the end
+pub record IsPiece {S : Type 0} (gives : S → List ℕ → S → Type 0) (ended : S → Type 0) (calls : S → ℕ) (live : Bool) (old new : S) (piece : List ℕ) : Type 0 where
+  pub came : gives old piece new
+  pub within : length piece ≤ PUT_PIECE_BYTES
+  pub end : length piece < least_piece live → ended new
+  pub once : live ≡ true → calls new ≤ calls old + 1
 
 -- why there is no next piece
 abbrev pub IsPieceCut : {S : Type 0} → (S → List ℕ → S → Type 0) → (S → List ℕ → S → Type 0) → S → S → PutEnd → Type 0

@@ -4,7 +4,7 @@ use Rattle.std.specs.List.{AllByRecursion}
 use Rattle.oc_base.specs.declared.limits.TheConstants.{MAX_GROUP_BYTES}
 use Rattle.oc_client.specs.Addresses.{IsAddressOf, IsBadAddress}
 use Rattle.oc_client.specs.Efforts.{LeadsTo, finding, begun}
-use Rattle.oc_client.specs.Places.{sends_empty}
+use Rattle.oc_client.specs.Places.{least_piece, sends_empty}
 use Rattle.oc_client.specs.PutRequests.{Goal, bytes, nothing, seal}
 use Rattle.oc_client.specs.PutTurns.{PutTurn, Makes}
 use Rattle.oc_client.specs.declared.effort.Effort.{Effort}
@@ -28,19 +28,20 @@ abbrev pub joined : List (List ℕ) → List ℕ
 joined [] = []
 joined (piece ∷ pieces) = piece ++ joined pieces
 
--- a piece of the greatest length
-abbrev pub IsFull : List ℕ → Type 0
-IsFull piece = length piece ≡ PUT_PIECE_BYTES
+-- a piece after which others may come: a full one, or live what one read gave
+abbrev pub IsPart : Bool → List ℕ → Type 0
+IsPart live piece = (least_piece live ≤ length piece) × (length piece ≤ PUT_PIECE_BYTES)
 
--- all are full, and the last may be shorter; none is empty
-abbrev pub AreSome : List (List ℕ) → Type 0
-AreSome [] = ⊤
-AreSome (piece ∷ []) = (0 < length piece) × (length piece ≤ PUT_PIECE_BYTES)
-AreSome (piece ∷ next ∷ pieces) = IsFull piece × AreSome (next ∷ pieces)
+-- the last may be shorter; none is empty
+abbrev pub AreSome : Bool → List (List ℕ) → Type 0
+AreSome live [] = ⊤
+AreSome live (piece ∷ []) = (0 < length piece) × (length piece ≤ PUT_PIECE_BYTES)
+AreSome live (piece ∷ next ∷ pieces) = IsPart live piece × AreSome live (next ∷ pieces)
 
 -- the pieces in which bytes are sent: for no bytes one that is empty, where such an input is sent, and else none
-abbrev pub AreCut : WriteMode → List (List ℕ) → Type 0
-AreCut place pieces = (AreSome pieces × ((sends_empty place ≡ false) ⊎ (pieces ≢ []))) ⊎ ((pieces ≡ [] ∷ []) × (sends_empty place ≡ true))
+abbrev pub AreCut : Publication → List (List ℕ) → Type 0
+AreCut plan pieces =
+    (AreSome plan.live pieces × ((sends_empty plan.place ≡ false) ⊎ (pieces ≢ []))) ⊎ ((pieces ≡ [] ∷ []) × (sends_empty plan.place ≡ true))
 
 -- One after another
 
@@ -82,7 +83,7 @@ pub record IsDone (plan : Publication) (turns : List PutTurn) (input : List ℕ)
   pub through : List PutTurn
   pub last : List PutTurn
   pub sent : HasSent plan.place pieces through input reached
-  pub cut : AreCut plan.place pieces
+  pub cut : AreCut plan pieces
   pub seals : Seals plan.seal reached last
   pub turns_are : turns ≡ through ++ last
 
@@ -113,22 +114,22 @@ IsMissing part ends.Input = ⊤
 IsMissing part ends.Memory = part ≡ []
 IsMissing part end = ⊥
 
--- full pieces were sent, and the next one does not come
-pub record StopsBetween (place : WriteMode) (turns : List PutTurn) (input : List ℕ) (end : PutEnd) : Type 0 where
+-- pieces were sent, and the next one does not come
+pub record StopsBetween (plan : Publication) (turns : List PutTurn) (input : List ℕ) (end : PutEnd) : Type 0 where
   pub pieces : List (List ℕ)
   pub reached : Progress
   pub came : List ℕ
   pub part : List ℕ
-  pub sent : HasSent place pieces turns came reached
-  pub full : AllByRecursion IsFull pieces
+  pub sent : HasSent plan.place pieces turns came reached
+  pub parts : AllByRecursion (IsPart plan.live) pieces
   pub input_is : input ≡ came ++ part
   pub missing : IsMissing part end
 
 -- what is sent next after these pieces
 abbrev pub IsNext : Publication → List (List ℕ) → Load → Type 0
 IsNext plan pieces load =
-    ((piece : List ℕ) × (load ≡ bytes piece) × AreCut plan.place (pieces ++ piece ∷ []))
-    ⊎ ((load ≡ seal) × (plan.seal ≡ true) × AreCut plan.place pieces)
+    ((piece : List ℕ) × (load ≡ bytes piece) × AreCut plan (pieces ++ piece ∷ []))
+    ⊎ ((load ≡ seal) × (plan.seal ≡ true) × AreCut plan pieces)
 
 -- a group so long has no room for it, or sending it led to an end
 abbrev pub Refuses : Load → Progress → List PutTurn → PutEnd → Type 0
@@ -155,7 +156,7 @@ abbrev pub Stops : Publication → List PutTurn → List ℕ → Bool → PutEnd
 Stops plan turns input over end =
     (Ends nothing finding turns end × (input ≡ []))
     ⊎ StopsBefore plan.place turns input over end
-    ⊎ StopsBetween plan.place turns input end
+    ⊎ StopsBetween plan turns input end
     ⊎ StopsAt plan turns input end
 
 -- a publishing: its turns, what was read of the input, whether that ended, and the end

@@ -1,12 +1,13 @@
 -- How a reply to a client that publishes comes from a source.
 use Rattle.std.specs.Prelude.{◌≡◌, ℕ, Bool, true, Result, Ok, Err, List}
 use Rattle.oc_client.specs.declared.answer.Failure.{Failure}
-use Rattle.oc_client.specs.declared.answer.Failure.TheVariants.{Link, Reply, Memory}
+use Rattle.oc_client.specs.declared.answer.Failure.TheVariants.{Link, Reply, Unavailable, Memory}
 
 -- from the old source to the new one these bytes came, and with the failure `Link` a call then failed
 abbrev pub Came : {S A : Type 0} → (S → List ℕ → S → Type 0) → (S → List ℕ → S → Type 0) → S → List ℕ → S → Result A Failure → Type 0
 Came gives fails old bytes new (Ok value) = gives old bytes new
 Came gives fails old bytes new (Err Reply) = gives old bytes new
+Came gives fails old bytes new (Err Unavailable) = gives old bytes new
 Came gives fails old bytes new (Err Memory) = gives old bytes new
 Came gives fails old bytes new (Err Link) = fails old bytes new
 

@@ -16,13 +16,17 @@ abbrev pub as_length : Option ℕ → Result PutAnswer Failure
 as_length None = Err failures.Reply
 as_length (Some length) = Ok (Length length)
 
+-- another status: 503 says that it can be tried again, and any other refuses
+abbrev pub as_status : ℕ → Result PutAnswer Failure
+as_status status = if status == 503 then Err failures.Unavailable else Ok (Refused status)
+
 -- what the head of a reply to a question answers, by its parts
 abbrev pub answer_in : Bool → ℕ → Option ℕ → Result PutAnswer Failure
 answer_in chunked status length =
     if chunked then Err failures.Reply
     else if status == 200 then as_length length
     else if status == 404 then Ok (Length 0)
-    else Ok (Refused status)
+    else as_status status
 
 -- what the head of a reply to a question answers
 abbrev pub answer_to_ask : ReplyHead → Result PutAnswer Failure
@@ -33,7 +37,7 @@ abbrev pub answer_to_publish : Reply → Result PutAnswer Failure
 answer_to_publish reply =
     if reply.status == 200 then Ok Taken
     else if reply.status == 409 then as_length reply.group_length
-    else Ok (Refused reply.status)
+    else as_status reply.status
 
 -- where there is no reply
 abbrev pub failure_of : HttpFault → Failure
@@ -75,5 +79,6 @@ pub record IsNoReply (asks : Bool) (reply : List ℕ) (over : Bool) : Type 0 whe
 abbrev pub Answers : Bool → List ℕ → Bool → Result PutAnswer Failure → Type 0
 Answers asks reply over (Ok answer) = Replies asks reply over (Ok answer)
 Answers asks reply over (Err failures.Reply) = IsNoReply asks reply over ⊎ Replies asks reply over (Err failures.Reply)
+Answers asks reply over (Err failures.Unavailable) = Replies asks reply over (Err failures.Unavailable)
 Answers asks reply over (Err failures.Link) = ⊤
 Answers asks reply over (Err failures.Memory) = ⊤

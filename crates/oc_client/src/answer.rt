@@ -1,7 +1,7 @@
 //! What a reply answers to a client that publishes.
 
 ghost use Rattle.std.specs.Prelude.{◌≡◌};
-ghost use Rattle.oc_client.specs.PutReplies.{answer_to_ask, answer_to_publish, as_length, failure_of};
+ghost use Rattle.oc_client.specs.PutReplies.{answer_to_ask, answer_to_publish, as_length, as_status, failure_of};
 
 use oc_http::{HttpFault, Reply, ReplyHead};
 
@@ -23,6 +23,8 @@ pub(crate) enum Failure {
     Link,
     /// What came is no reply.
     Reply,
+    /// The reply has status 503: it can be tried again.
+    Unavailable,
     /// Memory ran out.
     Memory,
 }
@@ -48,7 +50,7 @@ pub(crate) fn answer_to_ask(head: &ReplyHead) -> Result<PutAnswer, Failure>
         _ if head.chunked => Err(Failure::Reply),
         200 => as_length(head.length),
         404 => Ok(PutAnswer::Length(0)),
-        status => Ok(PutAnswer::Refused(status)),
+        status => as_status(status),
     }
 }
 
@@ -59,7 +61,17 @@ pub(crate) fn answer_to_publish(reply: &Reply) -> Result<PutAnswer, Failure>
     match reply.status {
         200 => Ok(PutAnswer::Taken),
         409 => as_length(reply.group_length),
-        status => Ok(PutAnswer::Refused(status)),
+        status => as_status(status),
+    }
+}
+
+/// A reply of another status.
+fn as_status(status: u16) -> Result<PutAnswer, Failure>
+    ensures { result ≡ as_status status }
+{
+    match status {
+        503 => Err(Failure::Unavailable),
+        other => Ok(PutAnswer::Refused(other)),
     }
 }
 

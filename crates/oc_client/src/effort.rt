@@ -122,7 +122,7 @@ fn may_try(failure: Failure, count: u8) -> bool
 {
     match failure {
         Failure::Memory => false,
-        Failure::Link | Failure::Reply => count < MAX_FAILURES - 1,
+        Failure::Link | Failure::Reply | Failure::Unavailable => count < MAX_FAILURES - 1,
     }
 }
 
@@ -133,6 +133,7 @@ fn end_of_failure(failure: Failure) -> PutEnd
     match failure {
         Failure::Link => PutEnd::Link,
         Failure::Reply => PutEnd::Reply,
+        Failure::Unavailable => PutEnd::Refused(503),
         Failure::Memory => PutEnd::Memory,
     }
 }

@@ -1,46 +1,53 @@
 //! The input of a publishing.
 
-ghost use Rattle.std.specs.Prelude.{◌≡◌, ◌<◌, ◌≤◌, length, vec_len, IfOk, IfErr, IsErrOf};
+ghost use Rattle.std.specs.Prelude.{◌≡◌, ◌<◌, ◌≤◌, ℕ, List, length, take, vec_len, IfOk, IfErr, OnErr, IsErrOf};
 ghost use Rattle.oc_io.specs.Faults.{NoFall, Rose};
-ghost use Rattle.oc_client.specs.Inputs.{Passes, IsPieceCut};
+ghost use Rattle.oc_client.specs.Inputs.{Passes, IsPiece, IsPieceCut};
 ghost use Rattle.oc_client.specs.declared.input.TheConstants.{PUT_PIECE_BYTES};
 
 use crate::filling::fill;
 use crate::put_end::PutEnd;
 use oc_base::Bytes;
-use oc_io::Source;
+use oc_io::{Failed, Source};
 use std::alloc::Global;
 
-/// How many bytes of the input are sent at once; the last piece may have fewer.
+/// How many bytes of the input are sent at once at most.
 pub const PUT_PIECE_BYTES: usize = 524_288;
 
-/// The next bytes of the input: `PUT_PIECE_BYTES`, and fewer only where it ended.
-pub(crate) fn next_piece<S: Source>(alloc: Global, input: &mut S) -> Result<Bytes, PutEnd>
-    ensures came { IfOk result (λ piece. S.gives input.old piece input.new) }
-    ensures within { IfOk result (λ piece. length piece ≤ PUT_PIECE_BYTES) }
-    ensures end { IfOk result (λ piece. length piece < PUT_PIECE_BYTES → S.ended input.new) }
+/// The next piece of the input: live what one read gives, and nothing only at the end; else `PUT_PIECE_BYTES`, and fewer only
+/// where it ended.
+pub(crate) fn next_piece<S: Source>(
+    alloc: Global,
+    live: bool,
+    input: &mut S,
+) -> Result<Bytes, PutEnd>
+    ensures piece { IfOk result (IsPiece S.gives S.ended S.calls live input.old input.new) }
     ensures cut { IfErr result (IsPieceCut S.gives S.fails input.old input.new) }
     ensures count { NoFall (S.faults input.old) (S.faults input.new) }
     ensures cause { IsErrOf result PutEnd.Input → Rose (S.faults input.old) (S.faults input.new) }
 {
-    take_piece(alloc, PUT_PIECE_BYTES, input)
-}
-
-/// The next bytes of the input: `most`, and fewer only where it ended.
-fn take_piece<S: Source>(alloc: Global, most: usize, input: &mut S) -> Result<Bytes, PutEnd>
-    ensures came { IfOk result (λ piece. S.gives input.old piece input.new) }
-    ensures within { IfOk result (λ piece. length piece ≤ most) }
-    ensures end { IfOk result (λ piece. length piece < most → S.ended input.new) }
-    ensures cut { IfErr result (IsPieceCut S.gives S.fails input.old input.new) }
-    ensures count { NoFall (S.faults input.old) (S.faults input.new) }
-    ensures cause { IsErrOf result PutEnd.Input → Rose (S.faults input.old) (S.faults input.new) }
-{
-    let mut piece = vec![in alloc; 0; most]?;
-    let Ok(count) = fill(input, &mut piece) else {
+    let mut piece = vec![in alloc; 0; PUT_PIECE_BYTES]?;
+    let Ok(count) = read_piece(live, input, &mut piece) else {
         return Err(PutEnd::Input);
     };
     piece.truncate(count);
     Ok(Bytes::of(piece))
+}
+
+/// Reads a piece of the input into a buffer for one, and gives its length in bytes.
+fn read_piece<S: Source>(live: bool, input: &mut S, buffer: &mut [u8]) -> Result<usize, Failed>
+    requires room { length buffer.old ≡ PUT_PIECE_BYTES }
+    ensures within { IfOk result (λ count. count ≤ length buffer.old) }
+    ensures piece { IfOk result (λ count. IsPiece S.gives S.ended S.calls live input.old input.new (take count buffer.new)) }
+    ensures fails { OnErr result ((part : List ℕ) × S.fails input.old part input.new) }
+    ensures count { NoFall (S.faults input.old) (S.faults input.new) }
+    ensures cause { OnErr result (Rose (S.faults input.old) (S.faults input.new)) }
+{
+    if live {
+        input.read(buffer)
+    } else {
+        fill(input, buffer)
+    }
 }
 
 /// Passes over the first `count` bytes of the input.

@@ -14,7 +14,7 @@ use crate::address::{UrlFault, read_address};
 use crate::aside::Aside;
 use crate::destination::Destination;
 use crate::effort::Progress;
-use crate::input::{PUT_PIECE_BYTES, next_piece, pass_over};
+use crate::input::{next_piece, pass_over};
 use crate::job::Job;
 use crate::load::Load;
 use crate::pause::Pause;
@@ -30,7 +30,9 @@ use std::alloc::Global;
 /// Publishes an input at a URL, an `http` URL with a host, without a user and a password: into a group that has no
 /// bytes yet, after what it has, or from where an earlier publishing of the same input stopped. Where the whole
 /// input is empty the group is made. The place is asked for first, and nothing of the input is read before it is
-/// known. After each failure but the fifth without anything done between, it pauses and tries again. What of the input is
+/// known. It is sent in pieces of [`PUT_PIECE_BYTES`](crate::PUT_PIECE_BYTES) and one of the rest; live, what each read of it
+/// gives is sent before the next read. After each failure but the fifth without anything done between, it pauses and tries
+/// again; a reply with status 503 is such a failure. What of the input is
 /// in the group is told as it grows: never more than came of it, whatever the end. Each connection is ended.
 pub fn put<L: Dialler, S: Source, P: Pause, E: Sink>(
     alloc: Global,
@@ -148,9 +150,9 @@ fn carry<L: Dialler, S: Source, P: Pause, E: Sink>(
     link: &mut L,
     aside: &mut Aside<P, E>,
 ) -> Result<Progress, PutEnd>
-    ensures carried { IfOk result (λ reached. IsCarried S.gives S.ended job.now.plan.place (goal_of job.now) found
+    ensures carried { IfOk result (λ reached. IsCarried S.gives S.ended job.now.plan (goal_of job.now) found
         (L.story link.old) (L.story link.new) input.old input.new reached) }
-    ensures stopped { IfErr result (λ end. IsCarryStopped S.gives S.fails job.now.plan.place (goal_of job.now) found
+    ensures stopped { IfErr result (λ end. IsCarryStopped S.gives S.fails job.now.plan (goal_of job.now) found
         (L.story link.old) (L.story link.new) input.old input.new end) }
     ensures link_count { NoFall (L.faults link.old) (L.faults link.new) }
     ensures input_count { NoFall (S.faults input.old) (S.faults input.new) }
@@ -162,7 +164,7 @@ fn carry<L: Dialler, S: Source, P: Pause, E: Sink>(
     let mut reached = found;
     let mut may_be_empty = job.plan.place.sends_empty();
     'pieces: loop {
-        let piece = next_piece(job.alloc, input)?;
+        let piece = next_piece(job.alloc, job.plan.live, input)?;
         let count = piece.items().len();
         if is_left_out(count, may_be_empty) {
             return Ok(reached);
@@ -173,7 +175,7 @@ fn carry<L: Dialler, S: Source, P: Pause, E: Sink>(
         };
         reached = send(job, &load, reached, room, link, &mut aside.pause)?;
         aside.lines.add(count as u64);
-        if count < PUT_PIECE_BYTES {
+        if count < job.plan.least_piece() {
             return Ok(reached);
         }
         may_be_empty = false;

@@ -12,7 +12,7 @@ pub enum PutEnd {
     /// The address is no URL, or its scheme is not `http`, it has no host, or it has a user or a
     /// password. Nothing was dialled.
     BadUrl,
-    /// A reply has this status, which says neither that bytes were taken nor how long the group is.
+    /// A reply has this status, which says neither that bytes were taken nor how long the group is; 503 for the last time.
     Refused(u16),
     /// The group has this many bytes, with which the next piece does not belong after them.
     Length(u64),

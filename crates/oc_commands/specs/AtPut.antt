@@ -23,7 +23,7 @@ place_of Resume = places.Resume
 
 -- how it is published
 abbrev pub plan_of : Upload → Publication
-plan_of u = record { place = place_of u.onto; seal = u.seals }
+plan_of u = record { place = place_of u.onto; seal = u.seals; live = u.live }
 
 -- these bytes came of the input, and it ended where `over` says so; where it is to blame a call on it then failed
 abbrev pub CameSo : Input → List ℕ → Bool → Type 0

@@ -295,19 +295,21 @@ pub(crate) fn put_help() -> &'static str
     "\
 overcast put: publishes its input into a group
 
-Usage: overcast put URL [--append | --resume] [--seal] [--token-file FILE]
-                    [--progress] < CONTENT
+Usage: overcast put URL [--append | --resume] [--seal] [--live]
+                    [--token-file FILE] [--progress] < CONTENT
 
 Sends what comes on standard input to the source, node 1, at
-`http://HOST:PORT/GROUP`, in pieces, each after the one before. Where a piece has
-no answer it asks how long the group is, so that no piece is there twice; it tries
-again up to four times, a second apart. The group must have no bytes yet, and is
-made where the input is empty.
+`http://HOST:PORT/GROUP`, in pieces of 524288 bytes, each after the one before.
+Where a piece has no answer, or one with status 503, it asks how long the group
+is, so that no piece is there twice; it tries again up to four times, a second
+apart. The group must have no bytes yet, and is made where the input is empty.
 
   --append      publishes after what the group has
   --resume      goes on where an earlier `put` of the same input ended: what the
                 group has is read of the input and not sent, and not compared
   --seal        then closes the group, so that nothing more goes into it
+  --live        sends what comes of the input as soon as it comes, and does not
+                wait until there is a whole piece
   --token-file  shows the token in the first line of this file, where the access
                 rules of the network want one
   --progress    says `overcast: N bytes` on standard error, N what is in the group
@@ -316,6 +318,10 @@ made where the input is empty.
 Example: a file, which ends as it is.
 
   $ overcast put http://127.0.0.1:7001/news/today --seal < today
+
+Example: the lines of a program, each when it is written.
+
+  $ tail -f log | overcast put http://127.0.0.1:7001/log --append --live
 
 Exit status:
   0  the whole input is in the group, which is closed where that was asked for

@@ -37,6 +37,7 @@ pub fn publish<S: Source, L: Dialler, P: Pause, E: Sink>(
     let plan = Publication {
         place: place_of(wanted.onto),
         seal: wanted.seals,
+        live: wanted.live,
     };
     let end = put(alloc, &to, plan, input, link, aside);
     finish(&mut aside.lines, is_done(end));

@@ -49,8 +49,8 @@ Usage: overcast node ID [--turns N] [--probe] [--log inputs|record|brief]
        overcast check ID NODES CHAIN [--dir FOLDER]
        overcast get URL [--follow N] [--from N] [--token-file FILE] [--progress]
                     > CONTENT
-       overcast put URL [--append | --resume] [--seal] [--token-file FILE]
-                    [--progress] < CONTENT
+       overcast put URL [--append | --resume] [--seal] [--live]
+                    [--token-file FILE] [--progress] < CONTENT
        overcast rules [--config FILE]
        overcast replay [FILE] [--summary [--large]] > REPORT
        overcast gen SEED NODES EVENTS > SCHEDULE
@@ -98,8 +98,8 @@ Usage: overcast node ID [--turns N] [--probe] [--log inputs|record|brief]
        overcast check ID NODES CHAIN [--dir FOLDER]
        overcast get URL [--follow N] [--from N] [--token-file FILE] [--progress]
                     > CONTENT
-       overcast put URL [--append | --resume] [--seal] [--token-file FILE]
-                    [--progress] < CONTENT
+       overcast put URL [--append | --resume] [--seal] [--live]
+                    [--token-file FILE] [--progress] < CONTENT
        overcast rules [--config FILE]
        overcast replay [FILE] [--summary [--large]] > REPORT
        overcast gen SEED NODES EVENTS > SCHEDULE

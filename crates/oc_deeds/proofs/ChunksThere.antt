@@ -22,7 +22,7 @@ use Rattle.oc_routes.specs.declared.hint.Hint.{Hint}
 use Rattle.oc_routes.specs.declared.hint.Hint.TheVariants.{Plain, Here, Of, Known}
 use Rattle.oc_routes.specs.declared.holding.Holding.{Holding}
 use Rattle.oc_routes.specs.declared.showing.Shown.{Shown}
-use Rattle.oc_routes.specs.Responses.{client_response, served}
+use Rattle.oc_routes.specs.Group.{client_response, served}
 use Rattle.oc_routes.specs.declared.manner.Manner.{Manner}
 use Rattle.oc_routes.specs.declared.manner.Manner.TheVariants.{HeadAlone, Once, Follow}
 use Rattle.oc_routes.specs.declared.routes.Operation.TheVariants as asks

@@ -7,7 +7,7 @@ use Rattle.oc_model.specs.declared.message.Body.{Body}
 use Rattle.oc_model.specs.declared.message.Body.TheVariants as bodies
 use Rattle.oc_model.specs.declared.message.Message.{Message}
 use Rattle.oc_routes.specs.Elements.{element_at, without_at}
-use Rattle.oc_routes.specs.Replies.{others, reply_place}
+use Rattle.oc_routes.specs.Replies.{others, reply_index}
 use Rattle.oc_deeds.specs.Deeds.{back_to, others_than}
 use Rattle.oc_deeds.specs.Outboxes.{older_fetch, put_at, with_message, with_messages}
 use Rattle.oc_deeds.specs.declared.outbox.TheConstants.{MAX_OUTBOX}
@@ -106,7 +106,7 @@ without_one nodes ms (Some k) are = without_place nodes k ms are
 
 -- without the reply to a sender
 others_sendable : (nodes : ℕ) (ms : List Message) (sender : ℕ) → AreSendable nodes ms → AreSendable nodes (others ms sender)
-others_sendable nodes ms sender are = without_one nodes ms (reply_place ms sender) are
+others_sendable nodes ms sender are = without_one nodes ms (reply_index ms sender) are
 
 -- all but what goes back to a sender
 pub kept_sendable : (nodes : ℕ) (ms : List Message) (sender : Option ℕ) → AreSendable nodes ms → AreSendable nodes (others_than sender ms)
@@ -144,4 +144,4 @@ text_at nodes ms (Some k) are = by_one (slice_get ms k) refl
 -- the message that goes back to a sender has a text
 pub back_has_text : (nodes : ℕ) (ms : List Message) (sender : Option ℕ) → AreSendable nodes ms → IfSome (back_to sender ms) (λ m. HasSpelling m.body)
 back_has_text nodes ms None are = tt
-back_has_text nodes ms (Some sender) are = text_at nodes ms (reply_place ms sender) are
+back_has_text nodes ms (Some sender) are = text_at nodes ms (reply_index ms sender) are

@@ -7,7 +7,8 @@ use Rattle.oc_model.specs.Node.{Node}
 use Rattle.oc_routes.specs.Conditions.{unmet}
 use Rattle.oc_routes.specs.declared.verdict.Verdict.{Verdict}
 use Rattle.oc_routes.specs.declared.verdict.Verdict.TheVariants as verdicts
-use Rattle.oc_routes.specs.Responses.{publish_status, seal_status}
+use Rattle.oc_routes.specs.Publish.{publish_status}
+use Rattle.oc_routes.specs.Seal.{seal_status}
 use Rattle.oc_routes.specs.declared.refused.Refused.{Refused}
 use Rattle.oc_routes.specs.declared.routes.Operation.{Operation}
 use Rattle.oc_routes.specs.declared.routes.Operation.TheVariants as asks

@@ -1,5 +1,5 @@
 -- A step sends few messages: to a peer or two, and where a chain member looks around, to those before it.
-use Rattle.std.proofs.Common.{◌≡◌, ℕ, zero, suc, ◌+◌, ◌≤◌, Bool, true, false, cond, ◌&&◌, ◌||◌, ◌==◌, nat_lt, if◌then◌else◌, Option, Some, None, List, [], ◌∷◌, length, map, refl, ap, ◌∙◌, arith, length-append}
+use Rattle.std.proofs.Common.{◌≡◌, ℕ, zero, suc, ◌+◌, ◌-◌, ◌≤◌, Bool, true, false, cond, not, ◌&&◌, ◌||◌, ◌==◌, nat_lt, nat_le, if◌then◌else◌, Option, Some, None, List, [], ◌∷◌, length, map, refl, ap, ◌∙◌, arith, length-append}
 use Rattle.std.specs.Prelude.{filter}
 use Rattle.oc_base.specs.declared.cert.Cert.{Cert}
 use Rattle.oc_base.specs.declared.rank.Rank.{Rank}
@@ -8,12 +8,12 @@ use Rattle.oc_base.specs.declared.refusal.Refusal.TheVariants as refusals
 use Rattle.oc_base.specs.declared.shelf.Shelf.{Shelf}
 use Rattle.oc_base.specs.Groups.{shelf}
 use Rattle.oc_model.specs.Adopting.{adopts, answers_ask, birth, has_lease, asked, grants, raises, raises_over, sends_rejoin}
-use Rattle.oc_model.specs.Asking.{act, ancestors_by, ask, ask_before, is_asking, descend, joins, lost, lost_from, next_try, not_reached, not_seen, refused, relocate, round, set_tries, took_no, took_yes, try_at, try_first}
-use Rattle.oc_model.specs.Checking.{acknowledges, at_time, checked_in, checks, checks_as, checks_if_due, checks_in_time, counts_clients, dies, ends_each, ends_leases, fetches, fetches_as, forgets_refusal, is_due, is_joined_to, life, looks_at_each, looks_round, next_check, merges, merges_all, notes_time, reports, reports_news, reports_news_as, starts_leases, takes_ancestors, takes_place, takes_rank, tick, took_ack, took_rejoin}
+use Rattle.oc_model.specs.Asking.{act, ancestors_by, ask, ask_before, is_asking, descend, joins, lost, lost_from, next_try, not_reached, not_seen, notes_parent, refused, relocate, round, set_tries, took_no, took_yes, try_at, try_first}
+use Rattle.oc_model.specs.Checking.{acknowledges, at_time, checked_in, checks, checks_as, checks_if_due, checks_in_time, counts_clients, dies, ends_each, ends_leases, fetches, fetches_as, forgets_refusal, goes_on, is_due, is_joined_to, life, looks_at_each, looks_round, merges, merges_all, notes_time, reports, reports_news, reports_news_as, sets_due, starts_leases, takes_ancestors, takes_place, takes_rank, takes_rank_unless, tick, tick_checks, tick_checks_as, took_ack, took_rejoin}
 use Rattle.oc_model.specs.Choice.{below, chosen, reviewed}
 use Rattle.oc_model.specs.Content.{answers_fetch, asks_on, chunk_to, grows, keeps, keeps_chunk, publish_to, published, pulled, seal_line, sealed_at, took_chunk, unless}
 use Rattle.oc_model.specs.Leases.{ended}
-use Rattle.oc_model.specs.Looking.{Stand, candidates, descends, view, goes_down, goes_where, keeps_line, reviews_place, sees_as}
+use Rattle.oc_model.specs.Looking.{Stand, candidates, descends, view, goes_down, goes_where, is_place, keeps_line, leaves_for, place_in, reviews_place, sees_as, weighs, wishes}
 use Rattle.oc_model.specs.declared.answer.Answer.{Answer}
 use Rattle.oc_model.specs.declared.answer.Answer.TheVariants as words
 use Rattle.oc_model.specs.declared.input.Input.{Input}
@@ -23,11 +23,11 @@ use Rattle.oc_model.specs.declared.message.Body.TheVariants as bodies
 use Rattle.oc_model.specs.declared.message.Message.{Message}
 use Rattle.oc_model.specs.declared.mode.Mode.{Mode}
 use Rattle.oc_model.specs.declared.mode.Mode.TheVariants as modes
-use Rattle.oc_model.specs.declared.place.Review.{Review}
-use Rattle.oc_model.specs.declared.place.Review.TheVariants as reviews
 use Rattle.oc_model.specs.declared.record.Record.TheVariants as records
 use Rattle.oc_model.specs.declared.soft.Search.{Search}
 use Rattle.oc_model.specs.declared.soft.Search.TheVariants as searches
+use Rattle.oc_model.specs.declared.soft.Soft.{Soft}
+use Rattle.oc_model.specs.declared.soft.TheConstants.{MAX_MOVES}
 use Rattle.oc_model.specs.declared.want.Want.{Want}
 use Rattle.oc_base.specs.declared.group.Group.{Group}
 use Rattle.oc_model.specs.Node.{Node}
@@ -133,8 +133,8 @@ module _ {x k : ℕ} where
   few_relocate : (o : Plan) (p : ℕ) → Few x k o → Few x (k + 1) (relocate o p)
   few_relocate o p f =
       let fixed : Bool = o.node.me == 1 || (is_member o.node && nat_lt o.node.me p) in
-      either (p == o.node.me) (answers o words.Own) (if fixed then answers o words.Fixed else ask_before o p) (few_answers o words.Own f)
-      (either fixed (answers o words.Fixed) (ask_before o p) (few_answers o words.Fixed f) (few_ask_before o p f))
+      either (p == o.node.me) (answers o words.Own) (if fixed then answers o words.Fixed else ask_before (notes_parent o) p) (few_answers o words.Own f)
+      (either fixed (answers o words.Fixed) (ask_before (notes_parent o) p) (few_answers o words.Fixed f) (few_ask_before (notes_parent o) p (quiet o (notes_parent o) refl refl f)))
 
   -- Looking
 
@@ -147,16 +147,34 @@ module _ {x k : ℕ} where
       let down : Option ℕ = chosen (rate_to o.node p) (candidates o.node s.children) in
       either s.in_tree (goes_down down o p) (next_try (searching o None)) (few_goes_down down o p f) (few_next_try (searching o None) (quiet o (searching o None) refl refl f))
 
-  few_goes_where : (r : Review) (o : Plan) → Few x k o → Few x (k + 1) (goes_where r o)
-  few_goes_where reviews.Stay o f = one o f
-  few_goes_where (reviews.Up g) o f = few_ask_before o g f
-  few_goes_where (reviews.Beneath j) o f = few_ask_before o j f
+  few_leaves_for : (o : Plan) (p g : ℕ) → Few x k o → Few x (k + 1) (leaves_for o p g)
+  few_leaves_for o p g f =
+      let left : Plan = with_soft o (record o.node.soft { left = Some p; moves = o.node.soft.moves + 1 }) in
+      few_ask_before left g (quiet o left refl refl f)
+
+  few_wishes : (o : Plan) (place : Option ℕ) (count : ℕ) → Few x k o → Few x (k + 1) (wishes o place count)
+  few_wishes o place count f = one (wishes o place count) (quiet o (wishes o place count) refl refl f)
+
+  few_goes_where : (place : Option ℕ) (o : Plan) (p : ℕ) → Few x k o → Few x (k + 1) (goes_where place o p)
+  few_goes_where None o p f = one o f
+  few_goes_where (Some g) o p f =
+      either (nat_lt o.node.soft.waits (o.node.soft.patience + 2)) (wishes o (Some g) (o.node.soft.waits + 1)) (leaves_for o p g)
+      (few_wishes o (Some g) (o.node.soft.waits + 1) f) (few_leaves_for o p g f)
+
+  few_weighs : (o : Plan) (p : ℕ) (place : Option ℕ) → Few x k o → Few x (k + 1) (weighs o p place)
+  few_weighs o p place f =
+      let soft : Soft = o.node.soft in
+      let doubted : Plan = wishes o soft.wish (soft.waits - 1) in
+      let wished : Plan = wishes o place soft.waits in
+      let doubts : Bool = not (is_place place soft.wish) && nat_lt 0 soft.waits in
+      either (nat_le MAX_MOVES soft.moves) (wishes o None 0) (if doubts then doubted else goes_where place wished p) (few_wishes o None 0 f)
+      (either doubts doubted (goes_where place wished p) (few_wishes o soft.wish (soft.waits - 1) f) (few_goes_where place wished p (quiet o wished refl refl f)))
 
   few_keeps_line : (o : Plan) (p : ℕ) (s : Stand) → Few x k o → Few x (k + 1) (keeps_line o p s)
   few_keeps_line o p s f = either _ _ _ (few_ask_before o p f) (few_answers o _ f)
 
   few_reviews_place : (o : Plan) (p : ℕ) (s : Stand) → Few x k o → Few x (k + 1) (reviews_place o p s)
-  few_reviews_place o p s f = few_goes_where (reviewed (view o.node p s)) (searching o None) (quiet o (searching o None) refl refl f)
+  few_reviews_place o p s f = few_weighs (searching o None) p (place_in (reviewed (view o.node p s))) (quiet o (searching o None) refl refl f)
 
   few_sees_as : (m : Mode) (search : Option Search) (o : Plan) (p : ℕ) (s : Stand) → Few x k o → Few x (k + 1) (sees_as m search o p s)
   few_sees_as modes.Idle None o p s f = few_keeps_line o p s f
@@ -209,9 +227,21 @@ module _ {x k : ℕ} where
   few_checks_as (modes.Asking p) o f = more o p _ f
 
   few_checks : (o : Plan) → Few x k o → Few x (k + 1) (checks o)
-  few_checks o f =
-      let noted : Plan = with_soft o (record o.node.soft { due = Some (next_check o.node) }) in
-      few_checks_as o.node.kept.mode noted (quiet o noted refl refl f)
+  few_checks o f = few_checks_as o.node.kept.mode (sets_due o) (quiet o (sets_due o) refl refl f)
+
+  few_goes_on : (s : Option Search) (o : Plan) → Few x k o → Few x (k + 1) (goes_on s o)
+  few_goes_on None o f = few_round o None f
+  few_goes_on (Some searches.Review) o f = few_round o None f
+  few_goes_on (Some (searches.Descend p)) o f = more o p bodies.Look f
+
+  few_tick_checks_as : (m : Mode) (o : Plan) → Few x k o → Few x (k + 1) (tick_checks_as m o)
+  few_tick_checks_as modes.Idle o f = few_goes_on o.node.soft.search o f
+  few_tick_checks_as (modes.Joined p) o f = few_checks_as (modes.Joined p) o f
+  few_tick_checks_as modes.Acting o f = few_checks_as modes.Acting o f
+  few_tick_checks_as (modes.Asking p) o f = few_checks_as (modes.Asking p) o f
+
+  few_tick_checks : (o : Plan) → Few x k o → Few x (k + 1) (tick_checks o)
+  few_tick_checks o f = few_tick_checks_as o.node.kept.mode (sets_due o) (quiet o (sets_due o) refl refl f)
 
   few_merges : (o : Plan) (c : Cert) → Few x k o → Few x k (merges o c)
   few_merges o c f = either _ _ _ (quiet o _ refl refl f) f
@@ -258,16 +288,20 @@ module _ {x k : ℕ} where
   few_takes_rank : (o : Plan) (r : Rank) → Few x k o → Few x k (takes_rank o r)
   few_takes_rank o r f = either _ _ _ (quiet o _ refl refl f) f
 
+  few_takes_rank_unless : (wish : Option ℕ) (o : Plan) (r : Rank) → Few x k o → Few x k (takes_rank_unless wish o r)
+  few_takes_rank_unless None o r f = few_takes_rank o r f
+  few_takes_rank_unless (Some g) o r f = f
+
   few_takes_ancestors : (o : Plan) (xs : List ℕ) → Few x k o → Few x k (takes_ancestors o xs)
   few_takes_ancestors o xs f = either _ _ _ f (quiet o _ refl refl f)
 
   few_took_ack : (o : Plan) (p seq upto : ℕ) (r : Rank) (xs : List ℕ) → Few x k o → Few x (k + 1) (took_ack o p seq upto r xs)
   few_took_ack o p seq upto r xs f =
       let placed : Plan = takes_place o upto in
-      let ranked : Plan = takes_rank placed r in
+      let ranked : Plan = takes_rank_unless o.node.soft.wish placed r in
       let whole : Plan = takes_ancestors ranked (ancestors_by p xs) in
       either (is_joined_to o.node.kept.mode p && seq == o.node.kept.seq) whole (ignored o)
-      (one whole (few_takes_ancestors ranked (ancestors_by p xs) (few_takes_rank placed r (few_takes_place o upto f)))) (few_answers o words.Ignored f)
+      (one whole (few_takes_ancestors ranked (ancestors_by p xs) (few_takes_rank_unless o.node.soft.wish placed r (few_takes_place o upto f)))) (few_answers o words.Ignored f)
 
   few_took_rejoin : (o : Plan) (p seq : ℕ) → Few x k o → Few x (k + 1) (took_rejoin o p seq)
   few_took_rejoin o p seq f = either _ _ _ (few_ask_before o p f) (few_answers o _ f)
@@ -375,8 +409,8 @@ few_tick x o shelf t f =
     let ends : Plan = ends_leases begins in
     let later : Few x 0 ends = few_ends_each (ended begins.node.kept.table begins.node.me begins.node.leases begins.node.soft.clock) begins (quiet o begins refl refl f) in
     let forgets : Plan = forgets_refusal ends.node.soft.due ends in
-    let checking : Plan = checks forgets in
-    let rounds : Few x (0 + 1 + x + 1) (checks_in_time ends) = few_looks_round ends.node.kept.mode checking (few_checks forgets (few_forgets ends.node.soft.due ends later)) in
+    let checking : Plan = tick_checks forgets in
+    let rounds : Few x (0 + 1 + x + 1) (checks_in_time ends) = few_looks_round ends.node.kept.mode checking (few_tick_checks forgets (few_forgets ends.node.soft.due ends later)) in
     let in_time : Few x (x + 2) (checks_in_time ends) = looser (x + 2) (checks_in_time ends) (omega arith) rounds in
     let news : Few x (x + 2) (reports_news ends) = looser (x + 2) (reports_news ends) (omega arith) (few_reports_news ends.node.kept.mode ends later) in
     let checked : Plan = checks_if_due ends in

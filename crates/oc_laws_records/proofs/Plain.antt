@@ -18,11 +18,12 @@ use Rattle.oc_model.specs.declared.input.Input.TheVariants as inputs
 use Rattle.oc_model.specs.declared.message.Message.{Message}
 use Rattle.oc_probe.specs.declared.fault.ProbeFault.{ProbeFault}
 use Rattle.oc_probe.specs.declared.probing.Probing.{Probing}
+use Rattle.oc_routes.proofs.Bodies.{IsOfBody, IsOfRequest, of_body}
 use Rattle.oc_routes.specs.Conditions.{unmet}
 use Rattle.oc_routes.specs.Connections.{awaits_continue, is_last}
 use Rattle.oc_routes.specs.Hints.{asked_with_hint}
 use Rattle.oc_routes.specs.Macs.{is_forged}
-use Rattle.oc_routes.specs.Routes.{delivered, input_asked}
+use Rattle.oc_routes.specs.Routes.{input_asked}
 use Rattle.oc_routes.specs.Verdicts.{IsVerdict, NodeTerms, answered, fault_met, input_for, is_none, routed, unfinished, unread, verdict_for, whole, with_body}
 use Rattle.oc_routes.specs.declared.fault.RouteFault.{RouteFault}
 use Rattle.oc_routes.specs.declared.fault.RouteFault.TheVariants as faults
@@ -65,8 +66,6 @@ use Rattle.oc_service.proofs.BorneOut.{due_or_none, front_of_few}
 use Rattle.oc_service.specs.WhatNodeDoes.{Machine, begins, begun, behind_turn, due_at, node_behind, node_deeds, own_measure, own_measures, turn_deeds, turns_deeds}
 use Rattle.oc_service.specs.WhatNodeHears.{AreHeard, MayHear, calls_behind}
 use Rattle.oc_updown.specs.declared.measure_lines.Measure.{Measure}
-use Rattle.oc_wire.specs.MessageReading.{decoded}
-use Rattle.oc_wire.specs.declared.fault.WireFault.{WireFault}
 use Rattle.oc_laws_records.specs.Kinds.{ArePlain, IsOfRecord, IsPlain}
 use Rattle.oc_laws_records.proofs.OneLine.{probe_one}
 
@@ -128,26 +127,21 @@ answered_plain : (request : Request) (input : Result (Option Input) Refused) →
 answered_plain request (Ok input) is = kept_for request.hint input is
 answered_plain request (Err why) is = tt
 
--- a body that is addressed to this node is a message, and else there is no input
+-- an input of a request is of a kind that records have
+of_request : (i : Input) → IsOfRequest i → IsOfRecord i
+of_request (inputs.Tick now) is = absurd is
+of_request inputs.CheckNow is = is
+of_request (inputs.Relocate peer) is = is
+of_request (inputs.Pull peer) is = is
+of_request i is = tt
+
+given_plain : (asked : Operation) (r : Result (Option Input) Refused) → IsOfBody asked r → IfOk r (λ (o : Option Input). IfSome o IsOfRecord)
+given_plain asked (Ok None) is = tt
+given_plain asked (Ok (Some i)) is = of_request i is
+given_plain asked (Err why) is = tt
+
 asked_plain : (nodes me : ℕ) (asked : Operation) (body : List ℕ) → IfOk (input_asked nodes me asked body) (λ (o : Option Input). IfSome o IsOfRecord)
-asked_plain nodes me asks.Message body = by_message (decoded nodes body)
-  where
-    by_message : (r : Result Message WireFault) → IfOk (delivered me r) (λ (o : Option Input). IfSome o IsOfRecord)
-    by_message (Ok message) = by_test (message.to == me)
-      where
-        by_test : (b : Bool) → IfOk (if b then Ok (Some (inputs.Delivered message)) else Err refusals.Message) (λ (o : Option Input). IfSome o IsOfRecord)
-        by_test true = tt
-        by_test false = tt
-    by_message (Err fault) = tt
-asked_plain nodes me (asks.Publish group at) body = tt
-asked_plain nodes me (asks.Seal group at) body = by_test (length body == 0)
-  where
-    by_test : (b : Bool) → IfOk (if b then Ok (Some (inputs.Seal group)) else Err refusals.Body) (λ (o : Option Input). IfSome o IsOfRecord)
-    by_test true = tt
-    by_test false = tt
-asked_plain nodes me (asks.Client group area start manner) body = tt
-asked_plain nodes me (asks.Probe manner) body = tt
-asked_plain nodes me (asks.Report report manner) body = tt
+asked_plain nodes me asked body = given_plain asked (input_asked nodes me asked body) (of_body nodes me asked body)
 
 unfinished_plain : (coming : Coming) (none : Bool) → AsksPlainly (unfinished coming none)
 unfinished_plain Open none = tt
@@ -299,11 +293,7 @@ happened t lent errand events.Quiet came means probing now median started s a =
 -- the input of a client that waits
 client_plain : (asked : Operation) (hint : Hint) → IfSome (client_input asked hint) IsOfRecord
 client_plain (asks.Client group area start manner) hint = kept_for hint (Some (inputs.Client area start group)) tt
-client_plain asks.Message hint = tt
-client_plain (asks.Publish group at) hint = tt
-client_plain (asks.Seal group at) hint = tt
-client_plain (asks.Probe manner) hint = tt
-client_plain (asks.Report report manner) hint = tt
+client_plain other hint = tt
 
 taken_up : (o : Option Work) (now : ℕ) (s : Setting) (a : Running) → ArePlain (takes_up o now s a)
 taken_up None now s a = tt

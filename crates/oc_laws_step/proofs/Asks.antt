@@ -14,7 +14,7 @@ use Rattle.oc_model.specs.declared.soft.Search.TheVariants.{Descend}
 use Rattle.oc_model.specs.declared.soft.Soft.{Soft}
 use Rattle.oc_model.specs.Adoption.{rank_or_last, precedes_any}
 use Rattle.oc_base.specs.declared.limits.TheConstants.{MAX_DEPTH, MAX_ANCESTORS}
-use Rattle.oc_model.specs.Asking.{lost_from, lost, send_ask, ask, next_epoch, act, descend, try_at, earlier, waits_awhile, try_first, next_try, set_tries, round, ask_before, is_asking, ancestors_by, patience_at, joins, took_yes, refused, took_no, not_seen, not_reached, unreachable, relocate}
+use Rattle.oc_model.specs.Asking.{lost_from, lost, send_ask, ask, next_epoch, act, descend, try_at, earlier, waits_awhile, try_first, next_try, set_tries, round, ask_before, is_asking, ancestors_by, patience_at, joins, took_yes, refused, took_no, not_seen, not_reached, unreachable, left_in_move, notes_parent, relocate}
 use Rattle.oc_model.specs.Choice.{ask_order}
 use Rattle.oc_model.specs.Numbers.{number_end, is_empty}
 use Rattle.oc_model.specs.Plan.{Plan, write, answers, with_soft, searching, ignored, is_member}
@@ -129,6 +129,10 @@ goes_unreachable o p = goes_not_reached o.node.kept.mode o p
 
 pub goes_relocate : (o : Plan) (p : ℕ) → Goes 0 1 o (relocate o p)
 goes_relocate o p =
-    either (p == o.node.me) (Goes 0 1 o) (answers o words.Own) (if o.node.me == 1 || (is_member o.node && nat_lt o.node.me p) then answers o words.Fixed else ask_before o p)
+    either (p == o.node.me) (Goes 0 1 o) (answers o words.Own) (if o.node.me == 1 || (is_member o.node && nat_lt o.node.me p) then answers o words.Fixed else ask_before (notes_parent o) p)
     (goes_says 0 1 o words.Own)
-    (either (o.node.me == 1 || (is_member o.node && nat_lt o.node.me p)) (Goes 0 1 o) (answers o words.Fixed) (ask_before o p) (goes_says 0 1 o words.Fixed) (goes_ask_before o p))
+    (either (o.node.me == 1 || (is_member o.node && nat_lt o.node.me p)) (Goes 0 1 o) (answers o words.Fixed) (ask_before (notes_parent o) p)
+    (goes_says 0 1 o words.Fixed)
+    (goes_then 0 0 0 1 o (notes_parent o) (ask_before (notes_parent o) p)
+    (goes_soft o (record o.node.soft { left = left_in_move o.node.kept.mode o.node.soft.wish o.node.soft.left }))
+    (goes_ask_before (notes_parent o) p)))

@@ -15,7 +15,7 @@ use Rattle.oc_model.specs.declared.soft.Search.TheVariants.{Descend, Review}
 use Rattle.oc_model.specs.declared.soft.Soft.{Soft}
 use Rattle.oc_model.specs.Adoption.{rank_or_last, precedes_any}
 use Rattle.oc_base.specs.declared.limits.TheConstants.{MAX_DEPTH}
-use Rattle.oc_model.specs.Asking.{lost_from, lost, send_ask, ask, next_epoch, act, descend, try_at, earlier, waits_awhile, try_first, next_try, set_tries, round, ask_before, is_asking, ancestors_by, patience_at, joins, took_yes, refused, took_no, not_seen, not_reached, unreachable, relocate}
+use Rattle.oc_model.specs.Asking.{lost_from, lost, send_ask, ask, next_epoch, act, descend, try_at, earlier, waits_awhile, try_first, next_try, set_tries, round, ask_before, is_asking, ancestors_by, patience_at, joins, took_yes, refused, took_no, not_seen, not_reached, unreachable, left_in_move, notes_parent, relocate}
 use Rattle.oc_model.specs.Choice.{ask_order}
 use Rattle.oc_base.specs.Lawful.{IsNode, AreNodes, AreAncestors, IsCount, IsRank, IsRefusal}
 use Rattle.oc_model.specs.Numbers.{number_end, is_empty}
@@ -162,9 +162,14 @@ module _ (nodes : ℕ) where
   pub lawful_unreachable : (o : Plan) (p : ℕ) → IsLawfulPlan nodes o → IsLawfulPlan nodes (unreachable o p)
   lawful_unreachable o p ok = lawful_not_reached o.node.kept.mode o p ok
 
+  lawful_notes_parent : (o : Plan) → IsLawfulPlan nodes o → IsLawfulPlan nodes (notes_parent o)
+  lawful_notes_parent o ok =
+      lawful_soft nodes o (record o.node.soft { left = left_in_move o.node.kept.mode o.node.soft.wish o.node.soft.left })
+      (record { clock = ok.node.soft.clock; tries = ok.node.soft.tries; search = ok.node.soft.search }) ok
+
   pub lawful_relocate : (o : Plan) (p : ℕ) → IsNode nodes p → IsLawfulPlan nodes o → IsLawfulPlan nodes (relocate o p)
   lawful_relocate o p to ok =
-      either (p == o.node.me) (IsLawfulPlan nodes) (answers o words.Own) (if o.node.me == 1 || (is_member o.node && nat_lt o.node.me p) then answers o words.Fixed else ask_before o p)
+      either (p == o.node.me) (IsLawfulPlan nodes) (answers o words.Own) (if o.node.me == 1 || (is_member o.node && nat_lt o.node.me p) then answers o words.Fixed else ask_before (notes_parent o) p)
       (lawful_answers nodes o words.Own ok)
-      (either (o.node.me == 1 || (is_member o.node && nat_lt o.node.me p)) (IsLawfulPlan nodes) (answers o words.Fixed) (ask_before o p)
-      (lawful_answers nodes o words.Fixed ok) (lawful_ask_before o p to ok))
+      (either (o.node.me == 1 || (is_member o.node && nat_lt o.node.me p)) (IsLawfulPlan nodes) (answers o words.Fixed) (ask_before (notes_parent o) p)
+      (lawful_answers nodes o words.Fixed ok) (lawful_ask_before (notes_parent o) p to (lawful_notes_parent o ok)))

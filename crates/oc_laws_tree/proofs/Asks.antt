@@ -13,7 +13,7 @@ use Rattle.oc_model.specs.declared.mode.Mode.TheVariants.{Asking, Joined}
 use Rattle.oc_model.specs.declared.record.Record.TheVariants as records
 use Rattle.oc_model.specs.Adopting.{in_tree, is_acting, raises, raises_over, host, birth, has_lease, grants, sends_rejoin, adopts, answers_ask, asked_at, asked}
 use Rattle.oc_model.specs.Adoption.{precedes, rank_or_last, precedes_any, chain_child, chain_refusal, rank_refusal, adoption_refusal}
-use Rattle.oc_model.specs.Asking.{lost, send_ask, set_tries, ask_before, is_asking, ancestors_by, joins, took_yes, relocate}
+use Rattle.oc_model.specs.Asking.{lost, send_ask, set_tries, ask_before, is_asking, ancestors_by, joins, took_yes, notes_parent, relocate}
 use Rattle.oc_model.specs.Heal.{epoch_in}
 use Rattle.oc_model.specs.ChangeLog.{begun_with}
 use Rattle.oc_model.specs.Node.{Control, Durable}
@@ -40,11 +40,11 @@ move_sends n q other first earlier more =
     let not_first : (n.me == 1) ≡ false = ne_eqb n.me 1 first in
     let room : (n.kept.seq == number_end) ≡ false = ne_eqb n.kept.seq number_end more in
     let free : (n.me == 1 || (is_member n && nat_lt n.me q)) ≡ false = ap (λ b. b || (is_member n && nat_lt n.me q)) not_first ∙ by_member (is_member n) earlier in
-    let goes : relocate o q ≡ ask_before o q =
-    ap (λ b. if b then answers o words.Own else if n.me == 1 || (is_member n && nat_lt n.me q) then answers o words.Fixed else ask_before o q) not_own
-    ∙ ap (λ b. if b then answers o words.Fixed else ask_before o q) free in
-    let tried : Plan = set_tries o (Some q) in
-    let asks : ask_before o q ≡ send_ask (searching (write tried (records.Ask (n.kept.seq + 1) q)) None) q =
+    let goes : relocate o q ≡ ask_before (notes_parent o) q =
+    ap (λ b. if b then answers o words.Own else if n.me == 1 || (is_member n && nat_lt n.me q) then answers o words.Fixed else ask_before (notes_parent o) q) not_own
+    ∙ ap (λ b. if b then answers o words.Fixed else ask_before (notes_parent o) q) free in
+    let tried : Plan = set_tries (notes_parent o) (Some q) in
+    let asks : ask_before (notes_parent o) q ≡ send_ask (searching (write tried (records.Ask (n.kept.seq + 1) q)) None) q =
     ap (λ b. if b then answers (lost tried) words.Spent else send_ask (searching (write tried (records.Ask (n.kept.seq + 1) q)) None) q) room in
     subst (SendsAsk n q) (sym (goes ∙ asks)) record { core = refl; rest = record { table = refl; leases = refl; clock = refl }; sends = refl } where
       by_member : (b : Bool) → (b ≡ true → nat_lt n.me q ≡ false) → (b && nat_lt n.me q) ≡ false

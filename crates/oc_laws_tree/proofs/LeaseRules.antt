@@ -20,7 +20,7 @@ use Rattle.oc_model.specs.declared.soft.TheConstants.{MAX_MOVES}
 use Rattle.oc_model.specs.Adopting.{is_acting, raises, raises_over}
 use Rattle.oc_model.specs.Adoption.{precedes, precedes_any, rank_or_last, is_better}
 use Rattle.oc_base.specs.declared.limits.TheConstants.{MAX_DEPTH}
-use Rattle.oc_model.specs.Asking.{lost_from, lost, send_ask, ask, act, descend, try_at, waits_awhile, try_first, next_try, set_tries, round, ask_before, is_asking, ancestors_by, joins, took_yes, refused, took_no, not_seen, not_reached, unreachable, relocate}
+use Rattle.oc_model.specs.Asking.{lost_from, lost, send_ask, ask, act, descend, try_at, waits_awhile, try_first, next_try, set_tries, round, ask_before, is_asking, ancestors_by, joins, took_yes, refused, took_no, not_seen, not_reached, unreachable, notes_parent, relocate}
 use Rattle.oc_model.specs.ChangeLog.{begun_with, is_ahead}
 use Rattle.oc_model.specs.Checking.{counts_clients, notes_time, reports, checks_as, sets_due, checks, looks_at_each, looks_round, is_due, forgets_refusal, goes_on, tick_checks_as, tick_checks, checks_in_time, has_news, reports_news_as, reports_news, checks_if_due, fetches_as, is_joined_to, takes_place, takes_rank, takes_rank_unless, same_ids, takes_ancestors, took_ack, is_peer, took_rejoin}
 use Rattle.oc_model.specs.Choice.{below, chosen, reviewed}
@@ -120,8 +120,8 @@ module _ (Q : ℕ → List Cert → List (Option ℕ) → ℕ → Type 0) where
   pub stays_relocate : (o : Plan) (p : ℕ) → OfPlan Q o → OfPlan Q (relocate o p)
   stays_relocate o p h =
       let is_fixed : Bool = o.node.me == 1 || (is_member o.node && nat_lt o.node.me p) in
-      either (p == o.node.me) (OfPlan Q) (answers o words.Own) (if is_fixed then answers o words.Fixed else ask_before o p) h
-      (either is_fixed (OfPlan Q) (answers o words.Fixed) (ask_before o p) h (stays_ask_before o p h))
+      either (p == o.node.me) (OfPlan Q) (answers o words.Own) (if is_fixed then answers o words.Fixed else ask_before (notes_parent o) p) h
+      (either is_fixed (OfPlan Q) (answers o words.Fixed) (ask_before (notes_parent o) p) h (stays_ask_before (notes_parent o) p h))
 
   -- Checks
 

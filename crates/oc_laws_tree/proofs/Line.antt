@@ -20,7 +20,7 @@ use Rattle.oc_model.specs.declared.soft.Soft.{Soft}
 use Rattle.oc_model.specs.declared.soft.TheConstants.{MAX_MOVES}
 use Rattle.oc_model.specs.Adopting.{is_acting, raises, raises_over}
 use Rattle.oc_model.specs.Adoption.{precedes, precedes_any, rank_or_last, is_better}
-use Rattle.oc_model.specs.Asking.{lost_from, lost, send_ask, ask, next_epoch, act, descend, try_at, waits_awhile, try_first, next_try, set_tries, round, ask_before, is_asking, ancestors_by, joins, took_yes, refused, took_no, not_seen, not_reached, unreachable, relocate}
+use Rattle.oc_model.specs.Asking.{lost_from, lost, send_ask, ask, next_epoch, act, descend, try_at, waits_awhile, try_first, next_try, set_tries, round, ask_before, is_asking, ancestors_by, joins, took_yes, refused, took_no, not_seen, not_reached, unreachable, notes_parent, relocate}
 use Rattle.oc_model.specs.ChangeLog.{is_ahead}
 use Rattle.oc_model.specs.Checking.{counts_clients, notes_time, reports, checks_as, sets_due, checks, looks_at_each, looks_round, is_due, forgets_refusal, goes_on, tick_checks_as, tick_checks, checks_in_time, has_news, reports_news_as, reports_news, checks_if_due, fetches_as, is_joined_to, takes_place, takes_rank_unless, same_ids, takes_ancestors, took_ack, is_peer, took_rejoin}
 use Rattle.oc_model.specs.Choice.{below, each_once, ask_order, chosen, reviewed}
@@ -233,8 +233,8 @@ line_unreachable o p h = line_not_reached o.node.kept.mode o p h
 pub line_relocate : (o : Plan) (p : ℕ) → OfLine o → OfLine (relocate o p)
 line_relocate o p h =
     let is_fixed : Bool = o.node.me == 1 || (is_member o.node && nat_lt o.node.me p) in
-    cond_both (p == o.node.me) (answers o words.Own) (if is_fixed then answers o words.Fixed else ask_before o p) OfLine (λ _. h)
-    (λ other. cond_both is_fixed (answers o words.Fixed) (ask_before o p) OfLine (λ _. h) (λ free. line_ask_before o p (may (eqb-false p o.node.me other) free) h)) where
+    cond_both (p == o.node.me) (answers o words.Own) (if is_fixed then answers o words.Fixed else ask_before (notes_parent o) p) OfLine (λ _. h)
+    (λ other. cond_both is_fixed (answers o words.Fixed) (ask_before (notes_parent o) p) OfLine (λ _. h) (λ free. line_ask_before (notes_parent o) p (may (eqb-false p o.node.me other) free) h)) where
       may : (p ≡ o.node.me → ⊥) → (o.node.me == 1 || (is_member o.node && nat_lt o.node.me p)) ≡ false → MayAsk o p
       may other free member = by_less (nat_lt o.node.me p) refl where
         by_less : (b : Bool) → nat_lt o.node.me p ≡ b → p < o.node.me

@@ -21,7 +21,7 @@ use Rattle.oc_model.specs.declared.soft.Soft.{Soft}
 use Rattle.oc_model.specs.declared.soft.TheConstants.{MAX_MOVES}
 use Rattle.oc_model.specs.Adopting.{is_acting, raises, raises_over, host, birth, has_lease, grants, sends_rejoin, adopts, answers_ask, asked}
 use Rattle.oc_model.specs.Adoption.{precedes, precedes_any, rank_or_last, is_better, adoption_refusal}
-use Rattle.oc_model.specs.Asking.{lost_from, lost, send_ask, ask, act, descend, try_at, waits_awhile, try_first, next_try, set_tries, round, ask_before, is_asking, ancestors_by, joins, took_yes, refused, took_no, not_seen, not_reached, unreachable, relocate}
+use Rattle.oc_model.specs.Asking.{lost_from, lost, send_ask, ask, act, descend, try_at, waits_awhile, try_first, next_try, set_tries, round, ask_before, is_asking, ancestors_by, joins, took_yes, refused, took_no, not_seen, not_reached, unreachable, notes_parent, relocate}
 use Rattle.oc_model.specs.ChangeLog.{is_ahead}
 use Rattle.oc_model.specs.Checking.{notes_time, reports, checks_as, sets_due, checks, merges, merges_all, at_time, starts_leases, dies, ends_each, ends_leases, looks_at_each, looks_round, is_due, forgets_refusal, goes_on, tick_checks_as, tick_checks, checks_in_time, has_news, reports_news_as, reports_news, checks_if_due, fetches_as, tick, acknowledges, life, checked_in, is_joined_to, takes_place, takes_rank_unless, same_ids, takes_ancestors, took_ack, is_peer, took_rejoin}
 use Rattle.oc_model.specs.Choice.{below, chosen, reviewed}
@@ -109,7 +109,8 @@ stays_unreachable o p h = stays_not_reached o.node.kept.mode o p h
 pub stays_relocate : (o : Plan) (p : ℕ) → Stays o → Stays (relocate o p)
 stays_relocate o p h =
     let fixed : Bool = o.node.me == 1 || (is_member o.node && nat_lt o.node.me p) in
-    either (p == o.node.me) Stays (answers o words.Own) (if fixed then answers o words.Fixed else ask_before o p) tt (either fixed Stays (answers o words.Fixed) (ask_before o p) tt (stays_ask_before o p h))
+    either (p == o.node.me) Stays (answers o words.Own) (if fixed then answers o words.Fixed else ask_before (notes_parent o) p) tt
+    (either fixed Stays (answers o words.Fixed) (ask_before (notes_parent o) p) tt (stays_ask_before (notes_parent o) p h))
 
 -- Adoption
 

@@ -18,7 +18,7 @@ use Rattle.oc_model.specs.declared.soft.Search.TheVariants as searches
 use Rattle.oc_model.specs.declared.soft.Soft.{Soft}
 use Rattle.oc_model.specs.Adoption.{precedes_any}
 use Rattle.oc_base.specs.declared.limits.TheConstants.{MAX_DEPTH}
-use Rattle.oc_model.specs.Asking.{lost_from, lost, send_ask, ask, act, descend, try_at, earlier, waits_awhile, try_first, next_try, set_tries, round, ask_before, is_asking, ancestors_by, patience_at, joins, took_yes, refused, took_no, not_seen, not_reached, unreachable, relocate}
+use Rattle.oc_model.specs.Asking.{lost_from, lost, send_ask, ask, act, descend, try_at, earlier, waits_awhile, try_first, next_try, set_tries, round, ask_before, is_asking, ancestors_by, patience_at, joins, took_yes, refused, took_no, not_seen, not_reached, unreachable, left_in_move, notes_parent, relocate}
 use Rattle.oc_model.specs.Choice.{ask_order}
 use Rattle.oc_model.specs.Node.{Control}
 use Rattle.oc_model.specs.Numbers.{number_end, is_empty}
@@ -136,9 +136,12 @@ module _ (came : ℕ → Body → Type 0) (P : Control → List Message → Type
   pub walks_unreachable : (o : Plan) (p : ℕ) → Of P o → Of P (unreachable o p)
   walks_unreachable o p h = walks_not_reached o.node.kept.mode o p h
 
+  walks_notes_parent : (o : Plan) → Of P o → Of P (notes_parent o)
+  walks_notes_parent o h = k.soft o.node o.sends (record o.node.soft { left = left_in_move o.node.kept.mode o.node.soft.wish o.node.soft.left }) h
+
   pub walks_relocate : (o : Plan) (p : ℕ) → Of P o → Of P (relocate o p)
   walks_relocate o p h =
       let fixed : Bool = o.node.me == 1 || (is_member o.node && nat_lt o.node.me p) in
-      cond_both (p == o.node.me) (answers o words.Own) (if fixed then answers o words.Fixed else ask_before o p) (Of P)
+      cond_both (p == o.node.me) (answers o words.Own) (if fixed then answers o words.Fixed else ask_before (notes_parent o) p) (Of P)
       (λ _. h)
-      (λ _. cond_both fixed (answers o words.Fixed) (ask_before o p) (Of P) (λ _. h) (λ _. walks_ask_before o p h))
+      (λ _. cond_both fixed (answers o words.Fixed) (ask_before (notes_parent o) p) (Of P) (λ _. h) (λ _. walks_ask_before (notes_parent o) p (walks_notes_parent o h)))

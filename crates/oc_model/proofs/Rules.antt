@@ -23,7 +23,7 @@ use Rattle.oc_model.specs.declared.soft.TheConstants.{MAX_MOVES}
 use Rattle.oc_model.specs.Adopting.{is_acting, raises, raises_over, host, birth, has_lease, grants, sends_rejoin, adopts, answers_ask, asked}
 use Rattle.oc_model.specs.Adoption.{precedes, precedes_any, rank_or_last, is_better, adoption_refusal}
 use Rattle.oc_base.specs.declared.limits.TheConstants.{MAX_DEPTH}
-use Rattle.oc_model.specs.Asking.{lost_from, lost, send_ask, ask, next_epoch, act, descend, try_at, earlier, waits_awhile, try_first, next_try, set_tries, round, ask_before, is_asking, ancestors_by, patience_at, joins, took_yes, refused, took_no, not_seen, not_reached, unreachable, relocate}
+use Rattle.oc_model.specs.Asking.{lost_from, lost, send_ask, ask, next_epoch, act, descend, try_at, earlier, waits_awhile, try_first, next_try, set_tries, round, ask_before, is_asking, ancestors_by, patience_at, joins, took_yes, refused, took_no, not_seen, not_reached, unreachable, left_in_move, notes_parent, relocate}
 use Rattle.oc_model.specs.ChangeLog.{next_certs, place_after, is_ahead}
 use Rattle.oc_model.specs.Checking.{counts_clients, checks_in, notes_time, reports, checks_as, next_check, sets_due, checks, merges, merges_all, at_time, starts_leases, dies, ends_each, ends_leases, looks_at_each, looks_round, is_due, forgets_refusal, goes_on, tick_checks_as, tick_checks, checks_in_time, has_news, reports_news_as, reports_news, checks_if_due, fetches_as, fetches, tick, acknowledges, life, checked_in, is_joined_to, takes_place, takes_rank, takes_rank_unless, same_ids, takes_ancestors, took_ack, is_peer, took_rejoin}
 use Rattle.oc_model.specs.Choice.{ask_order, below, chosen, reviewed}
@@ -165,11 +165,15 @@ module _ (shelf : List Shelf) (P : Plan → Type 0) (k : IsClosed shelf P) where
   pub keeps_unreachable : (o : Plan) (p : ℕ) → P o → P (unreachable o p)
   keeps_unreachable o p h = keeps_not_reached o.node.kept.mode o p h
 
+  keeps_notes_parent : (o : Plan) → P o → P (notes_parent o)
+  keeps_notes_parent o h = k.soft o (record o.node.soft { left = left_in_move o.node.kept.mode o.node.soft.wish o.node.soft.left }) refl h
+
   pub keeps_relocate : (o : Plan) (p : ℕ) → P o → P (relocate o p)
   keeps_relocate o p h =
-      either (p == o.node.me) P (answers o words.Own) (if o.node.me == 1 || (is_member o.node && nat_lt o.node.me p) then answers o words.Fixed else ask_before o p)
+      either (p == o.node.me) P (answers o words.Own) (if o.node.me == 1 || (is_member o.node && nat_lt o.node.me p) then answers o words.Fixed else ask_before (notes_parent o) p)
       (k.answers o words.Own h)
-      (either (o.node.me == 1 || (is_member o.node && nat_lt o.node.me p)) P (answers o words.Fixed) (ask_before o p) (k.answers o words.Fixed h) (keeps_ask_before o p h))
+      (either (o.node.me == 1 || (is_member o.node && nat_lt o.node.me p)) P (answers o words.Fixed) (ask_before (notes_parent o) p)
+      (k.answers o words.Fixed h) (keeps_ask_before (notes_parent o) p (keeps_notes_parent o h)))
 
   -- Adoption
 

@@ -159,9 +159,19 @@ unreachable o p = not_reached o.node.kept.mode o p
 
 -- The rule Relocate
 
+-- the parent that a node with a wish left last: being moved is leaving too
+abbrev pub left_in_move : Mode → Option ℕ → Option ℕ → Option ℕ
+left_in_move (modes.Joined q) (Some g) left = Some q
+left_in_move mode wish left = left
+
+-- an operator's move of a node that wishes for another place counts as leaving its parent, so that it waits longer there when it
+-- comes back
+abbrev pub notes_parent : Plan → Plan
+notes_parent o = with_soft o (record o.node.soft { left = left_in_move o.node.kept.mode o.node.soft.wish o.node.soft.left })
+
 -- a chain member goes beneath earlier members alone, and node 1 beneath none
 abbrev pub relocate : Plan → ℕ → Plan
 relocate o p =
     if p == o.node.me then answers o words.Own
     else if o.node.me == 1 || (is_member o.node && nat_lt o.node.me p) then answers o words.Fixed
-    else ask_before o p
+    else ask_before (notes_parent o) p

@@ -8,6 +8,7 @@
 mod answer;
 mod decisions;
 mod event;
+mod header;
 mod input;
 mod law;
 mod listing;
@@ -24,6 +25,7 @@ mod word;
 pub use answer::Answer;
 pub use decisions::decisions_compute;
 pub use event::{Act, Event};
+pub use header::{Header, Sizes};
 pub use input::Input;
 pub use law::{choices_compute, content_computes, leases_compute, moves_compute, roots_compute};
 pub use listing::listings_are_exact;

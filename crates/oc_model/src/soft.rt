@@ -35,7 +35,7 @@ pub struct Soft {
     pub served: u64,
     /// The place that reviews gave, until the node has a parent anew.
     pub wish: Option<NodeId>,
-    /// The parent from which the wish was last asked for.
+    /// The parent from which the wish was last asked for, or the node was moved while it had one.
     pub left: Option<NodeId>,
     /// How many reviews gave the wish, less those that gave another place since.
     pub waits: u64,

@@ -1,5 +1,5 @@
 ghost use Rattle.std.specs.Prelude.{◌≡◌, ◌<◌, OnOk};
-ghost use Rattle.oc_model.specs.Asking.{lost, send_ask, ask, next_epoch, act, descend, try_at, earlier, waits_awhile, try_first, next_try, round, ask_before, comes_back, patience_at, joins, took_yes, refused, took_no, not_seen, unreachable, relocate};
+ghost use Rattle.oc_model.specs.Asking.{lost, send_ask, ask, next_epoch, act, descend, try_at, earlier, waits_awhile, try_first, next_try, round, ask_before, comes_back, patience_at, joins, took_yes, refused, took_no, not_seen, unreachable, left_in_move, notes_parent, relocate};
 ghost use Rattle.oc_step.specs.StepView.{goes};
 
 use oc_base::{MAX_DEPTH, Memory, NodeId, Rank, Refusal};
@@ -294,6 +294,27 @@ pub fn unreachable(step: &mut Step, peer: NodeId) -> Result<(), Memory>
 
 // The rule Relocate
 
+/// The parent that a node with a wish left last: being moved is leaving too.
+fn left_in_move(step: &Step) -> Option<NodeId>
+    ensures { result ≡ left_in_move step.now.plan.node.kept.mode step.now.plan.node.soft.wish step.now.plan.node.soft.left }
+{
+    let volatile = step.volatile();
+    match (step.position().mode, volatile.wish) {
+        (Mode::Joined(parent), Some(_)) => Some(parent),
+        _ => volatile.left,
+    }
+}
+
+/// An operator's move of a node that wishes for another place counts as leaving its parent, so that it waits
+/// longer there when it comes back.
+fn note_parent(step: &mut Step)
+    ensures { step.new ≡ goes step.old (notes_parent step.old.plan) }
+{
+    let left = left_in_move(step);
+    let volatile = step.volatile();
+    step.set_volatile(Volatile { left, ..volatile });
+}
+
 pub fn relocate(step: &mut Step, peer: NodeId) -> Result<(), Memory>
     ensures { OnOk result (step.new ≡ goes step.old (relocate step.old.plan peer)) }
 {
@@ -303,6 +324,7 @@ pub fn relocate(step: &mut Step, peer: NodeId) -> Result<(), Memory>
     } else if id.0 == 1 || (step.is_member() && id.0 < peer.0) {
         step.answer(Answer::Fixed)
     } else {
+        note_parent(step);
         ask_before(step, peer)
     }
 }

@@ -23,7 +23,7 @@ use Rattle.oc_model.specs.declared.soft.Soft.{Soft}
 use Rattle.oc_model.specs.declared.soft.TheConstants.{MAX_MOVES}
 use Rattle.oc_model.specs.Adopting.{is_acting, raises, host, birth, has_lease, grants, sends_rejoin, adopts, answers_ask, asked_at, asked}
 use Rattle.oc_model.specs.Adoption.{rank_or_last, precedes, precedes_any, is_better, adoption_refusal}
-use Rattle.oc_model.specs.Asking.{lost_from, lost, next_try, round, ask_before, is_asking, ancestors_by, patience_at, joins, took_yes, refused, took_no, descend, not_seen, not_reached, relocate}
+use Rattle.oc_model.specs.Asking.{lost_from, lost, next_try, round, ask_before, is_asking, ancestors_by, patience_at, joins, took_yes, refused, took_no, descend, not_seen, not_reached, left_in_move, notes_parent, relocate}
 use Rattle.oc_model.specs.ChangeLog.{is_ahead, begun_with}
 use Rattle.oc_model.specs.Checking.{counts_clients, notes_time, reports, checks_as, next_check, sets_due, checks, merges, merges_all, at_time, starts_leases, dies, ends_each, ends_leases, looks_at_each, looks_round, is_due, forgets_refusal, goes_on, tick_checks_as, tick_checks, checks_in_time, has_news, reports_news_as, reports_news, checks_if_due, fetches_as, tick, acknowledges, life, checked_in, is_joined_to, takes_place, takes_rank_unless, same_ids, takes_ancestors, took_ack, is_peer, took_rejoin}
 use Rattle.oc_model.specs.Choice.{below, chosen, reviewed}
@@ -154,9 +154,10 @@ calm_not_reached modes.Acting o p calm = calm_not_seen o.node.soft.search o p re
 
 calm_relocate : (o : Plan) (p : ℕ) → Calm o → Calm (relocate o p)
 calm_relocate o p calm =
-    either (p == o.node.me) Calm (answers o words.Own) (if o.node.me == 1 || (is_member o.node && nat_lt o.node.me p) then answers o words.Fixed else ask_before o p)
+    either (p == o.node.me) Calm (answers o words.Own) (if o.node.me == 1 || (is_member o.node && nat_lt o.node.me p) then answers o words.Fixed else ask_before (notes_parent o) p)
     calm
-    (either (o.node.me == 1 || (is_member o.node && nat_lt o.node.me p)) Calm (answers o words.Fixed) (ask_before o p) calm (calm_ask_before o p calm))
+    (either (o.node.me == 1 || (is_member o.node && nat_lt o.node.me p)) Calm (answers o words.Fixed) (ask_before (notes_parent o) p)
+    calm (calm_ask_before (notes_parent o) p (calm_soft o (record o.node.soft { left = left_in_move o.node.kept.mode o.node.soft.wish o.node.soft.left }) (λ none. none) calm)))
 
 -- Check now and tick
 

@@ -21,7 +21,7 @@ use Rattle.oc_model.specs.declared.soft.Soft.{Soft}
 use Rattle.oc_model.specs.declared.soft.TheConstants.{MAX_MOVES}
 use Rattle.oc_model.specs.Adopting.{is_acting, raises, host, birth, has_lease, grants, sends_rejoin, adopts, answers_ask, asked_at, asked}
 use Rattle.oc_model.specs.Adoption.{rank_or_last, precedes, precedes_any, is_better, adoption_refusal}
-use Rattle.oc_model.specs.Asking.{lost, next_try, round, ask_before, is_asking, ancestors_by, joins, took_yes, refused, took_no, descend, not_seen, not_reached, unreachable, relocate}
+use Rattle.oc_model.specs.Asking.{lost, next_try, round, ask_before, is_asking, ancestors_by, joins, took_yes, refused, took_no, descend, not_seen, not_reached, unreachable, notes_parent, relocate}
 use Rattle.oc_model.specs.ChangeLog.{ack, is_ahead}
 use Rattle.oc_model.specs.Checking.{counts_clients, notes_time, reports, checks_as, sets_due, checks, merges, merges_all, at_time, starts_leases, dies, ends_each, ends_leases, looks_at_each, looks_round, is_due, forgets_refusal, goes_on, tick_checks_as, tick_checks, checks_in_time, has_news, reports_news_as, reports_news, checks_if_due, fetches_as, tick, acknowledges, life, checked_in, is_joined_to, takes_place, takes_rank, takes_rank_unless, same_ids, takes_ancestors, took_ack, is_peer, took_rejoin}
 use Rattle.oc_model.specs.Choice.{below, chosen, reviewed}
@@ -271,9 +271,10 @@ module _ (Q : Type 0) (n : Control) (sound : Q → (p : ℕ) → n.kept.mode ≡
 
   pub moves_relocate : (p : ℕ) → M (relocate (begun n) p)
   moves_relocate p =
-      either (p == n.me) M (answers (begun n) words.Own) (if n.me == 1 || (is_member n && nat_lt n.me p) then answers (begun n) words.Fixed else ask_before (begun n) p)
+      either (p == n.me) M (answers (begun n) words.Own) (if n.me == 1 || (is_member n && nat_lt n.me p) then answers (begun n) words.Fixed else ask_before (notes_parent (begun n)) p)
       (still refl refl)
-      (either (n.me == 1 || (is_member n && nat_lt n.me p)) M (answers (begun n) words.Fixed) (ask_before (begun n) p) (still refl refl) (moved_ask_before Q n.kept (begun n) p begins_start))
+      (either (n.me == 1 || (is_member n && nat_lt n.me p)) M (answers (begun n) words.Fixed) (ask_before (notes_parent (begun n)) p)
+      (still refl refl) (moved_ask_before Q n.kept (notes_parent (begun n)) p (begins_along n.kept (begun n) (notes_parent (begun n)) refl refl begins_start)))
 
   pub moves_took_rejoin : (p seq : ℕ) → M (took_rejoin (begun n) p seq)
   moves_took_rejoin p seq = either (is_peer n.kept.mode p && seq == n.kept.seq) M (ask_before (begun n) p) (ignored (begun n)) (moved_ask_before Q n.kept (begun n) p begins_start) ignores

@@ -4,7 +4,8 @@ use Rattle.oc_http.specs.declared.reply.Reply.{Reply}
 use Rattle.oc_model.specs.declared.message.Message.{Message}
 use Rattle.oc_wire.specs.Macs.{mac_for}
 use Rattle.oc_wire.specs.Spelling.{spelling}
-use Rattle.oc_routes.specs.Responses.{message_response, typed, whole}
+use Rattle.oc_routes.specs.Message.{message_response}
+use Rattle.oc_routes.specs.Responses.{typed, whole}
 use Rattle.oc_routes.specs.declared.response.Response.{Response}
 
 -- the message is spelled, and what it is spelled as has its MAC

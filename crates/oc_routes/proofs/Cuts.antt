@@ -16,7 +16,7 @@ use Rattle.oc_http.specs.declared.head.Head.{Head}
 use Rattle.oc_routes.specs.Connections.{awaits_continue, is_last}
 use Rattle.oc_routes.specs.declared.refused.Refused.{Refused}
 use Rattle.oc_routes.specs.Hints.{asked_with_hint}
-use Rattle.oc_routes.specs.Verdicts.{IsVerdict, NodeTerms, arrival, asked_behind, routed, unfinished, verdict_for, whole, with_body}
+use Rattle.oc_routes.specs.Verdicts.{IsVerdict, NodeTerms, arrival, after_head, routed, unfinished, verdict_for, whole, with_body}
 use Rattle.oc_routes.specs.declared.hint.Asked.{Asked}
 use Rattle.oc_routes.specs.declared.verdict.Verdict.{Verdict}
 use Rattle.oc_routes.specs.declared.verdict.Verdict.TheVariants.{Wait, Permit}
@@ -85,7 +85,7 @@ verdict_more : (t : NodeTerms) (c number : ℕ) (permitted : Bool) (coming : Com
     → v ≡ verdict_for t (arrival c number permitted coming) (bytes ++ more) (rest ++ more) answer
 verdict_more t c number permitted coming bytes rest more (Ok head) v is decided =
     routed_more t c number permitted coming (length bytes) head rest more (asked_with_hint head t.rules) v is decided
-    ∙ ap (λ (n : ℕ). asked_behind t (arrival c number permitted coming) n head (rest ++ more)) (sym (length-append bytes more))
+    ∙ ap (λ (n : ℕ). after_head t (arrival c number permitted coming) n head (rest ++ more)) (sym (length-append bytes more))
 verdict_more t c number permitted coming bytes rest more (Err Source) v is decided = is
 verdict_more t c number permitted coming bytes rest more (Err Ended) v is decided = absurd (decided is)
 verdict_more t c number permitted coming bytes rest more (Err NoHead) v is decided = is

@@ -2,6 +2,7 @@ pub mod StepAnswers
 pub mod Names
 pub mod Spared
 pub mod TokenLaws
+pub mod Bodies
 pub mod Brought
 pub mod InputLines
 pub mod BodyFits

@@ -1,6 +1,6 @@
 -- A message that is taken came with its MAC.
 use Rattle.std.proofs.Common.{◌≡◌, ℕ, ◌-◌, ◌+◌, Bool, true, false, Option, Some, None, Result, Ok, Err, List, length, take, refl, sym, ap, ◌∙◌, subst, if◌then◌else◌}
-use Rattle.std.specs.Prelude.{not, ◌&&◌, ◌==◌, nat_lt}
+use Rattle.std.specs.Prelude.{not, ◌&&◌, nat_lt}
 use Rattle.std.specs.Str.{bytes_eq}
 use Rattle.std.proofs.lemmas.Slice.Eq.{bytes_eq-Decides}
 use Rattle.oc_link.specs.declared.event.Arrival.{Arrival}
@@ -11,7 +11,6 @@ use Rattle.oc_http.specs.declared.fault.HttpFault.{HttpFault}
 use Rattle.oc_http.specs.declared.fault.HttpFault.TheVariants as http
 use Rattle.oc_http.specs.declared.head.Head.{Head}
 use Rattle.oc_model.specs.declared.input.Input.{Input}
-use Rattle.oc_model.specs.declared.input.Input.TheVariants as inputs
 use Rattle.oc_policy.specs.Keys.{mac_digits}
 use Rattle.oc_routes.specs.Connections.{awaits_continue, is_last}
 use Rattle.oc_routes.specs.Routes.{input_asked}
@@ -22,6 +21,7 @@ use Rattle.oc_routes.specs.declared.refused.Refused.TheVariants as refusals
 use Rattle.oc_routes.specs.declared.routes.Operation.{Operation}
 use Rattle.oc_routes.specs.declared.routes.Operation.TheVariants as asks
 use Rattle.oc_routes.specs.Hints.{asked_with_hint}
+use Rattle.oc_routes.proofs.Bodies.{IsOfBody, of_body}
 use Rattle.oc_routes.proofs.Spared.{IsOther, IsSpared}
 use Rattle.oc_routes.proofs.SparedReplies.{head_spared}
 use Rattle.oc_wire.specs.Macs.{is_authentic}
@@ -125,17 +125,9 @@ unread_other coming none (http.Length missing) e = cc
 unread_other coming none http.BodyLong e = cc
 unread_other coming none http.Memory e = cc
 
+-- a body is no message only where a message is asked
 input_message : (nodes me : ℕ) (operation : Operation) (body : List ℕ) → input_asked nodes me operation body ≡ Err refusals.Message → operation ≡ asks.Message
-input_message nodes me asks.Message body e = refl
-input_message nodes me (asks.Publish group at) body e = cc
-input_message nodes me (asks.Seal group at) body e = by_test (length body == 0) e
-  where
-    by_test : (b : Bool) → (if b then Ok (Some (inputs.Seal group)) else Err refusals.Body) ≡ Err refusals.Message → asks.Seal group at ≡ asks.Message
-    by_test true e = cc
-    by_test false e = cc
-input_message nodes me (asks.Client group area start manner) body e = cc
-input_message nodes me (asks.Probe manner) body e = cc
-input_message nodes me (asks.Report report manner) body e = cc
+input_message nodes me operation body e = subst (λ (r : Result (Option Input) Refused). IsOfBody operation r) e (of_body nodes me operation body)
 
 answered_message : (r : Request) (input : Result (Option Input) Refused) → Refuse refusals.Message ≡ answered r input → input ≡ Err refusals.Message
 answered_message r (Ok input) e = cc

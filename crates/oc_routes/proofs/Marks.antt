@@ -5,7 +5,7 @@ use Rattle.oc_updown.specs.Listing.{subjects}
 use Rattle.oc_model.specs.Table.{is_listed, listed_in}
 use Rattle.oc_updown.specs.TableView.{AreRows, AreRowsFrom, entries_of}
 use Rattle.oc_updown.proofs.Lines.{rows_at}
-use Rattle.oc_routes.specs.Rows.{behind, is_first, marked, row_of, rows_of}
+use Rattle.oc_routes.specs.Rows.{after_row, is_first, marked, row_of, rows_of}
 use Rattle.oc_routes.specs.declared.rows.Row.{Row}
 
 -- rows without a certificate give none
@@ -15,7 +15,7 @@ marked_none (None ∷ rows) xs h = marked_none rows xs h
 marked_none (Some k ∷ rows) xs h = absurd (cc h)
 
 -- with a row put at the end, what the rest gives is still the whole
-pub marked_go_on : (rows : List (Option Cert)) (i : ℕ) (row : Option Cert) (xs ys : List ℕ) (listed : Bool) (before after whole : List Row) → i < length rows → row ≡ get_or rows i row → listed ≡ is_first row xs → ys ≡ behind listed xs → after ≡ before ++ row_of row listed → before ++ marked (drop i rows) xs ≡ whole → after ++ marked (drop (i + 1) rows) ys ≡ whole
+pub marked_go_on : (rows : List (Option Cert)) (i : ℕ) (row : Option Cert) (xs ys : List ℕ) (listed : Bool) (before after whole : List Row) → i < length rows → row ≡ get_or rows i row → listed ≡ is_first row xs → ys ≡ after_row listed xs → after ≡ before ++ row_of row listed → before ++ marked (drop i rows) xs ≡ whole → after ++ marked (drop (i + 1) rows) ys ≡ whole
 marked_go_on rows i row xs ys listed before after whole within e first rest put so =
     let here : marked (drop i rows) xs ≡ row_of row listed ++ marked (drop (i + 1) rows) ys = ap (λ (rs : List (Option Cert)). marked rs xs) (rows_at rows i row within e) ∙ rw (rest, first) refl in
     rw put (append_assoc before (row_of row listed) (marked (drop (i + 1) rows) ys) ∙ (sym (ap (λ (rs : List Row). before ++ rs) here) ∙ so))

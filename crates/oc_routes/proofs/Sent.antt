@@ -2,7 +2,8 @@
 use Rattle.std.proofs.Common.{◌≡◌, ℕ, Bool, Some, Option, Result, Ok, Err, IfOk, List, sym, ap, ◌∙◌}
 use Rattle.oc_model.specs.declared.answer.Answer.{Answer}
 use Rattle.oc_model.specs.declared.message.Message.{Message}
-use Rattle.oc_routes.specs.Responses.{redirection, whole}
+use Rattle.oc_routes.specs.Group.{redirection}
+use Rattle.oc_routes.specs.Responses.{whole}
 use Rattle.oc_routes.specs.declared.routes.Operation.{Operation}
 use Rattle.oc_routes.specs.declared.routes.Operation.TheVariants.{Client}
 use Rattle.oc_routes.specs.declared.manner.Manner.{Manner}

@@ -1,11 +1,10 @@
 -- What a head asks is never refused as a body that is no message, nor as a call that failed.
-use Rattle.std.proofs.Common.{ℕ, Bool, true, false, Option, Some, None, Result, Ok, Err, List, codes, if◌then◌else◌}
+use Rattle.std.proofs.Common.{ℕ, Bool, true, false, Option, Some, None, Result, Ok, Err, List, codes}
 use Rattle.oc_base.specs.Names.{parsed_name}
 use Rattle.oc_base.specs.Steps.{◌>>=◌, with_fault}
 use Rattle.oc_base.specs.Words.{number_in}
 use Rattle.oc_base.specs.declared.group_name.NameFault.{NameFault}
 use Rattle.oc_base.specs.declared.limits.TheConstants.{MAX_AREA, MAX_GROUP_BYTES, MAX_START}
-use Rattle.oc_http.specs.Paths.{message_path, probe_path}
 use Rattle.oc_http.specs.Queries.{parts}
 use Rattle.oc_http.specs.declared.head.Head.{Head}
 use Rattle.oc_http.specs.declared.head.Method.{Method}
@@ -14,16 +13,14 @@ use Rattle.oc_policy.specs.Rules.{verdict}
 use Rattle.oc_policy.specs.declared.deciding.Decision.{Decision}
 use Rattle.oc_policy.specs.declared.deciding.Decision.TheVariants.{Allowed, Denied}
 use Rattle.oc_policy.specs.declared.rule.Action.{Action}
-use Rattle.oc_policy.specs.declared.rule.Action.TheVariants.{Get, Post}
 use Rattle.oc_policy.specs.declared.rule.Rule.{Rule}
 use Rattle.oc_routes.specs.Queries.{condition_in, first_value, number_or_nought, number_told, query_in}
-use Rattle.oc_routes.specs.Routes.{action_of, asked, group_in, is_conditional, named_group, permitted, permitted_by, readable_in, report_at, report_or, resource_in}
-use Rattle.oc_routes.specs.declared.report.Report.{Report}
+use Rattle.oc_routes.specs.Routes.{action_of, asked, group_in, is_conditional, named_group, permitted, permitted_by, permitted_in, resource_at, resource_in, resource_or, scope_of}
 use Rattle.oc_routes.specs.declared.refused.Refused.{Refused}
 use Rattle.oc_routes.specs.declared.refused.Refused.TheVariants as refusals
 use Rattle.oc_routes.specs.declared.routes.Resource.{Resource}
-use Rattle.oc_routes.specs.declared.routes.Resource.TheVariants.{Messages, Probe, Report as OwnReport, Group}
-use Rattle.std.specs.Str.{bytes_eq}
+use Rattle.oc_routes.specs.declared.routes.Scope.{Scope}
+use Rattle.oc_routes.specs.declared.routes.Scope.TheVariants.{Free, Node, Group}
 
 -- another refusal
 abbrev pub IsOther : Refused → Type 0
@@ -39,10 +36,6 @@ IsSpared (Err why) = IsOther why
 spared_then : {A B : Type 0} (r : Result A Refused) (f : A → Result B Refused) → IsSpared r → ((x : A) → IsSpared (f x)) → IsSpared (r >>= f)
 spared_then (Ok x) f h k = k x
 spared_then (Err why) f h k = h
-
-spared_if : {A : Type 0} (b : Bool) (r s : Result A Refused) → IsSpared r → IsSpared s → IsSpared (if b then r else s)
-spared_if true r s h k = h
-spared_if false r s h k = k
 
 spared_fault : {A E : Type 0} (r : Result A E) → IsSpared (with_fault refusals.Query r)
 spared_fault (Ok x) = tt
@@ -76,22 +69,21 @@ spared_named : (r : Result (List ℕ) NameFault) → IsSpared (named_group r)
 spared_named (Ok group) = tt
 spared_named (Err fault) = tt
 
-spared_report : (report : Option Report) (r : Result Resource Refused) → IsSpared r → IsSpared (report_or report r)
-spared_report (Some report) r h = tt
-spared_report None r h = h
+spared_or : (row : Option Resource) (r : Result Resource Refused) → IsSpared r → IsSpared (resource_or row r)
+spared_or (Some resource) r h = tt
+spared_or None r h = h
 
+-- whatever rows the table has
 spared_resource : (action : Action) (path : List ℕ) → IsSpared (resource_in action path)
-spared_resource Post path = spared_if (bytes_eq path message_path) (Ok Messages) (group_in path) tt (spared_named (parsed_name path))
-spared_resource Get path = spared_if (bytes_eq path probe_path) (Ok Probe) (readable_in path) tt (spared_report (report_at path) (group_in path) (spared_named (parsed_name path)))
+spared_resource action path = spared_or (resource_at action path) (group_in path) (spared_named (parsed_name path))
 
 spared_allowed : (v : Decision) → IsSpared (permitted_by v)
 spared_allowed Allowed = tt
 spared_allowed (Denied rule) = tt
 
-spared_permitted : (rules : List Rule) (action : Action) (resource : Resource) (area : ℕ) (shown : Option (List ℕ)) → IsSpared (permitted rules action resource area shown)
-spared_permitted rules action Messages area shown = tt
-spared_permitted rules action Probe area shown = tt
-spared_permitted rules action (OwnReport report) area shown = spared_allowed (verdict rules action None area shown)
+spared_permitted : (rules : List Rule) (action : Action) (scope : Scope) (area : ℕ) (shown : Option (List ℕ)) → IsSpared (permitted_in rules action scope area shown)
+spared_permitted rules action Free area shown = tt
+spared_permitted rules action Node area shown = spared_allowed (verdict rules action None area shown)
 spared_permitted rules action (Group group) area shown = spared_allowed (verdict rules action (Some group) area shown)
 
 pub spared_asked : (head : Head) (rules : List Rule) → IsSpared (asked head rules)
@@ -99,4 +91,4 @@ spared_asked head rules =
     spared_then (action_of head.method) _ (spared_action head.method)
     (λ action. spared_then (resource_in action head.path) _ (spared_resource action head.path)
     (λ resource. spared_then (query_in head.query (is_conditional action resource)) _ (spared_query head.query (is_conditional action resource))
-    (λ query. spared_then (permitted rules action resource query.area head.authorization) _ (spared_permitted rules action resource query.area head.authorization) (λ allowed. tt))))
+    (λ query. spared_then (permitted rules action resource query.area head.authorization) _ (spared_permitted rules action (scope_of resource) query.area head.authorization) (λ allowed. tt))))

@@ -36,28 +36,10 @@ spared_both (Ok (asks.Client group area start manner)) (Ok hint) s t = tt
 spared_both (Ok (asks.Client group area start manner)) (Err why) s t = t
 spared_both (Ok (asks.Report report manner)) (Ok hint) s t = tt
 spared_both (Ok (asks.Report report manner)) (Err why) s t = t
-spared_both (Ok asks.Message) h s t = tt
-spared_both (Ok (asks.Publish group at)) h s t = tt
-spared_both (Ok (asks.Seal group at)) h s t = tt
-spared_both (Ok (asks.Probe manner)) h s t = tt
+spared_both (Ok other) h s t = tt
 spared_both (Err (refusals.Denied rule)) (Ok hint) s t = tt
 spared_both (Err (refusals.Denied rule)) (Err why) s t = t
-spared_both (Err refusals.Source) h s t = absurd s
-spared_both (Err refusals.Ended) h s t = tt
-spared_both (Err refusals.Head) h s t = tt
-spared_both (Err refusals.HeadLong) h s t = tt
-spared_both (Err refusals.Fields) h s t = tt
-spared_both (Err refusals.Host) h s t = tt
-spared_both (Err (refusals.Coding both)) h s t = tt
-spared_both (Err (refusals.Length missing)) h s t = tt
-spared_both (Err refusals.BodyLong) h s t = tt
-spared_both (Err refusals.Method) h s t = tt
-spared_both (Err refusals.Path) h s t = tt
-spared_both (Err refusals.Query) h s t = tt
-spared_both (Err refusals.Mac) h s t = tt
-spared_both (Err refusals.Message) h s t = absurd s
-spared_both (Err refusals.Body) h s t = tt
-spared_both (Err (refusals.At length)) h s t = tt
+spared_both (Err why) h s t = s
 
 -- what a head asks is not refused so
 pub head_spared : (head : Head) (rules : List Rule) → IsSpared (asked_with_hint head rules)

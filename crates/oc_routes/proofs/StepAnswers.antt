@@ -11,7 +11,9 @@ use Rattle.oc_model.specs.Serving.{client, client_of, redirects, server_for}
 use Rattle.oc_model.specs.Shelves.{limit, line_at}
 use Rattle.oc_model.specs.declared.answer.Answer.{Answer}
 use Rattle.oc_model.specs.declared.answer.Answer.TheVariants as words
-use Rattle.oc_routes.specs.Answers.{IsPublishAnswer, IsSealAnswer, IsClientAnswer}
+use Rattle.oc_routes.specs.Group.{IsClientAnswer}
+use Rattle.oc_routes.specs.Publish.{IsPublishAnswer}
+use Rattle.oc_routes.specs.Seal.{IsSealAnswer}
 
 -- a fact of the answers of two plans holds of that of the one that is chosen
 chosen : (P : Answer → Type 0) (b : Bool) (p q : Plan) → P p.answer → P q.answer → P (if b then p else q).answer

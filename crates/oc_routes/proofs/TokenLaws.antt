@@ -9,11 +9,11 @@ use Rattle.oc_policy.specs.declared.rule.Action.{Action}
 use Rattle.oc_policy.specs.declared.rule.Rule.{Rule}
 use Rattle.oc_routes.specs.Alike.{AreAlike}
 use Rattle.oc_routes.specs.Queries.{query_in}
-use Rattle.oc_routes.specs.Routes.{action_of, asked, asked_at, is_conditional, permitted, permitted_by, resource_in}
+use Rattle.oc_routes.specs.Routes.{action_of, asked, asked_at, is_conditional, permitted_by, permitted_in, resource_in, scope_of}
 use Rattle.oc_routes.specs.declared.refused.Refused.{Refused}
 use Rattle.oc_routes.specs.declared.routes.Operation.{Operation}
-use Rattle.oc_routes.specs.declared.routes.Resource.{Resource}
-use Rattle.oc_routes.specs.declared.routes.Resource.TheVariants.{Messages, Probe, Report, Group}
+use Rattle.oc_routes.specs.declared.routes.Scope.{Scope}
+use Rattle.oc_routes.specs.declared.routes.Scope.TheVariants.{Free, Node, Group}
 
 -- after the same step, what is alike stays alike
 alike_then : {A : Type 0} (r : Result A Refused) (f g : A → Result Operation Refused) → ((x : A) → AreAlike (f x) (g x)) → AreAlike (r >>= f) (r >>= g)
@@ -26,11 +26,11 @@ alike_by Allowed Allowed operation = inl refl
 alike_by Allowed (Denied rule) operation = inr (inr tt)
 alike_by (Denied rule) w operation = inr (inl tt)
 
-alike_permitted : (rules : List Rule) (action : Action) (resource : Resource) (area : ℕ) (x y : Option (List ℕ)) (operation : Operation)
-    → AreAlike (permitted rules action resource area x >>= (λ allowed. Ok operation)) (permitted rules action resource area y >>= (λ allowed. Ok operation))
-alike_permitted rules action Messages area x y operation = inl refl
-alike_permitted rules action Probe area x y operation = inl refl
-alike_permitted rules action (Report report) area x y operation = alike_by (verdict rules action None area x) (verdict rules action None area y) operation
+-- whatever the rules speak of
+alike_permitted : (rules : List Rule) (action : Action) (scope : Scope) (area : ℕ) (x y : Option (List ℕ)) (operation : Operation)
+    → AreAlike (permitted_in rules action scope area x >>= (λ allowed. Ok operation)) (permitted_in rules action scope area y >>= (λ allowed. Ok operation))
+alike_permitted rules action Free area x y operation = inl refl
+alike_permitted rules action Node area x y operation = alike_by (verdict rules action None area x) (verdict rules action None area y) operation
 alike_permitted rules action (Group group) area x y operation = alike_by (verdict rules action (Some group) area x) (verdict rules action (Some group) area y) operation
 
 -- what a request shows decides only whether a rule denies it
@@ -39,4 +39,4 @@ alike_asked head rules x y =
     alike_then (action_of head.method) _ _
     (λ action. alike_then (resource_in action head.path) _ _
     (λ resource. alike_then (query_in head.query (is_conditional action resource)) _ _
-    (λ query. alike_permitted rules action resource query.area x y (asked_at head.method head.minor query resource))))
+    (λ query. alike_permitted rules action (scope_of resource) query.area x y (asked_at head.method head.minor query resource))))

@@ -17,8 +17,7 @@ use Rattle.oc_routes.specs.Connections.{is_last, awaits_continue}
 use Rattle.oc_routes.specs.Inputs.{input_line}
 use Rattle.oc_routes.specs.Refusals.{refusal_line, refusal_text}
 use Rattle.oc_routes.specs.Replies.{others, reply_to}
-use Rattle.oc_routes.specs.Responses.{response_to}
-use Rattle.oc_routes.specs.Routes.{asked, input_asked}
+use Rattle.oc_routes.specs.Routes.{asked, input_asked, response_to}
 use Rattle.oc_routes.specs.declared.routes.Operation.{Operation}
 use Rattle.oc_routes.specs.declared.routes.Operation.TheVariants as operations
 use Rattle.oc_routes.specs.declared.manner.Manner.{Manner}

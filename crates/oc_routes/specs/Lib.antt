@@ -1,7 +1,12 @@
 pub mod Refusals
 pub mod Inputs
 pub mod Responses
-pub mod Answers
+pub mod Manners
+pub mod Message
+pub mod Publish
+pub mod Seal
+pub mod Group
+pub mod Probe
 pub mod Alike
 pub mod Examples
 pub mod Connections

@@ -1,6 +1,6 @@
 -- The page at `/!`.
 use Rattle.std.specs.Prelude.{ℕ, List}
-use Rattle.oc_routes.specs.declared.html.TheConstants.{PAGE}
+use Rattle.oc_routes.specs.declared.routes.page.TheConstants.{PAGE}
 
 -- the text of this crate; nothing is said of what it draws
 unfoldable pub page_text : List ℕ

@@ -13,7 +13,8 @@ use Rattle.oc_model.specs.declared.answer.Answer.TheVariants as answers
 use Rattle.oc_model.specs.declared.message.Body.TheVariants as bodies
 use Rattle.oc_model.specs.declared.message.Message.{Message}
 use Rattle.oc_policy.specs.declared.rule.Rule.{Rule}
-use Rattle.oc_routes.specs.Responses.{message_response, status_alone}
+use Rattle.oc_routes.specs.Message.{message_response}
+use Rattle.oc_routes.specs.Responses.{status_alone}
 use Rattle.oc_routes.specs.declared.routes.Operation.{Operation}
 use Rattle.oc_routes.specs.declared.routes.Operation.TheVariants as asks
 use Rattle.oc_routes.specs.declared.manner.Manner.{Manner}
@@ -28,7 +29,7 @@ use Rattle.oc_routes.specs.Examples.{closed, closes, lines, rejoin_bytes}
 use Rattle.oc_routes.specs.Contents.{behind, owed, piece_of, piece_text}
 use Rattle.oc_routes.specs.Hints.{asked_with_hint, hint_in}
 use Rattle.oc_routes.specs.Shown.{location_of, response_for, told_text}
-use Rattle.oc_routes.specs.Verdicts.{NodeTerms, arrival, asked_behind, terms_of, unfinished}
+use Rattle.oc_routes.specs.Verdicts.{NodeTerms, arrival, after_head, terms_of, unfinished}
 use Rattle.oc_routes.specs.Waits.{holding, is_due, is_to_wait, left_of, prospect}
 use Rattle.oc_routes.specs.declared.content.UnderWay.{UnderWay}
 use Rattle.oc_routes.specs.declared.hint.Asked.{Asked}
@@ -49,7 +50,7 @@ open_terms = terms_of 1 3 [] None
 
 -- to node 1 a request came, with a head of 40 bytes, and these after it
 abbrev came_open : Head → List ℕ → ℕ → Verdict → Type 0
-came_open head rest came verdict = asked_behind open_terms (arrival 7 1 false comings.Open) came head rest ≡ verdict
+came_open head rest came verdict = after_head open_terms (arrival 7 1 false comings.Open) came head rest ≡ verdict
 
 -- of a publish of three bytes two have come
 abbrev cut_publish : Head
@@ -72,7 +73,7 @@ posted mac = record (head methods.Post (codes "/!overcast") [] 17) { mac = mac }
 
 -- what came is a head of 40 bytes and this body
 abbrev judged_under : Option (List ℕ) → Head → List ℕ → Verdict → Type 0
-judged_under key head body verdict = asked_behind (keyed key) (arrival 7 1 false comings.Open) (40 + length body) (record head { length = length body }) body ≡ verdict
+judged_under key head body verdict = after_head (keyed key) (arrival 7 1 false comings.Open) (40 + length body) (record head { length = length body }) body ≡ verdict
 
 abbrev read : Hint → Verdict
 read hint = verdicts.Ask (record { count = 40; operation = asks.Client (codes "/a") 0 0 Follow; hint = hint; input = Some (inputs.Client 0 0 (codes "/a")); last = false })
@@ -80,14 +81,14 @@ read hint = verdicts.Ask (record { count = 40; operation = asks.Client (codes "/
 -- what is to be done with a connection
 pub record AreJudged : Type 0 where
   pub waits : came_open cut_publish (codes "ab") 42 verdicts.Wait
-  pub ended : asked_behind open_terms (arrival 7 1 false comings.Ended) 42 cut_publish (codes "ab") ≡ verdicts.Refuse refusals.Ended
-  pub failed : asked_behind open_terms (arrival 7 1 false comings.Failed) 42 cut_publish (codes "ab") ≡ verdicts.Refuse refusals.Source
+  pub ended : after_head open_terms (arrival 7 1 false comings.Ended) 42 cut_publish (codes "ab") ≡ verdicts.Refuse refusals.Ended
+  pub failed : after_head open_terms (arrival 7 1 false comings.Failed) 42 cut_publish (codes "ab") ≡ verdicts.Refuse refusals.Source
   pub whole : came_open cut_publish (codes "abc") 43 (published 43 false)
   pub more_behind : came_open cut_publish (codes "abcGET") 46 (published 43 false)
-  pub whole_at_its_end : asked_behind open_terms (arrival 7 1 false comings.Ended) 43 cut_publish (codes "abc") ≡ published 43 false
-  pub sixteenth : asked_behind open_terms (arrival 7 16 false comings.Open) 43 cut_publish (codes "abc") ≡ published 43 true
+  pub whole_at_its_end : after_head open_terms (arrival 7 1 false comings.Ended) 43 cut_publish (codes "abc") ≡ published 43 false
+  pub sixteenth : after_head open_terms (arrival 7 16 false comings.Open) 43 cut_publish (codes "abc") ≡ published 43 true
   pub permits : came_open (record cut_publish { expects = true }) (codes "abc") 43 verdicts.Permit
-  pub permitted : asked_behind open_terms (arrival 7 1 true comings.Open) 43 (record cut_publish { expects = true }) (codes "abc") ≡ published 43 false
+  pub permitted : after_head open_terms (arrival 7 1 true comings.Open) 43 (record cut_publish { expects = true }) (codes "abc") ≡ published 43 false
   pub refused_at_its_head : came_open (record (head methods.Post (codes "/%") [] 3) { expects = true }) [] 40 (verdicts.Refuse refusals.Path)
   pub sealed_with_a_body : came_open (head methods.Post (codes "/a") (codes "seal") 3) (codes "abc") 43 (verdicts.Refuse refusals.Body)
   pub follows : came_open (head methods.Get (codes "/a") (codes "follow") 0) [] 40 (read hints.Plain)
@@ -99,8 +100,8 @@ pub record AreJudged : Type 0 where
   pub no_mac : judged_under (Some (codes "key")) (posted None) rejoin_bytes (verdicts.Refuse refusals.Mac)
   pub no_mac_of_no_message : judged_under (Some (codes "key")) (posted None) (0 ∷ []) (verdicts.Refuse refusals.Mac)
   pub path_before_mac : judged_under (Some (codes "key")) (record (posted None) { method = methods.Get }) rejoin_bytes (verdicts.Refuse refusals.Path)
-  pub part_before_mac : asked_behind (keyed (Some (codes "key"))) (arrival 7 1 false comings.Ended) 41 (record (posted None) { length = 2 }) (0 ∷ []) ≡ verdicts.Refuse refusals.Ended
-  pub publish_needs_none : asked_behind (keyed (Some (codes "key"))) (arrival 7 1 false comings.Open) 43 cut_publish (codes "abc") ≡ published 43 false
+  pub part_before_mac : after_head (keyed (Some (codes "key"))) (arrival 7 1 false comings.Ended) 41 (record (posted None) { length = 2 }) (0 ∷ []) ≡ verdicts.Refuse refusals.Ended
+  pub publish_needs_none : after_head (keyed (Some (codes "key"))) (arrival 7 1 false comings.Open) 43 cut_publish (codes "abc") ≡ published 43 false
   pub nothing_waits : unfinished comings.Open true ≡ verdicts.Wait
   pub nothing_ended : unfinished comings.Ended true ≡ verdicts.Leave
   pub nothing_failed : unfinished comings.Failed true ≡ verdicts.Refuse refusals.Source

@@ -1,14 +1,28 @@
 -- What a node tells of itself, as it is asked.
-use Rattle.std.specs.Prelude.{ℕ, List, []}
+use Rattle.std.specs.Prelude.{ℕ, Bool, None, List, [], ◌++◌, length}
 use Rattle.oc_base.specs.declared.shelf.Shelf.{Shelf}
+use Rattle.oc_http.specs.Writing.{head_text}
+use Rattle.oc_http.specs.declared.content_type.ContentType.{ContentType}
+use Rattle.oc_http.specs.declared.content_type.ContentType.TheVariants as types
+use Rattle.oc_http.specs.declared.framing.Framing.TheVariants as framings
 use Rattle.oc_model.specs.Node.{Control}
+use Rattle.oc_routes.specs.Manners.{body_for, connection_for}
 use Rattle.oc_routes.specs.Metrics.{metrics_text}
 use Rattle.oc_routes.specs.Page.{page_text}
+use Rattle.oc_routes.specs.Responses.{typed_as}
 use Rattle.oc_routes.specs.Status.{status_text}
+use Rattle.oc_routes.specs.declared.manner.Manner.{Manner}
 use Rattle.oc_routes.specs.declared.report.Report.{Report}
 use Rattle.oc_routes.specs.declared.report.Report.TheVariants as reports
+use Rattle.oc_routes.specs.declared.response.Response.{Response}
 use Rattle.oc_routes.specs.declared.routes.Operation.{Operation}
 use Rattle.oc_routes.specs.declared.routes.Operation.TheVariants as asks
+
+-- the type of a report
+abbrev pub content_type_of : Report → ContentType
+content_type_of reports.Status = types.Json
+content_type_of reports.Metrics = types.Metrics
+content_type_of reports.Page = types.Html
 
 -- a node with this shelf, whose outbox has this many messages
 abbrev pub report_text : Report → Control → List Shelf → ℕ → List ℕ
@@ -20,3 +34,11 @@ report_text reports.Page n shelf messages = page_text
 abbrev pub report_of : Operation → Control → List Shelf → ℕ → List ℕ
 report_of (asks.Report report manner) n shelf messages = report_text report n shelf messages
 report_of other n shelf messages = []
+
+-- to one who asks what the node tells of itself, which is this
+abbrev pub report_response : Report → Manner → Bool → List ℕ → Response
+report_response report manner last text = record {
+  text = head_text (typed_as (content_type_of report) []) (framings.Length (length text)) (connection_for manner last) ++ body_for manner text;
+  content = None;
+  connection = connection_for manner last;
+}

@@ -1,15 +1,14 @@
--- What the head of a request asks of a node, and which input results from it: the table of routes.
-use Rattle.std.specs.Prelude.{◌≡◌, ℕ, Bool, true, false, ◌&&◌, ◌==◌, if◌then◌else◌, Option, Some, None, Result, Ok, Err, List, length}
+-- The table of routes: what the head of a request asks of a node, which input results from it, and what it is answered.
+use Rattle.std.specs.Prelude.{◌≡◌, ℕ, Bool, true, false, if◌then◌else◌, Option, Some, None, Result, Ok, Err, List, [], ◌∷◌}
 use Rattle.std.specs.Str.{bytes_eq}
 use Rattle.oc_base.specs.Names.{parsed_name}
 use Rattle.oc_base.specs.Steps.{◌>>=◌}
 use Rattle.oc_base.specs.declared.group_name.NameFault.{NameFault}
 use Rattle.oc_http.specs.Paths.{message_path, probe_path}
-use Rattle.oc_http.specs.declared.content_type.ContentType.{ContentType}
-use Rattle.oc_http.specs.declared.content_type.ContentType.TheVariants as types
 use Rattle.oc_http.specs.declared.head.Head.{Head}
 use Rattle.oc_http.specs.declared.head.Method.{Method}
 use Rattle.oc_http.specs.declared.head.Method.TheVariants as methods
+use Rattle.oc_model.specs.declared.answer.Answer.{Answer}
 use Rattle.oc_model.specs.declared.input.Input.{Input}
 use Rattle.oc_model.specs.declared.input.Input.TheVariants as inputs
 use Rattle.oc_model.specs.declared.message.Message.{Message}
@@ -20,22 +19,32 @@ use Rattle.oc_policy.specs.declared.rule.Action.{Action}
 use Rattle.oc_policy.specs.declared.rule.Action.TheVariants.{Get, Post}
 use Rattle.oc_policy.specs.declared.rule.Rule.{Rule}
 use Rattle.oc_wire.specs.MessageReading.{decoded}
-use Rattle.oc_wire.specs.declared.fault.WireFault.{WireFault}
+use Rattle.oc_routes.specs.Group.{client_response}
+use Rattle.oc_routes.specs.Manners.{manner_of}
+use Rattle.oc_routes.specs.Message.{delivered, message_response}
+use Rattle.oc_routes.specs.Probe.{probe_response}
+use Rattle.oc_routes.specs.Publish.{publish_response}
 use Rattle.oc_routes.specs.Queries.{query_in}
+use Rattle.oc_routes.specs.Reports.{report_response}
+use Rattle.oc_routes.specs.Seal.{seal_input, seal_response}
 use Rattle.oc_routes.specs.declared.routes.Operation.{Operation}
 use Rattle.oc_routes.specs.declared.routes.Operation.TheVariants as operations
-use Rattle.oc_routes.specs.declared.manner.Manner.{Manner}
-use Rattle.oc_routes.specs.declared.manner.Manner.TheVariants.{HeadAlone, Once, Follow}
 use Rattle.oc_routes.specs.declared.routes.Resource.{Resource}
 use Rattle.oc_routes.specs.declared.routes.Resource.TheVariants.{Messages, Probe, Report as OwnReport, Group}
+use Rattle.oc_routes.specs.declared.routes.Scope.{Scope}
+use Rattle.oc_routes.specs.declared.routes.Scope.TheVariants as scopes
+use Rattle.oc_routes.specs.declared.routes.metrics.TheConstants.{METRICS_PATH}
+use Rattle.oc_routes.specs.declared.routes.page.TheConstants.{PAGE_PATH}
+use Rattle.oc_routes.specs.declared.routes.status.TheConstants.{STATUS_PATH}
 use Rattle.oc_routes.specs.declared.fault.RouteFault.{RouteFault}
 use Rattle.oc_routes.specs.declared.fault.RouteFault.TheVariants as faults
 use Rattle.oc_routes.specs.declared.query.Query.{Query}
 use Rattle.oc_routes.specs.declared.refused.Refused.{Refused}
-use Rattle.oc_routes.specs.declared.report.Report.{Report}
-use Rattle.oc_routes.specs.declared.report.Report.TheVariants as reports
-use Rattle.oc_routes.specs.declared.report.TheConstants.{METRICS_PATH, PAGE_PATH, STATUS_PATH}
 use Rattle.oc_routes.specs.declared.refused.Refused.TheVariants as refusals
+use Rattle.oc_routes.specs.declared.report.Report.TheVariants as reports
+use Rattle.oc_routes.specs.declared.response.Response.{Response}
+
+-- What a path names
 
 -- what a method does: GET and HEAD read, POST writes
 abbrev pub action_of : Method → Result Action Refused
@@ -43,6 +52,24 @@ action_of methods.Get = Ok Get
 action_of methods.Head = Ok Get
 action_of methods.Post = Ok Post
 action_of methods.Other = Err refusals.Method
+
+-- the paths that name no group, with what is read there, and what is posted: messages are posted, a probe and reports are read
+abbrev pub rows : Action → List (List ℕ × Resource)
+rows Get =
+    (probe_path, Probe)
+    ∷ (STATUS_PATH.now, OwnReport reports.Status)
+    ∷ (METRICS_PATH.now, OwnReport reports.Metrics)
+    ∷ (PAGE_PATH.now, OwnReport reports.Page)
+    ∷ []
+rows Post = (message_path, Messages) ∷ []
+
+-- what the first row of this path names
+abbrev pub named_in : List ℕ → List (List ℕ × Resource) → Option Resource
+named_in path [] = None
+named_in path (row ∷ more) = if bytes_eq path (row.0) then Some (row.1) else named_in path more
+
+abbrev pub resource_at : Action → List ℕ → Option Resource
+resource_at action path = named_in path (rows action)
 
 -- the group of a path that is a group name
 abbrev pub named_group : Result (List ℕ) NameFault → Result Resource Refused
@@ -52,48 +79,36 @@ named_group (Err fault) = Err refusals.Path
 abbrev pub group_in : List ℕ → Result Resource Refused
 group_in path = named_group (parsed_name path)
 
--- what a node tells of itself at this path, if it is one of these
-abbrev pub report_at : List ℕ → Option Report
-report_at path =
-    if bytes_eq path STATUS_PATH.now then Some reports.Status
-    else if bytes_eq path METRICS_PATH.now then Some reports.Metrics
-    else if bytes_eq path PAGE_PATH.now then Some reports.Page
-    else None
+abbrev pub resource_or : Option Resource → Result Resource Refused → Result Resource Refused
+resource_or (Some resource) other = Ok resource
+resource_or None other = other
 
-abbrev pub report_or : Option Report → Result Resource Refused → Result Resource Refused
-report_or (Some report) other = Ok (OwnReport report)
-report_or None other = other
-
--- what a path names that is read
-abbrev pub readable_in : List ℕ → Result Resource Refused
-readable_in path = report_or (report_at path) (group_in path)
-
--- what a path names: messages are posted, a probe and reports are read, and any other path is a group
+-- what a path names: a row of the table, and any other path is a group
 abbrev pub resource_in : Action → List ℕ → Result Resource Refused
-resource_in Post path = if bytes_eq path message_path then Ok Messages else group_in path
-resource_in Get path = if bytes_eq path probe_path then Ok Probe else readable_in path
+resource_in action path = resource_or (resource_at action path) (group_in path)
 
--- the type of a report
-abbrev pub content_type_of : Report → ContentType
-content_type_of reports.Status = types.Json
-content_type_of reports.Metrics = types.Metrics
-content_type_of reports.Page = types.Html
+-- Which access rules speak of it
+
+-- those of a group; of reports those for `/` too; and of all else none
+abbrev pub scope_of : Resource → Scope
+scope_of (Group group) = scopes.Group group
+scope_of (OwnReport report) = scopes.Node
+scope_of resource = scopes.Free
 
 -- what a verdict lets through
 abbrev pub permitted_by : Decision → Result (Unit {0}) Refused
 permitted_by Allowed = Ok tt
 permitted_by (Denied rule) = Err (refusals.Denied rule)
 
--- the access rules speak of groups, and those for `/` of reports too
-abbrev pub permitted : List Rule → Action → Resource → ℕ → Option (List ℕ) → Result (Unit {0}) Refused
-permitted rules action (Group group) area shown = permitted_by (verdict rules action (Some group) area shown)
-permitted rules action (OwnReport report) area shown = permitted_by (verdict rules action None area shown)
-permitted rules action resource area shown = Ok tt
+abbrev pub permitted_in : List Rule → Action → Scope → ℕ → Option (List ℕ) → Result (Unit {0}) Refused
+permitted_in rules action scopes.Free area shown = Ok tt
+permitted_in rules action scopes.Node area shown = permitted_by (verdict rules action None area shown)
+permitted_in rules action (scopes.Group group) area shown = permitted_by (verdict rules action (Some group) area shown)
 
--- how a content is asked for: a part `follow` counts in a GET of version 1.1 alone
-abbrev pub manner_of : Method → ℕ → Bool → Manner
-manner_of methods.Get minor follow = if follow && minor == 1 then Follow else Once
-manner_of method minor follow = HeadAlone
+abbrev pub permitted : List Rule → Action → Resource → ℕ → Option (List ℕ) → Result (Unit {0}) Refused
+permitted rules action resource area shown = permitted_in rules action (scope_of resource) area shown
+
+-- What is asked
 
 -- what is asked of a group: a part `seal` counts in a POST alone
 abbrev pub asked_of_group : Method → ℕ → Query → List ℕ → Operation
@@ -123,19 +138,13 @@ asked head rules = do
 
 -- Which input results from a request
 
--- a message that was read goes to the node that it is addressed to, and to no other
-abbrev pub delivered : ℕ → Result Message WireFault → Result (Option Input) Refused
-delivered me (Ok message) = if message.to == me then Ok (Some (inputs.Delivered message)) else Err refusals.Message
-delivered me (Err fault) = Err refusals.Message
-
 -- The input of the node `me`, one of `nodes` nodes, that results from what was asked and from the body; a probe and a report give none.
 abbrev pub input_asked : ℕ → ℕ → Operation → List ℕ → Result (Option Input) Refused
 input_asked nodes me operations.Message body = delivered me (decoded nodes body)
 input_asked nodes me (operations.Publish group at) body = Ok (Some (inputs.Publish group body))
-input_asked nodes me (operations.Seal group at) body = if length body == 0 then Ok (Some (inputs.Seal group)) else Err refusals.Body
+input_asked nodes me (operations.Seal group at) body = seal_input group body
 input_asked nodes me (operations.Client group area start manner) body = Ok (Some (inputs.Client area start group))
-input_asked nodes me (operations.Probe manner) body = Ok None
-input_asked nodes me (operations.Report report manner) body = Ok None
+input_asked nodes me other body = Ok None
 
 -- what a call gave is what is said, unless memory ran out
 abbrev pub Gives : {A : Type 0} → Result A RouteFault → Result A Refused → Type 0
@@ -143,7 +152,16 @@ Gives (Ok value) said = said ≡ Ok value
 Gives (Err (faults.Refused refused)) said = said ≡ Err refused
 Gives (Err faults.Memory) said = Unit {0}
 
--- the content, except for a HEAD
-abbrev pub content_for : {A : Type 0} → Manner → A → Option A
-content_for HeadAlone content = None
-content_for manner content = Some content
+-- What a request is answered
+
+-- What is answered to what was asked: for this answer of the step, this message that goes back to the sender, whether the
+-- group is sealed, the addresses and the key of the network, and what the node tells of itself; last says that the request
+-- is the last of its connection whatever it asks.
+abbrev pub response_to : Operation → Answer → Option Message → Bool → List (List ℕ) → Option (List ℕ) → Bool → List ℕ → Response
+response_to operations.Message answer reply sealed addresses key last report = message_response key reply
+response_to (operations.Publish group at) answer reply sealed addresses key last report = publish_response answer
+response_to (operations.Seal group at) answer reply sealed addresses key last report = seal_response answer
+response_to (operations.Client group area start manner) answer reply sealed addresses key last report =
+    client_response group start manner answer sealed addresses last
+response_to (operations.Probe manner) answer reply sealed addresses key last report = probe_response manner last
+response_to (operations.Report what manner) answer reply sealed addresses key last report = report_response what manner last report

@@ -30,9 +30,9 @@ is_first (Some k) [] = false
 is_first (Some k) (x ∷ xs) = x == k.subject
 
 -- those of the rows after it
-abbrev pub behind : Bool → List ℕ → List ℕ
-behind true xs = drop 1 xs
-behind false xs = xs
+abbrev pub after_row : Bool → List ℕ → List ℕ
+after_row true xs = drop 1 xs
+after_row false xs = xs
 
 abbrev pub row_of : Option Cert → Bool → List Row
 row_of None listed = []
@@ -40,4 +40,4 @@ row_of (Some k) listed = record { cert = k; listed = listed } ∷ []
 
 abbrev pub marked : List (Option Cert) → List ℕ → List Row
 marked [] xs = []
-marked (row ∷ rows) xs = row_of row (is_first row xs) ++ marked rows (behind (is_first row xs) xs)
+marked (row ∷ rows) xs = row_of row (is_first row xs) ++ marked rows (after_row (is_first row xs) xs)

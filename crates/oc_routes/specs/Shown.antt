@@ -3,7 +3,9 @@ use Rattle.std.specs.Prelude.{ℕ, ◌-◌, Bool, true, false, ◌==◌, if◌th
 use Rattle.oc_model.specs.declared.answer.Answer.{Answer}
 use Rattle.oc_model.specs.declared.answer.Answer.TheVariants as answers
 use Rattle.oc_model.specs.declared.message.Message.{Message}
-use Rattle.oc_routes.specs.Responses.{address_of, client_response, redirection, response_to, whole as whole_reply}
+use Rattle.oc_routes.specs.Group.{client_response, redirection}
+use Rattle.oc_routes.specs.Responses.{address_of, whole as whole_reply}
+use Rattle.oc_routes.specs.Routes.{response_to}
 use Rattle.oc_routes.specs.declared.routes.Operation.{Operation}
 use Rattle.oc_routes.specs.declared.routes.Operation.TheVariants as asks
 use Rattle.oc_routes.specs.declared.manner.Manner.{Manner}
@@ -45,12 +47,12 @@ shown Known answer h start = known_shown answer h.sealed
 -- Locations
 
 -- what is told of a group to the next node: its length where it is sealed here, and else what the client tells
-abbrev pub own_text : Hint → List ℕ
-own_text (Of length) = codes "of=" ++ decimal length
-own_text other = codes "known"
+abbrev pub hint_text : Hint → List ℕ
+hint_text (Of length) = codes "of=" ++ decimal length
+hint_text other = codes "known"
 
 abbrev pub told_text : Hint → Holding → List ℕ
-told_text hint h = if h.sealed then codes "of=" ++ decimal h.held else own_text hint
+told_text hint h = if h.sealed then codes "of=" ++ decimal h.held else hint_text hint
 
 abbrev pub start_text : ℕ → List ℕ
 start_text start = if start == 0 then [] else codes "start=" ++ decimal start ++ codes "&"

@@ -93,8 +93,8 @@ unfoldable pub state_text : Control → List ℕ
 state_text n = network_text n ++ place_text n ++ counts_text n
 
 -- the whole, with these rows of the node's table and these leased children: its state, the nodes above it, its groups, these
-abbrev pub told_text : Control → List Shelf → List Row → List Leased → List ℕ
-told_text n shelf rows leased =
+abbrev pub object_text : Control → List Shelf → List Row → List Leased → List ℕ
+object_text n shelf rows leased =
     codes "{" ++ state_text n
     ++ list_text (codes "ancestors") number_text n.kept.ancestors
     ++ list_text (codes "groups") group_text shelf
@@ -104,4 +104,4 @@ told_text n shelf rows leased =
 
 -- the whole, of a node with this shelf
 abbrev pub status_text : Control → List Shelf → List ℕ
-status_text n shelf = told_text n shelf (rows_of n.kept.table n.me) (leased_of n)
+status_text n shelf = object_text n shelf (rows_of n.kept.table n.me) (leased_of n)

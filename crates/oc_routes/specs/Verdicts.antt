@@ -88,8 +88,8 @@ routed t a came head rest (Ok said) = with_body t a came head rest said
 routed t a came head rest (Err why) = Refuse why
 
 -- a whole head, with what came after it
-abbrev pub asked_behind : NodeTerms → Arrival → ℕ → Head → List ℕ → Verdict
-asked_behind t a came head rest = routed t a came head rest (asked_with_hint head t.rules)
+abbrev pub after_head : NodeTerms → Arrival → ℕ → Head → List ℕ → Verdict
+after_head t a came head rest = routed t a came head rest (asked_with_hint head t.rules)
 
 -- the fault by which a reader of heads met no head; none where the bytes ended before
 abbrev pub fault_met : HttpFault → Option RouteFault
@@ -103,7 +103,7 @@ unread coming none (Some fault) = refused_for fault
 
 -- what a reader of heads answered, with what it left
 abbrev pub verdict_for : NodeTerms → Arrival → List ℕ → List ℕ → Result Head HttpFault → Verdict
-verdict_for t a bytes rest (Ok head) = asked_behind t a (length bytes) head rest
+verdict_for t a bytes rest (Ok head) = after_head t a (length bytes) head rest
 verdict_for t a bytes rest (Err fault) = unread a.coming (is_none bytes) (fault_met fault)
 
 -- The verdict on these bytes: what a source that gives these bytes and then ends is answered, where its end is what it is here.

@@ -4,11 +4,11 @@ ghost use Rattle.std.specs.Prelude.{◌≡◌, ◌≤◌, ◌++◌, length, opti
 ghost use Rattle.oc_base.specs.declared.limits.TheConstants.{MAX_BODY_BYTES as MOST_BODY};
 ghost use Rattle.oc_policy.specs.declared.deciding.TheConstants.{MAX_RULES as MOST_RULES};
 ghost use Rattle.oc_routes.specs.Asks.{IsLawfulVerdict};
-ghost use Rattle.oc_routes.specs.Verdicts.{IsVerdict, asked_behind, fault_met, input_for, terms_of, unfinished};
+ghost use Rattle.oc_routes.specs.Verdicts.{IsVerdict, after_head, fault_met, input_for, terms_of, unfinished};
 
 use crate::hint::{Hint, route_with_hint};
-use crate::macs::is_forged;
 use crate::rest::Rest;
+use crate::routes::message::is_forged;
 use crate::terms::Terms;
 use crate::verdict::{Request, Verdict};
 use crate::{Refused, RouteFault, awaits_continue, input_of, is_last};
@@ -33,7 +33,7 @@ pub fn judge(
 {
     let mut source = Rest::of(bytes);
     match heads.read_head(&mut source) {
-        Ok(head) => behind_head(
+        Ok(head) => after_head(
             alloc,
             terms,
             arrival,
@@ -60,7 +60,7 @@ fn fault_met(fault: HttpFault) -> Option<RouteFault>
 }
 
 /// The verdict after a whole head, with the bytes that came after it.
-fn behind_head(
+fn after_head(
     alloc: Global,
     terms: &Terms<'_>,
     arrival: Arrival,
@@ -71,7 +71,7 @@ fn behind_head(
     requires rules { length terms.now.rules.now ≤ MOST_RULES }
     requires body { head.now.length ≤ MOST_BODY }
     ensures verdict { IfOk result (λ verdict. verdict
-        ≡ asked_behind (terms_of terms.now.me terms.now.nodes terms.now.rules.now (option_map (λ k. k.now) terms.now.key)) arrival came head.now rest.now) }
+        ≡ after_head (terms_of terms.now.me terms.now.nodes terms.now.rules.now (option_map (λ k. k.now) terms.now.key)) arrival came head.now rest.now) }
     ensures lawful { IfOk result (IsLawfulVerdict terms.now.nodes terms.now.me) }
 {
     let said = match route_with_hint(head, terms.rules) {

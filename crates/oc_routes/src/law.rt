@@ -7,9 +7,11 @@ ghost use Rattle.oc_model.specs.Step.{step};
 ghost use Rattle.oc_model.specs.declared.input.Input.TheVariants.{Client as ClientInput, Publish as PublishInput, Seal as SealInput};
 ghost use Rattle.oc_policy.specs.declared.rule.Rule.{Rule};
 ghost use Rattle.oc_routes.specs.Alike.{AreAlike};
-ghost use Rattle.oc_routes.specs.Answers.{IsClientAnswer, IsPublishAnswer, IsSealAnswer};
 ghost use Rattle.oc_routes.specs.Examples.{AreAnswered, AreRouted};
+ghost use Rattle.oc_routes.specs.Group.{IsClientAnswer};
+ghost use Rattle.oc_routes.specs.Publish.{IsPublishAnswer};
 ghost use Rattle.oc_routes.specs.Routes.{asked};
+ghost use Rattle.oc_routes.specs.Seal.{IsSealAnswer};
 
 /// A step answers the input of a request by the answers of the table of routes, and by no others.
 pub fn steps_answer_by_the_table()

@@ -55,6 +55,6 @@ fn with_ends(
 fn end_of(ends: &Slots<Option<u64>>, child: NodeId) -> Option<u64>
     ensures { result ≡ at ends.now.items child None }
 {
-    let place = (child.0 as usize).saturating_sub(1);
-    ends.get_or(place, None)
+    let index = (child.0 as usize).saturating_sub(1);
+    ends.get_or(index, None)
 }

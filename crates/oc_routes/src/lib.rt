@@ -2,10 +2,11 @@
 //! what that gives the node, and what it is answered, piece by piece. No link, disk or clock is in it: functions over
 //! values.
 //!
-//! `src/routes.rt` and `specs/Routes` are the table of routes: which operation a head asks for under the
-//! access rules (`asked`), with its faults in their order, and which input results from it and the body
-//! (`input_asked`). `src/responses.rt` and `specs/Responses` have the reply of each operation
-//! (`response_to`), `specs/Refusals` the line and the reply of a refused request.
+//! `src/routes.rt` and `specs/Routes` are the table of routes: which operation a head asks for under the access rules
+//! (`asked`), with its faults in their order, which input results from it and the body (`input_asked`), and the reply
+//! of each operation (`response_to`). What belongs to one route alone is in its file of `src/routes`, and its definitions
+//! are in `specs/Message`, `Publish`, `Seal`, `Group`, `Probe`, `Status`, `Metrics` and `Page`. `specs/Refusals` has the
+//! line and the reply of a refused request.
 //!
 //! The contracts used above: [`route`] gives exactly `asked`, [`input_of`] exactly `input_asked`, and what
 //! it gives is an input of this node; [`respond`] gives exactly `response_to` of the answer of the step.
@@ -48,16 +49,13 @@ mod content;
 mod counts;
 mod directory;
 mod fault;
-mod gauges;
 mod hint;
 mod holding;
-mod html;
 mod json;
 mod judging;
 mod law;
 mod leased;
 mod lines;
-mod macs;
 mod manner;
 mod objects;
 mod query;
@@ -66,7 +64,6 @@ mod refused;
 mod replies;
 mod reply_law;
 mod report;
-mod reporting;
 mod response;
 mod responses;
 mod rest;
@@ -76,7 +73,6 @@ mod seen;
 mod showing;
 mod status_law;
 mod step_outcome;
-mod telling;
 mod terms;
 mod verdict;
 mod waiting;
@@ -87,10 +83,8 @@ pub use connections::{CONTINUE, MAX_REQUESTS, awaits_continue, is_last};
 pub use content::{PIECE_BYTES, UnderWay};
 pub use directory::Directory;
 pub use fault::RouteFault;
-pub use gauges::metrics;
 pub use hint::{Asked, Hint, route_with_hint};
 pub use holding::Holding;
-pub use html::page;
 pub use judging::judge;
 pub use law::{a_token_tells_nothing, examples_compute, steps_answer_by_the_table};
 pub use lines::{put_input_line, put_refusal_line};
@@ -105,16 +99,17 @@ pub use reply_law::{
     pieces_are_the_content, pieces_follow_one_another, reply_examples_compute,
     who_waits_has_nothing_new,
 };
-pub use report::{METRICS_PATH, PAGE_PATH, Report, STATUS_PATH};
-pub use reporting::report_of;
+pub use report::{Report, report_of};
 pub use response::{GroupRange, Response};
-pub use responses::{Answered, respond};
-pub use routes::{Operation, input_of, route};
+pub use responses::Answered;
+pub use routes::metrics::{METRICS_PATH, metrics};
+pub use routes::page::{PAGE_PATH, page};
+pub use routes::status::{STATUS_PATH, status};
+pub use routes::{Operation, input_of, respond, route};
 pub use seen::Seen;
 pub use showing::{Shown, as_shown, respond_to};
 pub use status_law::{examples_are_told, names_are_plain};
 pub use step_outcome::StepOutcome;
-pub use telling::status;
 pub use terms::Terms;
 pub use verdict::{Request, Verdict};
 pub use waiting::{FOLLOW_MILLIS, Follower, IDLE_MILLIS, Prospect, is_to_wait, millis_left};

@@ -1,5 +1,7 @@
 ghost use Rattle.std.specs.Prelude.{◌≡◌};
-ghost use Rattle.oc_routes.specs.Routes.{content_for};
+ghost use Rattle.oc_routes.specs.Manners.{body_for, connection_for, content_for, manner_of};
+
+use oc_http::{Method, Persistence};
 
 /// How a content is asked for.
 #[derive(Clone, Copy, Debug, PartialEq, Eq)]
@@ -21,5 +23,36 @@ impl Manner {
             Manner::HeadAlone => None,
             Manner::Once | Manner::Follow => Some(content),
         }
+    }
+}
+
+/// How a content is asked for; `follow` counts only in a GET of version 1.1.
+pub(crate) fn manner_of(method: Method, minor: u8, follow: bool) -> Manner
+    ensures { result ≡ manner_of method minor follow }
+{
+    match method {
+        Method::Get if follow && minor == 1 => Manner::Follow,
+        Method::Get => Manner::Once,
+        _ => Manner::HeadAlone,
+    }
+}
+
+/// A body, except for a HEAD.
+pub(crate) fn body_for(manner: Manner, text: &[u8]) -> &[u8]
+    ensures { result.now ≡ body_for manner text.now }
+{
+    match manner {
+        Manner::HeadAlone => b"",
+        Manner::Once | Manner::Follow => text,
+    }
+}
+
+/// What becomes of the connection.
+pub(crate) fn connection_for(manner: Manner, last: bool) -> Persistence
+    ensures { result ≡ connection_for manner last }
+{
+    match manner {
+        Manner::Follow if !last => Persistence::Keep,
+        _ => Persistence::Close,
     }
 }

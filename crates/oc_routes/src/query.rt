@@ -83,11 +83,11 @@ pub fn first_value<'a>(name: &[u8], query: &'a [u8]) -> Option<&'a [u8]>
 {
     let mut rest = query;
     'parts: loop {
-        let (part, behind) = cut(rest, b'&');
+        let (part, after) = cut(rest, b'&');
         if let Some(value) = value_in(name, part) {
             return Some(value);
         }
-        rest = behind?;
+        rest = after?;
     }
 }
 
@@ -104,12 +104,12 @@ pub fn has_part(name: &str, query: &[u8]) -> bool
 {
     let mut rest = query;
     'parts: loop {
-        let (part, behind) = cut(rest, b'&');
+        let (part, after) = cut(rest, b'&');
         if is(part, name) {
             return true;
         }
-        match behind {
-            Some(behind) => rest = behind,
+        match after {
+            Some(after) => rest = after,
             None => return false,
         }
     }

@@ -1,13 +1,13 @@
 ghost use Rattle.std.specs.Prelude.{◌≡◌};
-ghost use Rattle.oc_routes.specs.Replies.{others, reply_place, reply_to};
+ghost use Rattle.oc_routes.specs.Replies.{others, reply_index, reply_to};
 
 use oc_base::NodeId;
 use oc_model::Message;
 
-/// The place of the reply to a message from `sender` among the messages that it makes the node send: the
+/// The index of the reply to a message from `sender` among the messages that it makes the node send: the
 /// first that goes back to the sender.
-fn reply_place(sends: &[Message], sender: NodeId) -> Option<usize>
-    ensures { result ≡ reply_place sends.now sender }
+fn reply_index(sends: &[Message], sender: NodeId) -> Option<usize>
+    ensures { result ≡ reply_index sends.now sender }
 {
     sends.iter().position(|message| message.to == sender)
 }
@@ -18,8 +18,8 @@ pub fn split_reply(sends: Vec<Message>, sender: NodeId) -> (Option<Message>, Vec
     ensures others { result.1.items ≡ others sends.items sender }
 {
     let mut sends = sends;
-    match reply_place(&sends, sender) {
-        Some(place) => (Some(sends.remove(place)), sends),
+    match reply_index(&sends, sender) {
+        Some(index) => (Some(sends.remove(index)), sends),
         None => (None, sends),
     }
 }

@@ -1,19 +1,19 @@
-//! What a node tells of itself to those who look after it.
+//! What a node tells of itself to those who look after it. [`crate::routes`] has a file for each report.
 
-ghost use Rattle.std.specs.Prelude.{◌≡◌};
-ghost use Rattle.oc_routes.specs.Routes.{content_type_of, report_at};
+ghost use Rattle.std.specs.Prelude.{◌≡◌, IfOk};
+ghost use Rattle.oc_routes.specs.Reports.{content_type_of, report_of, report_response, report_text};
 
-use oc_base::words::is;
-use oc_http::ContentType;
-
-/// The path of the status.
-pub const STATUS_PATH: &str = "/!status";
-
-/// The path of the metrics.
-pub const METRICS_PATH: &str = "/!metrics";
-
-/// The path of the page.
-pub const PAGE_PATH: &str = "/!";
+use crate::manner::{Manner, body_for, connection_for};
+use crate::response::Response;
+use crate::responses::typed_as;
+use crate::routes::Operation;
+use crate::routes::metrics::metrics;
+use crate::routes::page::page_copy;
+use crate::routes::status::status;
+use crate::seen::Seen;
+use oc_base::{Memory, Text, put};
+use oc_http::{ContentType, Framing, write_reply_head};
+use std::alloc::Global;
 
 /// What a node tells of itself.
 #[derive(Clone, Copy, Debug, PartialEq, Eq)]
@@ -27,21 +27,6 @@ pub enum Report {
 }
 
 impl Report {
-    /// What has this path, if it is one of these.
-    pub(crate) fn at(path: &[u8]) -> Option<Report>
-        ensures { result ≡ report_at path.now }
-    {
-        if is(path, STATUS_PATH) {
-            Some(Report::Status)
-        } else if is(path, METRICS_PATH) {
-            Some(Report::Metrics)
-        } else if is(path, PAGE_PATH) {
-            Some(Report::Page)
-        } else {
-            None
-        }
-    }
-
     /// The type of its text.
     pub(crate) fn content_type(self) -> ContentType
         ensures { result ≡ content_type_of self }
@@ -52,4 +37,47 @@ impl Report {
             Report::Page => ContentType::Html,
         }
     }
+}
+
+/// What a node tells of itself where that is asked, and else nothing.
+pub fn report_of(alloc: Global, operation: &Operation, seen: &Seen<'_>) -> Result<Vec<u8>, Memory>
+    ensures { IfOk result (λ text. text.items ≡ report_of operation.now seen.now.node.now.control seen.now.shelf.now seen.now.messages) }
+{
+    match operation {
+        Operation::Report { report, .. } => report_text(alloc, *report, seen),
+        _ => Ok(Vec::new(alloc)),
+    }
+}
+
+/// The text of a report.
+fn report_text(alloc: Global, report: Report, seen: &Seen<'_>) -> Result<Vec<u8>, Memory>
+    ensures { IfOk result (λ text. text.items ≡ report_text report seen.now.node.now.control seen.now.shelf.now seen.now.messages) }
+{
+    match report {
+        Report::Status => status(alloc, seen.node, seen.shelf),
+        Report::Metrics => metrics(alloc, seen.node, seen.shelf, seen.messages),
+        Report::Page => page_copy(alloc),
+    }
+}
+
+/// The reply to one who asks for a report, whose text this is.
+pub(crate) fn report_response(
+    alloc: Global,
+    report: Report,
+    manner: Manner,
+    last: bool,
+    text: &[u8],
+) -> Result<Response, Memory>
+    ensures { IfOk result (λ response. response ≡ report_response report manner last text.now) }
+{
+    let connection = connection_for(manner, last);
+    let reply = typed_as(report.content_type(), Vec::new(alloc));
+    let framing = Framing::Length(text.len() as u64);
+    let mut reported = write_reply_head(alloc, &reply, framing, connection)?;
+    put(&mut reported, body_for(manner, text))?;
+    Ok(Response {
+        text: Text::of(reported),
+        content: None,
+        connection,
+    })
 }

@@ -37,9 +37,9 @@ impl Source for Rest<'_> {
 
     fn read(&mut self, buf: &mut [u8]) -> Result<usize, Failed> {
         let count = self.left.len().min(buf.len());
-        let (front, behind) = self.left.split_at(count);
+        let (front, rest) = self.left.split_at(count);
         buf[..count].copy_from_slice(front);
-        self.left = behind;
+        self.left = rest;
         Ok(count)
     }
 }

@@ -1,38 +1,64 @@
-//! The table of routes. For each route its path, the methods that it takes, what a request on it asks of
-//! the node, and the input that results from that; [`crate::responses`] has the replies.
+//! The table of routes: what is asked at which path, which access rules speak of it, the input that results, and the
+//! reply. Each route has a file of its own, and a row in each of the functions here.
 //!
-//! | path | method | operation | input | reply |
-//! | --- | --- | --- | --- | --- |
-//! | `/!overcast` | POST | `Message` | `Delivered` | the message that goes back, or 204 |
-//! | `/!probe` | GET, HEAD | `Probe` | none | `PROBE_BYTES` bytes |
-//! | `/!status`, `/!metrics`, `/!` | GET, HEAD | `Report` | none | what the node tells of itself |
-//! | the name of a group | GET, HEAD | `Client` | `Client` | the group's bytes, or a redirection |
-//! | the name of a group | POST | `Publish` | `Publish` | a status |
-//! | the name of a group | POST with `seal` | `Seal` | `Seal` | a status |
+//! | path | method | file | operation | input | reply |
+//! | --- | --- | --- | --- | --- | --- |
+//! | `/!overcast` | POST | `message` | `Message` | `Delivered` | the message that goes back, or 204 |
+//! | `/!probe` | GET, HEAD | `probe` | `Probe` | none | `PROBE_BYTES` bytes |
+//! | `/!status` | GET, HEAD | `status` | `Report` | none | the state of the node, as JSON |
+//! | `/!metrics` | GET, HEAD | `metrics` | `Report` | none | its metrics, for Prometheus |
+//! | `/!` | GET, HEAD | `page` | `Report` | none | the page that draws the status |
+//! | the name of a group | GET, HEAD | `group` | `Client` | `Client` | the group's bytes, or a redirection |
+//! | the name of a group | POST | `publish` | `Publish` | `Publish` | a status |
+//! | the name of a group | POST with `seal` | `seal` | `Seal` | `Seal` | a status |
 //!
-//! A POST of a group may say by `at=N` which length the group has to have; whether it has is looked at by the layer
-//! above.
+//! A path is looked up in [`resource_at`] alone, once a request: another name of a route is another row there. A POST of a
+//! group may say by `at=N` which length the group has to have; whether it has is looked at by the layer above.
+//!
+//! The laws look at no single route: that of tokens rests on what the rules speak of ([`Scope`]), those of MACs, of failures
+//! and of plain lines on what a body gives (`proofs/Bodies`), which computes for a route without an input.
 
-ghost use Rattle.std.specs.Prelude.{◌≡◌, ◌≤◌, length, IfOk, IfSome, option_map};
+ghost use Rattle.std.specs.Prelude.{◌≡◌, ◌≤◌, length, IfOk, IfSome, map, option_map, string_bytes};
+ghost use Rattle.std.specs.Option.{ForSome};
 ghost use Rattle.oc_base.specs.Names.{IsGroupName};
 ghost use Rattle.oc_base.specs.declared.limits.TheConstants.{MAX_AREA as AREA_LIMIT, MAX_START as START_LIMIT, MAX_PUBLISH_BYTES};
 ghost use Rattle.oc_model.specs.Lawful.{IsInput};
 ghost use Rattle.oc_routes.specs.Inputs.{HasLine};
 ghost use Rattle.oc_routes.specs.Lawful.{IsAsked, IsResource};
-ghost use Rattle.oc_routes.specs.Routes.{Gives, action_of, asked, asked_at, asked_of_group, delivered, group_in, input_asked, is_conditional, manner_of, permitted, permitted_by, readable_in, resource_in};
-ghost use Rattle.oc_wire.specs.MessageReading.{decoded};
+ghost use Rattle.oc_routes.specs.Routes.{Gives, action_of, asked, asked_at, asked_of_group, group_in, input_asked, is_conditional, permitted, permitted_by, resource_at, resource_in, response_to, scope_of};
+ghost use Rattle.oc_wire.specs.Spelling.{HasSpelling};
 
+pub(crate) mod group;
+pub(crate) mod message;
+pub(crate) mod metrics;
+pub(crate) mod page;
+pub(crate) mod probe;
+pub(crate) mod publish;
+pub(crate) mod seal;
+pub(crate) mod status;
+
+use crate::addresses::address_of;
+use crate::directory::Directory;
 use crate::fault::RouteFault;
-use crate::manner::Manner;
+use crate::manner::{Manner, manner_of};
 use crate::query::{Query, query_in};
 use crate::refused::Refused;
-use crate::report::Report;
+use crate::report::{Report, report_response};
+use crate::response::Response;
+use crate::responses::{Answered, status_alone};
+use group::{sent_to, served};
+use message::{delivered, to_message};
+use metrics::METRICS_PATH;
 use oc_base::words::is;
-use oc_base::{Bytes, GroupName, NodeId};
+use oc_base::{Bytes, GroupName, Memory, NodeId};
 use oc_http::{Head, MESSAGE_PATH, Method, PROBE_PATH, Text};
-use oc_model::Input;
+use oc_model::{Answer, Input, Message};
 use oc_policy::{Action, Decision, MAX_RULES, Rule, decide};
-use oc_wire::{WireFault, decode};
+use page::PAGE_PATH;
+use probe::to_probe;
+use publish::to_publish;
+use seal::to_seal;
+use status::STATUS_PATH;
 use std::alloc::Global;
 
 /// What a path names.
@@ -41,6 +67,17 @@ pub(crate) enum Resource {
     Messages,
     Probe,
     Report(Report),
+    Group(GroupName),
+}
+
+/// Of what the access rules speak.
+#[derive(Clone, Copy, Debug)]
+pub(crate) enum Scope {
+    /// Of nothing: it is permitted to all.
+    Free,
+    /// Of the node itself, by the rules for `/` alone.
+    Node,
+    /// Of a group.
     Group(GroupName),
 }
 
@@ -97,7 +134,63 @@ pub fn route(head: &Head, rules: &[Rule]) -> Result<Operation, Refused>
     Ok(asked_at(head.method, head.minor, &query, &resource))
 }
 
-/// Refuses what the rules deny to a request that shows this. Of what is no group, only the rules for `/` speak.
+/// What a method does with a path.
+pub(crate) fn action_of(method: Method) -> Result<Action, Refused>
+    ensures { result ≡ action_of method }
+{
+    match method {
+        Method::Get | Method::Head => Ok(Action::Get),
+        Method::Post => Ok(Action::Post),
+        Method::Other => Err(Refused::Method),
+    }
+}
+
+/// What a path names, where it has a route for this action: a row of the table, or else a group.
+pub(crate) fn resource_in(action: Action, path: &[u8]) -> Result<Resource, Refused>
+    ensures said { result ≡ resource_in action path.now }
+    ensures lawful { IfOk result IsResource }
+{
+    match resource_at(action, path) {
+        Some(resource) => Ok(resource),
+        None => group_in(path),
+    }
+}
+
+/// The rows of the table: what is read, and what is posted, at a path that names no group.
+fn resource_at(action: Action, path: &[u8]) -> Option<Resource>
+    ensures said { result ≡ resource_at action path.now }
+    ensures lawful { IfSome result IsResource }
+{
+    match action {
+        Action::Get if is(path, PROBE_PATH) => Some(Resource::Probe),
+        Action::Get if is(path, STATUS_PATH) => Some(Resource::Report(Report::Status)),
+        Action::Get if is(path, METRICS_PATH) => Some(Resource::Report(Report::Metrics)),
+        Action::Get if is(path, PAGE_PATH) => Some(Resource::Report(Report::Page)),
+        Action::Post if is(path, MESSAGE_PATH) => Some(Resource::Messages),
+        _ => None,
+    }
+}
+
+/// The group that a path names.
+#[tactic(auto, using(crate::proofs::Names::parsed_is_name))]
+fn group_in(path: &[u8]) -> Result<Resource, Refused>
+    ensures said { result ≡ group_in path.now }
+    ensures lawful { IfOk result IsResource }
+{
+    match GroupName::parse(path) {
+        Ok(group) => Ok(Resource::Group(group)),
+        Err(_) => Err(Refused::Path),
+    }
+}
+
+/// Whether a condition counts: in a POST of a group.
+fn is_conditional(action: Action, resource: &Resource) -> bool
+    ensures { result ≡ is_conditional action resource.now }
+{
+    matches!((action, resource), (Action::Post, Resource::Group(_)))
+}
+
+/// Refuses what the rules deny to a request that shows this.
 fn permit(
     rules: &[Rule],
     action: Action,
@@ -108,10 +201,21 @@ fn permit(
     requires { length rules.now ≤ MAX_RULES }
     ensures { result ≡ permitted rules.now action resource.now area (option_map (λ s. s.now) shown.entry) }
 {
+    match scope_of(resource) {
+        Scope::Free => Ok(()),
+        Scope::Node => permitted_by(decide(rules, action, None, area, shown)),
+        Scope::Group(group) => permitted_by(decide(rules, action, Some(&group), area, shown)),
+    }
+}
+
+/// Of what the rules speak where this is asked.
+fn scope_of(resource: &Resource) -> Scope
+    ensures { result ≡ scope_of resource.now }
+{
     match resource {
-        Resource::Messages | Resource::Probe => Ok(()),
-        Resource::Report(_) => permitted_by(decide(rules, action, None, area, shown)),
-        Resource::Group(group) => permitted_by(decide(rules, action, Some(group), area, shown)),
+        Resource::Group(group) => Scope::Group(*group),
+        Resource::Report(_) => Scope::Node,
+        _ => Scope::Free,
     }
 }
 
@@ -132,60 +236,6 @@ fn shown_by(authorization: &Option<Text>) -> Option<&[u8]>
     match authorization {
         Some(value) => Some(value.items()),
         None => None,
-    }
-}
-
-/// Whether a condition counts: in a POST of a group.
-fn is_conditional(action: Action, resource: &Resource) -> bool
-    ensures { result ≡ is_conditional action resource.now }
-{
-    matches!((action, resource), (Action::Post, Resource::Group(_)))
-}
-
-/// What a method does with a path.
-pub(crate) fn action_of(method: Method) -> Result<Action, Refused>
-    ensures { result ≡ action_of method }
-{
-    match method {
-        Method::Get | Method::Head => Ok(Action::Get),
-        Method::Post => Ok(Action::Post),
-        Method::Other => Err(Refused::Method),
-    }
-}
-
-/// What a path names, where it has a route for this action.
-pub(crate) fn resource_in(action: Action, path: &[u8]) -> Result<Resource, Refused>
-    ensures said { result ≡ resource_in action path.now }
-    ensures lawful { IfOk result IsResource }
-{
-    match action {
-        Action::Post if is(path, MESSAGE_PATH) => Ok(Resource::Messages),
-        Action::Get if is(path, PROBE_PATH) => Ok(Resource::Probe),
-        Action::Get => readable_in(path),
-        Action::Post => group_in(path),
-    }
-}
-
-/// What a path names that is read: a report, or else a group.
-fn readable_in(path: &[u8]) -> Result<Resource, Refused>
-    ensures said { result ≡ readable_in path.now }
-    ensures lawful { IfOk result IsResource }
-{
-    match Report::at(path) {
-        Some(report) => Ok(Resource::Report(report)),
-        None => group_in(path),
-    }
-}
-
-/// The group that a path names.
-#[tactic(auto, using(crate::proofs::Names::parsed_is_name))]
-fn group_in(path: &[u8]) -> Result<Resource, Refused>
-    ensures said { result ≡ group_in path.now }
-    ensures lawful { IfOk result IsResource }
-{
-    match GroupName::parse(path) {
-        Ok(group) => Ok(Resource::Group(group)),
-        Err(_) => Err(Refused::Path),
     }
 }
 
@@ -237,17 +287,6 @@ fn asked_of_group(method: Method, minor: u8, query: &Query, group: &GroupName) -
     }
 }
 
-/// How a content is asked for; `follow` counts only in a GET of version 1.1.
-fn manner_of(method: Method, minor: u8, follow: bool) -> Manner
-    ensures { result ≡ manner_of method minor follow }
-{
-    match method {
-        Method::Get if follow && minor == 1 => Manner::Follow,
-        Method::Get => Manner::Once,
-        _ => Manner::HeadAlone,
-    }
-}
-
 /// The input of the node `me`, one of `nodes` nodes, that results from what was asked and from the body of the
 /// request; a probe and a report give none. Refused for a body that is no message to this node, and for a body of
 /// a request to seal.
@@ -288,20 +327,51 @@ pub fn input_of(
     }
 }
 
-/// The input that a message to this node is.
-fn delivered(
+/// What is answered to what was asked. `reply` is the message that goes back to the sender of a message.
+pub fn respond(
     alloc: Global,
-    body: &[u8],
-    me: NodeId,
-    nodes: u32,
-) -> Result<Option<Input>, RouteFault>
-    ensures said { Gives result (delivered me (decoded nodes body.now)) }
-    ensures lawful { IfOk result (λ input. IfSome input (IsInput nodes me)) }
-    ensures line { IfOk result (λ input. IfSome input HasLine) }
+    operation: &Operation,
+    answered: Answered<'_>,
+    reply: Option<&Message>,
+    network: &Directory<'_>,
+) -> Result<Response, Memory>
+    requires asks { IsAsked operation.now }
+    requires reply { ForSome (option_map (λ m. m.now) reply) (λ m. HasSpelling m.body) }
+    ensures { IfOk result (λ response. response
+        ≡ response_to operation.now answered.entry.answer (option_map (λ m. m.now) reply.entry) answered.entry.sealed
+        (map string_bytes network.now.addresses.now) (option_map (λ k. k.now) network.now.key) answered.entry.last answered.entry.report.now) }
 {
-    match decode(alloc, body, nodes) {
-        Ok(message) if message.to == me => Ok(Some(Input::Delivered(message))),
-        Err(WireFault::Memory) => Err(RouteFault::Memory),
-        _ => Err(RouteFault::Refused(Refused::Message)),
+    let Answered {
+        answer,
+        sealed,
+        last,
+        report: text,
+    } = answered;
+    match operation {
+        Operation::Message => to_message(alloc, reply, network.key),
+        Operation::Publish { .. } => to_publish(alloc, answer),
+        Operation::Seal { .. } => to_seal(alloc, answer),
+        Operation::Client {
+            group,
+            start,
+            manner,
+            ..
+        } => match answer {
+            Answer::Redirect(node) => {
+                sent_to(
+                    alloc,
+                    *manner,
+                    address_of(network.addresses, node),
+                    group,
+                    *start,
+                )
+            }
+            Answer::Serve(count) => served(alloc, *manner, sealed, last, *start, count),
+            _ => status_alone(alloc, 404),
+        },
+        Operation::Probe { manner } => to_probe(alloc, *manner, last),
+        Operation::Report { report, manner } => {
+            report_response(alloc, *report, *manner, last, text)
+        }
     }
 }

@@ -1,7 +1,7 @@
 //! The rows of a table, and which of them are listed.
 
 ghost use Rattle.std.specs.Prelude.{◌≡◌, ◌++◌, map, IfOk, OnOk};
-ghost use Rattle.oc_routes.specs.Rows.{behind, is_first, marked, row_of, rows_of};
+ghost use Rattle.oc_routes.specs.Rows.{after_row, is_first, marked, row_of, rows_of};
 ghost use Rattle.oc_updown.specs.TableView.{AreTableRows};
 
 use oc_base::{Cert, Line, Memory, NodeId, Slots};
@@ -32,11 +32,11 @@ fn push_rows(made: &mut Vec<Row>, rows: &Slots<Option<Cert>>, lines: &[Line]) ->
     ensures { OnOk result (made.new.items ≡ made.old.items ++ marked rows.now.items (map (λ line. line.node) lines.now)) }
 {
     let mut rest = lines;
-    for place in 0..rows.used() {
-        let row = rows.get_or(place, None);
+    for index in 0..rows.used() {
+        let row = rows.get_or(index, None);
         let listed = is_first(&row, rest);
         push_row(made, &row, listed)?;
-        rest = behind(listed, rest);
+        rest = after_row(listed, rest);
     }
     Ok(())
 }
@@ -52,8 +52,8 @@ fn is_first(row: &Option<Cert>, lines: &[Line]) -> bool
 }
 
 /// The lines without the first, where that was of the row.
-fn behind(listed: bool, lines: &[Line]) -> &[Line]
-    ensures { map (λ line. line.node) result.now ≡ behind listed (map (λ line. line.node) lines.now) }
+fn after_row(listed: bool, lines: &[Line]) -> &[Line]
+    ensures { map (λ line. line.node) result.now ≡ after_row listed (map (λ line. line.node) lines.now) }
 {
     match lines {
         [_, rest @ ..] if listed => rest,

@@ -5,15 +5,14 @@ ghost use Rattle.std.specs.Option.{ForSome};
 ghost use Rattle.oc_base.specs.Names.{IsGroupName};
 ghost use Rattle.oc_routes.specs.Shown.{address_in, here_answer, known_shown, location_of, of_shown, follow_text, shown, start_text, response_for, told_text};
 ghost use Rattle.oc_routes.specs.Lawful.{IsAsked};
-ghost use Rattle.oc_routes.specs.Responses.{redirection, whole};
 ghost use Rattle.oc_wire.specs.Spelling.{HasSpelling};
 
 use crate::hint::{Asked, Hint};
 use crate::holding::Holding;
+use crate::routes::group::redirected;
 use crate::step_outcome::StepOutcome;
 use crate::{Answered, Directory, Manner, Operation, Response, address_of, respond};
-use oc_base::{Bytes, GroupName, Memory, Text, put, put_with_number};
-use oc_http::{Persistence, Reply, write_response};
+use oc_base::{GroupName, Memory, put, put_with_number};
 use oc_model::Answer;
 use std::alloc::Global;
 
@@ -30,21 +29,21 @@ pub fn respond_to(
     alloc: Global,
     asked: Asked,
     last: bool,
-    told: StepOutcome<'_>,
+    outcome: StepOutcome<'_>,
     network: &Directory<'_>,
     report: &[u8],
 ) -> Result<Response, Memory>
     requires asks { IsAsked asked.operation }
-    requires back { ForSome (option_map (λ m. m.now) told.back) (λ m. HasSpelling m.body) }
+    requires back { ForSome (option_map (λ m. m.now) outcome.back) (λ m. HasSpelling m.body) }
     ensures { IfOk result (λ response. response
-        ≡ response_for asked last told.entry.answer (option_map (λ m. m.now) told.entry.back) told.entry.holding
+        ≡ response_for asked last outcome.entry.answer (option_map (λ m. m.now) outcome.entry.back) outcome.entry.holding
         (map string_bytes network.now.addresses.now) (option_map (λ k. k.now) network.now.key) report.now) }
 {
     let StepOutcome {
         answer,
         back,
         holding,
-    } = told;
+    } = outcome;
     let Operation::Client {
         group,
         start,
@@ -195,24 +194,4 @@ fn put_follow(url: &mut Vec<u8>, manner: Manner) -> Result<(), Memory>
         Manner::Follow => put(url, b"&follow"),
         Manner::HeadAlone | Manner::Once => Ok(()),
     }
-}
-
-/// Sends a client to a URL.
-fn redirected(alloc: Global, location: Vec<u8>) -> Result<Response, Memory>
-    ensures { IfOk result (λ response. response ≡ whole (redirection location.items)) }
-{
-    let reply = Reply {
-        status: 302,
-        location: Some(Text::of(location)),
-        content_type: None,
-        body: Bytes::of(Vec::new(alloc)),
-        rule: None,
-        group_length: None,
-        mac: None,
-    };
-    Ok(Response {
-        text: Text::of(write_response(alloc, &reply)?),
-        content: None,
-        connection: Persistence::Close,
-    })
 }

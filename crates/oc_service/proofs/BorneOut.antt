@@ -245,10 +245,7 @@ unmet_at_other me group at lines why is = by_test (me == 1) is
 unmet_other : (asked : Operation) (me : ℕ) (lines : List Shelf) (why : Refused) → unmet asked me lines ≡ Some why → IsOther why
 unmet_other (asks.Publish group at) me lines why is = unmet_at_other me group at lines why is
 unmet_other (asks.Seal group at) me lines why is = unmet_at_other me group at lines why is
-unmet_other asks.Message me lines why is = let none : None ≡ Some why = is in absurd (cc none)
-unmet_other (asks.Client group area start manner) me lines why is = let none : None ≡ Some why = is in absurd (cc none)
-unmet_other (asks.Probe manner) me lines why is = let none : None ≡ Some why = is in absurd (cc none)
-unmet_other (asks.Report report manner) me lines why is = let none : None ≡ Some why = is in absurd (cc none)
+unmet_other other me lines why is = let none : None ≡ Some why = is in absurd (cc none)
 
 mild_responds : (r : Pending) (input : Option Input) (now : ℕ) (s : Setting) (a : Running) → all_mild (responds r input now s a) ≡ true
 mild_responds r None now s a = refl

@@ -20,7 +20,7 @@ use Rattle.oc_base.specs.declared.why.Why.TheVariants.{Number, Range, Word}
 use Rattle.oc_words.specs.Arguments.{IsNoFlag}
 use Rattle.oc_words.specs.Command.{bare_command, check_shape, command, gen_shape, get_shape, node_shape, put_shape, replay_shape, rules_shape}
 use Rattle.oc_words.specs.Requests.{download_in, id_in, log_by, member_in, sample_in, service_in, start_in, times_in, turns_in}
-use Rattle.oc_words.specs.Words.{IsPlain, plain_replay, plain_summary, plain_large, plain_large_file, plain_merge, plain_file, plain_gen, plain_endless, plain_placed, plain_node, plain_probing, plain_logging, plain_check, plain_configured, plain_configured_there, plain_checked, plain_get, plain_follow, plain_from, plain_get_as, plain_get_told, plain_put, plain_append, plain_resume, plain_seal, plain_append_seal, plain_resume_seal, plain_put_as, plain_put_told, plain_rules, plain_listed, plain_version}
+use Rattle.oc_words.specs.Words.{IsPlain, plain_replay, plain_summary, plain_large, plain_large_file, plain_merge, plain_file, plain_gen, plain_endless, plain_placed, plain_node, plain_probing, plain_logging, plain_check, plain_configured, plain_configured_there, plain_checked, plain_get, plain_follow, plain_from, plain_get_as, plain_get_told, plain_put, plain_append, plain_resume, plain_seal, plain_append_seal, plain_resume_seal, plain_live, plain_append_live, plain_put_as, plain_put_told, plain_rules, plain_listed, plain_version}
 use Rattle.oc_words.specs.Words.{asked, asked_by, asking, check_at, check_in, node_at, put_at, request_by, verdict_among, verdict_of}
 use Rattle.oc_words.specs.declared.request.Download.{Download}
 use Rattle.oc_words.specs.declared.request.LogWord.TheVariants.{Inputs, Record, Brief}
@@ -111,29 +111,29 @@ pub asked_by_get_told : (url : Text) → IsNoFlag url
 unfolding command clap_on_literals
 asked_by_get_told url u = row_asks (codes "get") (built_of get_shape) (free url ∷ fixed (codes "--progress") ∷ []) (u, (tt, tt)) refl refl refl
 
-pub asked_by_put : (url : Text) → IsNoFlag url → asked (codes "put" ∷ url ∷ []) ≡ Some (put_at url New false None false)
+pub asked_by_put : (url : Text) → IsNoFlag url → asked (codes "put" ∷ url ∷ []) ≡ Some (put_at url New false false None false)
 unfolding command clap_on_literals
 asked_by_put url u = row_asks (codes "put") (built_of put_shape) (free url ∷ []) (u, tt) refl refl refl
 
 -- with one flag, and with two
-pub asked_by_append : (url : Text) → IsNoFlag url → asked (codes "put" ∷ url ∷ codes "--append" ∷ []) ≡ Some (put_at url Append false None false)
+pub asked_by_append : (url : Text) → IsNoFlag url → asked (codes "put" ∷ url ∷ codes "--append" ∷ []) ≡ Some (put_at url Append false false None false)
 unfolding command clap_on_literals
 asked_by_append url u = row_asks (codes "put") (built_of put_shape) (free url ∷ fixed (codes "--append") ∷ []) (u, (tt, tt)) refl refl refl
 
-pub asked_by_resume : (url : Text) → IsNoFlag url → asked (codes "put" ∷ url ∷ codes "--resume" ∷ []) ≡ Some (put_at url Resume false None false)
+pub asked_by_resume : (url : Text) → IsNoFlag url → asked (codes "put" ∷ url ∷ codes "--resume" ∷ []) ≡ Some (put_at url Resume false false None false)
 unfolding command clap_on_literals
 asked_by_resume url u = row_asks (codes "put") (built_of put_shape) (free url ∷ fixed (codes "--resume") ∷ []) (u, (tt, tt)) refl refl refl
 
-pub asked_by_seal : (url : Text) → IsNoFlag url → asked (codes "put" ∷ url ∷ codes "--seal" ∷ []) ≡ Some (put_at url New true None false)
+pub asked_by_seal : (url : Text) → IsNoFlag url → asked (codes "put" ∷ url ∷ codes "--seal" ∷ []) ≡ Some (put_at url New true false None false)
 unfolding command clap_on_literals
 asked_by_seal url u = row_asks (codes "put") (built_of put_shape) (free url ∷ fixed (codes "--seal") ∷ []) (u, (tt, tt)) refl refl refl
 
-asked_by_append_seal : (url : Text) → IsNoFlag url → asked (codes "put" ∷ url ∷ codes "--append" ∷ codes "--seal" ∷ []) ≡ Some (put_at url Append true None false)
+asked_by_append_seal : (url : Text) → IsNoFlag url → asked (codes "put" ∷ url ∷ codes "--append" ∷ codes "--seal" ∷ []) ≡ Some (put_at url Append true false None false)
 unfolding command clap_on_literals
 asked_by_append_seal url u =
     row_asks (codes "put") (built_of put_shape) (free url ∷ fixed (codes "--append") ∷ fixed (codes "--seal") ∷ []) (u, (tt, (tt, tt))) refl refl refl
 
-asked_by_resume_seal : (url : Text) → IsNoFlag url → asked (codes "put" ∷ url ∷ codes "--resume" ∷ codes "--seal" ∷ []) ≡ Some (put_at url Resume true None false)
+asked_by_resume_seal : (url : Text) → IsNoFlag url → asked (codes "put" ∷ url ∷ codes "--resume" ∷ codes "--seal" ∷ []) ≡ Some (put_at url Resume true false None false)
 unfolding command clap_on_literals
 asked_by_resume_seal url u =
     row_asks (codes "put") (built_of put_shape) (free url ∷ fixed (codes "--resume") ∷ fixed (codes "--seal") ∷ []) (u, (tt, (tt, tt))) refl refl refl
@@ -143,13 +143,33 @@ unfolding command clap_on_literals
 asked_both url u =
     row_asks (codes "put") (built_of put_shape) (free url ∷ fixed (codes "--append") ∷ fixed (codes "--resume") ∷ []) (u, (tt, (tt, tt))) refl refl refl
 
+-- live, beside other words
+pub asked_by_live : (url : Text) → IsNoFlag url → asked (codes "put" ∷ url ∷ codes "--live" ∷ []) ≡ Some (put_at url New false true None false)
+unfolding command clap_on_literals
+asked_by_live url u = row_asks (codes "put") (built_of put_shape) (free url ∷ fixed (codes "--live") ∷ []) (u, (tt, tt)) refl refl refl
+
+pub asked_by_append_live : (url : Text) → IsNoFlag url → asked (codes "put" ∷ url ∷ codes "--append" ∷ codes "--live" ∷ []) ≡ Some (put_at url Append false true None false)
+unfolding command clap_on_literals
+asked_by_append_live url u =
+    row_asks (codes "put") (built_of put_shape) (free url ∷ fixed (codes "--append") ∷ fixed (codes "--live") ∷ []) (u, (tt, (tt, tt))) refl refl refl
+
+pub asked_by_resume_live : (url : Text) → IsNoFlag url → asked (codes "put" ∷ url ∷ codes "--resume" ∷ codes "--live" ∷ []) ≡ Some (put_at url Resume false true None false)
+unfolding command clap_on_literals
+asked_by_resume_live url u =
+    row_asks (codes "put") (built_of put_shape) (free url ∷ fixed (codes "--resume") ∷ fixed (codes "--live") ∷ []) (u, (tt, (tt, tt))) refl refl refl
+
+pub asked_by_live_seal : (url : Text) → IsNoFlag url → asked (codes "put" ∷ url ∷ codes "--live" ∷ codes "--seal" ∷ []) ≡ Some (put_at url New true true None false)
+unfolding command clap_on_literals
+asked_by_live_seal url u =
+    row_asks (codes "put") (built_of put_shape) (free url ∷ fixed (codes "--live") ∷ fixed (codes "--seal") ∷ []) (u, (tt, (tt, tt))) refl refl refl
+
 pub asked_by_put_as : (url file : Text) → IsNoFlag url → IsNoFlag file
-    → asked (codes "put" ∷ url ∷ codes "--token-file" ∷ file ∷ []) ≡ Some (put_at url New false (Some file) false)
+    → asked (codes "put" ∷ url ∷ codes "--token-file" ∷ file ∷ []) ≡ Some (put_at url New false false (Some file) false)
 unfolding command clap_on_literals
 asked_by_put_as url file u f =
     row_asks (codes "put") (built_of put_shape) (free url ∷ fixed (codes "--token-file") ∷ free file ∷ []) (u, (tt, (f, tt))) refl refl refl
 
-pub asked_by_put_told : (url : Text) → IsNoFlag url → asked (codes "put" ∷ url ∷ codes "--progress" ∷ []) ≡ Some (put_at url New false None true)
+pub asked_by_put_told : (url : Text) → IsNoFlag url → asked (codes "put" ∷ url ∷ codes "--progress" ∷ []) ≡ Some (put_at url New false false None true)
 unfolding command clap_on_literals
 asked_by_put_told url u = row_asks (codes "put") (built_of put_shape) (free url ∷ fixed (codes "--progress") ∷ []) (u, (tt, tt)) refl refl refl
 
@@ -382,5 +402,7 @@ plain_asks words (plain_resume url is u) = something words _ _ is (asked_by_resu
 plain_asks words (plain_seal url is u) = something words _ _ is (asked_by_seal url u)
 plain_asks words (plain_append_seal url is u) = something words _ _ is (asked_by_append_seal url u)
 plain_asks words (plain_resume_seal url is u) = something words _ _ is (asked_by_resume_seal url u)
+plain_asks words (plain_live url is u) = something words _ _ is (asked_by_live url u)
+plain_asks words (plain_append_live url is u) = something words _ _ is (asked_by_append_live url u)
 plain_asks words (plain_put_as url file is u f) = something words _ _ is (asked_by_put_as url file u f)
 plain_asks words (plain_put_told url is u) = something words _ _ is (asked_by_put_told url u)

@@ -68,6 +68,7 @@ upload_of rows = do
     address = address;
     onto = onto;
     seals = is_flagged (codes "seal") rows;
+    live = is_flagged (codes "live") rows;
     token_file = first_of (codes "token-file") rows;
     progress = is_flagged (codes "progress") rows;
   })

@@ -69,10 +69,10 @@ get_shape = record (new_shape (codes "get")) {
   rules = required_rule (codes "URL") ∷ option_rule (codes "follow") ∷ option_rule (codes "from") ∷ option_rule (codes "token-file") ∷ flag_rule (codes "progress") ∷ [];
 }
 
--- `put URL`, with the flags `--append`, `--resume`, `--seal` and `--progress` and the option `--token-file FILE`
+-- `put URL`, with the flags `--append`, `--resume`, `--seal`, `--live` and `--progress` and the option `--token-file FILE`
 abbrev pub put_shape : Shape
 put_shape = record (new_shape (codes "put")) {
-  rules = required_rule (codes "URL") ∷ flag_rule (codes "append") ∷ flag_rule (codes "resume") ∷ flag_rule (codes "seal") ∷ option_rule (codes "token-file") ∷ flag_rule (codes "progress") ∷ [];
+  rules = required_rule (codes "URL") ∷ flag_rule (codes "append") ∷ flag_rule (codes "resume") ∷ flag_rule (codes "seal") ∷ flag_rule (codes "live") ∷ option_rule (codes "token-file") ∷ flag_rule (codes "progress") ∷ [];
 }
 
 -- `rules`, with the option `--config FILE`

@@ -68,8 +68,9 @@ abbrev pub check_in : Option Text → Option Text → ℕ → Invocation
 check_in config folder id = CheckConfigured id (record { config = config; folder = folder })
 
 -- the publishing of the input at this address
-abbrev pub put_at : Text → Onto → Bool → Option Text → Bool → Invocation
-put_at address onto seals token_file progress = Put (record { address = address; onto = onto; seals = seals; token_file = token_file; progress = progress })
+abbrev pub put_at : Text → Onto → Bool → Bool → Option Text → Bool → Invocation
+put_at address onto seals live token_file progress =
+    Put (record { address = address; onto = onto; seals = seals; live = live; token_file = token_file; progress = progress })
 
 -- what `node` asks for
 abbrev pub node_of : List Row → Result Invocation Why
@@ -181,6 +182,8 @@ pub data IsPlain (words : List Text) : Type 0 where
   plain_seal : (url : Text) → words ≡ codes "put" ∷ url ∷ codes "--seal" ∷ [] → IsNoFlag url → IsPlain words
   plain_append_seal : (url : Text) → words ≡ codes "put" ∷ url ∷ codes "--append" ∷ codes "--seal" ∷ [] → IsNoFlag url → IsPlain words
   plain_resume_seal : (url : Text) → words ≡ codes "put" ∷ url ∷ codes "--resume" ∷ codes "--seal" ∷ [] → IsNoFlag url → IsPlain words
+  plain_live : (url : Text) → words ≡ codes "put" ∷ url ∷ codes "--live" ∷ [] → IsNoFlag url → IsPlain words
+  plain_append_live : (url : Text) → words ≡ codes "put" ∷ url ∷ codes "--append" ∷ codes "--live" ∷ [] → IsNoFlag url → IsPlain words
   plain_put_as : (url file : Text) → words ≡ codes "put" ∷ url ∷ codes "--token-file" ∷ file ∷ []
       → IsNoFlag url → IsNoFlag file → IsPlain words
   plain_put_told : (url : Text) → words ≡ codes "put" ∷ url ∷ codes "--progress" ∷ [] → IsNoFlag url → IsPlain words

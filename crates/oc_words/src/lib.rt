@@ -30,4 +30,6 @@ pub use request::{
 };
 pub use status::Status;
 pub use tips::tip;
-pub use words::{WordsFault, clients_ask, logs_ask, places_ask, read_words, records_ask, rows_ask};
+pub use words::{
+    WordsFault, clients_ask, live_asks, logs_ask, places_ask, read_words, records_ask, rows_ask,
+};

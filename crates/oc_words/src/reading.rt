@@ -99,6 +99,7 @@ pub(crate) fn upload_of(alloc: Global, matches: &ArgMatches<'_>) -> Result<Uploa
         address: Name::of(alloc, url)?,
         onto,
         seals: is_flagged(matches, "seal"),
+        live: is_flagged(matches, "live"),
         token_file: copied(alloc, matches, "token-file")?,
         progress: is_flagged(matches, "progress"),
     })

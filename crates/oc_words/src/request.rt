@@ -216,6 +216,8 @@ pub struct Upload {
     pub onto: Onto,
     /// Whether the group is sealed after it.
     pub seals: bool,
+    /// Whether each read of the input is sent at once.
+    pub live: bool,
     /// The file of the client's token.
     pub token_file: Option<Name>,
     /// Whether lines tell how far it came.

@@ -69,7 +69,7 @@ pub(crate) fn get_command<'a>(alloc: Global) -> Result<Command<'a>, AllocError>
     with(four, flag(alloc, "progress"))
 }
 
-/// `put URL`, with the flags `--append`, `--resume`, `--seal` and `--progress` and the option `--token-file FILE`.
+/// `put URL`, with the flags `--append`, `--resume`, `--seal`, `--live` and `--progress` and the option `--token-file FILE`.
 pub(crate) fn put_command<'a>(alloc: Global) -> Result<Command<'a>, AllocError>
     ensures { IfOk result (IsSubcommand put_shape) }
 {
@@ -77,8 +77,9 @@ pub(crate) fn put_command<'a>(alloc: Global) -> Result<Command<'a>, AllocError>
     let two = with(one, flag(alloc, "append"));
     let three = with(two, flag(alloc, "resume"));
     let four = with(three, flag(alloc, "seal"));
-    let five = with(four, option(alloc, "token-file"));
-    with(five, flag(alloc, "progress"))
+    let five = with(four, flag(alloc, "live"));
+    let six = with(five, option(alloc, "token-file"));
+    with(six, flag(alloc, "progress"))
 }
 
 /// `rules`, with the option `--config FILE`.

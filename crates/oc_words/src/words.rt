@@ -261,15 +261,15 @@ pub fn places_ask()
 /// What words ask for that publish, and those of a client that begin at a byte or name the file of a token.
 pub fn clients_ask()
     ensures publishing { (url : Text) → IsNoFlag url
-        → asked (codes "put" ∷ url ∷ []) ≡ Some (put_at url New false None false) }
+        → asked (codes "put" ∷ url ∷ []) ≡ Some (put_at url New false false None false) }
     ensures appending { (url : Text) → IsNoFlag url
-        → asked (codes "put" ∷ url ∷ codes "--append" ∷ []) ≡ Some (put_at url Append false None false) }
+        → asked (codes "put" ∷ url ∷ codes "--append" ∷ []) ≡ Some (put_at url Append false false None false) }
     ensures resuming { (url : Text) → IsNoFlag url
-        → asked (codes "put" ∷ url ∷ codes "--resume" ∷ []) ≡ Some (put_at url Resume false None false) }
+        → asked (codes "put" ∷ url ∷ codes "--resume" ∷ []) ≡ Some (put_at url Resume false false None false) }
     ensures sealing { (url : Text) → IsNoFlag url
-        → asked (codes "put" ∷ url ∷ codes "--seal" ∷ []) ≡ Some (put_at url New true None false) }
+        → asked (codes "put" ∷ url ∷ codes "--seal" ∷ []) ≡ Some (put_at url New true false None false) }
     ensures publishing_as { (url file : Text) → IsNoFlag url → IsNoFlag file
-        → asked (codes "put" ∷ url ∷ codes "--token-file" ∷ file ∷ []) ≡ Some (put_at url New false (Some file) false) }
+        → asked (codes "put" ∷ url ∷ codes "--token-file" ∷ file ∷ []) ≡ Some (put_at url New false false (Some file) false) }
 
     // An input goes after what the group has, or has the group's bytes in front.
     ensures said_both { (url : Text) → IsNoFlag url → asked (codes "put" ∷ url ∷ codes "--append" ∷ codes "--resume" ∷ []) ≡ None }
@@ -282,10 +282,22 @@ pub fn clients_ask()
 
     // Lines tell how far it came.
     ensures publishing_told { (url : Text) → IsNoFlag url
-        → asked (codes "put" ∷ url ∷ codes "--progress" ∷ []) ≡ Some (put_at url New false None true) }
+        → asked (codes "put" ∷ url ∷ codes "--progress" ∷ []) ≡ Some (put_at url New false false None true) }
     ensures getting_told { (url : Text) → IsNoFlag url
         → asked (codes "get" ∷ url ∷ codes "--progress" ∷ [])
         ≡ result_ok (asking Invocation.Get (download_in url None None None true)) }
+{}
+
+/// What words ask for that publish each read of the input at once, beside the other words of `put`.
+pub fn live_asks()
+    ensures publishing { (url : Text) → IsNoFlag url
+        → asked (codes "put" ∷ url ∷ codes "--live" ∷ []) ≡ Some (put_at url New false true None false) }
+    ensures appending { (url : Text) → IsNoFlag url
+        → asked (codes "put" ∷ url ∷ codes "--append" ∷ codes "--live" ∷ []) ≡ Some (put_at url Append false true None false) }
+    ensures resuming { (url : Text) → IsNoFlag url
+        → asked (codes "put" ∷ url ∷ codes "--resume" ∷ codes "--live" ∷ []) ≡ Some (put_at url Resume false true None false) }
+    ensures sealing { (url : Text) → IsNoFlag url
+        → asked (codes "put" ∷ url ∷ codes "--live" ∷ codes "--seal" ∷ []) ≡ Some (put_at url New true true None false) }
 {}
 
 /// What words ask for that say what a node writes of its inputs: one of three words, once.

@@ -3,8 +3,8 @@
 use crate::connections::conversations::link_in;
 use crate::connections::texts::{put_text, text_in};
 use oc_client::{Aside, Destination, Pause, ProgressLines, Publication, PutEnd, WriteMode, put};
-use oc_io::{MemSink, MemSource};
-use oc_link::MemDialler;
+use oc_io::MemSink;
+use oc_link::{Dialler, MemDialler, Outgoing};
 use std::alloc::Global;
 use std::str;
 use test_tools::{Fault, RowFields, RowStep};
@@ -42,7 +42,8 @@ pub fn put_words(alloc: Global, given: &str, said: &mut String) -> Result<(), Fa
     let text = text_in(alloc, fields.text())?;
     let cut = fields.small()?;
     let link_fails = fields.text();
-    let mut input = MemSource::new(text, fields.numbers(alloc)?);
+    let mut feed = feed_in(alloc, text, cut, fields.numbers(alloc)?)?;
+    let mut input = Outgoing::new(&mut feed);
     let mut link = link_in(alloc, fields.list(), cut, link_fails)?;
     let mut aside = Aside {
         pause: Pauses(0),
@@ -55,7 +56,21 @@ pub fn put_words(alloc: Global, given: &str, said: &mut String) -> Result<(), Fa
     tell(end, &link, aside, said)
 }
 
-/// How a row publishes: `new`, `append` or `resume`, and `seal` or `-`.
+/// What gives the input of a row: a connection on which this text comes, at most `cut` bytes in one read. Its calls of these
+/// numbers fail, of which the first makes it.
+fn feed_in(alloc: Global, text: Vec<u8>, cut: u32, fails: Vec<u64>) -> Result<MemDialler, Fault> {
+    let cut = cut as usize;
+    if cut < 1 {
+        return Err(Fault::Field);
+    }
+    let mut feed = MemDialler::new(alloc, vec![in alloc; text]?, 0, cut, fails)?;
+    match feed.dial("", b"") {
+        Ok(()) => Ok(feed),
+        Err(_) => Err(Fault::Field),
+    }
+}
+
+/// How a row publishes: `new`, `append` or `resume`, and `seal`, `live`, `live+seal` or `-`.
 fn plan_in(call: &mut RowStep<'_>) -> Result<Publication, Fault> {
     let place = match call.word {
         "new" => WriteMode::New,
@@ -63,8 +78,13 @@ fn plan_in(call: &mut RowStep<'_>) -> Result<Publication, Fault> {
         "resume" => WriteMode::Resume,
         _ => return Err(Fault::Field),
     };
-    let seal = call.fields.text() == "seal";
-    Ok(Publication { place, seal })
+    let (live, seal) = match call.fields.text() {
+        "seal" => (false, true),
+        "live" => (true, false),
+        "live+seal" => (true, true),
+        _ => (false, false),
+    };
+    Ok(Publication { place, seal, live })
 }
 
 /// Tells how a publishing ended, how many pauses it made, its lines, and what each dial was sent.

@@ -1,4 +1,4 @@
--- full pieces went by
+-- pieces went by, after each of which others may come
 use Rattle.std.proofs.Common.{length, ℕ, List, [], ◌≡◌, ◌≢◌, ◌⊎◌, ◌+◌, ◌-◌, true, false}
 use Rattle.oc_base.specs.declared.limits.TheConstants.{MAX_GROUP_BYTES}
 use Rattle.oc_client.proofs.publishing.carry.Given as goal
@@ -13,7 +13,7 @@ use Rattle.oc_io.specs.Faults.{NoFall}
 abbrev pub invariant-pieces : goal.invariant-pieces
 invariant-pieces g l = record {
   pieces : List (List ℕ);
-  has : HasCarried g.S.Source.gives (goal_of l.job) l.fn.found (g.L.Dialler.story l.fn.link) (g.L.Dialler.story l.link) l.fn.input l.input l.reached pieces;
+  has : HasCarried g.S.Source.gives l.job.plan (goal_of l.job) l.fn.found (g.L.Dialler.story l.fn.link) (g.L.Dialler.story l.link) l.fn.input l.input l.reached pieces;
   first : l.may_be_empty ≡ true → (sends_empty l.job.plan.place ≡ true) × (pieces ≡ []);
   later : l.may_be_empty ≡ false → (sends_empty l.job.plan.place ≡ false) ⊎ (pieces ≢ []);
   grew : Grows g.E.Sink.takes g.E.Sink.fails l.fn.aside.lines (length (joined pieces)) l.aside.lines;

@@ -106,7 +106,7 @@ pub returns-in_err-reached-clause-unfinished : goal.returns-in_err-reached-claus
 returns-in_err-reached-clause-unfinished g c = λ e.
     let p = err_from_is_err_and c.from_residual-in_err-reached.result c.from_residual-in_err-reached.ensures.1 in
     let same : c.in_err-reached.field-0.0 ≡ ends.Done = cc (sym p.1 ∙ e, p.2) in
-    uncarried_not_done g.S.Source.gives g.S.Source.fails c.args.job.now.plan.place (goal_of c.args.job.now) c.in_ok-found.found (g.L.Dialler.story c.find.new.link) (g.L.Dialler.story c.carry.new.link) c.go_to_place.new.input c.carry.new.input c.in_err-reached.field-0.0 c.in_err-reached.ensures.stopped same
+    uncarried_not_done g.S.Source.gives g.S.Source.fails c.args.job.now.plan (goal_of c.args.job.now) c.in_ok-found.found (g.L.Dialler.story c.find.new.link) (g.L.Dialler.story c.carry.new.link) c.go_to_place.new.input c.carry.new.input c.in_err-reached.field-0.0 c.in_err-reached.ensures.stopped same
 
 pub returns-clause-unfinished : goal.returns-clause-unfinished
 returns-clause-unfinished g c = λ e.

@@ -16,7 +16,7 @@ returns-clause-happened g c =
     subst (λ (whole : Bool). Tells (Takes g.E.Sink.takes g.E.Sink.faults) (Fails g.E.Sink.fails g.E.Sink.faults) mid.sink new.sink mid.active new.active (last_line whole mid.count))
     c.is_done.ensures c.finish.ensures in
     posted g.S.Source.gives g.S.Source.fails g.S.Source.ended g.S.Source.faults c.args.input.now c.put-end.new.input g.L.Dialler.story g.L.Dialler.faults c.args.link.now c.put-end.new.link
-    c.args.wanted.now c.args.token.now c.put-end.result _ _ _ c.as_str.ensures c.text_of.ensures (ap (λ p. record { place = p; seal = c.args.wanted.now.seals }) c.place_of.ensures)
+    c.args.wanted.now c.args.token.now c.put-end.result _ _ _ c.as_str.ensures c.text_of.ensures (ap (λ p. record { place = p; seal = c.args.wanted.now.seals; live = c.args.wanted.now.live }) c.place_of.ensures)
     e.published e.bad e.input_cause e.link_cause (at_error g.E.Sink.takes g.E.Sink.fails g.E.Sink.faults first.sink.sink new.sink.sink)
     (tells_of g.S.Source.gives g.S.Source.fails g.S.Source.ended g.S.Source.faults c.args.input.now c.put-end.new.input g.E.Sink.takes g.E.Sink.fails g.E.Sink.faults g.met.E.Sink.takes_then g.met.E.Sink.takes_fails
     first mid new.sink new.active c.requires.new c.args.wanted.now.progress c.put-end.result c.requires.lines e.within e.input_cause e.told last)

@@ -6,6 +6,7 @@ use Rattle.oc_model.specs.declared.mode.Mode.TheVariants.{Acting, Asking, Idle, 
 use Rattle.oc_model.specs.Measures.{reading_of, same_reading}
 use Rattle.oc_model.specs.Node.{Control, Node}
 use Rattle.oc_model.specs.Plan.{Plan, answers, begun, write}
+use Rattle.oc_model.specs.Serving.{may_move}
 use Rattle.oc_model.specs.Step.{step}
 use Rattle.oc_model.specs.declared.answer.Answer.TheVariants as words
 use Rattle.oc_model.specs.declared.record.Record.TheVariants as records
@@ -27,7 +28,7 @@ still m n is = ap (λ (b : Bool). if b then [] else place_line n) (ap (is_still 
 
 -- a measure leaves it
 mode_stays : (o : Plan) (peer rate hops : ℕ) (own same : Bool)
-    → (if own then answers o words.Own else if same then o else write o (records.Rate peer rate hops)).node.kept.mode ≡ o.node.kept.mode
+    → (if own then answers o words.Own else if same then o else may_move (write o (records.Rate peer rate hops))).node.kept.mode ≡ o.node.kept.mode
 mode_stays o peer rate hops true same = refl
 mode_stays o peer rate hops false true = refl
 mode_stays o peer rate hops false false = refl

@@ -6,8 +6,8 @@ use Rattle.oc_routes.proofs.Unread.{refused_verdict}
 use Rattle.oc_routes.specs.declared.rest.Rest.{Rest}
 use Rattle.oc_routes.proofs.judging.judge.Goals as goal
 
-pub behind_head-requires-clause-body : goal.behind_head-requires-clause-body
-behind_head-requires-clause-body c = says_fits (λ (s : Rest). s.left.now) c.of-source.result c.read_head.new.source c.in-Ok.head c.in-Ok.ensures.read
+pub after_head-requires-clause-body : goal.after_head-requires-clause-body
+after_head-requires-clause-body c = says_fits (λ (s : Rest). s.left.now) c.of-source.result c.read_head.new.source c.in-Ok.head c.in-Ok.ensures.read
 
 pub returns-in-Some-Refused-clause-verdict : goal.returns-in-Some-Refused-clause-verdict
 returns-in-Some-Refused-clause-verdict c =

@@ -1,5 +1,5 @@
 use Rattle.std.proofs.Common.{sym, ap}
-use Rattle.oc_routes.specs.Routes.{content_for}
+use Rattle.oc_routes.specs.Manners.{content_for}
 use Rattle.oc_routes.proofs.manner.Manner.content_for.Goals as goal
 
 pub returns-in-HeadAlone : goal.returns-in-HeadAlone

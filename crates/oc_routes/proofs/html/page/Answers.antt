@@ -1,7 +1,0 @@
-use Rattle.std.proofs.Common.{refl}
-use Rattle.oc_routes.specs.Page.{page_text}
-use Rattle.oc_routes.proofs.html.page.Goals as goal
-
-pub returns : goal.returns
-unfolding page_text
-returns c = refl

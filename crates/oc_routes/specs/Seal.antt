@@ -1,0 +1,32 @@
+-- A POST of a group with a part `seal` in its query, and without a body: the group is closed.
+use Rattle.std.specs.Prelude.{⊤, ℕ, ◌==◌, if◌then◌else◌, Option, Some, Result, Ok, Err, List, length}
+use Rattle.oc_model.specs.declared.answer.Answer.{Answer}
+use Rattle.oc_model.specs.declared.answer.Answer.TheVariants as answers
+use Rattle.oc_model.specs.declared.input.Input.{Input}
+use Rattle.oc_model.specs.declared.input.Input.TheVariants as inputs
+use Rattle.oc_routes.specs.Responses.{status_alone}
+use Rattle.oc_routes.specs.declared.refused.Refused.{Refused}
+use Rattle.oc_routes.specs.declared.refused.Refused.TheVariants as refusals
+use Rattle.oc_routes.specs.declared.response.Response.{Response}
+
+-- its input; a body is refused
+abbrev pub seal_input : List ℕ → List ℕ → Result (Option Input) Refused
+seal_input group body = if length body == 0 then Ok (Some (inputs.Seal group)) else Err refusals.Body
+
+-- what its step answers
+abbrev pub IsSealAnswer : Answer → Type 0
+IsSealAnswer answers.Ok = ⊤
+IsSealAnswer answers.Ignored = ⊤
+IsSealAnswer answers.NotSource = ⊤
+IsSealAnswer answers.NoGroup = ⊤
+IsSealAnswer answer = ⊥
+
+-- to a seal, which is answered `Ok`, `Ignored`, `NotSource` or `NoGroup`
+abbrev pub seal_status : Answer → ℕ
+seal_status answers.Ok = 200
+seal_status answers.Ignored = 200
+seal_status answers.NoGroup = 404
+seal_status refusal = 403
+
+abbrev pub seal_response : Answer → Response
+seal_response answer = status_alone (seal_status answer)

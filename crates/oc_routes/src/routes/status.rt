@@ -1,0 +1,149 @@
+//! A GET or HEAD of `/!status`: the state of the node, as JSON.
+
+ghost use Rattle.std.specs.Prelude.{◌≡◌, ◌++◌, IfOk, OnOk};
+ghost use Rattle.oc_routes.specs.Json.{number_text, or_null};
+ghost use Rattle.oc_routes.specs.Status.{counts_text, mode_word, network_text, peer_of, place_text, rank_text, state_text, status_text, object_text};
+
+use crate::arrays::put_list;
+use crate::json::{put_field, put_number_or_null, put_quoted};
+use crate::leased::{Leased, leased_of};
+use crate::rows::{Row, rows_of};
+use oc_base::{Memory, NodeId, Rank, Shelf, put, put_number, put_with_number};
+use oc_model::Mode;
+use oc_node::Node;
+use std::alloc::Global;
+
+/// The path of the status.
+pub const STATUS_PATH: &str = "/!status";
+
+/// What a node tells of itself at `/!status`: one object of JSON, and a line's end. `shelf` is what it holds of each
+/// group.
+pub fn status(alloc: Global, node: &Node, shelf: &[Shelf]) -> Result<Vec<u8>, Memory>
+    ensures { IfOk result (λ text. text.items ≡ status_text node.now.control shelf.now) }
+{
+    let rows = rows_of(alloc, node.table(), node.id())?;
+    let leased = leased_of(
+        alloc,
+        node.table(),
+        node.id(),
+        node.lease_ends(),
+        node.rates(),
+    )?;
+    let mut text = Vec::new(alloc);
+    put_object(&mut text, node, shelf, &rows, &leased)?;
+    Ok(text)
+}
+
+/// Puts the whole status, with these rows and children.
+fn put_object(
+    out: &mut Vec<u8>,
+    node: &Node,
+    shelf: &[Shelf],
+    rows: &[Row],
+    leased: &[Leased],
+) -> Result<(), Memory>
+    ensures { OnOk result (out.new.items ≡ out.old.items ++ object_text node.now.control shelf.now rows.now leased.now) }
+{
+    put(out, b"{")?;
+    put_state(out, node)?;
+    put_list(out, "ancestors", node.ancestors())?;
+    put_list(out, "groups", shelf)?;
+    put_list(out, "table", rows)?;
+    put_list(out, "children", leased)?;
+    put(out, b"}\n")
+}
+
+/// Puts who the node is, its place in the tree, and its counts.
+#[tactic(auto, unfolding(crate::specs::Status::state_text))]
+fn put_state(out: &mut Vec<u8>, node: &Node) -> Result<(), Memory>
+    ensures { OnOk result (out.new.items ≡ out.old.items ++ state_text node.now.control) }
+{
+    put_network(out, node)?;
+    put_place(out, node)?;
+    put_counts(out, node)
+}
+
+/// Puts which node it is, and in which network.
+fn put_network(out: &mut Vec<u8>, node: &Node) -> Result<(), Memory>
+    ensures { OnOk result (out.new.items ≡ out.old.items ++ network_text node.now.control) }
+{
+    put_field(out, "\"node\":", u64::from(node.id().0))?;
+    put_field(out, ",\"nodes\":", u64::from(node.nodes()))?;
+    put_field(out, ",\"chain\":", u64::from(node.chain()))?;
+    put_field(out, ",\"chunk\":", u64::from(node.chunk()))
+}
+
+/// Puts the place of the node in the tree.
+fn put_place(out: &mut Vec<u8>, node: &Node) -> Result<(), Memory>
+    ensures { OnOk result (out.new.items ≡ out.old.items ++ place_text node.now.control) }
+{
+    put(out, b",\"mode\":")?;
+    put_quoted(out, mode_word(node.mode()).as_bytes())?;
+    put(out, b",\"parent\":")?;
+    put_node_or_null(out, peer_of(node.mode()))?;
+    put_field(out, ",\"seq\":", node.seq())?;
+    put(out, b",\"rank\":")?;
+    put_rank_or_null(out, node.rank())
+}
+
+fn mode_word(mode: Mode) -> &'static str
+    ensures { result.now ≡ mode_word mode }
+{
+    match mode {
+        Mode::Idle => "idle",
+        Mode::Asking(_) => "asking",
+        Mode::Joined(_) => "joined",
+        Mode::Acting => "acting",
+    }
+}
+
+/// The parent, or the node that is asked to be it.
+fn peer_of(mode: Mode) -> Option<NodeId>
+    ensures { result ≡ peer_of mode }
+{
+    match mode {
+        Mode::Asking(peer) | Mode::Joined(peer) => Some(peer),
+        Mode::Idle | Mode::Acting => None,
+    }
+}
+
+/// Puts a node, or `null` where there is none.
+fn put_node_or_null(out: &mut Vec<u8>, node: Option<NodeId>) -> Result<(), Memory>
+    ensures { OnOk result (out.new.items ≡ out.old.items ++ or_null number_text node) }
+{
+    match node {
+        Some(node) => put_number_or_null(out, Some(u64::from(node.0))),
+        None => put_number_or_null(out, None),
+    }
+}
+
+/// Puts a rank, or `null` where there is none.
+fn put_rank_or_null(out: &mut Vec<u8>, rank: Option<Rank>) -> Result<(), Memory>
+    ensures { OnOk result (out.new.items ≡ out.old.items ++ or_null rank_text rank) }
+{
+    match rank {
+        Some(rank) => put_rank(out, rank),
+        None => put(out, b"null"),
+    }
+}
+
+/// Puts `"E.D"`.
+fn put_rank(out: &mut Vec<u8>, rank: Rank) -> Result<(), Memory>
+    ensures { OnOk result (out.new.items ≡ out.old.items ++ rank_text rank) }
+{
+    put(out, b"\"")?;
+    put_number(out, rank.epoch)?;
+    put_with_number(out, b".", u64::from(rank.depth))?;
+    put(out, b"\"")
+}
+
+/// Puts the clock of the node, its change log, and its own number and count of clients.
+fn put_counts(out: &mut Vec<u8>, node: &Node) -> Result<(), Memory>
+    ensures { OnOk result (out.new.items ≡ out.old.items ++ counts_text node.now.control) }
+{
+    put_field(out, ",\"clock\":", node.now())?;
+    put_field(out, ",\"log\":{\"length\":", node.log().length())?;
+    put_field(out, ",\"acked\":", node.log().acked())?;
+    put_field(out, "},\"number\":", node.number())?;
+    put_field(out, ",\"clients\":", node.clients())
+}

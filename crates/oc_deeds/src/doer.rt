@@ -84,12 +84,12 @@ pub trait Doer {
     // Deeds
 
     /// The time in milliseconds.
-    fn reads(&mut self) -> u64
+    fn millis(&mut self) -> u64
         requires { serving self.old }
         ensures { does (one (Reads result)) self.old self.new };
 
     /// The time in seconds.
-    fn tells(&mut self) -> u64
+    fn seconds(&mut self) -> u64
         requires { serving self.old }
         ensures { does (one (Tells result)) self.old self.new };
 

@@ -39,6 +39,7 @@ pub mod rooms;
 mod sending;
 mod taking_up;
 mod told;
+mod turning;
 mod turn_law;
 mod work;
 mod works;
@@ -52,13 +53,9 @@ pub use law::{
     connections_are_given_their_replies, examples_compute, what_is_given_in_chunks_is_there,
 };
 pub use log::Log;
-pub use moving::{goes_on, has_room, loses};
-pub use obeying::{answers, obeys};
 pub use outbox::{Outbox, is_fetch, put_all};
 pub use pace::{Pace, most_interval, quickened};
-pub use sending::sends;
-pub use taking_up::{notes_fault, probes_it, takes_brought, takes_measure, takes_up, ticks};
-pub use told::{accepts_in, takes_ahead, takes_in};
+pub use turning::{deals, takes_due};
 pub use turn_law::{brief_lines_compute, turns_compute};
 pub use work::{Pending, Transfer, Waiting, Work, client_input, pending_of};
 pub use works::Works;

@@ -93,20 +93,20 @@ pub fn probes_it<W: Doer>(doer: &mut W, peer: NodeId) -> Result<(), TurnEnd>
 {
     W::parts_go_on();
     W::parts_stop();
-    let now = doer.reads();
+    let now = doer.millis();
     let dial = free_number(doer.dials_made());
     doer.probes(peer, dial, now)
 }
 
 /// Asks the clock, and takes a tick, if the clock has passed the second that it has to. It answers the clock's seconds.
-pub fn ticks<W: Doer>(doer: &mut W, pace: &Pace) -> Result<u64, TurnEnd>
+pub fn ticked<W: Doer>(doer: &mut W, pace: &Pace) -> Result<u64, TurnEnd>
     requires { W.serving doer.old }
     ensures did { IfOk result (λ seconds. W.does (ticked pace.now.second seconds) doer.old doer.new) }
     ensures breaks { IfErr result (λ end. (seconds : ℕ) × W.stops end (ticked pace.now.second seconds) doer.old doer.new) }
 {
     W::parts_go_on();
     W::parts_stop();
-    let seconds = doer.tells();
+    let seconds = doer.seconds();
     ticks_if(doer, pace.has_passed(seconds), seconds)?;
     Ok(seconds)
 }

@@ -10,13 +10,9 @@ ghost use Rattle.oc_routes.specs.Reports.{report_of};
 ghost use Rattle.oc_routes.specs.Shown.{response_for};
 ghost use Rattle.oc_routes.specs.Lawful.{IsAsked};
 ghost use Rattle.oc_wire.specs.Spelling.{HasSpelling};
-ghost use Rattle.oc_deeds.specs.Asks.{answer_now, has_to_wait, holding_in, replies};
-ghost use Rattle.oc_deeds.specs.Hurries.{hurries};
+ghost use Rattle.oc_deeds.specs.Asks.{answer_now, has_to_wait, holding_in, response_now};
 ghost use Rattle.oc_server.specs.Looks.{LooksOnly, LookStops, end_of_ready};
-ghost use Rattle.oc_server.specs.Parts.{Does};
-ghost use Rattle.oc_deeds.specs.Parts.{nothing};
-ghost use Rattle.oc_server.specs.Scenes.{Breaks, IsServing};
-ghost use Rattle.oc_deeds.specs.Under.{Idle};
+ghost use Rattle.oc_server.specs.Scenes.{running, setting};
 
 use crate::server::Server;
 use oc_base::Memory;
@@ -34,38 +30,23 @@ use oc_routes::{
 use std::alloc::Global;
 
 impl<D: Disk, L: Link, K: Sink> Server<D, L, K> {
-    /// Whether a request is to wait. Nothing of the node changes.
-    pub(crate) fn has_to_wait(&mut self, request: &Request) -> Result<bool, TurnEnd>
-        requires serving { IsServing self.old }
-        requires request { IsLawfulAsk self.old.kept.node.control.nodes self.old.kept.node.control.me request.now }
-        ensures waits { IfOk result (λ waits. IsHonest D.view self.old.kept → waits ≡ has_to_wait request.now (node_of self.old.kept)) }
-        ensures did { OnOk result (Does D.view K.takes K.faults L.story L.counts nothing self.old self.new) }
-        ensures breaks { IfErr result (λ end. Breaks D.view K.takes K.fails K.faults L.story L.counts end Idle self.old self.new) }
-    {
-        has_to_wait(&mut self.kept, request)
-    }
-
-    /// Answers a request by what its input brought.
-    pub(crate) fn gives_answer(
-        &mut self,
-        pending: Pending,
+    /// What a request is answered by what its input brought.
+    pub(crate) fn response_to(
+        &self,
+        pending: &Pending,
         accepted: &Accepted,
-        now: u64,
-    ) -> Result<(), TurnEnd>
-        requires serving { IsServing self.old }
-        requires asks { IsAsked pending.asked.operation }
+    ) -> Result<Response, Memory>
+        requires asks { IsAsked pending.now.asked.operation }
         requires back { IfSome accepted.now.back (λ m. HasSpelling m.body) }
-        ensures did { OnOk result (Does D.view K.takes K.faults L.story L.counts (replies pending now accepted.now.answer accepted.now.back) self.old self.new) }
-        ensures breaks { IfErr result (λ end. Breaks D.view K.takes K.fails K.faults L.story L.counts end Idle self.old self.new) }
+        ensures { IfOk result (λ response. IsHonest D.view self.now.kept
+            → response ≡ response_now pending.now accepted.now.answer accepted.now.back (setting self.now) (running self.now)) }
     {
-        self.kept.recovers();
         let seen = Seen {
             node: self.kept.node(),
             shelf: self.kept.shelf(),
             messages: self.outbox.len(),
         };
-        let response = response_to(self.alloc, &self.config, &seen, &pending, accepted)?;
-        self.replies(pending, &response, now)
+        response_to(self.alloc, &self.config, &seen, pending, accepted)
     }
 }
 
@@ -97,7 +78,7 @@ fn response_to(
 }
 
 /// Whether a request is to wait: it is of a client that follows a group and has all of it.
-fn has_to_wait<D: Disk>(kept: &mut Kept<D>, request: &Request) -> Result<bool, TurnEnd>
+pub(crate) fn has_to_wait<D: Disk>(kept: &mut Kept<D>, request: &Request) -> Result<bool, TurnEnd>
     requires open { kept.old.closed ≡ false }
     requires request { IsLawfulAsk kept.old.node.control.nodes kept.old.node.control.me request.now }
     ensures waits { IfOk result (λ waits. IsHonest D.view kept.old → waits ≡ has_to_wait request.now (node_of kept.old)) }

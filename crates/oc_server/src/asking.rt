@@ -2,7 +2,7 @@
 
 ghost use Rattle.std.specs.Prelude.{◌≡◌, ◌∷◌, [], Ok, List, ℕ, IfErr, IfOk};
 ghost use Rattle.oc_link.specs.Told.{NextGives};
-ghost use Rattle.oc_deeds.specs.Deeds.{Reads, Sees, Tells, errand_in};
+ghost use Rattle.oc_deeds.specs.Deeds.{Reads, Sees, errand_in};
 ghost use Rattle.oc_server.specs.Scenes.{Breaks, Did, IsServing};
 ghost use Rattle.oc_deeds.specs.Under.{Idle};
 
@@ -39,18 +39,10 @@ impl<D: Disk, L: Link, K: Sink> Server<D, L, K> {
     }
 
     /// The time in milliseconds.
-    pub fn reads(&mut self) -> u64
+    pub(crate) fn millis(&mut self) -> u64
         requires { IsServing self.old }
         ensures { Did D.view K.takes K.faults L.story L.counts (Reads result ∷ []) self.old self.new }
     {
         self.link.millis()
-    }
-
-    /// The time in seconds.
-    pub fn tells(&mut self) -> u64
-        requires { IsServing self.old }
-        ensures { Did D.view K.takes K.faults L.story L.counts (Tells result ∷ []) self.old self.new }
-    {
-        self.link.now()
     }
 }

@@ -8,18 +8,17 @@ ghost use Rattle.oc_server.specs.Noting.{NoteBreaks};
 ghost use Rattle.oc_server.specs.Parts.{Stops};
 ghost use Rattle.oc_server.specs.Scenes.{Did, IsServing};
 ghost use Rattle.oc_deeds.specs.Records.{told_ahead};
-ghost use Rattle.oc_deeds.specs.Telling.{takes_ahead, told_behind};
+ghost use Rattle.oc_deeds.specs.Telling.{takes_ahead};
 
 use crate::noting::write_line;
 use crate::server::Server;
 use crate::taking::line_ahead;
 use oc_config::Config;
 use oc_deeds::TurnEnd;
-use oc_deeds::brief::{Before, behind};
 use oc_deeds::record::first;
 use oc_io::{Disk, Sink};
 use oc_link::Link;
-use oc_model::{Answer, Input};
+use oc_model::Input;
 
 impl<D: Disk, L: Link, K: Sink> Server<D, L, K> {
     /// Takes an input of which nothing is told after it, and writes before it what is told there.
@@ -43,18 +42,7 @@ impl<D: Disk, L: Link, K: Sink> Server<D, L, K> {
     {
         self.kept.recovers();
         let line = line_ahead(self.alloc, self.log, &self.kept, input)?;
-        self.says(&line)
-    }
-
-    /// Writes what is told of an input that was taken, by what was known before it.
-    pub(crate) fn says_behind(&mut self, before: Option<Before>, answer: Answer) -> Result<(), TurnEnd>
-        requires { IsServing self.old }
-        ensures did { OnOk result (Did D.view K.takes K.faults L.story L.counts (Says (told_behind before self.old.kept.node.control answer) ∷ []) self.old self.new) }
-        ensures breaks { IfErr result (λ end. NoteBreaks D.view K.takes K.fails K.faults L.story L.counts end (told_behind before self.old.kept.node.control answer) self.old self.new) }
-    {
-        self.kept.recovers();
-        let text = behind(self.alloc, &before, self.kept.node(), answer)?;
-        self.says(&text)
+        write_line(&mut self.sink, &line)
     }
 
     /// Writes what is told of a node that begins.
@@ -72,17 +60,7 @@ impl<D: Disk, L: Link, K: Sink> Server<D, L, K> {
             areas_of(&self.config),
             self.kept.shelf(),
         )?;
-        self.says(&text)
-    }
-
-    /// Writes what is told.
-    fn says(&mut self, text: &[u8]) -> Result<(), TurnEnd>
-        requires { IsServing self.old }
-        ensures did { OnOk result (Did D.view K.takes K.faults L.story L.counts (Says text.now ∷ []) self.old self.new) }
-        ensures breaks { IfErr result (λ end. NoteBreaks D.view K.takes K.fails K.faults L.story L.counts end text.now self.old self.new) }
-    {
-        self.kept.recovers();
-        write_line(&mut self.sink, text)
+        write_line(&mut self.sink, &text)
     }
 }
 

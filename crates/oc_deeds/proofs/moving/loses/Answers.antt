@@ -1,7 +1,6 @@
-use Rattle.std.proofs.Common.{◌&&◌, Bool, List, [], ◌∷◌, sym, ap, ◌∙◌, codes}
+use Rattle.std.proofs.Common.{◌&&◌, Bool, List, [], ◌∷◌, sym, ap, ◌∙◌}
 use Rattle.oc_link.specs.Failures.{is_failure}
-use Rattle.oc_deeds.specs.Deeds.{Drops, note_line}
-use Rattle.oc_deeds.specs.Under.{under_of}
+use Rattle.oc_deeds.specs.Deeds.{Drops}
 use Rattle.oc_deeds.specs.Rooms.{gone, is_told}
 use Rattle.oc_deeds.specs.Works.{work_on}
 use Rattle.oc_deeds.specs.declared.work.Work.{Work}

@@ -21,7 +21,7 @@ returns-clause-did g c =
     let now = c.args.now in
     let told : Part = replies r now (step (g.W.Doer.running c.args.doer.now).node i).answer (back_to (sender_of i) (step (g.W.Doer.running c.args.doer.now).node i).sends) in
     let accepted = c.in_ok-accepted.accepted in
-    let same = λ honest.
+    let same = λ (honest : g.W.Doer.honest c.args.doer.now).
     ap (λ (x : Answer). replies r now x accepted.back (g.W.Doer.setting c.accepts_in.new.doer) (g.W.Doer.running c.accepts_in.new.doer)) (c.in_ok-accepted.ensures.answer honest)
     ∙ ap (λ (x : Option Message). replies r now (step (g.W.Doer.running c.args.doer.now).node i).answer x (g.W.Doer.setting c.accepts_in.new.doer) (g.W.Doer.running c.accepts_in.new.doer)) (c.in_ok-accepted.ensures.back honest) in
     c.parts_go_on.ensures.as_same (in_turn (accepts_in i) told) (responds r (Some i) now) c.args.doer.now c.replies.new.self (λ honest. refl) (c.parts_go_on.ensures.follows (accepts_in i) told (replies r now c.in_ok-accepted.accepted.answer c.in_ok-accepted.accepted.back) c.args.doer.now c.accepts_in.new.doer c.replies.new.self c.in_ok-accepted.ensures.did same c.in_ok-replies.ensures.did)
@@ -47,7 +47,7 @@ returns-in_err-replies-clause-breaks g c =
     let now = c.args.now in
     let told : Part = replies r now (step (g.W.Doer.running c.args.doer.now).node i).answer (back_to (sender_of i) (step (g.W.Doer.running c.args.doer.now).node i).sends) in
     let accepted = c.in_ok-accepted.accepted in
-    let same = λ honest.
+    let same = λ (honest : g.W.Doer.honest c.args.doer.now).
     ap (λ (x : Answer). replies r now x accepted.back (g.W.Doer.setting c.accepts_in.new.doer) (g.W.Doer.running c.accepts_in.new.doer)) (c.in_ok-accepted.ensures.answer honest)
     ∙ ap (λ (x : Option Message). replies r now (step (g.W.Doer.running c.args.doer.now).node i).answer x (g.W.Doer.setting c.accepts_in.new.doer) (g.W.Doer.running c.accepts_in.new.doer)) (c.in_ok-accepted.ensures.back honest) in
     rw (p.1, p.2) (c.parts_stop.ensures.as_same _ (in_turn (accepts_in i) told) (responds r (Some i) now) c.args.doer.now c.replies.new.self (λ honest. refl) (c.parts_stop.ensures.follows _ (accepts_in i) told (replies r now c.in_ok-accepted.accepted.answer c.in_ok-accepted.accepted.back) c.args.doer.now c.accepts_in.new.doer c.replies.new.self c.in_ok-accepted.ensures.did same c.in_err-replies.ensures.breaks))

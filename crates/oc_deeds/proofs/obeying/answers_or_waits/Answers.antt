@@ -2,7 +2,7 @@ use Rattle.std.proofs.Common.{◌∷◌, [], Bool, is_some, false, refl, ap, sym
 use Rattle.std.proofs.lemmas.Result.{err_from_is_err_and}
 use Rattle.oc_deeds.specs.Asks.{answers_or_waits, responds, waiting}
 use Rattle.oc_deeds.specs.Deeds.{Waits}
-use Rattle.oc_deeds.specs.Parts.{in_turn, nothing, one}
+use Rattle.oc_deeds.specs.Parts.{Part, in_turn, nothing, one}
 use Rattle.oc_deeds.specs.Works.{pending}
 use Rattle.oc_deeds.specs.declared.work.Pending.{Pending}
 use Rattle.oc_deeds.specs.declared.work.Waiting.{Waiting}
@@ -14,7 +14,7 @@ pub returns-in_err-has_to_wait-clause-breaks : goal.returns-in_err-has_to_wait-c
 returns-in_err-has_to_wait-clause-breaks g c =
     let p = err_from_is_err_and c.from_residual.result c.from_residual.ensures.1 in
     let request = c.args.request in
-    let rest = λ s a. answers_or_waits c.args.connection request c.args.now s a in
+    let rest : Part = λ s a. answers_or_waits c.args.connection request c.args.now s a in
     rw (p.1, p.2) (c.parts_stop.ensures.as_same _ (in_turn nothing rest) (answers_or_waits c.args.connection request c.args.now) c.args.doer.now c.has_to_wait.new.self (λ honest. refl) (c.parts_stop.ensures.in_first _ nothing rest c.args.doer.now c.has_to_wait.new.self c.in_err-has_to_wait.ensures.breaks))
 
 pub returns-in_err-waits-clause-breaks : goal.returns-in_err-waits-clause-breaks

@@ -1,8 +1,8 @@
-use Rattle.std.proofs.Common.{refl, sym, ap, ◌∙◌}
+use Rattle.std.proofs.Common.{sym, ap, ◌∙◌}
 use Rattle.std.proofs.lemmas.Result.{err_from_is_err_and}
 use Rattle.oc_routes.specs.declared.verdict.Verdict.{Verdict}
 use Rattle.oc_deeds.specs.Asks.{obeys, takes_on}
-use Rattle.oc_deeds.specs.Deeds.{BreaksOff, Permits, Refuses, note_line}
+use Rattle.oc_deeds.specs.Deeds.{BreaksOff, Permits, Refuses}
 use Rattle.oc_deeds.specs.Hurries.{verdict_hurries}
 use Rattle.oc_deeds.proofs.Results.{done_then, err_then, ok_then}
 use Rattle.oc_deeds.specs.Parts.{one}

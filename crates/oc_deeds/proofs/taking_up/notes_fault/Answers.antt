@@ -1,6 +1,6 @@
-use Rattle.std.proofs.Common.{◌∷◌, [], List, ℕ, ap, sym, ◌∙◌, refl}
+use Rattle.std.proofs.Common.{◌∷◌, [], List, ℕ, ap, sym, ◌∙◌}
 use Rattle.std.proofs.lemmas.Result.{err_from_is_err_and}
-use Rattle.oc_deeds.specs.Deeds.{Notes, note_line}
+use Rattle.oc_deeds.specs.Deeds.{Notes}
 use Rattle.oc_deeds.specs.Turns.{notes_fault}
 use Rattle.oc_deeds.proofs.Results.{done_then, err_then}
 use Rattle.oc_deeds.specs.Parts.{one}

@@ -1,6 +1,5 @@
-use Rattle.std.proofs.Common.{ap, refl, ◌∙◌}
+use Rattle.std.proofs.Common.{refl}
 use Rattle.std.proofs.lemmas.Result.{err_from_is_err_and}
-use Rattle.oc_model.specs.Step.{step}
 use Rattle.oc_deeds.specs.Telling.{says_ahead, takes_told}
 use Rattle.oc_deeds.proofs.Doing.{input_stays}
 use Rattle.oc_deeds.proofs.Results.{done_then, err_then}

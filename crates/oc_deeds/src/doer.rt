@@ -162,16 +162,16 @@ pub trait Doer {
         ensures { does (one (BreaksOff connection)) self.old self.new };
 
     /// Gives the next piece of a content.
-    fn gives(&mut self, place: Transfer, now: u64) -> Result<(), TurnEnd>
+    fn gives(&mut self, transfer: Transfer, now: u64) -> Result<(), TurnEnd>
         requires { serving self.old }
-        ensures did { OnOk result (does (one (Gives place now)) self.old self.new) }
-        ensures breaks { IfErr result (λ end. stops end (one (Gives place now)) self.old self.new) };
+        ensures did { OnOk result (does (one (Gives transfer now)) self.old self.new) }
+        ensures breaks { IfErr result (λ end. stops end (one (Gives transfer now)) self.old self.new) };
 
     /// A content has nothing to give until its group has grown.
-    fn lays_aside(&mut self, place: Transfer) -> Result<(), TurnEnd>
+    fn lays_aside(&mut self, transfer: Transfer) -> Result<(), TurnEnd>
         requires { serving self.old }
-        ensures did { OnOk result (does (one (LaysAside place)) self.old self.new) }
-        ensures breaks { IfErr result (λ end. stops end (one (LaysAside place)) self.old self.new) };
+        ensures did { OnOk result (does (one (LaysAside transfer)) self.old self.new) }
+        ensures breaks { IfErr result (λ end. stops end (one (LaysAside transfer)) self.old self.new) };
 
     /// What is under way on a connection is over. A line says so where `told`.
     fn drops(&mut self, connection: ConnectionId, told: bool) -> Result<(), TurnEnd>
@@ -179,12 +179,12 @@ pub trait Doer {
         ensures did { OnOk result (does (one (Drops connection told)) self.old self.new) }
         ensures breaks { IfErr result (λ end. stops end (one (Drops connection told)) self.old self.new) };
 
-    /// Dials the message at a place of the outbox under this number.
-    fn dials(&mut self, place: usize, dial: DialId) -> Result<(), TurnEnd>
+    /// Dials the message at an index of the outbox under this number.
+    fn dials(&mut self, index: usize, dial: DialId) -> Result<(), TurnEnd>
         requires serving { serving self.old }
-        requires place { place < length (running self.old).outbox }
-        ensures did { OnOk result (does (dials_as place dial) self.old self.new) }
-        ensures breaks { IfErr result (λ end. stops end (dials_as place dial) self.old self.new) };
+        requires index { index < length (running self.old).outbox }
+        ensures did { OnOk result (does (dials_as index dial) self.old self.new) }
+        ensures breaks { IfErr result (λ end. stops end (dials_as index dial) self.old self.new) };
 
     /// Begins the probe of a node under this number and at this time.
     fn probes(&mut self, peer: NodeId, dial: DialId, now: u64) -> Result<(), TurnEnd>

@@ -20,24 +20,24 @@ pub fn has_room<W: Doer>(doer: &mut W, connection: ConnectionId, now: u64) -> Re
     W::parts_go_on();
     W::parts_stop();
     match content_on(doer.works(), connection) {
-        Some(place) => goes_on(doer, place, now),
+        Some(transfer) => goes_on(doer, transfer, now),
         None => Ok(()),
     }
 }
 
 /// A content is given its next piece, is laid aside, or is broken off.
-pub fn goes_on<W: Doer>(doer: &mut W, place: Transfer, now: u64) -> Result<(), TurnEnd>
+pub fn goes_on<W: Doer>(doer: &mut W, transfer: Transfer, now: u64) -> Result<(), TurnEnd>
     requires { W.serving doer.old }
-    ensures did { OnOk result (W.does (goes_on place now) doer.old doer.new) }
-    ensures breaks { IfErr result (λ end. W.stops end (goes_on place now) doer.old doer.new) }
+    ensures did { OnOk result (W.does (goes_on transfer now) doer.old doer.new) }
+    ensures breaks { IfErr result (λ end. W.stops end (goes_on transfer now) doer.old doer.new) }
 {
     W::parts_go_on();
     W::parts_stop();
-    match prospect_of(&place, doer.shelf(), now) {
-        Prospect::Gives => doer.gives(place, now),
-        Prospect::Waits => doer.lays_aside(place),
+    match prospect_of(&transfer, doer.shelf(), now) {
+        Prospect::Gives => doer.gives(transfer, now),
+        Prospect::Waits => doer.lays_aside(transfer),
         Prospect::Breaks => {
-            doer.breaks_off(place.connection);
+            doer.breaks_off(transfer.connection);
             Ok(())
         }
     }

@@ -18,9 +18,9 @@ pub fn sends<W: Doer>(doer: &mut W) -> Result<(), TurnEnd>
     W::parts_stop();
     'messages: for done in 0..MAX_DIALS {
         match next_to_dial(doer.outbox(), doer.dials_made()) {
-            Some(place) => {
+            Some(index) => {
                 let number = free_number(doer.dials_made());
-                doer.dials(place, number)?;
+                doer.dials(index, number)?;
             }
             None => return Ok(()),
         }

@@ -23,17 +23,17 @@ use oc_base::{MAX_TIME, NodeId};
 use oc_model::Input;
 use oc_probe::ProbeFault;
 
-/// Takes up the work at a place that is due by itself: a content goes on, and a client that waits is answered.
-pub fn takes_up<W: Doer>(doer: &mut W, place: usize, now: u64) -> Result<(), TurnEnd>
+/// Takes up the work at an index that is due by itself: a content goes on, and a client that waits is answered.
+pub fn takes_up<W: Doer>(doer: &mut W, index: usize, now: u64) -> Result<(), TurnEnd>
     requires { W.serving doer.old }
-    ensures did { OnOk result (W.does (takes_up (slice_get (W.running doer.old).works place) now) doer.old doer.new) }
-    ensures breaks { IfErr result (λ end. W.stops end (takes_up (slice_get (W.running doer.old).works place) now) doer.old doer.new) }
+    ensures did { OnOk result (W.does (takes_up (slice_get (W.running doer.old).works index) now) doer.old doer.new) }
+    ensures breaks { IfErr result (λ end. W.stops end (takes_up (slice_get (W.running doer.old).works index) now) doer.old doer.new) }
 {
     W::parts_go_on();
     W::parts_stop();
     W::is_lawful();
-    match due_at(doer.works(), place) {
-        Due::Aside(place) => goes_on(doer, place, now),
+    match due_at(doer.works(), index) {
+        Due::Aside(transfer) => goes_on(doer, transfer, now),
         Due::Waits(pending) => wakes(doer, pending, now),
         Due::Nothing => Ok(()),
     }

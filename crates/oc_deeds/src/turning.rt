@@ -22,21 +22,21 @@ use crate::taking_up::{
 use oc_base::{MAX_RATE, NodeId};
 use oc_probe::{ProbeFault, Probing, rate_of};
 
-/// Takes up the work at a place, which is due by itself. Then it takes a tick, where one is due, and dials messages.
+/// Takes up the work at an index, which is due by itself. Then it takes a tick, where one is due, and dials messages.
 pub fn takes_due<W: Doer>(
     doer: &mut W,
     pace: &mut Pace,
-    place: usize,
+    index: usize,
     before: u64,
 ) -> Result<(), TurnEnd>
     requires { W.serving doer.old }
-    ensures did { OnOk result ((seconds : ℕ) × W.does (takes_due pace.old (slice_get (W.running doer.old).works place) before seconds) doer.old doer.new
+    ensures did { OnOk result ((seconds : ℕ) × W.does (takes_due pace.old (slice_get (W.running doer.old).works index) before seconds) doer.old doer.new
         × (pace.new ≡ paced pace.old before seconds)) }
-    ensures breaks { IfErr result (λ end. (seconds : ℕ) × W.stops end (takes_due pace.old (slice_get (W.running doer.old).works place) before seconds) doer.old doer.new) }
+    ensures breaks { IfErr result (λ end. (seconds : ℕ) × W.stops end (takes_due pace.old (slice_get (W.running doer.old).works index) before seconds) doer.old doer.new) }
 {
     W::parts_go_on();
     W::parts_stop();
-    takes_up(doer, place, before)?;
+    takes_up(doer, index, before)?;
     ticks_and_sends(doer, pace, before)
 }
 

@@ -165,24 +165,24 @@ impl<D: Disk, L: Link, K: Sink> Doer for Server<D, L, K> {
         self.link.break_off(connection);
     }
 
-    fn gives(&mut self, place: Transfer, now: u64) -> Result<(), TurnEnd> {
-        let piece = next_piece(self.alloc, &mut self.kept, &place, now)?;
+    fn gives(&mut self, transfer: Transfer, now: u64) -> Result<(), TurnEnd> {
+        let piece = next_piece(self.alloc, &mut self.kept, &transfer, now)?;
         self.kept.recovers();
-        let _given = self.works.take(place.connection);
+        let _given = self.works.take(transfer.connection);
         begin_rest(&mut self.works, &piece.rest)?;
-        self.link.give(place.connection, &piece.text);
+        self.link.give(transfer.connection, &piece.text);
         let ending = Ending {
-            keeps: place.keeps,
-            watched: place.told,
+            keeps: transfer.keeps,
+            watched: transfer.told,
         };
-        finish(&mut self.link, place.connection, ending, &piece.rest);
+        finish(&mut self.link, transfer.connection, ending, &piece.rest);
         Ok(())
     }
 
-    fn lays_aside(&mut self, place: Transfer) -> Result<(), TurnEnd> {
+    fn lays_aside(&mut self, transfer: Transfer) -> Result<(), TurnEnd> {
         self.kept.recovers();
-        let _content = self.works.take(place.connection);
-        self.works.begin(Work::Aside(place))?;
+        let _content = self.works.take(transfer.connection);
+        self.works.begin(Work::Aside(transfer))?;
         Ok(())
     }
 
@@ -193,9 +193,9 @@ impl<D: Disk, L: Link, K: Sink> Doer for Server<D, L, K> {
         Ok(())
     }
 
-    fn dials(&mut self, place: usize, dial: DialId) -> Result<(), TurnEnd> {
+    fn dials(&mut self, index: usize, dial: DialId) -> Result<(), TurnEnd> {
         self.kept.recovers();
-        match self.outbox.take(place) {
+        match self.outbox.take(index) {
             Some(message) => {
                 let text = request_to(self.alloc, &self.config, &message)?;
                 let address = address_of(&self.config, message.to);

@@ -32,7 +32,7 @@ mod telling;
 mod tidying;
 mod turns;
 
-pub use asking::Happened;
+pub use asking::Heard;
 pub use order_law::turns_are_in_order;
 pub use server::Server;
 pub use turns::Turns;

@@ -50,8 +50,8 @@ impl<D: Disk, L: Link, K: Sink> Turns<D, L, K> {
         self.server.tidies()?;
         let before = self.server.millis();
         match due_place(self.server.works.list(), self.server.kept.shelf(), before) {
-            Some(place) => {
-                takes_due(&mut self.server, &mut self.pace, place, before)?;
+            Some(index) => {
+                takes_due(&mut self.server, &mut self.pace, index, before)?;
                 Ok(true)
             }
             None => self.takes_next(before),

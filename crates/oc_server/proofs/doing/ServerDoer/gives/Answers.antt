@@ -19,14 +19,14 @@ use Rattle.oc_server.proofs.doing.ServerDoer.gives.Goals as goal
 pub returns-clause-did : goal.returns-clause-did
 returns-clause-did g c =
     let s = c.args.self.now in
-    let p = c.args.place in
+    let p = c.args.transfer in
     let nodes = s.kept.node.control.nodes in
     let me = s.kept.node.control.me in
     let groups = (node_of s.kept).groups in
     let others = without p.connection s.works in
     let left = c.in_ok-piece.piece.rest in
     let is : c.begin_rest.new.works ≡ with_content left others = c.in_ok-begin_rest.ensures.begun ∙ ap (with_content left) c.take-given.ensures.rest in
-    does_one g.D.Disk.view g.K.Sink.takes g.K.Sink.fails g.K.Sink.faults g.L.Link.story g.L.Link.counts (Gives c.args.place c.args.now) (one (Gives c.args.place c.args.now)) s _ (λ honest. refl)
+    does_one g.D.Disk.view g.K.Sink.takes g.K.Sink.fails g.K.Sink.faults g.L.Link.story g.L.Link.counts (Gives c.args.transfer c.args.now) (one (Gives c.args.transfer c.args.now)) s _ (λ honest. refl)
     (did_given g.D.Disk.view g.K.Sink.takes g.K.Sink.fails g.K.Sink.faults g.L.Link.story g.L.Link.counts g.met.K.Sink.takes_nothing (Gives p c.args.now) s c.next_piece.new.kept c.begin_rest.new.works (with_content (rest p c.args.now groups) others) c.finish.new.link
     refl refl c.in_ok-piece.ensures.looks (c.finish.ensures.counts ∙ c.give.ensures.counts)
     (λ all. subst (λ (ws : List Work). AllByRecursion (IsLawfulWork nodes me) ws) (sym is) (works_with_content nodes me left others (works_without nodes me p.connection s.works all)))
@@ -38,12 +38,12 @@ returns-clause-did g c =
 pub returns-in_err-piece-clause-breaks : goal.returns-in_err-piece-clause-breaks
 returns-in_err-piece-clause-breaks g c =
     let p = err_from_is_err_and c.from_residual.result c.from_residual.ensures.1 in
-    rw (p.1, p.2) (look_stops g.D.Disk.view g.K.Sink.takes g.K.Sink.fails g.K.Sink.faults g.L.Link.story g.L.Link.counts g.met.K.Sink.takes_nothing c.in_err-piece.field-0.0 (one (Gives c.args.place c.args.now)) c.args.self.now _ c.requires.is_open refl refl refl c.in_err-piece.ensures.stops)
+    rw (p.1, p.2) (look_stops g.D.Disk.view g.K.Sink.takes g.K.Sink.fails g.K.Sink.faults g.L.Link.story g.L.Link.counts g.met.K.Sink.takes_nothing c.in_err-piece.field-0.0 (one (Gives c.args.transfer c.args.now)) c.args.self.now _ c.requires.is_open refl refl refl c.in_err-piece.ensures.stops)
 
 pub returns-in_err-begin_rest-clause-breaks : goal.returns-in_err-begin_rest-clause-breaks
 returns-in_err-begin_rest-clause-breaks g c =
     let p = err_from_is_err_and c.from_residual-in_err-begin_rest.result c.from_residual-in_err-begin_rest.ensures.1 in
     let looks = c.in_ok-piece.ensures.looks in
     let k = c.next_piece.new.kept in
-    rw (p.1, p.2) (look_stops g.D.Disk.view g.K.Sink.takes g.K.Sink.fails g.K.Sink.faults g.L.Link.story g.L.Link.counts g.met.K.Sink.takes_nothing Memory (one (Gives c.args.place c.args.now)) c.args.self.now _ c.requires.is_open refl refl refl
+    rw (p.1, p.2) (look_stops g.D.Disk.view g.K.Sink.takes g.K.Sink.fails g.K.Sink.faults g.L.Link.story g.L.Link.counts g.met.K.Sink.takes_nothing Memory (one (Gives c.args.transfer c.args.now)) c.args.self.now _ c.requires.is_open refl refl refl
     (stops_behind g.D.Disk.view Memory c.args.self.now.kept k k looks (memory_looks g.D.Disk.view k (c.recovers.ensures.survives looks.is_open))))

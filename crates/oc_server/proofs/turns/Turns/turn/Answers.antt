@@ -40,7 +40,7 @@ pub returns-in_ok-takes_due-in-Some-clause-turned : goal.returns-in_ok-takes_due
 returns-in_ok-takes_due-in-Some-clause-turned g c =
     let t = c.args.self.now in
     let did = did_then g.D.Disk.view g.K.Sink.takes g.K.Sink.fails g.K.Sink.faults g.L.Link.story g.L.Link.counts g.met.K.Sink.takes_then [] (Reads c.millis-before.result ∷ []) t.server c.tidies.new.self c.millis-before.new.self c.in_ok-tidies.ensures.did c.millis-before.ensures in
-    let is : IsHonest g.D.Disk.view t.server.kept → due_in t.server c.millis-before.result ≡ Some c.in-Some.place =
+    let is : IsHonest g.D.Disk.view t.server.kept → due_in t.server c.millis-before.result ≡ Some c.in-Some.index =
     λ honest.
     due_then g.D.Disk.view g.K.Sink.takes g.K.Sink.fails g.K.Sink.faults g.L.Link.story g.L.Link.counts g.met.K.Sink.takes_then c.millis-before.result t.server c.millis-before.new.self c.millis-before.new.self did c.shelf.result.now c.shelf.ensures.groups honest
     ∙ ap (λ (ws : List Work). due_place ws c.shelf.result.now c.millis-before.result) (sym c.list.ensures) ∙ sym c.due_place.ensures ∙ c.in-Some.is in
@@ -48,19 +48,19 @@ returns-in_ok-takes_due-in-Some-clause-turned g c =
     still_renewed g.D.Disk.view g.K.Sink.takes g.K.Sink.fails g.K.Sink.faults g.L.Link.story g.L.Link.counts [] (Reads c.millis-before.result ∷ []) t.server c.tidies.new.self c.millis-before.new.self c.in_ok-tidies.ensures.did c.millis-before.ensures
     (λ honest ripe. omega (arith, c.in_ok-tidies.ensures.ripe ripe)) in
     let due = c.in_ok-takes_due-in-Some.ensures.did in
-    turned_due g.D.Disk.view g.K.Sink.takes g.K.Sink.fails g.K.Sink.faults g.L.Link.story g.L.Link.counts g.met.K.Sink.takes_nothing g.met.K.Sink.takes_then t c.millis-before.result c.millis-before.new.self (record { server = c.takes_due.new.doer; pace = c.takes_due.new.pace; probing = t.probing }) did c.in-Some.place is due.0 renewed due.1 due.2 refl
+    turned_due g.D.Disk.view g.K.Sink.takes g.K.Sink.fails g.K.Sink.faults g.L.Link.story g.L.Link.counts g.met.K.Sink.takes_nothing g.met.K.Sink.takes_then t c.millis-before.result c.millis-before.new.self (record { server = c.takes_due.new.doer; pace = c.takes_due.new.pace; probing = t.probing }) did c.in-Some.index is due.0 renewed due.1 due.2 refl
 
 pub returns-in_err-takes_due-in-Some-clause-stops : goal.returns-in_err-takes_due-in-Some-clause-stops
 returns-in_err-takes_due-in-Some-clause-stops g c =
     let t = c.args.self.now in
     let did = did_then g.D.Disk.view g.K.Sink.takes g.K.Sink.fails g.K.Sink.faults g.L.Link.story g.L.Link.counts g.met.K.Sink.takes_then [] (Reads c.millis-before.result ∷ []) t.server c.tidies.new.self c.millis-before.new.self c.in_ok-tidies.ensures.did c.millis-before.ensures in
-    let is : IsHonest g.D.Disk.view t.server.kept → due_in t.server c.millis-before.result ≡ Some c.in-Some.place =
+    let is : IsHonest g.D.Disk.view t.server.kept → due_in t.server c.millis-before.result ≡ Some c.in-Some.index =
     λ honest.
     due_then g.D.Disk.view g.K.Sink.takes g.K.Sink.fails g.K.Sink.faults g.L.Link.story g.L.Link.counts g.met.K.Sink.takes_then c.millis-before.result t.server c.millis-before.new.self c.millis-before.new.self did c.shelf.result.now c.shelf.ensures.groups honest
     ∙ ap (λ (ws : List Work). due_place ws c.shelf.result.now c.millis-before.result) (sym c.list.ensures) ∙ sym c.due_place.ensures ∙ c.in-Some.is in
     let p = err_from_is_err_and c.from_residual-in_err-takes_due-in-Some.result c.from_residual-in_err-takes_due-in-Some.ensures.1 in
     let stops = c.in_err-takes_due-in-Some.ensures.breaks in
-    rw (p.1, p.2) (stopped_due g.D.Disk.view g.K.Sink.takes g.K.Sink.fails g.K.Sink.faults g.L.Link.story g.L.Link.counts g.met.K.Sink.takes_nothing g.met.K.Sink.takes_then t c.millis-before.result c.millis-before.new.self (record { server = c.takes_due.new.doer; pace = c.takes_due.new.pace; probing = t.probing }) did c.in-Some.place is c.in_err-takes_due-in-Some.field-0.0 stops.0 stops.1)
+    rw (p.1, p.2) (stopped_due g.D.Disk.view g.K.Sink.takes g.K.Sink.fails g.K.Sink.faults g.L.Link.story g.L.Link.counts g.met.K.Sink.takes_nothing g.met.K.Sink.takes_then t c.millis-before.result c.millis-before.new.self (record { server = c.takes_due.new.doer; pace = c.takes_due.new.pace; probing = t.probing }) did c.in-Some.index is c.in_err-takes_due-in-Some.field-0.0 stops.0 stops.1)
 
 pub returns-in_ok-takes_due-in-Some-clause-ready : goal.returns-in_ok-takes_due-in-Some-clause-ready
 returns-in_ok-takes_due-in-Some-clause-ready g c =
@@ -68,7 +68,7 @@ returns-in_ok-takes_due-in-Some-clause-ready g c =
     let did = did_then g.D.Disk.view g.K.Sink.takes g.K.Sink.fails g.K.Sink.faults g.L.Link.story g.L.Link.counts g.met.K.Sink.takes_then [] (Reads c.millis-before.result ∷ []) t.server c.tidies.new.self c.millis-before.new.self c.in_ok-tidies.ensures.did c.millis-before.ensures in
     let due = c.in_ok-takes_due-in-Some.ensures.did in
     ready_still t (record { server = c.takes_due.new.doer; pace = c.takes_due.new.pace; probing = t.probing }) c.requires
-    (does_serve g.D.Disk.view g.K.Sink.takes g.K.Sink.fails g.K.Sink.faults g.L.Link.story g.L.Link.counts (takes_due t.pace (slice_get c.millis-before.new.self.works c.in-Some.place) c.millis-before.result due.0) c.millis-before.new.self c.takes_due.new.doer due.1
+    (does_serve g.D.Disk.view g.K.Sink.takes g.K.Sink.fails g.K.Sink.faults g.L.Link.story g.L.Link.counts (takes_due t.pace (slice_get c.millis-before.new.self.works c.in-Some.index) c.millis-before.result due.0) c.millis-before.new.self c.takes_due.new.doer due.1
     (still_serving g.D.Disk.view g.K.Sink.takes g.K.Sink.fails g.K.Sink.faults g.L.Link.story g.L.Link.counts (Reads c.millis-before.result ∷ []) t.server c.millis-before.new.self did c.requires.serving))
     (due.1.did.same.header ∙ did.same.header) refl
 

@@ -5,16 +5,16 @@ use Rattle.oc_link.specs.declared.counts.LinkCounts.{LinkCounts}
 use Rattle.oc_io.specs.DiskView.{DiskView}
 use Rattle.oc_keep.specs.KeptView.{IsHonest, node_of}
 use Rattle.oc_model.specs.Lawful.{IsInput}
-use Rattle.oc_model.specs.Node.{Header, Node}
+use Rattle.oc_model.specs.Node.{Header}
 use Rattle.oc_model.specs.declared.input.Input.{Input}
 use Rattle.oc_deeds.specs.Deeds.{Running, Says}
 use Rattle.oc_server.specs.Noting.{NoteBreaks}
 use Rattle.oc_server.specs.Parts.{Does, Stops}
 use Rattle.oc_deeds.specs.Parts.{Part, ◌>>◌}
 use Rattle.oc_deeds.specs.Records.{told_ahead}
-use Rattle.oc_server.specs.Scenes.{Did, IsServing, running, setting}
+use Rattle.oc_server.specs.Scenes.{Did, IsServing}
 use Rattle.oc_deeds.specs.Telling.{says_ahead}
-use Rattle.oc_server.specs.declared.ends.TurnEnd.{TurnEnd}
+use Rattle.oc_deeds.specs.declared.ends.TurnEnd.{TurnEnd}
 use Rattle.oc_server.specs.declared.server.Server.{Server}
 use Rattle.oc_server.proofs.Parts.{does_one, does_then, stops_behind, stops_in}
 use Rattle.oc_server.proofs.Scenes.{still_honest, still_serving}

@@ -20,24 +20,19 @@
 mod answering;
 mod asking;
 mod dialling;
-mod ends;
+mod doing;
 mod giving;
 mod hearing;
 mod noting;
 mod order_law;
 mod sendable;
-mod sending;
 mod server;
-mod serving;
 mod taking;
-mod taking_up;
 mod telling;
 mod tidying;
 mod turns;
 
-pub use asking::Happened;
-pub use ends::TurnEnd;
+pub use asking::Heard;
 pub use order_law::turns_are_in_order;
 pub use server::Server;
-pub use taking::Accepted;
 pub use turns::Turns;

@@ -7,6 +7,11 @@
 //! what is due by itself and how long a turn may wait ([`choosing`]), what came back on a dial ([`reading`]), from which
 //! place a content is given ([`contents`]), and what is told of an input ([`brief`], [`record`]).
 //!
+//! What a turn does is decided over a [`Doer`], which says what the node is and does one deed at a time. [`takes_due`] takes up
+//! work that is due by itself, and [`deals`] deals with what came; both end with a tick, where one is due, and with the messages
+//! that are dialled. Their contracts speak of parts alone: the part was done (`does`), or a front of it was, and then it ended
+//! (`stops`). What a deed does to files, to a link and to an output is said where a `Doer` is made.
+//!
 //! What is under way is a list of [`Works`], of [`Dials`] and of messages ([`Outbox`]). A content under way is a place in a
 //! group and not bytes ([`Transfer`]), so nothing grows with its length. A follower that has all of a group waits
 //! ([`Waiting`]).

@@ -11,6 +11,5 @@ pub mod Lawful
 mod Lines
 mod Keys
 mod Splits
-mod Spelled
 pub mod Ipv6
 pub mod AddressBytes

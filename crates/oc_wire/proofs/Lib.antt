@@ -13,4 +13,3 @@ pub mod Sizes
 pub mod Puts
 pub mod Lifts
 mod Rows
-mod UnderKeys

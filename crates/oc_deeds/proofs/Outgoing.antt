@@ -4,8 +4,6 @@ use Rattle.std.proofs.lemmas.List.{append_assoc, append-nil}
 use Rattle.oc_model.specs.declared.message.Message.{Message}
 use Rattle.oc_deeds.specs.Choices.{free_number, next_to_dial}
 use Rattle.oc_deeds.specs.Deeds.{Deed, Dials, Running, Setting, after, after_all}
-use Rattle.oc_deeds.specs.Under.{Cuts}
-use Rattle.oc_deeds.specs.Under.{Idle}
 use Rattle.oc_deeds.specs.Parts.{Part, in_turn}
 use Rattle.oc_deeds.specs.Sends.{dialled, dials_as, dials_at, dials_it, dials_next, sends}
 use Rattle.oc_deeds.specs.declared.choosing.TheConstants.{MAX_DIALS}
@@ -40,10 +38,6 @@ sends_zero s a = refl
 abbrev pub AreWhole : ℕ → List Deed → Setting → Running → Type 0
 AreWhole left deeds s a = deeds ++ sends left s (after_all deeds a) ≡ sends MAX_DIALS s a
 
--- none yet
-pub whole_none : (s : Setting) (a : Running) → AreWhole MAX_DIALS [] s a
-whole_none s a = refl
-
 -- one more
 pub whole_one : (left rest place : ℕ) (m : Message) (deeds : List Deed) (s : Setting) (a b : Running) → left ≡ suc rest → b ≡ after_all deeds a
     → next_to_dial b.outbox b.dials ≡ Some place → slice_get b.outbox place ≡ Some m → AreWhole left deeds s a
@@ -66,10 +60,6 @@ whole_last left deeds s a b here none whole =
 -- no more are to be
 pub whole_all : (deeds : List Deed) (s : Setting) (a : Running) → AreWhole 0 deeds s a → deeds ≡ sends MAX_DIALS s a
 whole_all deeds s a whole = sym (append-nil deeds) ∙ ap (λ (ds : List Deed). deeds ++ ds) (sym (sends_zero s (after_all deeds a))) ∙ whole
-
--- a front of them
-pub whole_cut : (left : ℕ) (deeds : List Deed) (s : Setting) (a : Running) → AreWhole left deeds s a → Cuts (sends MAX_DIALS s a) deeds Idle
-whole_cut left deeds s a whole = record { behind = sends left s (after_all deeds a); front = sym whole; next = tt }
 
 -- Part by part
 

@@ -151,7 +151,12 @@ pub trait Doer {
         ensures breaks { IfErr result (λ end. stops end (replies pending now accepted.now.answer accepted.now.back) self.old self.new) };
 
     /// Refuses a request of this many bytes.
-    fn refuses(&mut self, connection: ConnectionId, count: u64, refusal: Refusal) -> Result<(), TurnEnd>
+    fn refuses(
+        &mut self,
+        connection: ConnectionId,
+        count: u64,
+        refusal: Refusal,
+    ) -> Result<(), TurnEnd>
         requires { serving self.old }
         ensures did { OnOk result (does (one (Refuses connection count refusal)) self.old self.new) }
         ensures breaks { IfErr result (λ end. stops end (one (Refuses connection count refusal)) self.old self.new) };

@@ -19,7 +19,11 @@ use oc_wire::to_http;
 use std::alloc::Global;
 
 /// The request that brings a message to its receiver.
-pub(crate) fn request_to(alloc: Global, config: &Config, message: &Message) -> Result<Vec<u8>, Memory>
+pub(crate) fn request_to(
+    alloc: Global,
+    config: &Config,
+    message: &Message,
+) -> Result<Vec<u8>, Memory>
     requires body { HasSpelling message.now.body }
     requires host { IsHost (address_of config.now.addresses message.now.to) }
     ensures { IfOk result (λ text. text.items ≡ request_of config.now.key (address_of config.now.addresses message.now.to) message.now) }

@@ -30,18 +30,21 @@ header nodes chain chunk areas = record { nodes = nodes; chain = chain; chunk = 
 -- A new node
 
 -- the header of these numbers and of a copy of its areas is the same
-same_copied : (h : Header) (nodes chain chunk : ℕ) (areas given : List ℕ) → record { nodes = nodes; chain = chain; chunk = chunk; areas = given } ≡ h → areas ≡ given → header nodes chain chunk areas ≡ h
-same_copied h nodes chain chunk areas given view is = ap (λ (list : List ℕ). header nodes chain chunk list) is ∙ view
+same_copied : (h : Header) (nodes chain chunk : ℕ) (areas given own : List ℕ) → record { nodes = nodes; chain = chain; chunk = chunk; areas = own } ≡ h → given ≡ own → areas ≡ given → header nodes chain chunk areas ≡ h
+same_copied h nodes chain chunk areas given own view from is = ap (λ (list : List ℕ). header nodes chain chunk list) (is ∙ from) ∙ view
 
 -- a copy of the areas is of the same header
-pub header_copied : (h : Header) (nodes chain chunk : ℕ) (areas given : List ℕ) → record { nodes = nodes; chain = chain; chunk = chunk; areas = given } ≡ h → areas ≡ given → IsHeader h
+pub header_copied : (h : Header) (nodes chain chunk : ℕ) (areas given own : List ℕ) → record { nodes = nodes; chain = chain; chunk = chunk; areas = own } ≡ h → given ≡ own → areas ≡ given → IsHeader h
     → IsHeader (record { nodes = nodes; chain = chain; chunk = chunk; areas = areas })
-header_copied h nodes chain chunk areas given view is fair = subst IsHeader (sym (same_copied h nodes chain chunk areas given view is)) fair
+header_copied h nodes chain chunk areas given own view from is fair = subst IsHeader (sym (same_copied h nodes chain chunk areas given own view from is)) fair
 
-pub new_is : (h : Header) (nodes chain chunk me : ℕ) (areas given : List ℕ) (control : Control) → record { nodes = nodes; chain = chain; chunk = chunk; areas = given } ≡ h → areas ≡ given
+pub me_copied : (h : Header) (nodes chain chunk me : ℕ) (own : List ℕ) → record { nodes = nodes; chain = chain; chunk = chunk; areas = own } ≡ h → IsNode h.nodes me → IsNode nodes me
+me_copied h nodes chain chunk me own view is = subst (λ (j : Header). IsNode j.nodes me) (sym view) is
+
+pub new_is : (h : Header) (nodes chain chunk me : ℕ) (areas given own : List ℕ) (control : Control) → record { nodes = nodes; chain = chain; chunk = chunk; areas = own } ≡ h → given ≡ own → areas ≡ given
     → control ≡ new_control (record { nodes = nodes; chain = chain; chunk = chunk; areas = areas }) me → record { control = control; groups = [] } ≡ new_node h me
-new_is h nodes chain chunk me areas given control view is new =
-    ap (λ (c : Control). whole c []) new ∙ ap (λ (j : Header). new_node j me) (same_copied h nodes chain chunk areas given view is)
+new_is h nodes chain chunk me areas given own control view from is new =
+    ap (λ (c : Control). whole c []) new ∙ ap (λ (j : Header). new_node j me) (same_copied h nodes chain chunk areas given own view from is)
 
 pub new_areas : (nodes chain chunk me : ℕ) (areas given kept : List ℕ) (control : Control) → kept ≡ given → areas ≡ given → control ≡ new_control (record { nodes = nodes; chain = chain; chunk = chunk; areas = areas }) me → kept ≡ control.areas
 new_areas nodes chain chunk me areas given kept control same is new = same ∙ sym is ∙ sym (ap (λ (c : Control). c.areas) new)

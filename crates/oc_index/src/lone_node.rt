@@ -49,17 +49,18 @@ impl Alone for LoneNode {
 
     ghost digest = { digest };
 
-    #[tactic(auto, using(crate::proofs::LoneSteps::header_copied, crate::proofs::LoneSteps::new_is, crate::proofs::LoneSteps::new_areas))]
+    #[tactic(auto, using(crate::proofs::LoneSteps::header_copied, crate::proofs::LoneSteps::me_copied, crate::proofs::LoneSteps::new_is, crate::proofs::LoneSteps::new_areas))]
     fn new(alloc: Global, header: &Header, me: NodeId) -> Result<LoneNode, Memory> {
-        let kept = header.areas.to_vec(alloc)?;
         let sizes = header.sizes;
+        let areas = header.areas.as_slice();
+        let kept = areas.to_vec(alloc)?;
         let node = Node::new(
             alloc,
             me,
             sizes.nodes,
             sizes.chain,
             sizes.chunk,
-            header.areas.to_vec(alloc)?,
+            areas.to_vec(alloc)?,
         )?;
         Ok(LoneNode {
             alloc,

@@ -60,7 +60,7 @@ denied_is rule true fits =
       some = omega (arith, length-append (codes "access rule ") (decimal rule ++ behind));
       most = omega (arith, part.short);
       shown = part.shown;
-      ended = ap (λ (x : List ℕ). codes "access rule " ++ x) (sym (append_assoc (decimal rule) behind (10 ∷ []))) ;
+      ended = ap (λ (x : List ℕ). codes "access rule " ++ x) (sym (append_assoc (decimal rule) behind (10 ∷ [])));
     }
 denied_is rule false fits =
     let behind : List ℕ = codes " denies this: ask who runs this node" in

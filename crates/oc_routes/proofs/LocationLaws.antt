@@ -42,6 +42,8 @@ located read address [] told start manner name = absurd (no_path (name_is_path [
 located read address (b ∷ rest) told start manner name =
     let query : List ℕ = start_text start ++ told ++ follow_text manner in
     let slash : b ≡ 47 = slash_first b rest name in
-    let bytes : AreBytes (b ∷ rest) = all_small (b ∷ rest) (name_is_plain (b ∷ rest) name) in
-    (path_text (b ∷ rest) ++ query_text (Some query), refl,
-    subst (λ (x : ℕ). AreBytes (x ∷ rest) → decoded (path_of (path_text (x ∷ rest) ++ query_text (Some query))) ≡ Some (x ∷ rest)) (sym slash) (read rest (Some query)) bytes)
+    let bytes : AreBytes (b ∷ rest) = all_small (b ∷ rest) (name_is_plain (b ∷ rest) name) in (
+      path_text (b ∷ rest) ++ query_text (Some query),
+      refl,
+      subst (λ (x : ℕ). AreBytes (x ∷ rest) → decoded (path_of (path_text (x ∷ rest) ++ query_text (Some query))) ≡ Some (x ∷ rest)) (sym slash) (read rest (Some query)) bytes,
+    )

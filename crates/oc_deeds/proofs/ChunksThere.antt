@@ -21,7 +21,6 @@ use Rattle.oc_routes.specs.Waits.{holding}
 use Rattle.oc_routes.specs.declared.hint.Hint.{Hint}
 use Rattle.oc_routes.specs.declared.hint.Hint.TheVariants.{Plain, Here, Of, Known}
 use Rattle.oc_routes.specs.declared.holding.Holding.{Holding}
-use Rattle.oc_routes.specs.declared.showing.Shown.{Shown}
 use Rattle.oc_routes.specs.Group.{client_response, is_past, past_reply, served}
 use Rattle.oc_routes.specs.Responses.{whole_for}
 use Rattle.oc_routes.specs.declared.manner.Manner.{Manner}

@@ -13,6 +13,7 @@ pub mod LocationLaws
 pub mod MacLaws
 pub mod Chunks
 pub mod Cuts
+pub mod PastEnds
 pub mod PieceLaws
 pub mod SparedReplies
 pub mod Unread

@@ -60,7 +60,7 @@ denied_is rule true fits =
       some = omega (arith, length-append (codes "access rule ") (decimal rule ++ behind));
       most = omega (arith, part.short);
       shown = part.shown;
-      ended = ap (λ (x : List ℕ). codes "access rule " ++ x) (sym (append_assoc (decimal rule) behind (10 ∷ []))) ;
+      ended = ap (λ (x : List ℕ). codes "access rule " ++ x) (sym (append_assoc (decimal rule) behind (10 ∷ [])));
     }
 denied_is rule false fits =
     let behind : List ℕ = codes " denies this: ask who runs this node" in
@@ -127,6 +127,8 @@ named name is = record {
         let outer = and_parts (nat_lt 32 b && nat_lt b 127 && not (b == 34)) (not (b == 92)) plain in
         let middle = and_parts (nat_lt 32 b && nat_lt b 127) (not (b == 34)) outer.0 in
         let inner = and_parts (nat_lt 32 b) (nat_lt b 127) middle.0 in
+        let above : nat_lt 32 b ≡ true = inner.0 in
+        let below : nat_lt b 127 ≡ true = inner.1 in
         grind (arith, nat_tests)
 
     short : length name ≤ 200

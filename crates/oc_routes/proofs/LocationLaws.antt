@@ -19,6 +19,8 @@ plain_small b plain =
     let outer = and_parts (nat_lt 32 b && nat_lt b 127 && not (b == 34)) (not (b == 92)) plain in
     let middle = and_parts (nat_lt 32 b && nat_lt b 127) (not (b == 34)) outer.0 in
     let inner = and_parts (nat_lt 32 b) (nat_lt b 127) middle.0 in
+    let above : nat_lt 32 b ≡ true = inner.0 in
+    let below : nat_lt b 127 ≡ true = inner.1 in
     (grind (arith, nat_tests), grind (arith, nat_tests))
 
 all_small : (bytes : List ℕ) → list_all is_plain bytes ≡ true → AreBytes bytes
@@ -42,6 +44,8 @@ located read address [] told start manner name = absurd (no_path (name_is_path [
 located read address (b ∷ rest) told start manner name =
     let query : List ℕ = start_text start ++ told ++ follow_text manner in
     let slash : b ≡ 47 = slash_first b rest name in
-    let bytes : AreBytes (b ∷ rest) = all_small (b ∷ rest) (name_is_plain (b ∷ rest) name) in
-    (path_text (b ∷ rest) ++ query_text (Some query), refl,
-    subst (λ (x : ℕ). AreBytes (x ∷ rest) → decoded (path_of (path_text (x ∷ rest) ++ query_text (Some query))) ≡ Some (x ∷ rest)) (sym slash) (read rest (Some query)) bytes)
+    let bytes : AreBytes (b ∷ rest) = all_small (b ∷ rest) (name_is_plain (b ∷ rest) name) in (
+      path_text (b ∷ rest) ++ query_text (Some query),
+      refl,
+      subst (λ (x : ℕ). AreBytes (x ∷ rest) → decoded (path_of (path_text (x ∷ rest) ++ query_text (Some query))) ≡ Some (x ∷ rest)) (sym slash) (read rest (Some query)) bytes,
+    )

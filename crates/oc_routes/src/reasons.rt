@@ -45,11 +45,7 @@ pub(crate) fn telling(status: u16, line: Vec<u8>) -> Reply
 }
 
 /// The text of a reply, which ends the connection: to a HEAD its head alone, with the length of the body.
-pub(crate) fn reply_text(
-    alloc: Global,
-    head_alone: bool,
-    reply: &Reply,
-) -> Result<Vec<u8>, Memory>
+pub(crate) fn reply_text(alloc: Global, head_alone: bool, reply: &Reply) -> Result<Vec<u8>, Memory>
     requires { HasPhrase reply.now.status }
     ensures { IfOk result (λ text. text.items ≡ reply_text head_alone reply.now) }
 {
@@ -80,16 +76,21 @@ fn plain_line(refused: Refused) -> &'static [u8]
     ensures { result.now ≡ plain_line refused }
 {
     match refused {
-        Refused::Head => b"this is no request of HTTP/1.1 or 1.0: send a request line and fields as RFC 9112 has them\n",
+        Refused::Head =>
+            b"this is no request of HTTP/1.1 or 1.0: send a request line and fields as RFC 9112 has them\n",
         Refused::HeadLong => b"the head is too long: send at most 8192 bytes\n",
         Refused::Fields => b"the head has too many fields: send at most 64\n",
         Refused::Host => b"Host is missing, or there are several: send one\n",
         Refused::BodyLong => b"the body is too long: publish at most 1000000 bytes at a time\n",
         Refused::Method => b"there is no such method here: use GET, HEAD or POST\n",
-        Refused::Path => b"no group can have this path, and no page has it: look at /-/status for the names of groups\n",
-        Refused::Query => b"a number of the query is none, or too great: look at start, area, of and at\n",
-        Refused::Mac => b"the message has not the MAC of this network's key: give all nodes the same key\n",
-        Refused::Message => b"the body is no message to this node: only nodes of this network post here\n",
+        Refused::Path =>
+            b"no group can have this path, and no page has it: look at /-/status for the names of groups\n",
+        Refused::Query =>
+            b"a number of the query is none, or too great: look at start, area, of and at\n",
+        Refused::Mac =>
+            b"the message has not the MAC of this network's key: give all nodes the same key\n",
+        Refused::Message =>
+            b"the body is no message to this node: only nodes of this network post here\n",
         Refused::Body => b"a request to seal has no body: publish first, then seal\n",
         _ => b"",
     }
@@ -196,10 +197,7 @@ pub(crate) fn seal_line(
             put_source_url(&mut line, source, group)?;
             put(&mut line, b"?seal\n")?;
         }
-        Answer::NoGroup => put(
-            &mut line,
-            b"there is no such group: publish it first\n",
-        )?,
+        Answer::NoGroup => put(&mut line, b"there is no such group: publish it first\n")?,
         _ => {}
     }
     Ok(line)

@@ -65,7 +65,8 @@ fn status_of(refused: Refused) -> Option<u16>
         Refused::Method => Some(405),
         Refused::Path => Some(404),
         Refused::Denied {
-            needs_token: true, ..
+            needs_token: true,
+            ..
         } => Some(401),
         Refused::Denied { .. } | Refused::Mac => Some(403),
         Refused::At(_) => Some(409),

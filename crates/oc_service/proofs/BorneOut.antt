@@ -6,6 +6,7 @@ use Rattle.std.proofs.lemmas.List.{append_assoc, take-append-drop}
 use Rattle.oc_base.specs.Groups.{shelf}
 use Rattle.oc_base.specs.declared.shelf.Shelf.{Shelf}
 use Rattle.oc_link.specs.Counts.{CountsEvent}
+use Rattle.oc_io.specs.Faults.{Rose}
 use Rattle.oc_link.specs.Failures.{RisesAt, fails_reading, has_failed, is_failure}
 use Rattle.oc_link.specs.declared.call.Call.{Call}
 use Rattle.oc_link.specs.declared.counts.LinkCounts.{LinkCounts}
@@ -221,12 +222,12 @@ read_fails t x bytes v is = subst (λ (w : Verdict). FailsBy (has_failed x.comin
 
 -- What is done with a request
 
-is_failure : (why : Refused) (failed : Type 0) → (why ≡ refusals.Source → failed) → IsFailure why failed
-is_failure refusals.Source failed fails = fails refl
-is_failure why failed fails = tt
+failure_of : (why : Refused) (failed : Type 0) → (why ≡ refusals.Source → failed) → IsFailure why failed
+failure_of refusals.Source failed fails = fails refl
+failure_of why failed fails = tt
 
 refused : (event : LinkEvent) (c count : ℕ) (refusal : Refusal) → (refusal.why ≡ refusals.Source → IsTrue (fails_reading event)) → IsBorneOut event (Refuses c count refusal)
-refused event c count refusal fails = is_failure refusal.why (IsTrue (fails_reading event)) fails
+refused event c count refusal fails = failure_of refusal.why (IsTrue (fails_reading event)) fails
 
 -- a condition that is not met is no failure
 unmet_by_other : (held : ℕ) (at : Option ℕ) (refusal : Refusal) → unmet_by held at ≡ Some refusal → IsOther refusal.why

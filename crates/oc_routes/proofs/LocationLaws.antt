@@ -49,6 +49,6 @@ located read address (b ∷ rest) told start manner name =
     let slash : b ≡ 47 = slash_first b rest name in
     let bytes : AreBytes (b ∷ rest) = all_small (b ∷ rest) (name_is_plain (b ∷ rest) name) in (
       path_text (b ∷ rest) ++ query_text (Some query),
-      refl,
+      in_groups (codes "http://" ++ address) (path_text (b ∷ rest)) (codes "?") (start_text start) told (follow_text manner),
       subst (λ (x : ℕ). AreBytes (x ∷ rest) → decoded (path_of (path_text (x ∷ rest) ++ query_text (Some query))) ≡ Some (x ∷ rest)) (sym slash) (read rest (Some query)) bytes,
     )

@@ -73,21 +73,27 @@ denied_is rule false fits =
       ended = ap (λ (x : List ℕ). codes "access rule " ++ x) (sym (append_assoc (decimal rule) behind (10 ∷ [])));
     }
 
-at_is : (n : ℕ) → n < 2 ^ 64 → IsPlainLine (refused_line (At n))
-at_is n fits =
-    let last = together 20 10 (decimal n) (codes " appends") (number n fits) (record { short = omega arith; shown = refl }) in
-    let second = together 12 30 (codes " bytes: at=") (decimal n ++ codes " appends") (record { short = omega arith; shown = refl }) last in
-    let third = together 20 42 (decimal n) (codes " bytes: at=" ++ decimal n ++ codes " appends") (number n fits) second in
-    let part = together 14 62 (codes "the group has ") (decimal n ++ codes " bytes: at=" ++ decimal n ++ codes " appends") (record { short = omega arith; shown = refl }) third in
+-- a text with a number twice
+twice : (front middle behind : List ℕ) (n : ℕ) → n < 2 ^ 64 → nat_le 1 (length front) ≡ true → IsPart 100 front → IsPart 100 middle → IsPart 100 behind
+    → IsPlainLine (front ++ decimal n ++ middle ++ decimal n ++ (behind ++ 10 ∷ []))
+twice front middle behind n fits long first second third =
+    let one = together 100 20 front (decimal n) first (number n fits) in
+    let two = together 120 100 (front ++ decimal n) middle one second in
+    let three = together 220 20 (front ++ decimal n ++ middle) (decimal n) two (number n fits) in
+    let part = together 240 100 (front ++ decimal n ++ middle ++ decimal n) behind three third in
+    let some : 1 ≤ length front = grind (arith, nat_tests) in
     record {
-      line = codes "the group has " ++ decimal n ++ codes " bytes: at=" ++ decimal n ++ codes " appends";
-      some = omega (arith, length-append (codes "the group has ") (decimal n ++ codes " bytes: at=" ++ decimal n ++ codes " appends"));
+      line = front ++ decimal n ++ middle ++ decimal n ++ behind;
+      some = omega (arith, some, length-append (front ++ decimal n ++ middle ++ decimal n) behind, length-append (front ++ decimal n ++ middle) (decimal n), length-append (front ++ decimal n) middle, length-append front (decimal n));
       most = omega (arith, part.short);
       shown = part.shown;
-      ended = ap (λ (x : List ℕ). codes "the group has " ++ x)
-          (ap (λ (x : List ℕ). decimal n ++ codes " bytes: at=" ++ x) (sym (append_assoc (decimal n) (codes " appends") (10 ∷ [])))
-          ∙ sym (append_assoc (decimal n) (codes " bytes: at=" ++ decimal n ++ codes " appends") (10 ∷ [])));
+      ended = sym (append_assoc (front ++ decimal n ++ middle ++ decimal n) behind (10 ∷ []));
     }
+
+at_is : (n : ℕ) → n < 2 ^ 64 → IsPlainLine (refused_line (At n))
+at_is n fits =
+    twice (codes "the group has ") (codes " bytes: at=") (codes " appends") n fits refl
+    (record { short = omega arith; shown = refl }) (record { short = omega arith; shown = refl }) (record { short = omega arith; shown = refl })
 
 -- a line of its own
 alone : (line : List ℕ) → nat_le 1 (length line) ≡ true → nat_le (length line) 1000 ≡ true → list_all is_shown line ≡ true → IsPlainLine (line ++ 10 ∷ [])
@@ -138,23 +144,25 @@ named name is = record {
     ]
 
 -- what begins so and ends with the URL of a group at the source
-at_source : (front behind source group : List ℕ) → nat_le 1 (length front) ≡ true → nat_le (length front) 100 ≡ true → list_all is_shown front ≡ true → IsPart 10 behind → IsTellable source → IsGroupName group
-    → IsPlainLine (front ++ (codes "http://" ++ source ++ group) ++ behind ++ 10 ∷ [])
-at_source front behind source group some few shown last tellable is =
-    let url = together 7 500 (codes "http://") (source ++ group) (record { short = omega arith; shown = refl }) (together 300 200 source group (record { short = tellable.most; shown = tellable.shown }) (named group is)) in
-    let rest = together 507 10 (codes "http://" ++ source ++ group) behind url last in
-    let part = together 100 517 front ((codes "http://" ++ source ++ group) ++ behind) (record { short = grind (arith, nat_tests); shown = shown }) rest in
+at_source : (front behind source group : List ℕ) → nat_le 1 (length front) ≡ true → IsPart 100 front → IsPart 10 behind → IsTellable source → IsGroupName group
+    → IsPlainLine (front ++ (codes "http://" ++ source ++ group) ++ (behind ++ 10 ∷ []))
+at_source front behind source group long first last tellable is =
+    let host = together 7 300 (codes "http://") source (record { short = omega arith; shown = refl }) (record { short = tellable.most; shown = tellable.shown }) in
+    let url = together 307 200 (codes "http://" ++ source) group host (named group is) in
+    let begun = together 100 507 front (codes "http://" ++ source ++ group) first url in
+    let part = together 607 10 (front ++ (codes "http://" ++ source ++ group)) behind begun last in
+    let some : 1 ≤ length front = grind (arith, nat_tests) in
     record {
       line = front ++ (codes "http://" ++ source ++ group) ++ behind;
-      some = grind (arith, nat_tests, length-append front ((codes "http://" ++ source ++ group) ++ behind));
+      some = omega (arith, some, length-append (front ++ (codes "http://" ++ source ++ group)) behind, length-append front (codes "http://" ++ source ++ group));
       most = omega (arith, part.short);
       shown = part.shown;
-      ended = ap (λ (x : List ℕ). front ++ x) (sym (append_assoc (codes "http://" ++ source ++ group) behind (10 ∷ []))) ∙ sym (append_assoc front ((codes "http://" ++ source ++ group) ++ behind) (10 ∷ []));
+      ended = sym (append_assoc (front ++ (codes "http://" ++ source ++ group)) behind (10 ∷ []));
     }
 
 pub publish_is : (answer : Answer) (source group : List ℕ) → IsPublishAnswer answer → (publish_status answer ≡ 200 → ⊥) → IsTellable source → IsGroupName group → IsPlainLine (publish_line answer source group)
 publish_is answers.NotSource source group known refuses tellable is =
-    at_source (codes "this node is not the source: publish at the source, ") [] source group refl refl refl (record { short = omega arith; shown = refl }) tellable is
+    at_source (codes "this node is not the source: publish at the source, ") [] source group refl (record { short = omega arith; shown = refl }) (record { short = omega arith; shown = refl }) tellable is
 publish_is answers.Sealed source group known refuses tellable is = alone (codes "the group is sealed, and takes no more: publish another group") refl refl refl
 publish_is answers.Groups source group known refuses tellable is = alone (codes "64 groups are held: publish files into a folder") refl refl refl
 publish_is answers.TooLong source group known refuses tellable is = alone (codes "the group would be too long: at most 1099511627776 bytes fit") refl refl refl
@@ -171,7 +179,7 @@ publish_is (answers.Serve count) source group known refuses tellable is = absurd
 
 pub seal_is : (answer : Answer) (source group : List ℕ) → IsSealAnswer answer → (seal_status answer ≡ 200 → ⊥) → IsTellable source → IsGroupName group → IsPlainLine (seal_line answer source group)
 seal_is answers.NotSource source group known refuses tellable is =
-    at_source (codes "this node is not the source: seal at the source, ") (codes "?seal") source group refl refl refl (record { short = omega arith; shown = refl }) tellable is
+    at_source (codes "this node is not the source: seal at the source, ") (codes "?seal") source group refl (record { short = omega arith; shown = refl }) (record { short = omega arith; shown = refl }) tellable is
 seal_is answers.NoGroup source group known refuses tellable is = alone (codes "there is no such group: publish it first") refl refl refl
 seal_is answers.Ok source group known refuses tellable is = absurd (refuses refl)
 seal_is answers.Ignored source group known refuses tellable is = absurd (refuses refl)
@@ -193,17 +201,5 @@ no_group_is = alone (codes "there is no such group here: look at /-/status for t
 
 pub past_is : (n : ℕ) → n < 2 ^ 64 → IsPlainLine (past_line n)
 past_is n fits =
-    let middle : List ℕ = codes " bytes, and is sealed: start=" in
-    let last = together 20 30 (decimal n) (codes " is the last start") (number n fits) (record { short = omega arith; shown = refl }) in
-    let second = together 40 50 middle (decimal n ++ codes " is the last start") (record { short = omega arith; shown = refl }) last in
-    let third = together 20 90 (decimal n) (middle ++ decimal n ++ codes " is the last start") (number n fits) second in
-    let part = together 14 110 (codes "the group has ") (decimal n ++ middle ++ decimal n ++ codes " is the last start") (record { short = omega arith; shown = refl }) third in
-    record {
-      line = codes "the group has " ++ decimal n ++ middle ++ decimal n ++ codes " is the last start";
-      some = omega (arith, length-append (codes "the group has ") (decimal n ++ middle ++ decimal n ++ codes " is the last start"));
-      most = omega (arith, part.short);
-      shown = part.shown;
-      ended = ap (λ (x : List ℕ). codes "the group has " ++ x)
-          (ap (λ (x : List ℕ). decimal n ++ middle ++ x) (sym (append_assoc (decimal n) (codes " is the last start") (10 ∷ [])))
-          ∙ sym (append_assoc (decimal n) (middle ++ decimal n ++ codes " is the last start") (10 ∷ [])));
-    }
+    twice (codes "the group has ") (codes " bytes, and is sealed: start=") (codes " is the last start") n fits refl
+    (record { short = omega arith; shown = refl }) (record { short = omega arith; shown = refl }) (record { short = omega arith; shown = refl })

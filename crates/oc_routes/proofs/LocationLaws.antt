@@ -1,5 +1,5 @@
 -- The Location of a group is read as its name.
-use Rattle.std.proofs.Common.{◌≡◌, ℕ, ◌<◌, Bool, true, false, ◌&&◌, ◌==◌, Option, Some, None, List, [], ◌∷◌, ◌++◌, codes, refl, sym, subst, arith}
+use Rattle.std.proofs.Common.{◌≡◌, ℕ, ◌<◌, Bool, true, false, ◌&&◌, ◌==◌, Option, Some, None, List, [], ◌∷◌, ◌++◌, codes, refl, sym, subst, append_assoc, arith}
 use Rattle.std.specs.Prelude.{nat_lt, not}
 use Rattle.std.specs.List.{All, list_all}
 use Rattle.std.proofs.lemmas.Bool.{and_parts, eqb-true}
@@ -36,6 +36,9 @@ slash_first b rest name = eqb-true b 47 ((and_parts (b == 47) _ (name_is_path (b
 no_path : is_path [] ≡ true → ⊥
 no_path is = cc is
 
+in_groups : (front path mark start told more : List ℕ) → front ++ path ++ mark ++ start ++ told ++ more ≡ front ++ (path ++ (mark ++ (start ++ told ++ more)))
+in_groups front path mark start told more = simp append_assoc
+
 -- the target of a Location of a group, whose path is decoded to the group
 pub located : ((rest : List ℕ) (query : Option (List ℕ)) → AreBytes (47 ∷ rest) → decoded (path_of (path_text (47 ∷ rest) ++ query_text query)) ≡ Some (47 ∷ rest))
     → (address group told : List ℕ) (start : ℕ) (manner : Manner) → IsGroupName group
@@ -46,6 +49,6 @@ located read address (b ∷ rest) told start manner name =
     let slash : b ≡ 47 = slash_first b rest name in
     let bytes : AreBytes (b ∷ rest) = all_small (b ∷ rest) (name_is_plain (b ∷ rest) name) in (
       path_text (b ∷ rest) ++ query_text (Some query),
-      refl,
+      in_groups (codes "http://" ++ address) (path_text (b ∷ rest)) (codes "?") (start_text start) told (follow_text manner),
       subst (λ (x : ℕ). AreBytes (x ∷ rest) → decoded (path_of (path_text (x ∷ rest) ++ query_text (Some query))) ≡ Some (x ∷ rest)) (sym slash) (read rest (Some query)) bytes,
     )

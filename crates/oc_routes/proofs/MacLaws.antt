@@ -109,7 +109,7 @@ have_mac t a key bytes q has asks_message x = by_answer x.answer x.answers x.ver
 -- A body is refused as no message only where it came with its MAC
 
 -- why a verdict refuses a request, if it does
-why_of : Verdict → Option Refused
+abbrev why_of : Verdict → Option Refused
 why_of (Refuse refusal) = Some refusal.why
 why_of v = None
 

@@ -390,19 +390,19 @@ pub fn respond(
         ≡ response_for asked last answered.now.answer (option_map (λ m. m.now) answered.now.back) answered.now.holding
         (map string_bytes network.now.addresses.now) (option_map (λ k. k.now) network.now.key) answered.now.report.now) }
 {
-    match asked.operation {
+    match &asked.operation {
         Operation::Message => to_message(alloc, answered.back, network.key),
         Operation::Publish { group, .. } => to_publish(
             alloc,
             answered.answer,
             source_in(network.addresses),
-            &group,
+            group,
         ),
         Operation::Seal { group, .. } => to_seal(
             alloc,
             answered.answer,
             source_in(network.addresses),
-            &group,
+            group,
         ),
         Operation::Client {
             group,
@@ -411,17 +411,17 @@ pub fn respond(
             ..
         } => {
             let client = Client {
-                group,
-                start,
-                manner,
+                group: *group,
+                start: *start,
+                manner: *manner,
                 hint: asked.hint,
                 last,
             };
             to_client(alloc, &client, answered, network.addresses)
         }
-        Operation::Probe { manner } => to_probe(alloc, manner, last),
+        Operation::Probe { manner } => to_probe(alloc, *manner, last),
         Operation::Report { report, manner } => {
-            report_response(alloc, report, manner, last, answered.report)
+            report_response(alloc, *report, *manner, last, answered.report)
         }
     }
 }

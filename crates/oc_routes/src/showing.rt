@@ -42,8 +42,8 @@ pub(crate) fn to_client(
         answered.now.answer answered.now.holding (map string_bytes addresses.now)) }
 {
     let holding = answered.holding;
-    let shown = as_shown(client.hint, answered.answer, holding, client.start);
-    match shown.answer {
+    let Shown { answer, sealed } = as_shown(client.hint, answered.answer, holding, client.start);
+    match answer {
         Answer::Redirect(node) => {
             let told = told_text(alloc, client.hint, holding)?;
             let location = location_of(alloc, address_of(addresses, node), client, &told)?;
@@ -55,7 +55,7 @@ pub(crate) fn to_client(
         Answer::Serve(count) => served(
             alloc,
             client.manner,
-            shown.sealed,
+            sealed,
             client.last,
             client.start,
             count,

@@ -15,6 +15,7 @@ pub mod Chunks
 pub mod Cuts
 pub mod PastEnds
 pub mod PieceLaws
+pub mod Sendings
 pub mod SparedReplies
 pub mod Unread
 pub mod WaitLaws

@@ -50,6 +50,11 @@ is_past start h = h.sealed && nat_lt h.held start
 abbrev pub past_reply : ℕ → Reply
 past_reply length = record (telling 416 (past_line length)) { content_range = Some length }
 
+-- `count` bytes, or that
+abbrev pub served_or_past : Manner → Bool → Bool → ℕ → ℕ → Holding → Response
+served_or_past manner sealed last start count h =
+    if is_past start h then whole_for manner (past_reply h.held) else served manner sealed last start count
+
 -- a client is sent to a node
 abbrev pub redirection : List ℕ → Reply
 redirection location = record (bare 302) { location = Some location }
@@ -58,8 +63,7 @@ redirection location = record (bare 302) { location = Some location }
 abbrev pub client_response : List ℕ → ℕ → Manner → List ℕ → Answer → Bool → Bool → Holding → List (List ℕ) → Response
 client_response group start manner told (answers.Redirect node) sealed last h addresses =
     whole (redirection (location_of (address_of addresses node) group start told manner))
-client_response group start manner told (answers.Serve count) sealed last h addresses =
-    if is_past start h then whole_for manner (past_reply h.held) else served manner sealed last start count
+client_response group start manner told (answers.Serve count) sealed last h addresses = served_or_past manner sealed last start count h
 client_response group start manner told refusal sealed last h addresses = whole_for manner (telling 404 no_group_line)
 
 abbrev pub shown_response : List ℕ → ℕ → Manner → List ℕ → Shown → Bool → Holding → List (List ℕ) → Response

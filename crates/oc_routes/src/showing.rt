@@ -1,7 +1,8 @@
 //! What a client is answered by what it tells.
 
 ghost use Rattle.std.specs.Prelude.{◌≡◌, ◌++◌, IfOk, OnOk, map, string_bytes};
-ghost use Rattle.oc_routes.specs.Group.{group_response};
+ghost use Rattle.oc_routes.specs.Group.{group_response, redirection, served_or_past};
+ghost use Rattle.oc_routes.specs.Responses.{whole};
 ghost use Rattle.oc_routes.specs.Shown.{here_answer, known_shown, location_of, of_shown, follow_text, shown, start_text, told_text};
 
 use crate::hint::Hint;
@@ -44,24 +45,48 @@ pub(crate) fn to_client(
     let holding = answered.holding;
     let Shown { answer, sealed } = as_shown(client.hint, answered.answer, holding, client.start);
     match answer {
-        Answer::Redirect(node) => {
-            let told = told_text(alloc, client.hint, holding)?;
-            let location = location_of(alloc, address_of(addresses, node), client, &told)?;
-            sent_to(alloc, location)
-        }
-        Answer::Serve(_) if is_past(client.start, holding) => {
-            past(alloc, client.manner, holding.held)
-        }
-        Answer::Serve(count) => served(
-            alloc,
-            client.manner,
-            sealed,
-            client.last,
-            client.start,
-            count,
-        ),
+        Answer::Redirect(node) => sent_on(alloc, client, holding, address_of(addresses, node)),
+        Answer::Serve(count) => served_or_past(alloc, client, holding, sealed, count),
         _ => no_group(alloc, client.manner),
     }
+}
+
+/// Sends a client to the node at an address.
+fn sent_on(
+    alloc: Global,
+    client: &Client,
+    holding: Holding,
+    address: &str,
+) -> Result<Response, Memory>
+    ensures { IfOk result (λ response. response
+        ≡ whole (redirection (location_of address.now client.now.group client.now.start (told_text client.now.hint holding) client.now.manner))) }
+{
+    let told = told_text(alloc, client.hint, holding)?;
+    let location = location_of(alloc, address, client, &told)?;
+    sent_to(alloc, location)
+}
+
+/// Gives a client `count` bytes of a group that it is shown as sealed or not, or tells it that its start is past the end.
+fn served_or_past(
+    alloc: Global,
+    client: &Client,
+    holding: Holding,
+    sealed: bool,
+    count: u64,
+) -> Result<Response, Memory>
+    ensures { IfOk result (λ response. response ≡ served_or_past client.now.manner sealed client.now.last client.now.start count holding) }
+{
+    if is_past(client.start, holding) {
+        return past(alloc, client.manner, holding.held);
+    }
+    served(
+        alloc,
+        client.manner,
+        sealed,
+        client.last,
+        client.start,
+        count,
+    )
 }
 
 /// The answer of a step, and whether the group is sealed, as the client is shown them.

@@ -16,8 +16,9 @@ use Rattle.oc_server.proofs.doing.ServerDoer.accepts.Goals as goal
 pub returns-clause-did : goal.returns-clause-did
 returns-clause-did g c =
     let s = c.args.self.now in
-    does_one g.D.Disk.view g.K.Sink.takes g.K.Sink.fails g.K.Sink.faults g.L.Link.story g.L.Link.counts (Accepts c.args.input) (one (Accepts c.args.input)) s _ (λ honest. refl)
-    (did_accept g.D.Disk.view g.K.Sink.takes g.K.Sink.fails g.K.Sink.faults g.L.Link.story g.L.Link.counts c.args.input c.in_ok-outcome.outcome s _ c.requires.serving.is_open c.in_ok-outcome.ensures.kept
+    let new = record s { kept = c.keep.new.kept; sink = c.write_line.new.sink; outbox = c.put_all.new.outbox } in
+    does_one g.D.Disk.view g.K.Sink.takes g.K.Sink.fails g.K.Sink.faults g.L.Link.story g.L.Link.counts (Accepts c.args.input) (one (Accepts c.args.input)) s new (λ honest. refl)
+    (did_accept g.D.Disk.view g.K.Sink.takes g.K.Sink.fails g.K.Sink.faults g.L.Link.story g.L.Link.counts c.args.input c.in_ok-outcome.outcome s new c.requires.serving.is_open c.in_ok-outcome.ensures.kept
     (subst (λ (t : List ℕ). g.K.Sink.takes s.sink t c.write_line.new.sink) (c.deref.ensures.value ∙ c.in_ok-line.ensures) c.in_ok-write_line.ensures.wrote) c.write_line.ensures.count
     refl refl refl refl refl (search rules))
 

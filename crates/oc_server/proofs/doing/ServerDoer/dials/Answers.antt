@@ -1,4 +1,4 @@
-use Rattle.std.proofs.Common.{refl, sym, ◌∙◌, Option}
+use Rattle.std.proofs.Common.{refl, sym, ap, ◌∙◌, Option}
 use Rattle.std.proofs.lemmas.Result.{err_from_is_err_and}
 use Rattle.oc_server.proofs.Dialled.{dialled}
 use Rattle.oc_deeds.proofs.Lawful.{none_there}
@@ -6,6 +6,7 @@ use Rattle.oc_deeds.proofs.Messages.{one_sendable, receiver_of_sendable, text_of
 use Rattle.oc_server.proofs.Parts.{does_one}
 use Rattle.oc_server.proofs.Stopping.{memory_stops}
 use Rattle.oc_server.specs.Scenes.{setting, running}
+use Rattle.oc_deeds.specs.Deeds.{Dials}
 use Rattle.oc_deeds.specs.Sends.{dials_as}
 use Rattle.oc_model.specs.declared.message.Message.{Message}
 use Rattle.oc_deeds.specs.Sends as asked

@@ -3,6 +3,7 @@ use Rattle.std.proofs.lemmas.Result.{err_from_is_err_and}
 use Rattle.oc_server.proofs.Dialled.{probed}
 use Rattle.oc_server.proofs.Parts.{does_one}
 use Rattle.oc_server.proofs.Stopping.{memory_stops}
+use Rattle.oc_deeds.specs.Deeds.{Probes}
 use Rattle.oc_deeds.specs.Parts.{one}
 use Rattle.oc_server.proofs.doing.ServerDoer.probes.Goals as goal
 

@@ -1,4 +1,4 @@
-use Rattle.std.proofs.Common.{◌≡◌, ◌++◌, ◌∷◌, List, ℕ, Option, refl, ap, subst, sym, ◌∙◌, rules}
+use Rattle.std.proofs.Common.{◌≡◌, ◌++◌, ◌∷◌, [], List, ℕ, Option, refl, ap, subst, sym, ◌∙◌, rules}
 use Rattle.std.proofs.lemmas.Result.{err_from_is_err_and}
 use Rattle.std.specs.List.{AllByRecursion}
 use Rattle.oc_link.specs.declared.call.Call.TheVariants as acts
@@ -57,7 +57,7 @@ returns-in_err-text-clause-breaks g c =
     let looks = c.in_ok-piece.ensures.looks in
     let k = c.first_piece.new.kept in
     rw (p.1, p.2) (look_stops g.D.Disk.view g.K.Sink.takes g.K.Sink.fails g.K.Sink.faults g.L.Link.story g.L.Link.counts g.met.K.Sink.takes_nothing ends.Memory (replies c.args.pending c.args.now c.args.accepted.now.answer c.args.accepted.now.back) c.args.self.now _ c.requires.serving.is_open refl refl refl
-    (stops_behind g.D.Disk.view Memory c.args.self.now.kept k k looks (memory_looks g.D.Disk.view k (c.recovers.ensures.survives looks.is_open))))
+    (stops_behind g.D.Disk.view Memory c.args.self.now.kept k k looks (memory_looks g.D.Disk.view k (c.recovers-2.ensures.survives looks.is_open))))
 
 pub returns-in_err-begin_rest-clause-breaks : goal.returns-in_err-begin_rest-clause-breaks
 returns-in_err-begin_rest-clause-breaks g c =
@@ -65,7 +65,7 @@ returns-in_err-begin_rest-clause-breaks g c =
     let looks = c.in_ok-piece.ensures.looks in
     let k = c.first_piece.new.kept in
     rw (p.1, p.2) (look_stops g.D.Disk.view g.K.Sink.takes g.K.Sink.fails g.K.Sink.faults g.L.Link.story g.L.Link.counts g.met.K.Sink.takes_nothing ends.Memory (replies c.args.pending c.args.now c.args.accepted.now.answer c.args.accepted.now.back) c.args.self.now _ c.requires.serving.is_open refl refl refl
-    (stops_behind g.D.Disk.view Memory c.args.self.now.kept k k looks (memory_looks g.D.Disk.view k (c.recovers.ensures.survives looks.is_open))))
+    (stops_behind g.D.Disk.view Memory c.args.self.now.kept k k looks (memory_looks g.D.Disk.view k (c.recovers-2.ensures.survives looks.is_open))))
 
 pub returns-in_err-response-clause-breaks : goal.returns-in_err-response-clause-breaks
 returns-in_err-response-clause-breaks g c =

@@ -76,14 +76,13 @@ returns-clause-ready g c =
 pub returns-clause-taken : goal.returns-clause-taken
 returns-clause-taken g c =
     let t = c.args.self.now in
-    let new = record { server = c.deals.new.doer; pace = c.deals.new.pace; probing = c.deals.new.probing } in
     let happened = c.in_ok-happened.happened in
     let did = c.in_ok-happened.ensures.did in
     let dealt = c.in_ok-deals.ensures.did in
-    subst (λ (served : Bool). NextTaken g.D.Disk.view g.K.Sink.takes g.K.Sink.faults g.L.Link.story g.L.Link.counts c.args.before served t new) (sym c.is_something-served.ensures)
+    subst (λ (served : Bool). NextTaken g.D.Disk.view g.K.Sink.takes g.K.Sink.faults g.L.Link.story g.L.Link.counts c.args.before served t (record { server = c.deals.new.doer; pace = c.deals.new.pace; probing = c.deals.new.probing })) (sym c.is_something-served.ensures)
     (next_taken g.D.Disk.view g.K.Sink.takes g.K.Sink.fails g.K.Sink.faults g.L.Link.story g.L.Link.counts g.met.K.Sink.takes_nothing g.met.K.Sink.takes_then t c.args.before c.wait_for-wait.result happened.event did.0 c.sees.new.self
     (c.wait_for-wait.ensures ∙ ap (λ (ws : List Work). wait_for t.pace ws c.args.before) c.list.ensures) did.1
-    happened.errand (g.L.Link.lends c.sees.new.self.link) c.in_ok-came.came c.millis-now.result c.understands.new.self c.millis-now.new.self new
+    happened.errand (g.L.Link.lends c.sees.new.self.link) c.in_ok-came.came c.millis-now.result c.understands.new.self c.millis-now.new.self (record { server = c.deals.new.doer; pace = c.deals.new.pace; probing = c.deals.new.probing })
     c.in_ok-happened.ensures.told c.in_ok-happened.ensures.errand c.in_ok-came.ensures.means c.understands.ensures.same c.millis-now.ensures
     (record { median = dealt.0; started = dealt.1; seconds = dealt.2; measured = dealt.3; does = dealt.4; pace = dealt.5; probing = c.deals.ensures.probing }))
 

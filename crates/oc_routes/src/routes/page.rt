@@ -12,7 +12,8 @@ pub const PAGE_PATH: &str = "/!";
 /// The same under a name that shells and collectors can spell.
 pub const PAGE_NAME: &str = "/-/";
 
-/// The page, whole: it reads `/!status` each second and draws the tree that the node's table tells.
+/// The page, whole: it reads the status, by the name that goes with its own, each second, and draws the tree that the
+/// node's table tells.
 pub const PAGE: &str = r##"<!doctype html>
 <html lang="en">
 <head>
@@ -166,7 +167,7 @@ ul.tree ul ul ul ul ul ul ul ul > li::before, ul.tree ul ul ul ul ul ul ul ul > 
 </div></header>
 <div class="wide">
 <div id="silence"><strong role="alert" id="silence-what"></strong><span id="silence-since"></span></div>
-<noscript><p>This page draws what the node tells, and needs JavaScript for it. Without it read <a href="!status">/!status</a> or <a href="!metrics">/!metrics</a>.</p></noscript>
+<noscript><p>This page draws what the node tells, and needs JavaScript for it. Without it read <a href="../-/status">/-/status</a> or <a href="../-/metrics">/-/metrics</a>.</p></noscript>
 <main id="main" hidden>
   <dl class="counts" id="counts"></dl>
   <div class="columns">
@@ -201,7 +202,7 @@ ul.tree ul ul ul ul ul ul ul ul > li::before, ul.tree ul ul ul ul ul ul ul ul > 
     </section>
   </div>
 </main>
-<footer>Read each second from <a href="!status">/!status</a>; for monitors there is <a href="!metrics">/!metrics</a>.</footer>
+<footer>Read each second from <a href="../-/status">/-/status</a>; for monitors there is <a href="../-/metrics">/-/metrics</a>.</footer>
 </div>
 <script>
 'use strict';
@@ -509,8 +510,8 @@ ul.tree ul ul ul ul ul ul ul ul > li::before, ul.tree ul ul ul ul ul ul ul ul > 
   function say(why) {
     const since = last || opened, seconds = Math.round((Date.now() - since) / 1000);
     const who = good ? 'Node ' + good.node : 'The node';
-    const text = why === null ? ['', ''] : why === 403
-      ? [who + ' refuses to tell its status.', 'An access rule denies “/” without a token, and this page has none to send. Since ' + time(since) + '.']
+    const text = why === null ? ['', ''] : why === 401 || why === 403
+      ? [who + ' refuses to tell its status.', 'An access rule denies “/-/status” without a token, and this page has none to send. Since ' + time(since) + '.']
       : why ? [who + ' answered ' + why + ' in the place of its status.', 'Since ' + time(since) + ', for ' + span(seconds) + '.']
       : [who + ' does not answer since ' + time(since) + '.', 'For ' + span(seconds) + (good ? '; what is shown is of that time.' : ', when this page was opened.')];
     document.body.classList.toggle('silent', why !== null);
@@ -524,7 +525,7 @@ ul.tree ul ul ul ul ul ul ul ul > li::before, ul.tree ul ul ul ul ul ul ul ul > 
     const begun = Date.now(), end = new AbortController(), timer = setTimeout(() => end.abort(), 5000);
     let why = 0;
     try {
-      const reply = await fetch('!status' + location.search, { cache: 'no-store', signal: end.signal });
+      const reply = await fetch((location.pathname.endsWith('/') ? 'status' : '!status') + location.search, { cache: 'no-store', signal: end.signal });
       if (reply.ok) {
         good = JSON.parse(await reply.text());
         last = new Date();

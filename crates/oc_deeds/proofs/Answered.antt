@@ -14,7 +14,7 @@ use Rattle.oc_routes.specs.declared.verdict.Verdict.{Verdict}
 use Rattle.oc_routes.specs.declared.verdict.Verdict.TheVariants as verdicts
 use Rattle.oc_routes.specs.declared.waiting.Prospect.{Prospect}
 use Rattle.oc_routes.specs.declared.waiting.Prospect.TheVariants as prospects
-use Rattle.oc_routes.specs.declared.refused.Refused.{Refused}
+use Rattle.oc_routes.specs.declared.verdict.Refusal.{Refusal}
 use Rattle.oc_deeds.specs.Answered.{AreAnswered, AreAnsweredBy, IsAnsweredBy, answer_of, back_of}
 use Rattle.oc_deeds.specs.Asks.{has_to_wait, obeys, refuses_or, responds, takes_on, takes_up, waiting}
 use Rattle.oc_deeds.specs.Choices.{due_place, next_to_dial, prospect_of, wait_for}
@@ -140,13 +140,13 @@ responded r None now s a = (refl, tt)
 responded r (Some i) now s a = (tt, (tt, (tt, (refl, tt))))
 
 took_on : (c : ℕ) (request : Request) (now : ℕ) (s : Setting) (a : Running) → AreAnswered s (takes_on c request now s a) a
-took_on c request now s a = by_condition (unmet request.operation a.node.control.me (shelf a.node.groups))
+took_on c request now s a = by_condition (unmet request.asked.operation a.node.control.me (shelf a.node.groups))
   where
     by_test : (b : Bool) → AreAnswered s (if b then Waits (waiting c request now) ∷ [] else responds (pending c request (is_some request.input) false) request.input now s a) a
     by_test true = (tt, tt)
     by_test false = responded (pending c request (is_some request.input) false) request.input now s a
 
-    by_condition : (why : Option Refused) → AreAnswered s (refuses_or why c request now s a) a
+    by_condition : (why : Option Refusal) → AreAnswered s (refuses_or why c request now s a) a
     by_condition (Some why) = (tt, tt)
     by_condition None = by_test (has_to_wait request a.node)
 
@@ -178,7 +178,7 @@ took_up None now s a = tt
 took_up (Some (works.Content p)) now s a = tt
 took_up (Some (works.Aside p)) now s a = silent_all answers.Ok None s (goes_on p now s a) a (silent_moves p now (prospect_of p (shelf a.node.groups) now))
 took_up (Some (works.Waits w)) now s a =
-    responded (pending w.connection w.request (is_some (client_input w.request.operation w.request.hint)) true) (client_input w.request.operation w.request.hint) now s a
+    responded (pending w.connection w.request (is_some (client_input w.request.asked.operation w.request.asked.hint)) true) (client_input w.request.asked.operation w.request.asked.hint) now s a
 
 took_due : (pace : Pace) (o : Option Work) (before seconds : ℕ) (s : Setting) (a : Running) → AreAnswered s (takes_due pace o before seconds s a) a
 took_due pace o before seconds s a =

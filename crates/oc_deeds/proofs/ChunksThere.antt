@@ -16,13 +16,14 @@ use Rattle.oc_model.specs.declared.answer.Answer.{Answer}
 use Rattle.oc_model.specs.declared.answer.Answer.TheVariants as answers
 use Rattle.oc_model.specs.declared.input.Input.TheVariants as inputs
 use Rattle.oc_routes.specs.Contents.{begun}
-use Rattle.oc_routes.specs.Shown.{address_in, known_shown, of_shown, reply_at, shown, told_text}
+use Rattle.oc_routes.specs.Shown.{known_shown, of_shown, shown, told_text}
 use Rattle.oc_routes.specs.Waits.{holding}
 use Rattle.oc_routes.specs.declared.hint.Hint.{Hint}
 use Rattle.oc_routes.specs.declared.hint.Hint.TheVariants.{Plain, Here, Of, Known}
 use Rattle.oc_routes.specs.declared.holding.Holding.{Holding}
 use Rattle.oc_routes.specs.declared.showing.Shown.{Shown}
-use Rattle.oc_routes.specs.Group.{client_response, served}
+use Rattle.oc_routes.specs.Group.{client_response, is_past, past_reply, served}
+use Rattle.oc_routes.specs.Responses.{whole_for}
 use Rattle.oc_routes.specs.declared.manner.Manner.{Manner}
 use Rattle.oc_routes.specs.declared.manner.Manner.TheVariants.{HeadAlone, Once, Follow}
 use Rattle.oc_routes.specs.declared.routes.Operation.TheVariants as asks
@@ -104,27 +105,28 @@ served_there group Once sealed last start count ks h = range_there group start c
 served_there group Follow true last start count ks h = range_there group start count false ks (λ (is : false ≡ true). absurd (false≢true is))
 served_there group Follow false last start count ks h = range_there group start count true ks (λ is. h)
 
-client_there : (group : List ℕ) (start : ℕ) (manner : Manner) (answer : Answer) (sealed : Bool) (addresses : List (List ℕ)) (last : Bool) (ks : List Group) → ServesShown sealed answer (length (bytes_of group ks)) start
-    → IsGivable (content_at group (client_response group start manner answer sealed addresses last).content) ks
-client_there group start manner answers.Ok sealed addresses last ks h = tt
-client_there group start manner answers.Ignored sealed addresses last ks h = tt
-client_there group start manner answers.Gap sealed addresses last ks h = tt
-client_there group start manner answers.NotSource sealed addresses last ks h = tt
-client_there group start manner answers.NoGroup sealed addresses last ks h = tt
-client_there group start manner answers.Groups sealed addresses last ks h = tt
-client_there group start manner answers.TooLong sealed addresses last ks h = tt
-client_there group start manner answers.Own sealed addresses last ks h = tt
-client_there group start manner answers.Fixed sealed addresses last ks h = tt
-client_there group start manner answers.Waiting sealed addresses last ks h = tt
-client_there group start manner answers.Spent sealed addresses last ks h = tt
-client_there group start manner answers.Sealed sealed addresses last ks h = tt
-client_there group start manner (answers.Redirect node) sealed addresses last ks h = tt
-client_there group start manner (answers.Serve count) sealed addresses last ks h = served_there group manner sealed last start count ks h
+-- or its start is past the end of its group, and it is given nothing
+past_or_served : (group : List ℕ) (start count : ℕ) (manner : Manner) (sealed last past : Bool) (h : Holding) (ks : List Group) → ServesShown sealed (answers.Serve count) (length (bytes_of group ks)) start
+    → IsGivable (content_at group (if past then whole_for manner (past_reply h.held) else served manner sealed last start count).content) ks
+past_or_served group start count manner sealed last true h ks serves = tt
+past_or_served group start count manner sealed last false h ks serves = served_there group manner sealed last start count ks serves
 
-at_there : (address : Option (List ℕ)) (group : List ℕ) (start : ℕ) (manner : Manner) (told : List ℕ) (s : Shown) (addresses : List (List ℕ)) (last : Bool) (ks : List Group) → ServesShown s.sealed s.answer (length (bytes_of group ks)) start
-    → IsGivable (content_at group (reply_at address group start manner told s addresses last).content) ks
-at_there (Some address) group start manner told s addresses last ks h = tt
-at_there None group start manner told s addresses last ks h = client_there group start manner s.answer s.sealed addresses last ks h
+client_there : (group : List ℕ) (start : ℕ) (manner : Manner) (told : List ℕ) (answer : Answer) (sealed last : Bool) (h : Holding) (addresses : List (List ℕ)) (ks : List Group) → ServesShown sealed answer (length (bytes_of group ks)) start
+    → IsGivable (content_at group (client_response group start manner told answer sealed last h addresses).content) ks
+client_there group start manner told answers.Ok sealed last h addresses ks serves = tt
+client_there group start manner told answers.Ignored sealed last h addresses ks serves = tt
+client_there group start manner told answers.Gap sealed last h addresses ks serves = tt
+client_there group start manner told answers.NotSource sealed last h addresses ks serves = tt
+client_there group start manner told answers.NoGroup sealed last h addresses ks serves = tt
+client_there group start manner told answers.Groups sealed last h addresses ks serves = tt
+client_there group start manner told answers.TooLong sealed last h addresses ks serves = tt
+client_there group start manner told answers.Own sealed last h addresses ks serves = tt
+client_there group start manner told answers.Fixed sealed last h addresses ks serves = tt
+client_there group start manner told answers.Waiting sealed last h addresses ks serves = tt
+client_there group start manner told answers.Spent sealed last h addresses ks serves = tt
+client_there group start manner told answers.Sealed sealed last h addresses ks serves = tt
+client_there group start manner told (answers.Redirect node) sealed last h addresses ks serves = tt
+client_there group start manner told (answers.Serve count) sealed last h addresses ks serves = past_or_served group start count manner sealed last (is_past start h) h ks serves
 
 -- the reply to a client that is shown no more than is held
 reply_there : (group : List ℕ) (area start : ℕ) (manner : Manner) (hint : Hint) (last : Bool) (answer : Answer) (ks : List Group) (addresses : List (List ℕ))
@@ -132,7 +134,7 @@ reply_there : (group : List ℕ) (area start : ℕ) (manner : Manner) (hint : Hi
     → IsGivable (client_content (asks.Client group area start manner) hint last answer ks addresses) ks
 reply_there group area start manner hint last answer ks addresses serves =
     let h = holding group (shelf ks) in
-    at_there (address_in (shown hint answer h start).answer addresses) group start manner (told_text hint h) (shown hint answer h start) addresses last ks
+    client_there group start manner (told_text hint h) (shown hint answer h start).answer (shown hint answer h start).sealed last h addresses ks
     (subst (λ (n : ℕ). ServesShown (shown hint answer h start).sealed (shown hint answer h start).answer n start) (held_is group ks) serves)
 
 -- where the node answers itself

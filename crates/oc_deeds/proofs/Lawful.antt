@@ -78,7 +78,7 @@ module _ (nodes me : ℕ) where
   due_by (Some (works.Content p)) r lawful is = absurd cc
   due_by (Some (works.Aside p)) r lawful is = absurd cc
   due_by (Some (works.Waits w)) r lawful is =
-      let same : pending w.connection w.request (is_some (client_input w.request.operation w.request.hint)) true ≡ r = cc in
+      let same : pending w.connection w.request (is_some (client_input w.request.asked.operation w.request.asked.hint)) true ≡ r = cc in
       let held = lawful w refl in
       subst (λ (x : Pending). IsAsked x.asked.operation × IfSome (client_input x.asked.operation x.asked.hint) (IsInput nodes me)) same (held.asks, held.input)
 

@@ -19,6 +19,7 @@ use Rattle.oc_link.specs.declared.event.Loss.{Loss}
 use Rattle.oc_link.specs.declared.phase.Phase.{Phase}
 use Rattle.oc_link.specs.declared.phase.Phase.TheVariants.{Awaiting, Answering, Whole, Broken, Gone}
 use Rattle.oc_link.specs.declared.phase.Standing.{Standing}
+use Rattle.oc_http.specs.Requests.{begins_with_head}
 use Rattle.oc_http.specs.declared.fault.HttpFault.{HttpFault}
 use Rattle.oc_http.specs.declared.head.Head.{Head}
 use Rattle.oc_http.specs.declared.reply.Reply.{Reply}
@@ -35,8 +36,8 @@ use Rattle.oc_routes.specs.Conditions.{unmet}
 use Rattle.oc_routes.specs.Elements.{element_at}
 use Rattle.oc_routes.specs.Hints.{asked_with_hint}
 use Rattle.oc_routes.specs.Macs.{is_forged}
-use Rattle.oc_routes.specs.Shown.{response_for}
-use Rattle.oc_routes.specs.Verdicts.{IsVerdict, NodeTerms, answered, fault_met, input_for, is_none, routed, unfinished, unread, verdict_for, whole, with_body}
+use Rattle.oc_routes.specs.Routes.{response_for}
+use Rattle.oc_routes.specs.Verdicts.{IsVerdict, NodeTerms, answered, fault_met, input_for, is_head, is_none, refuse, routed, taken, unfinished, unread, verdict_for, whole, with_body}
 use Rattle.oc_routes.specs.declared.hint.Asked.{Asked}
 use Rattle.oc_routes.specs.declared.hint.Hint.{Hint}
 use Rattle.oc_routes.specs.declared.hint.Hint.TheVariants.{Plain, Here, Of, Known}
@@ -51,6 +52,7 @@ use Rattle.oc_routes.specs.declared.fault.RouteFault.{RouteFault}
 use Rattle.oc_routes.specs.declared.fault.RouteFault.TheVariants as faults
 use Rattle.oc_routes.specs.declared.manner.Manner.{Manner}
 use Rattle.oc_routes.specs.declared.refused.Refused.{Refused}
+use Rattle.oc_routes.specs.declared.verdict.Refusal.{Refusal}
 use Rattle.oc_routes.specs.declared.refused.Refused.TheVariants as refusals
 use Rattle.oc_routes.specs.declared.routes.Operation.{Operation}
 use Rattle.oc_routes.specs.declared.routes.Operation.TheVariants as asks
@@ -158,7 +160,7 @@ has_room s made c now a settled = by_work (work_on c a.works) refl
 
 -- a request of a client has its own input, or is answered by the node itself
 abbrev pub HasInput : Verdict → Type 0
-HasInput (verdicts.Ask request) = IsInputOf request.operation request.hint request.input
+HasInput (verdicts.Ask request) = IsInputOf request.asked.operation request.asked.hint request.input
 HasInput verdict = Unit {0}
 
 client_at_once : (group : List ℕ) (area start : ℕ) (manner : Manner) (hint : Hint) (last : Bool) (back : Option Message) (ks : List Group) (addresses : List (List ℕ)) (key : Option (List ℕ)) (told : List ℕ)
@@ -219,15 +221,15 @@ responding s made r (Some i) now a may is settled =
     (subst (λ (cs : List Call). MayAnswer r.waited r.connection cs a.works) (sym (append-nil ((made ++ []) ++ []) ∙ append-nil (made ++ []) ∙ append-nil made)) may)
     (by_step r.asked.operation r.asked.hint r.last i (back_to (sender_of i) (step a.node i).sends) a.node s.addresses s.key (report_for r.asked.operation (after (Accepts i) a)) is) behind)))
 
-taking_on : (s : Setting) (made : List Call) (c : ℕ) (request : Request) (now : ℕ) (a : Running) → phase_on c made ≡ Awaiting → IsInputOf request.operation request.hint request.input → IsSettled made a.works
+taking_on : (s : Setting) (made : List Call) (c : ℕ) (request : Request) (now : ℕ) (a : Running) → phase_on c made ≡ Awaiting → IsInputOf request.asked.operation request.asked.hint request.input → IsSettled made a.works
     → IsOrderly s made (takes_on c request now s a) a
-taking_on s made c request now a may is settled = by_condition (unmet request.operation a.node.control.me (shelf a.node.groups))
+taking_on s made c request now a may is settled = by_condition (unmet request.asked.operation a.node.control.me (shelf a.node.groups))
   where
     by_test : (b : Bool) → IsOrderly s made (if b then Waits (waiting c request now) ∷ [] else responds (pending c request (is_some request.input) false) request.input now s a) a
     by_test true = waits s made (waiting c request now) a may settled
     by_test false = responding s made (pending c request (is_some request.input) false) request.input now a may is settled
 
-    by_condition : (why : Option Refused) → IsOrderly s made (refuses_or why c request now s a) a
+    by_condition : (why : Option Refusal) → IsOrderly s made (refuses_or why c request now s a) a
     by_condition (Some why) = refuses_request s made c request.count why a may settled
     by_condition None = by_test (has_to_wait request a.node)
 
@@ -240,9 +242,9 @@ obeying s made c count (verdicts.Ask request) now a may is settled = taking_on s
 
 -- the input of a verdict
 
-answered_input : (request : Request) (r : Result (Option Input) Refused) → IfOk r (λ (i : Option Input). IsInputOf request.operation request.hint (input_for request.hint i)) → HasInput (answered request r)
-answered_input request (Ok input) is = is
-answered_input request (Err why) is = tt
+answered_input : (head : Head) (request : Request) (r : Result (Option Input) Refused) → IfOk r (λ (i : Option Input). IsInputOf request.asked.operation request.asked.hint (input_for request.asked.hint i)) → HasInput (answered head request r)
+answered_input head request (Ok input) is = is
+answered_input head request (Err why) is = tt
 
 any_input : (r : Result (Option Input) Refused) → IfOk r (λ (i : Option Input). Unit {0})
 any_input (Ok input) = tt
@@ -268,8 +270,7 @@ body_input t x came head rest said = by_permit (awaits_continue head && not x.pe
     request : Request
     request = record {
       count = came - length rest + head.length;
-      operation = said.operation;
-      hint = said.hint;
+      asked = said;
       input = None;
       last = is_last head x.number;
     }
@@ -277,9 +278,9 @@ body_input t x came head rest said = by_permit (awaits_continue head && not x.pe
     body : List ℕ
     body = take head.length rest
 
-    by_mac : (b : Bool) → HasInput (if b then verdicts.Refuse refusals.Mac else answered request (input_asked t.nodes t.me said.operation body))
+    by_mac : (b : Bool) → HasInput (if b then refuse (is_head head.method) refusals.Mac else answered head request (input_asked t.nodes t.me said.operation body))
     by_mac true = tt
-    by_mac false = answered_input request (input_asked t.nodes t.me said.operation body) (asked_input t.nodes t.me said.operation said.hint body)
+    by_mac false = answered_input head request (input_asked t.nodes t.me said.operation body) (asked_input t.nodes t.me said.operation said.hint body)
 
     by_length : (b : Bool) → HasInput (if b then unfinished x.coming false else whole t head request body)
     by_length true = unfinished_input x.coming false
@@ -293,14 +294,14 @@ routed_input : (t : NodeTerms) (x : Arrival) (came : ℕ) (head : Head) (rest : 
 routed_input t x came head rest (Ok said) = body_input t x came head rest said
 routed_input t x came head rest (Err why) = tt
 
-unread_input : (coming : Coming) (none : Bool) (fault : Option RouteFault) → HasInput (unread coming none fault)
-unread_input coming none None = unfinished_input coming none
-unread_input coming none (Some (faults.Refused why)) = tt
-unread_input coming none (Some faults.Memory) = tt
+unread_input : (coming : Coming) (none head_alone : Bool) (fault : Option RouteFault) → HasInput (unread coming none head_alone fault)
+unread_input coming none head_alone None = unfinished_input coming none
+unread_input coming none head_alone (Some (faults.Refused why)) = tt
+unread_input coming none head_alone (Some faults.Memory) = tt
 
 verdict_input : (t : NodeTerms) (x : Arrival) (bytes rest : List ℕ) (answer : Result Head HttpFault) → HasInput (verdict_for t x bytes rest answer)
 verdict_input t x bytes rest (Ok head) = routed_input t x (length bytes) head rest (asked_with_hint head t.rules)
-verdict_input t x bytes rest (Err fault) = unread_input x.coming (is_none bytes) (fault_met fault)
+verdict_input t x bytes rest (Err fault) = unread_input x.coming (is_none bytes) (begins_with_head (taken bytes rest)) (fault_met fault)
 
 has_input : (t : NodeTerms) (x : Arrival) (bytes : List ℕ) (v : Verdict) → IsVerdict t x bytes v → HasInput v
 has_input t x bytes v is = subst HasInput (sym is.verdict) (verdict_input t x bytes is.rest is.answer)
@@ -474,8 +475,8 @@ taking_up s made place now a (Some (works.Aside p)) is settled =
     going_on s made p now a (record { phase = here.0; works = inr (here.1) }) settled
 taking_up s made place now a (Some (works.Waits w)) is settled =
     let here = alone made a.works place (works.Waits w) is settled in
-    responding s made (pending w.connection w.request (is_some (client_input w.request.operation w.request.hint)) true) (client_input w.request.operation w.request.hint) now a
-    (here.0, w, here.1) (waited_input w.request.operation w.request.hint) settled
+    responding s made (pending w.connection w.request (is_some (client_input w.request.asked.operation w.request.asked.hint)) true) (client_input w.request.asked.operation w.request.asked.hint) now a
+    (here.0, w, here.1) (waited_input w.request.asked.operation w.request.asked.hint) settled
 
 taking_due : (s : Setting) (made : List Call) (pace : Pace) (place before seconds : ℕ) (a : Running) → IsSettled made a.works → IsOrderly s made (takes_due pace (slice_get a.works place) before seconds s a) a
 taking_due s made pace place before seconds a settled =

@@ -19,7 +19,7 @@ use Rattle.oc_routes.specs.declared.verdict.Verdict.TheVariants as verdicts
 use Rattle.oc_routes.specs.declared.waiting.Prospect.{Prospect}
 use Rattle.oc_routes.specs.declared.waiting.Prospect.TheVariants as prospects
 use Rattle.oc_routes.specs.Inputs.{input_line}
-use Rattle.oc_routes.specs.declared.refused.Refused.{Refused}
+use Rattle.oc_routes.specs.declared.verdict.Refusal.{Refusal}
 use Rattle.oc_deeds.specs.Asks.{has_to_wait, obeys, refuses_or, replies, responds, takes_on, takes_up, waiting}
 use Rattle.oc_deeds.specs.Brief.{told_of}
 use Rattle.oc_deeds.specs.Choices.{due_place, has_room, next_to_dial, prospect_of, wait_for}
@@ -285,13 +285,13 @@ module _ (s : Setting) (recorded : s.log ≡ logs.Record) where
   leads_responds r (Some i) now a = (Some i, ahead i, (None, (refl, refl), (None, behind i a.node, (None, refl, refl))))
 
   leads_on : (c : ℕ) (request : Request) (now : ℕ) (a : Running) → Whole (takes_on c request now s a)
-  leads_on c request now a = by_condition (unmet request.operation a.node.control.me (shelf a.node.groups))
+  leads_on c request now a = by_condition (unmet request.asked.operation a.node.control.me (shelf a.node.groups))
     where
       by_test : (b : Bool) → Whole (if b then Waits (waiting c request now) ∷ [] else responds (pending c request (is_some request.input) false) request.input now s a)
       by_test true = (None, refl, refl)
       by_test false = leads_responds (pending c request (is_some request.input) false) request.input now a
 
-      by_condition : (why : Option Refused) → Whole (refuses_or why c request now s a)
+      by_condition : (why : Option Refusal) → Whole (refuses_or why c request now s a)
       by_condition (Some why) = (None, refl, refl)
       by_condition None = by_test (has_to_wait request a.node)
 
@@ -323,7 +323,7 @@ module _ (s : Setting) (recorded : s.log ≡ logs.Record) where
   leads_up (Some (works.Content p)) now a = refl
   leads_up (Some (works.Aside p)) now a = leads_moves p now (prospect_of p (shelf a.node.groups) now)
   leads_up (Some (works.Waits w)) now a =
-      leads_responds (pending w.connection w.request (is_some (client_input w.request.operation w.request.hint)) true) (client_input w.request.operation w.request.hint) now a
+      leads_responds (pending w.connection w.request (is_some (client_input w.request.asked.operation w.request.asked.hint)) true) (client_input w.request.asked.operation w.request.asked.hint) now a
 
   leads_due : (pace : Pace) (o : Option Work) (before seconds : ℕ) (a : Running) → Whole (takes_due pace o before seconds s a)
   leads_due pace o before seconds a =

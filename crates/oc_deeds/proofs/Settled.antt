@@ -12,7 +12,7 @@ use Rattle.oc_link.specs.declared.phase.Phase.TheVariants.{Awaiting, Answering, 
 use Rattle.oc_link.specs.declared.phase.Standing.{Standing}
 use Rattle.oc_routes.specs.Contents.{behind, piece_of}
 use Rattle.oc_routes.specs.Refusals.{refusal_text}
-use Rattle.oc_routes.specs.declared.refused.Refused.{Refused}
+use Rattle.oc_routes.specs.declared.verdict.Refusal.{Refusal}
 use Rattle.oc_routes.specs.declared.response.Response.{Response}
 use Rattle.oc_deeds.proofs.Givings.{works_left}
 use Rattle.oc_deeds.proofs.Replying.{first_at, left_on, other_left, phase_here, rest_at, taken_other, taken_out}
@@ -165,13 +165,13 @@ refused_other : (c d count : ℕ) (text : Option (List ℕ)) (st : Standing) (ws
 refused_other c d count None st ws apart fits = rw apart fits
 refused_other c d count (Some text) st ws apart fits = rw apart fits
 
-pub refuses_request : (s : Setting) (made : List Call) (d count : ℕ) (why : Refused) (a : Running) → phase_on d made ≡ Awaiting → IsSettled made a.works → IsOrderly s made (Refuses d count why ∷ []) a
-refuses_request s made d count why a may settled =
-    orderly_one s made (Refuses d count why) a may (settled_by made (refuses d count (refusal_text why)) a.works (λ c. by_test c (d == c) refl))
+pub refuses_request : (s : Setting) (made : List Call) (d count : ℕ) (refusal : Refusal) (a : Running) → phase_on d made ≡ Awaiting → IsSettled made a.works → IsOrderly s made (Refuses d count refusal ∷ []) a
+refuses_request s made d count refusal a may settled =
+    orderly_one s made (Refuses d count refusal) a may (settled_by made (refuses d count (refusal_text refusal)) a.works (λ c. by_test c (d == c) refl))
   where
-    by_test : (c : ℕ) (b : Bool) → (d == c) ≡ b → Fits (stands_after c (refuses d count (refusal_text why)) (standing_of c made)).phase (works_on c a.works)
-    by_test c true own = refused c d count (refusal_text why) (standing_of c made) (works_on c a.works) own (none_on c d made a.works own may settled)
-    by_test c false apart = refused_other c d count (refusal_text why) (standing_of c made) (works_on c a.works) apart (settled c)
+    by_test : (c : ℕ) (b : Bool) → (d == c) ≡ b → Fits (stands_after c (refuses d count (refusal_text refusal)) (standing_of c made)).phase (works_on c a.works)
+    by_test c true own = refused c d count (refusal_text refusal) (standing_of c made) (works_on c a.works) own (none_on c d made a.works own may settled)
+    by_test c false apart = refused_other c d count (refusal_text refusal) (standing_of c made) (works_on c a.works) apart (settled c)
 
 pub breaks : (s : Setting) (made : List Call) (d : ℕ) (a : Running) → IsSettled made a.works → IsOrderly s made (BreaksOff d ∷ []) a
 breaks s made d a settled =

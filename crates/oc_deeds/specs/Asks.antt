@@ -11,13 +11,13 @@ use Rattle.oc_model.specs.Node.{Node}
 use Rattle.oc_model.specs.Step.{step}
 use Rattle.oc_routes.specs.Conditions.{unmet}
 use Rattle.oc_routes.specs.Reports.{report_of}
-use Rattle.oc_routes.specs.Shown.{response_for}
+use Rattle.oc_routes.specs.Routes.{response_for}
 use Rattle.oc_routes.specs.Waits.{holding, is_to_wait}
 use Rattle.oc_routes.specs.declared.holding.Holding.{Holding}
 use Rattle.oc_routes.specs.declared.verdict.Request.{Request}
 use Rattle.oc_routes.specs.declared.verdict.Verdict.{Verdict}
 use Rattle.oc_routes.specs.declared.verdict.Verdict.TheVariants as verdicts
-use Rattle.oc_routes.specs.declared.refused.Refused.{Refused}
+use Rattle.oc_routes.specs.declared.verdict.Refusal.{Refusal}
 use Rattle.oc_routes.specs.declared.response.Response.{Response}
 use Rattle.oc_routes.specs.declared.routes.Operation.{Operation}
 use Rattle.oc_routes.specs.declared.routes.Operation.TheVariants as asks
@@ -70,7 +70,7 @@ waiting c request now = record { connection = c; request = record request { inpu
 
 -- a client that follows a group, and has all of it
 abbrev pub has_to_wait : Request → Node → Bool
-has_to_wait request n = is_to_wait request.operation request.hint (answer_now request.input n) (holding_for request.operation n.groups)
+has_to_wait request n = is_to_wait request.asked.operation request.asked.hint (answer_now request.input n) (holding_for request.asked.operation n.groups)
 
 -- a whole request is answered, or waits
 abbrev pub answers_or_waits : ℕ → Request → ℕ → Part
@@ -79,19 +79,19 @@ answers_or_waits c request now s a =
     else responds (pending c request (is_some request.input) false) request.input now s a
 
 -- one whose condition is not met is refused, and its input is not taken
-abbrev pub refuses_or : Option Refused → ℕ → Request → ℕ → Part
-refuses_or (Some why) c request now = one (Refuses c request.count why)
+abbrev pub refuses_or : Option Refusal → ℕ → Request → ℕ → Part
+refuses_or (Some refusal) c request now = one (Refuses c request.count refusal)
 refuses_or None c request now = answers_or_waits c request now
 
 abbrev pub takes_on : ℕ → Request → ℕ → Part
-takes_on c request now s a = refuses_or (unmet request.operation a.node.control.me (shelf a.node.groups)) c request now s a
+takes_on c request now s a = refuses_or (unmet request.asked.operation a.node.control.me (shelf a.node.groups)) c request now s a
 
 -- what is to be done with this many bytes of a request is done
 abbrev pub obeys : ℕ → ℕ → Verdict → ℕ → Part
 obeys c count verdicts.Wait now = nothing
 obeys c count verdicts.Leave now = one (BreaksOff c)
 obeys c count verdicts.Permit now = one (Permits c)
-obeys c count (verdicts.Refuse why) now = one (Refuses c count why)
+obeys c count (verdicts.Refuse refusal) now = one (Refuses c count refusal)
 obeys c count (verdicts.Ask request) now = takes_on c request now
 
 -- What is due
@@ -101,7 +101,7 @@ abbrev pub due_of : Option Work → Due
 due_of None = dues.Nothing
 due_of (Some (works.Content p)) = dues.Nothing
 due_of (Some (works.Aside p)) = dues.Aside p
-due_of (Some (works.Waits w)) = dues.Waits (pending w.connection w.request (is_some (client_input w.request.operation w.request.hint)) true)
+due_of (Some (works.Waits w)) = dues.Waits (pending w.connection w.request (is_some (client_input w.request.asked.operation w.request.asked.hint)) true)
 
 -- a content goes on, and a client that waits is answered
 abbrev pub taken_up : Due → ℕ → Part

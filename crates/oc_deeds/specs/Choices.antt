@@ -44,7 +44,7 @@ is_over other since lines now = true
 abbrev pub is_work_due : List Shelf → ℕ → Work → Bool
 is_work_due lines now (works.Content p) = false
 is_work_due lines now (works.Aside p) = not (is_waiting (prospect_of p lines now))
-is_work_due lines now (works.Waits w) = is_over w.request.operation w.since lines now
+is_work_due lines now (works.Waits w) = is_over w.request.asked.operation w.since lines now
 
 -- the place of the oldest work that is due by itself
 abbrev pub due_place : List Work → List Shelf → ℕ → Option ℕ

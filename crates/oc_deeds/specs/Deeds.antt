@@ -21,7 +21,7 @@ use Rattle.oc_routes.specs.Refusals.{refusal_text, why_text}
 use Rattle.oc_routes.specs.Replies.{others, reply_to}
 use Rattle.oc_routes.specs.Responses.{address_of}
 use Rattle.oc_routes.specs.declared.connections.TheConstants.{CONTINUE}
-use Rattle.oc_routes.specs.declared.refused.Refused.{Refused}
+use Rattle.oc_routes.specs.declared.verdict.Refusal.{Refusal}
 use Rattle.oc_routes.specs.declared.response.GroupRange.{GroupRange}
 use Rattle.oc_routes.specs.declared.response.Response.{Response}
 use Rattle.oc_routes.specs.declared.routes.Operation.{Operation}
@@ -81,7 +81,7 @@ pub data Deed : Type 0 where
   -- a request was answered at this time
   Replies : Pending → Response → ℕ → Deed
   -- a request of this many bytes was refused
-  Refuses : ℕ → ℕ → Refused → Deed
+  Refuses : ℕ → ℕ → Refusal → Deed
   -- a connection was broken off
   BreaksOff : ℕ → Deed
   -- the next piece of a content was given at this time
@@ -117,7 +117,7 @@ line s (Takes i) = taken_line s.log s.me i
 line s (Accepts i) = taken_line s.log s.me i
 line s (Says text) = text
 line s (Notes why) = note_line why
-line s (Refuses c count why) = note_line (why_text why)
+line s (Refuses c count refusal) = note_line (why_text refusal.why)
 line s (Drops c told) = drop_line told
 line s d = []
 
@@ -248,7 +248,7 @@ calls s (Replies r response now) a =
     takes_request r
     ++ acts.Give r.connection (response.text ++ first_piece (place_of r response now) a.node.groups)
     ∷ finish r.connection (keeps response.connection) r.told (first_rest (place_of r response now) now a.node.groups)
-calls s (Refuses c count why) a = refuses c count (refusal_text why)
+calls s (Refuses c count refusal) a = refuses c count (refusal_text refusal)
 calls s (BreaksOff c) a = acts.BreakOff c ∷ []
 calls s (Gives p now) a = acts.Give p.connection (piece p a.node.groups) ∷ finish p.connection p.keeps p.told (rest p now a.node.groups)
 calls s (Dials place m d) a = acts.Dial d (address_in s m.to) (request_of s.key (address_in s m.to) m) ∷ []

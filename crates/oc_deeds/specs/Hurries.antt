@@ -9,7 +9,7 @@ use Rattle.oc_routes.specs.declared.verdict.Verdict.{Verdict}
 use Rattle.oc_routes.specs.declared.verdict.Verdict.TheVariants as verdicts
 use Rattle.oc_routes.specs.Publish.{publish_status}
 use Rattle.oc_routes.specs.Seal.{seal_status}
-use Rattle.oc_routes.specs.declared.refused.Refused.{Refused}
+use Rattle.oc_routes.specs.declared.verdict.Refusal.{Refusal}
 use Rattle.oc_routes.specs.declared.routes.Operation.{Operation}
 use Rattle.oc_routes.specs.declared.routes.Operation.TheVariants as asks
 use Rattle.oc_deeds.specs.Asks.{answer_now}
@@ -26,15 +26,15 @@ abbrev pub input_hurries : Operation → Option Input → Node → Bool
 input_hurries asked input n = hurries asked (answer_now input n)
 
 -- not where the condition of the request is not met
-abbrev pub hurries_unless : Option Refused → Operation → Option Input → Node → Bool
-hurries_unless (Some why) asked input n = false
+abbrev pub hurries_unless : Option Refusal → Operation → Option Input → Node → Bool
+hurries_unless (Some refusal) asked input n = false
 hurries_unless None asked input n = input_hurries asked input n
 
 abbrev pub request_hurries : Operation → Option Input → Node → Bool
 request_hurries asked input n = hurries_unless (unmet asked n.control.me (shelf n.groups)) asked input n
 
 abbrev pub verdict_hurries : Verdict → Node → Bool
-verdict_hurries (verdicts.Ask request) n = request_hurries request.operation request.input n
+verdict_hurries (verdicts.Ask request) n = request_hurries request.asked.operation request.input n
 verdict_hurries verdict n = false
 
 -- or a message was answered by 200

@@ -25,8 +25,8 @@ pub record IsPlaced (nodes : ℕ) (addresses : List (List ℕ)) : Type 0 where
 
 -- what is asked is within its ranges, and so is the input
 pub record IsLawfulWaiting (nodes me : ℕ) (w : Waiting) : Type 0 where
-  pub asks : IsAsked w.request.operation
-  pub input : IfSome (client_input w.request.operation w.request.hint) (IsInput nodes me)
+  pub asks : IsAsked w.request.asked.operation
+  pub input : IfSome (client_input w.request.asked.operation w.request.asked.hint) (IsInput nodes me)
 
 -- a request that waits is lawful
 abbrev pub IsLawfulWork : ℕ → ℕ → Work → Type 0

@@ -41,7 +41,7 @@ abbrev pub record_lines_of : Deed → List RecordLine
 record_lines_of (Takes i) = Taken i ∷ []
 record_lines_of (Accepts i) = Taken i ∷ []
 record_lines_of (Notes why) = Noted (note_line why) ∷ []
-record_lines_of (Refuses c count why) = Noted (note_line (why_text why)) ∷ []
+record_lines_of (Refuses c count refusal) = Noted (note_line (why_text refusal.why)) ∷ []
 record_lines_of (Drops c told) = drop_lines told
 record_lines_of d = []
 

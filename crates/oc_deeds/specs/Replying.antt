@@ -8,7 +8,7 @@ use Rattle.oc_link.specs.declared.phase.Phase.{Phase}
 use Rattle.oc_link.specs.declared.phase.Phase.TheVariants.{Awaiting, Answering, Gone}
 use Rattle.oc_model.specs.declared.answer.Answer.{Answer}
 use Rattle.oc_routes.specs.Contents.{IsThere, owed}
-use Rattle.oc_routes.specs.Shown.{response_for}
+use Rattle.oc_routes.specs.Routes.{response_for}
 use Rattle.oc_routes.specs.Waits.{holding, holding_of}
 use Rattle.oc_routes.specs.declared.content.UnderWay.{UnderWay}
 use Rattle.oc_routes.specs.declared.hint.Hint.{Hint}
@@ -56,7 +56,7 @@ abbrev pub MayDo : Deed → List Call → Running → Type 0
 MayDo (Permits c) made a = phase_on c made ≡ Awaiting
 MayDo (Waits w) made a = phase_on w.connection made ≡ Awaiting
 MayDo (Replies r response now) made a = MayAnswer r.waited r.connection made a.works × IsGivable (content_in r.asked.operation response.content) a.node.groups
-MayDo (Refuses c count why) made a = phase_on c made ≡ Awaiting
+MayDo (Refuses c count refusal) made a = phase_on c made ≡ Awaiting
 MayDo (Gives p now) made a = HasContent p made a.works
 MayDo (LaysAside p) made a = HasContent p made a.works
 MayDo (Drops c told) made a = phase_on c made ≡ Gone
@@ -80,7 +80,7 @@ whole_reply r response groups = response.text ++ owed (content_in r.asked.operat
 abbrev pub replied : ℕ → Deed → List Group → List ℕ
 replied c (Permits d) groups = if d == c then CONTINUE.now else []
 replied c (Replies r response now) groups = if r.connection == c then whole_reply r response groups else []
-replied c (Refuses d count why) groups = if d == c then text_or_none (refusal_text why) else []
+replied c (Refuses d count refusal) groups = if d == c then text_or_none (refusal_text refusal) else []
 replied c d groups = []
 
 -- by one deed after another

@@ -59,7 +59,7 @@ quiet = record { before = 0; event = events.Quiet; bytes = []; came = comes.Noth
 
 -- a client that follows the group has all of it
 abbrev follows : Request
-follows = record { count = 40; operation = asks.Client (codes "/a") 0 3 Follow; hint = Plain; input = Some (inputs.Client 0 3 (codes "/a")); last = false }
+follows = record { count = 40; asked = record { operation = asks.Client (codes "/a") 0 3 Follow; hint = Plain }; input = Some (inputs.Client 0 3 (codes "/a")); last = false }
 
 -- a tick was taken at 0
 abbrev ticked_once : Pace

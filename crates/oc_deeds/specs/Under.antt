@@ -25,7 +25,7 @@ under_of (Takes i) = Taking i
 under_of (Accepts i) = Taking i
 under_of (Says text) = Noting text
 under_of (Notes why) = Noting (note_line why)
-under_of (Refuses c count why) = Noting (note_line (why_text why))
+under_of (Refuses c count refusal) = Noting (note_line (why_text refusal.why))
 under_of (Drops c true) = Noting (note_line (codes "write"))
 under_of d = Idle
 

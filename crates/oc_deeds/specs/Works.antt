@@ -42,7 +42,7 @@ abbrev pub pending : ℕ → Request → Bool → Bool → Pending
 pending c request told waited = record {
   connection = c;
   count = request.count;
-  asked = record { operation = request.operation; hint = request.hint };
+  asked = request.asked;
   last = request.last;
   told = told;
   waited = waited;

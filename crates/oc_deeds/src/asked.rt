@@ -21,8 +21,7 @@ pub fn waiting(connection: ConnectionId, request: Request, now: u64) -> Waiting
         connection,
         request: Request {
             count: request.count,
-            operation: request.operation,
-            hint: request.hint,
+            asked: request.asked,
             input: None,
             last: request.last,
         },

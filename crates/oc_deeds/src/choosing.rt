@@ -40,9 +40,9 @@ fn is_due(work: &Work, shelf: &[Shelf], now: u64) -> bool
 
 /// Whether a client that waits is to be answered.
 fn is_over(waiting: &Waiting, shelf: &[Shelf], now: u64) -> bool
-    ensures { result ≡ is_over waiting.now.request.operation waiting.now.since shelf.now now }
+    ensures { result ≡ is_over waiting.now.request.asked.operation waiting.now.since shelf.now now }
 {
-    match &waiting.request.operation {
+    match &waiting.request.asked.operation {
         Operation::Client { group, start, .. } => {
             let follower = Follower {
                 group: *group,

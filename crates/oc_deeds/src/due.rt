@@ -30,9 +30,9 @@ pub fn due_at(works: &[Work], place: usize) -> Due
 
 /// A request that waits is to be answered.
 fn to_wake(waiting: &Waiting) -> Pending
-    ensures { result ≡ pending waiting.now.connection waiting.now.request (is_some (client_input waiting.now.request.operation waiting.now.request.hint)) true }
+    ensures { result ≡ pending waiting.now.connection waiting.now.request (is_some (client_input waiting.now.request.asked.operation waiting.now.request.asked.hint)) true }
 {
     let request = &waiting.request;
-    let input = client_input(&request.operation, request.hint);
+    let input = client_input(&request.asked.operation, request.asked.hint);
     pending_of(waiting.connection, request, input.is_some(), true)
 }

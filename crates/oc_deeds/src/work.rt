@@ -51,10 +51,7 @@ pub fn pending_of(connection: ConnectionId, request: &Request, told: bool, waite
     Pending {
         connection,
         count: request.count,
-        asked: Asked {
-            operation: request.operation,
-            hint: request.hint,
-        },
+        asked: request.asked,
         last: request.last,
         told,
         waited,

@@ -83,7 +83,7 @@ pub record AreParts : Type 0 where
   pub two_group_lengths : number_of (group_lengths (group_length_is (codes "7") ∷ group_length_is (codes "7") ∷ [])) ≡ None
 
 abbrev reply : ℕ → Reply
-reply status = record { status = status; location = None; content_type = None; body = []; rule = None; group_length = None; mac = None }
+reply status = record { status = status; location = None; content_type = None; body = []; rule = None; content_range = None; group_length = None; mac = None }
 
 -- the texts
 pub record AreTexts : Type 0 where

@@ -19,6 +19,7 @@
 mod body;
 mod byte;
 mod content_type;
+mod escapes;
 mod fault;
 mod field_line;
 mod field_match;
@@ -43,6 +44,7 @@ mod writing_requests;
 
 pub use byte::take_byte;
 pub use content_type::ContentType;
+pub use escapes::put_path;
 pub use fault::HttpFault;
 pub use field_match::FieldMatch;
 pub use fields::Fields;
@@ -57,8 +59,11 @@ pub use messages::{read_body, read_head, read_response, read_response_head};
 pub use oc_base::Text;
 pub use paths::{MESSAGE_PATH, PROBE_PATH};
 pub use reply::{Reply, ReplyHead};
+pub use requests::begins_with_head;
 pub use responses::body_length;
 pub use target::path_and_query;
 pub use text::length_of;
-pub use writing_replies::{write_reply_head, write_response, write_response_head};
+pub use writing_replies::{
+    write_reply_head, write_response, write_response_head, write_response_to_head,
+};
 pub use writing_requests::{write_follow, write_get, write_probe, write_request};

@@ -10,6 +10,7 @@ use Rattle.oc_link.specs.declared.event.Coming.{Coming}
 use Rattle.oc_link.specs.declared.event.Coming.TheVariants.{Open, Ended, Failed}
 use Rattle.oc_link.specs.declared.event.LinkEvent.{LinkEvent}
 use Rattle.oc_link.specs.declared.event.LinkEvent.TheVariants as events
+use Rattle.oc_http.specs.Requests.{begins_with_head}
 use Rattle.oc_http.specs.declared.fault.HttpFault.{HttpFault}
 use Rattle.oc_http.specs.declared.head.Head.{Head}
 use Rattle.oc_http.specs.declared.reply.Reply.{Reply}
@@ -24,13 +25,14 @@ use Rattle.oc_routes.specs.Connections.{awaits_continue, is_last}
 use Rattle.oc_routes.specs.Hints.{asked_with_hint}
 use Rattle.oc_routes.specs.Macs.{is_forged}
 use Rattle.oc_routes.specs.Routes.{input_asked}
-use Rattle.oc_routes.specs.Verdicts.{IsVerdict, NodeTerms, answered, fault_met, input_for, is_none, routed, unfinished, unread, verdict_for, whole, with_body}
+use Rattle.oc_routes.specs.Verdicts.{IsVerdict, NodeTerms, answered, fault_met, input_for, is_head, is_none, refuse, routed, taken, unfinished, unread, verdict_for, whole, with_body}
 use Rattle.oc_routes.specs.declared.fault.RouteFault.{RouteFault}
 use Rattle.oc_routes.specs.declared.fault.RouteFault.TheVariants as faults
 use Rattle.oc_routes.specs.declared.hint.Asked.{Asked}
 use Rattle.oc_routes.specs.declared.hint.Hint.{Hint}
 use Rattle.oc_routes.specs.declared.hint.Hint.TheVariants as hints
 use Rattle.oc_routes.specs.declared.refused.Refused.{Refused}
+use Rattle.oc_routes.specs.declared.verdict.Refusal.{Refusal}
 use Rattle.oc_routes.specs.declared.refused.Refused.TheVariants as refusals
 use Rattle.oc_routes.specs.declared.routes.Operation.{Operation}
 use Rattle.oc_routes.specs.declared.routes.Operation.TheVariants as asks
@@ -123,9 +125,9 @@ kept_for hints.Plain input is = is
 kept_for (hints.Of n) input is = is
 kept_for hints.Known input is = is
 
-answered_plain : (request : Request) (input : Result (Option Input) Refused) → IfOk input (λ (o : Option Input). IfSome o IsOfRecord) → AsksPlainly (answered request input)
-answered_plain request (Ok input) is = kept_for request.hint input is
-answered_plain request (Err why) is = tt
+answered_plain : (head : Head) (request : Request) (input : Result (Option Input) Refused) → IfOk input (λ (o : Option Input). IfSome o IsOfRecord) → AsksPlainly (answered head request input)
+answered_plain head request (Ok input) is = kept_for request.asked.hint input is
+answered_plain head request (Err why) is = tt
 
 -- an input of a request is of a kind that records have
 of_request : (i : Input) → IsOfRequest i → IsOfRecord i
@@ -155,8 +157,7 @@ body_plain t x came head rest said = by_permit (awaits_continue head && not x.pe
     request : Request
     request = record {
       count = came - length rest + head.length;
-      operation = said.operation;
-      hint = said.hint;
+      asked = said;
       input = None;
       last = is_last head x.number;
     }
@@ -164,9 +165,9 @@ body_plain t x came head rest said = by_permit (awaits_continue head && not x.pe
     body : List ℕ
     body = take head.length rest
 
-    by_mac : (b : Bool) → AsksPlainly (if b then verdicts.Refuse refusals.Mac else answered request (input_asked t.nodes t.me said.operation body))
+    by_mac : (b : Bool) → AsksPlainly (if b then refuse (is_head head.method) refusals.Mac else answered head request (input_asked t.nodes t.me said.operation body))
     by_mac true = tt
-    by_mac false = answered_plain request (input_asked t.nodes t.me said.operation body) (asked_plain t.nodes t.me said.operation body)
+    by_mac false = answered_plain head request (input_asked t.nodes t.me said.operation body) (asked_plain t.nodes t.me said.operation body)
 
     by_length : (b : Bool) → AsksPlainly (if b then unfinished x.coming false else whole t head request body)
     by_length true = unfinished_plain x.coming false
@@ -180,14 +181,14 @@ routed_plain : (t : NodeTerms) (x : Arrival) (came : ℕ) (head : Head) (rest : 
 routed_plain t x came head rest (Ok said) = body_plain t x came head rest said
 routed_plain t x came head rest (Err why) = tt
 
-unread_plain : (coming : Coming) (none : Bool) (fault : Option RouteFault) → AsksPlainly (unread coming none fault)
-unread_plain coming none None = unfinished_plain coming none
-unread_plain coming none (Some (faults.Refused why)) = tt
-unread_plain coming none (Some faults.Memory) = tt
+unread_plain : (coming : Coming) (none head_alone : Bool) (fault : Option RouteFault) → AsksPlainly (unread coming none head_alone fault)
+unread_plain coming none head_alone None = unfinished_plain coming none
+unread_plain coming none head_alone (Some (faults.Refused why)) = tt
+unread_plain coming none head_alone (Some faults.Memory) = tt
 
 verdict_plain : (t : NodeTerms) (x : Arrival) (bytes rest : List ℕ) (answer : Result Head HttpFault) → AsksPlainly (verdict_for t x bytes rest answer)
 verdict_plain t x bytes rest (Ok head) = routed_plain t x (length bytes) head rest (asked_with_hint head t.rules)
-verdict_plain t x bytes rest (Err fault) = unread_plain x.coming (is_none bytes) (fault_met fault)
+verdict_plain t x bytes rest (Err fault) = unread_plain x.coming (is_none bytes) (begins_with_head (taken bytes rest)) (fault_met fault)
 
 read_plain : (t : NodeTerms) (x : Arrival) (bytes : List ℕ) (v : Verdict) → IsVerdict t x bytes v → AsksPlainly v
 read_plain t x bytes v is = subst (λ (w : Verdict). AsksPlainly w) (sym is.verdict) (verdict_plain t x bytes is.rest is.answer)
@@ -199,13 +200,13 @@ plain_responds r None now s a is = (tt, tt)
 plain_responds r (Some i) now s a is = (tt, (is, (tt, (tt, tt))))
 
 taken_on : (c : ℕ) (request : Request) (now : ℕ) (s : Setting) (a : Running) → IfSome request.input IsOfRecord → ArePlain (takes_on c request now s a)
-taken_on c request now s a is = by_condition (unmet request.operation a.node.control.me (shelf a.node.groups))
+taken_on c request now s a is = by_condition (unmet request.asked.operation a.node.control.me (shelf a.node.groups))
   where
     by_test : (b : Bool) → ArePlain (if b then Waits (waiting c request now) ∷ [] else responds (pending c request (is_some request.input) false) request.input now s a)
     by_test true = (tt, tt)
     by_test false = plain_responds (pending c request (is_some request.input) false) request.input now s a is
 
-    by_condition : (why : Option Refused) → ArePlain (refuses_or why c request now s a)
+    by_condition : (why : Option Refusal) → ArePlain (refuses_or why c request now s a)
     by_condition (Some why) = (tt, tt)
     by_condition None = by_test (has_to_wait request a.node)
 
@@ -300,8 +301,8 @@ taken_up None now s a = tt
 taken_up (Some (works.Content p)) now s a = tt
 taken_up (Some (works.Aside p)) now s a = plain_moves p now (prospect_of p (shelf a.node.groups) now)
 taken_up (Some (works.Waits w)) now s a =
-    plain_responds (pending w.connection w.request (is_some (client_input w.request.operation w.request.hint)) true) (client_input w.request.operation w.request.hint) now s a
-    (client_plain w.request.operation w.request.hint)
+    plain_responds (pending w.connection w.request (is_some (client_input w.request.asked.operation w.request.asked.hint)) true) (client_input w.request.asked.operation w.request.asked.hint) now s a
+    (client_plain w.request.asked.operation w.request.asked.hint)
 
 plain_due : (pace : Pace) (o : Option Work) (before seconds : ℕ) (s : Setting) (a : Running) → ArePlain (takes_due pace o before seconds s a)
 plain_due pace o before seconds s a =

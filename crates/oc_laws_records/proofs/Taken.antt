@@ -63,7 +63,7 @@ module _ (nodes me : ℕ) where
   lines_of (Takes i ∷ ds) within plain = (taken_within i within.0 plain.0, lines_of ds within.1 plain.1)
   lines_of (Accepts i ∷ ds) within plain = (taken_within i within.0 plain.0, lines_of ds within.1 plain.1)
   lines_of (Notes why ∷ ds) within plain = ((why, refl, plain.0), lines_of ds within plain.1)
-  lines_of (Refuses c count why ∷ ds) within plain = ((why_text why, refl, why_one why), lines_of ds within plain.1)
+  lines_of (Refuses c count refusal ∷ ds) within plain = ((why_text refusal.why, refl, why_one refusal.why), lines_of ds within plain.1)
   lines_of (Drops c told ∷ ds) within plain = dropped told ds (lines_of ds within plain.1)
   lines_of (d ∷ ds) within plain = lines_of ds within plain.1
 

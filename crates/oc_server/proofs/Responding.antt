@@ -11,7 +11,7 @@ use Rattle.oc_model.specs.declared.answer.Answer.{Answer}
 use Rattle.oc_model.specs.declared.input.Input.{Input}
 use Rattle.oc_model.specs.declared.message.Message.{Message}
 use Rattle.oc_routes.specs.Reports.{report_of}
-use Rattle.oc_routes.specs.Shown.{response_for}
+use Rattle.oc_routes.specs.Routes.{response_for}
 use Rattle.oc_routes.specs.declared.response.Response.{Response}
 use Rattle.oc_deeds.specs.Asks.{holding_in, replies, responds}
 use Rattle.oc_deeds.specs.Deeds.{Replies, back_to, sender_of}

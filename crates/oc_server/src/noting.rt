@@ -13,7 +13,7 @@ use crate::server::Server;
 use oc_deeds::lines::put_note;
 use oc_io::{Disk, Sink, write_all};
 use oc_link::{ConnectionId, Ending, Link};
-use oc_routes::{Refused, put_refusal_line, refusal_reply};
+use oc_routes::{Refusal, put_refusal_line, refusal_reply};
 
 /// The line of a reply that could not be sent.
 const WRITE_LINE: &[u8] = b"! write\n";
@@ -36,16 +36,16 @@ impl<D: Disk, L: Link, K: Sink> Server<D, L, K> {
         &mut self,
         connection: ConnectionId,
         count: u64,
-        why: Refused,
+        refusal: Refusal,
     ) -> Result<(), TurnEnd>
         requires { IsServing self.old }
-        ensures did { OnOk result (Did D.view K.takes K.faults L.story L.counts (Refuses connection count why ∷ []) self.old self.new) }
-        ensures breaks { IfErr result (λ end. NoteBreaks D.view K.takes K.fails K.faults L.story L.counts end (note_line (why_text why)) self.old self.new) }
+        ensures did { OnOk result (Did D.view K.takes K.faults L.story L.counts (Refuses connection count refusal ∷ []) self.old self.new) }
+        ensures breaks { IfErr result (λ end. NoteBreaks D.view K.takes K.fails K.faults L.story L.counts end (note_line (why_text refusal.why)) self.old self.new) }
     {
         self.kept.recovers();
-        let reply = refusal_reply(self.alloc, why)?;
+        let reply = refusal_reply(self.alloc, refusal)?;
         let mut line = Vec::new(self.alloc);
-        put_refusal_line(&mut line, why)?;
+        put_refusal_line(&mut line, refusal.why)?;
         write_line(&mut self.sink, &line)?;
         refuse(&mut self.link, connection, count, reply);
         Ok(())

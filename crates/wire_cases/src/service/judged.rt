@@ -63,7 +63,7 @@ fn put_verdict(alloc: Global, said: &mut String, verdict: &Verdict) -> Result<()
         Verdict::Wait => Ok(said.push_str("wait")?),
         Verdict::Leave => Ok(said.push_str("leave")?),
         Verdict::Permit => Ok(said.push_str("permit")?),
-        Verdict::Refuse(why) => put_refusal(alloc, said, *why),
+        Verdict::Refuse(refusal) => put_refusal(alloc, said, *refusal),
         Verdict::Ask(request) => put_request(said, request),
     }
 }
@@ -71,9 +71,9 @@ fn put_verdict(alloc: Global, said: &mut String, verdict: &Verdict) -> Result<()
 /// Puts how many bytes a request has, what it asks, and what else it tells.
 fn put_request(said: &mut String, request: &Request) -> Result<(), Fault> {
     let count = request.count;
-    let asks = word_of(&request.operation);
+    let asks = word_of(&request.asked.operation);
     write!(said, "{count} {asks}")?;
-    put_hint(said, request.hint)?;
+    put_hint(said, request.asked.hint)?;
     if request.last {
         said.push_str(" last")?;
     }

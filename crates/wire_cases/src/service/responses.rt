@@ -8,7 +8,9 @@ ghost use Rattle.oc_wire.specs.Spelling.{HasSpelling};
 use crate::service::asking::{ReadRequest, request_in};
 use oc_base::NodeId;
 use oc_model::{Answer, Message};
-use oc_routes::{Answered, Directory, Operation, Persistence, Response, is_last, respond};
+use oc_routes::{
+    Answered, Asked, Directory, Hint, Holding, Operation, Persistence, Response, is_last, respond,
+};
 use oc_wire::decode;
 use std::alloc::Global;
 use test_tools::{Fault, RowFields, put_spelled, spelled_in};
@@ -23,6 +25,9 @@ pub fn put_words(alloc: Global, given: &str, said: &mut String) -> Result<(), Fa
         Err(fault) => Err(fault),
     }
 }
+
+/// How many bytes the node holds of the group that is asked for.
+const HELD: u64 = 9;
 
 /// What comes to a request besides its bytes.
 #[derive(Clone, Copy)]
@@ -109,17 +114,25 @@ fn respond_with(
 {
     let addresses = addresses(alloc)?;
     let last = is_last(&request.head, turn.number);
+    let asked = Asked {
+        operation: request.asks,
+        hint: Hint::Plain,
+    };
     let answered = Answered {
         answer: turn.answer,
-        sealed: turn.sealed,
-        last,
+        back: reply,
+        holding: Holding {
+            there: true,
+            held: HELD,
+            sealed: turn.sealed,
+        },
         report,
     };
     let network = Directory {
         addresses: &addresses,
         key: None,
     };
-    Ok(respond(alloc, &request.asks, answered, reply, &network)?)
+    Ok(respond(alloc, asked, last, answered, &network)?)
 }
 
 fn addresses(alloc: Global) -> Result<Vec<String>, Fault> {

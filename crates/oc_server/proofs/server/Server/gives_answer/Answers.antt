@@ -2,7 +2,7 @@ use Rattle.std.proofs.Common.{ℕ, ap, refl, ◌∙◌}
 use Rattle.std.proofs.lemmas.Result.{err_from_is_err_and}
 use Rattle.oc_model.specs.Node.{Control}
 use Rattle.oc_routes.specs.Reports.{report_of}
-use Rattle.oc_routes.specs.Shown.{response_for}
+use Rattle.oc_routes.specs.Routes.{response_for}
 use Rattle.oc_routes.specs.declared.response.Response.{Response}
 use Rattle.oc_deeds.specs.Asks.{holding_in}
 use Rattle.oc_server.proofs.Responding.{replied}

@@ -111,7 +111,7 @@ past_or_served : (group : List ℕ) (start count : ℕ) (manner : Manner) (seale
 past_or_served group start count manner sealed last true h ks serves = tt
 past_or_served group start count manner sealed last false h ks serves = served_there group manner sealed last start count ks serves
 
-client_there : (group : List ℕ) (start : ℕ) (manner : Manner) (told : List ℕ) (answer : Answer) (sealed last : Bool) (h : Holding) (addresses : List (List ℕ)) (ks : List Group) → ServesShown sealed answer (length (bytes_of group ks)) start
+client_there : (group : List ℕ) (start : ℕ) (manner : Manner) (told : List ℕ) (answer : Answer) (sealed last : Bool) (h : Holding) (addresses : List (Option (List ℕ))) (ks : List Group) → ServesShown sealed answer (length (bytes_of group ks)) start
     → IsGivable (content_at group (client_response group start manner told answer sealed last h addresses).content) ks
 client_there group start manner told answers.Ok sealed last h addresses ks serves = tt
 client_there group start manner told answers.Ignored sealed last h addresses ks serves = tt
@@ -129,7 +129,7 @@ client_there group start manner told (answers.Redirect node) sealed last h addre
 client_there group start manner told (answers.Serve count) sealed last h addresses ks serves = past_or_served group start count manner sealed last (is_past start h) h ks serves
 
 -- the reply to a client that is shown no more than is held
-reply_there : (group : List ℕ) (area start : ℕ) (manner : Manner) (hint : Hint) (last : Bool) (answer : Answer) (ks : List Group) (addresses : List (List ℕ))
+reply_there : (group : List ℕ) (area start : ℕ) (manner : Manner) (hint : Hint) (last : Bool) (answer : Answer) (ks : List Group) (addresses : List (Option (List ℕ)))
     → ServesShown (shown hint answer (holding group (shelf ks)) start).sealed (shown hint answer (holding group (shelf ks)) start).answer (holding group (shelf ks)).held start
     → IsGivable (client_content (asks.Client group area start manner) hint last answer ks addresses) ks
 reply_there group area start manner hint last answer ks addresses serves =
@@ -138,7 +138,7 @@ reply_there group area start manner hint last answer ks addresses serves =
     (subst (λ (n : ℕ). ServesShown (shown hint answer h start).sealed (shown hint answer h start).answer n start) (held_is group ks) serves)
 
 -- where the node answers itself
-pub here_there : (answer : Answer) (ks : List Group) (group : List ℕ) (area start : ℕ) (manner : Manner) (last : Bool) (addresses : List (List ℕ)) → IsGivable (client_content (asks.Client group area start manner) Here last answer ks addresses) ks
+pub here_there : (answer : Answer) (ks : List Group) (group : List ℕ) (area start : ℕ) (manner : Manner) (last : Bool) (addresses : List (Option (List ℕ))) → IsGivable (client_content (asks.Client group area start manner) Here last answer ks addresses) ks
 here_there answer ks group area start manner last addresses =
     let h = holding group (shelf ks) in
     reply_there group area start manner Here last answer ks addresses (here_serves h.there h.sealed h.held start)
@@ -172,7 +172,7 @@ groups_same n area start group =
     (client_keeps (line_of group (shelf n.groups)) (plan_begun n.control) area start)
 
 -- where the answer is that of the step
-pub step_there : (n : Node) (group : List ℕ) (area start : ℕ) (manner : Manner) (hint : Hint) (last : Bool) (addresses : List (List ℕ))
+pub step_there : (n : Node) (group : List ℕ) (area start : ℕ) (manner : Manner) (hint : Hint) (last : Bool) (addresses : List (Option (List ℕ)))
     → IsGivable (client_content (asks.Client group area start manner) hint last (step n (inputs.Client area start group)).answer (step n (inputs.Client area start group)).node.groups addresses) (step n (inputs.Client area start group)).node.groups
 step_there n group area start manner hint last addresses =
     let o = step n (inputs.Client area start group) in

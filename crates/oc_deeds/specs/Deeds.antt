@@ -42,10 +42,11 @@ use Rattle.oc_deeds.specs.declared.work.Waiting.{Waiting}
 use Rattle.oc_deeds.specs.declared.work.Work.{Work}
 use Rattle.oc_deeds.specs.declared.work.Work.TheVariants as works
 
--- which node it is, the addresses of all by their ids, the key of the network, where it has one, and what is written of inputs
+-- which node it is, the addresses of all by their ids, where they have one, the key of what goes out, where the network has one, and what is
+-- written of inputs
 pub record Setting : Type 0 where
   pub me : ℕ
-  pub addresses : List (List ℕ)
+  pub addresses : List (Option (List ℕ))
   pub key : Option (List ℕ)
   pub log : Log
 

@@ -19,7 +19,7 @@ use Rattle.oc_deeds.specs.declared.work.Work.{Work}
 use Rattle.oc_deeds.specs.declared.work.Work.TheVariants as works
 
 -- each node has an address
-pub record IsPlaced (nodes : ℕ) (addresses : List (List ℕ)) : Type 0 where
+pub record IsPlaced (nodes : ℕ) (addresses : List (Option (List ℕ))) : Type 0 where
   pub count : length addresses ≡ nodes
   pub hosts : (x : ℕ) → IsNode nodes x → IsHost (address_of addresses x)
 

@@ -130,7 +130,7 @@ octets = codes "Content-Type: application/octet-stream"
 
 -- what a client of group `/a` is answered
 abbrev answered : Operation → Answer → Bool → Bool → Response → Type 0
-answered wanted answer sealed last response = response_to wanted answer None sealed (codes "h:1" ∷ codes "h:2" ∷ []) None last [] ≡ response
+answered wanted answer sealed last response = response_to wanted answer None sealed (Some (codes "h:1") ∷ Some (codes "h:2") ∷ []) None last [] ≡ response
 
 -- what one who asks what the node tells of itself is answered
 abbrev told : Report → Manner → Response → Type 0

@@ -93,6 +93,10 @@ seal_line answer source group = []
 abbrev pub no_group_line : List ℕ
 no_group_line = codes "there is no such group here: look at /-/status for the names of groups\n"
 
+-- to a client that follows a group, where the node that has more of it has no address
+abbrev pub nowhere_line : List ℕ
+nowhere_line = codes "the node that has more of this group has no address: ask again later, or ask another node\n"
+
 -- to a client whose start is past the end of a sealed group of this length
 abbrev pub past_line : ℕ → List ℕ
 past_line length = codes "the group has " ++ decimal length ++ codes " bytes, and is sealed: start=" ++ decimal length ++ codes " is the last start\n"

@@ -4,7 +4,7 @@
 
 ghost use Rattle.std.specs.Prelude.{◌≡◌, ◌++◌, IfOk, OnOk};
 ghost use Rattle.oc_http.specs.Writing.{HasPhrase};
-ghost use Rattle.oc_routes.specs.Reasons.{at_line, bare, coding_line, denied_line, length_line, no_group_line, past_line, plain_line, publish_line, refused_line, reply_text, seal_line, source_url, telling};
+ghost use Rattle.oc_routes.specs.Reasons.{at_line, bare, coding_line, denied_line, length_line, no_group_line, nowhere_line, past_line, plain_line, publish_line, refused_line, reply_text, seal_line, source_url, telling};
 
 use crate::Refused;
 use oc_base::{Bytes, GroupName, Memory, put, put_with_number};
@@ -222,6 +222,18 @@ pub(crate) fn no_group_line(alloc: Global) -> Result<Vec<u8>, Memory>
     put(
         &mut line,
         b"there is no such group here: look at /-/status for the names of groups\n",
+    )?;
+    Ok(line)
+}
+
+/// The line to a client that follows a group, where the node that has more of it has no address.
+pub(crate) fn nowhere_line(alloc: Global) -> Result<Vec<u8>, Memory>
+    ensures { IfOk result (λ line. line.items ≡ nowhere_line) }
+{
+    let mut line = Vec::new(alloc);
+    put(
+        &mut line,
+        b"the node that has more of this group has no address: ask again later, or ask another node\n",
     )?;
     Ok(line)
 }

@@ -44,12 +44,12 @@ pub fn a_condition_says_the_length()
         → (length (bytes_of group groups) ≡ other) × (other ≢ at) }
 {}
 
-/// In a network with a key a body is read as a message only where its MAC under the key is in its head: one that is
+/// In a network with keys a body is read as a message only where its MAC under one of them is in its head: one that is
 /// taken, and one that is refused since it is no message.
 pub fn a_message_has_its_mac()
-    ensures taken { (t : NodeTerms) (a : Arrival) (key bytes : List ℕ) (request : Request) → t.key ≡ Some key → request.operation ≡ MessageAsked
-        → IsVerdict t a bytes (Ask request) → HaveMac key bytes }
-    ensures read { (t : NodeTerms) (a : Arrival) (key bytes : List ℕ) → t.key ≡ Some key → IsVerdict t a bytes (Refuse NoMessage) → HaveMac key bytes }
+    ensures taken { (t : NodeTerms) (a : Arrival) (ring : Keyring) (bytes : List ℕ) (request : Request) → t.keys ≡ Some ring → request.operation ≡ MessageAsked
+        → IsVerdict t a bytes (Ask request) → HaveMac ring bytes }
+    ensures read { (t : NodeTerms) (a : Arrival) (ring : Keyring) (bytes : List ℕ) → t.keys ≡ Some ring → IsVerdict t a bytes (Refuse NoMessage) → HaveMac ring bytes }
 {}
 
 /// The pieces of a content are its text: what is owed before the first is the content as it is sent whole, what is

@@ -27,6 +27,7 @@ use Rattle.oc_deeds.specs.declared.work.Pending.{Pending}
 use Rattle.oc_server.proofs.Lawful.{lawful_of}
 use Rattle.oc_server.proofs.Parts.{does_after, does_as, does_one, stops_after, stops_as, stops_in}
 use Rattle.oc_server.proofs.Steps.{did_look}
+use Rattle.oc_config.specs.Settings.{key_of}
 use Rattle.oc_server.proofs.Stopping.{stops_idle}
 
 module _ {D L K : Type 0} (view : D → DiskView) (takes fails : K → List ℕ → K → Type 0) (faults : K → ℕ) (story : L → Option (List Call)) (counts : L → LinkCounts) where
@@ -43,12 +44,12 @@ module _ {D L K : Type 0} (view : D → DiskView) (takes fails : K → List ℕ 
   -- a response that was made by this shelf is the reply
   pub replied : (r : Pending) (now : ℕ) (answer : Answer) (back : Option Message) (response : Response) (lines : List Shelf) (a b : Server D L K)
       → (IsHonest view a.kept → lines ≡ shelf (node_of a.kept).groups)
-      → response ≡ response_for r.asked r.last answer back (holding_in r.asked.operation lines) a.config.addresses a.config.key (report_of r.asked.operation a.kept.node.control lines (length a.outbox))
+      → response ≡ response_for r.asked r.last answer back (holding_in r.asked.operation lines) a.config.addresses (key_of a.config.keys) (report_of r.asked.operation a.kept.node.control lines (length a.outbox))
       → Did view takes faults story counts (Replies r response now ∷ []) a b → Does view takes faults story counts (replies r now answer back) a b
   replied r now answer back response lines a b held is did =
       does_one view takes fails faults story counts (Replies r response now) (replies r now answer back) a b
       (λ honest. ap (λ (x : Response). Replies r x now ∷ [])
-      (sym (is ∙ ap (λ (ls : List Shelf). response_for r.asked r.last answer back (holding_in r.asked.operation ls) a.config.addresses a.config.key (report_of r.asked.operation a.kept.node.control ls (length a.outbox))) (held honest)))) did
+      (sym (is ∙ ap (λ (ls : List Shelf). response_for r.asked r.last answer back (holding_in r.asked.operation ls) a.config.addresses (key_of a.config.keys) (report_of r.asked.operation a.kept.node.control ls (length a.outbox))) (held honest)))) did
 
   module _ (takes_nothing : (k : K) → takes k [] k) (takes_then : (a b c : K) (x y : List ℕ) → takes a x b → takes b y c → takes a (x ++ y) c) (r : Pending) (i : Input) (now : ℕ) (answer : Answer) (back : Option Message) (a b : Server D L K) (accepted : Does view takes faults story counts (accepts_in i) a b)
       (answer_is : IsHonest view a.kept → answer ≡ (step (node_of a.kept) i).answer) (back_is : IsHonest view a.kept → back ≡ back_to (sender_of i) (step (node_of a.kept) i).sends) where

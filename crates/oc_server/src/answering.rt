@@ -17,6 +17,7 @@ ghost use Rattle.oc_server.specs.Looks.{LooksOnly, LookStops, end_of_ready};
 ghost use Rattle.oc_server.specs.Parts.{Does, Stops};
 ghost use Rattle.oc_deeds.specs.Parts.{nothing};
 ghost use Rattle.oc_server.specs.Scenes.{Breaks, IsServing};
+ghost use Rattle.oc_config.specs.Settings.{key_of};
 ghost use Rattle.oc_deeds.specs.Under.{Idle};
 
 use crate::ends::TurnEnd;
@@ -213,7 +214,7 @@ fn response_to(
     requires asks { IsAsked pending.now.asked.operation }
     requires back { IfSome accepted.now.back (λ m. HasSpelling m.body) }
     ensures { IfOk result (λ response. response ≡ response_for pending.now.asked pending.now.last accepted.now.answer accepted.now.back
-        (holding_in pending.now.asked.operation seen.now.shelf.now) config.now.addresses config.now.key
+        (holding_in pending.now.asked.operation seen.now.shelf.now) config.now.addresses (key_of config.now.keys)
         (report_of pending.now.asked.operation seen.now.node.now.control seen.now.shelf.now seen.now.messages)) }
 {
     let report = report_of(alloc, &pending.asked.operation, seen)?;
@@ -225,7 +226,7 @@ fn response_to(
     };
     let network = Directory {
         addresses: &config.addresses,
-        key: config.key.as_ref(),
+        key: config.key(),
     };
     respond(alloc, pending.asked, pending.last, answered, &network)
 }

@@ -13,6 +13,7 @@ ghost use Rattle.oc_deeds.specs.Deeds.{Probes};
 ghost use Rattle.oc_deeds.specs.Deeds as deeds;
 ghost use Rattle.oc_deeds.specs.Dials.{brings, dialling};
 ghost use Rattle.oc_server.specs.Scenes.{Breaks, Did, IsServing};
+ghost use Rattle.oc_config.specs.Settings.{key_of};
 ghost use Rattle.oc_deeds.specs.Under.{Idle};
 
 use crate::ends::TurnEnd;
@@ -76,10 +77,10 @@ impl<D: Disk, L: Link, K: Sink> Server<D, L, K> {
 fn request_to(alloc: Global, config: &Config, message: &Message) -> Result<Vec<u8>, Memory>
     requires body { HasSpelling message.now.body }
     requires host { IsHost (address_of config.now.addresses message.now.to) }
-    ensures { IfOk result (λ text. text.items ≡ request_of config.now.key (address_of config.now.addresses message.now.to) message.now) }
+    ensures { IfOk result (λ text. text.items ≡ request_of (key_of config.now.keys) (address_of config.now.addresses message.now.to) message.now) }
 {
     let address = address_of(config, message.to);
-    to_http(alloc, message, address, config.key.as_ref())
+    to_http(alloc, message, address, config.key())
 }
 
 /// Begins the dial of a message to this address, with this request.

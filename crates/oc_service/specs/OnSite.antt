@@ -2,7 +2,7 @@
 use Rattle.std.specs.Prelude.{◌≡◌, ◌⊎◌, ℕ, ◌+◌, ◌<◌, Bool, true, false, Option, Some, None, List, [], ◌∷◌, ◌++◌, length, replicate, take}
 use Rattle.std.specs.List.{AllByRecursion}
 use Rattle.std.specs.Option.{option_map}
-use Rattle.oc_config.specs.Settings.{Settings}
+use Rattle.oc_config.specs.Settings.{Settings, key_of}
 use Rattle.oc_link.specs.Calls.{IsFront}
 use Rattle.oc_link.specs.Counts.{CountsFailure}
 use Rattle.oc_link.specs.Told.{AddsAll}
@@ -54,11 +54,11 @@ header_of_settings c = header (length c.addresses) c.chain c.chunk c.areas
 
 -- which node it is, the addresses of all, the key of the network, and what is written of inputs
 abbrev pub setting_of : Settings → Task → Setting
-setting_of c task = record { me = task.me; addresses = c.addresses; key = c.key; log = task.log }
+setting_of c task = record { me = task.me; addresses = c.addresses; key = key_of c.keys; log = task.log }
 
 -- by what it reads requests
 abbrev pub terms_in : Settings → ℕ → NodeTerms
-terms_in c me = terms_of me (length c.addresses) c.rules c.key
+terms_in c me = terms_of me (length c.addresses) c.rules c.keys
 
 -- by what it probes at first: no rate of any peer, and all other nodes in turn
 abbrev pub probing_of : ℕ → ℕ → Probing

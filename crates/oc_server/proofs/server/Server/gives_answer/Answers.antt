@@ -9,6 +9,7 @@ use Rattle.oc_server.proofs.Responding.{replied}
 use Rattle.oc_deeds.proofs.Results.{done_then, err_then}
 use Rattle.oc_server.proofs.Steps.{memory_breaks}
 use Rattle.oc_server.proofs.Stopping.{look_only}
+use Rattle.oc_config.specs.Settings.{key_of}
 use Rattle.oc_server.proofs.server.Server.gives_answer.Goals as goal
 
 pub returns-clause-did : goal.returns-clause-did
@@ -18,7 +19,7 @@ returns-clause-did g c =
     let told = c.args.accepted.now in
     let lines = c.shelf.result.now in
     let answered : (Control → ℕ → Response) =
-    λ n many. response_for r.asked r.last told.answer told.back (holding_in r.asked.operation lines) s.config.addresses s.config.key (report_of r.asked.operation n lines many) in
+    λ n many. response_for r.asked r.last told.answer told.back (holding_in r.asked.operation lines) s.config.addresses (key_of s.config.keys) (report_of r.asked.operation n lines many) in
     done_then c.replies.result (λ did. replied g.D.Disk.view g.K.Sink.takes g.K.Sink.fails g.K.Sink.faults g.L.Link.story g.L.Link.counts r c.args.now told.answer told.back c.in_ok-response.response lines s c.replies.new.self
     c.shelf.ensures.groups (c.in_ok-response.ensures ∙ ap (λ n. answered n.control c.len.result) c.node.ensures ∙ ap (λ (many : ℕ). answered s.kept.node.control many) c.len.ensures) did) c.replies.ensures.did
 

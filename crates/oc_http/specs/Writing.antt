@@ -165,7 +165,7 @@ abbrev pub content_type_line : Option ContentType → List ℕ
 content_type_line None = []
 content_type_line (Some type) = codes "Content-Type: " ++ type_name type ++ line_end
 
--- `Content-Range`, where none of the bytes of a content was asked for
+-- `Content-Range`, where a content of this length ends before what was asked for begins
 abbrev pub content_range_line : Option ℕ → List ℕ
 content_range_line None = []
 content_range_line (Some count) = codes "Content-Range: bytes */" ++ decimal count ++ line_end

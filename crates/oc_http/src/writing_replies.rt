@@ -189,15 +189,12 @@ fn content_type_line<'a>(content_type: Option<ContentType>) -> &'a [u8]
     }
 }
 
-/// `Content-Range`, where none of the bytes of a content was asked for.
+/// `Content-Range`, where a content ends before what was asked for begins.
 fn content_range_line(length: Option<u64>, digits: &mut Buffer) -> FieldLine<'_>
     ensures { line_text result ≡ content_range_line length }
 {
     match length {
-        Some(count) => field_line(
-            b"Content-Range: bytes */",
-            digits.format(count).as_bytes(),
-        ),
+        Some(count) => field_line(b"Content-Range: bytes */", digits.format(count).as_bytes()),
         None => no_line(),
     }
 }

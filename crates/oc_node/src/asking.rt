@@ -1,11 +1,11 @@
 ghost use Rattle.std.specs.Prelude.{◌≡◌, ◌<◌, OnOk};
-ghost use Rattle.oc_model.specs.Asking.{lost, send_ask, ask, next_epoch, act, descend, try_at, earlier, waits_awhile, try_first, next_try, round, ask_before, comes_back, patience_at, joins, took_yes, refused, took_no, not_seen, unreachable, left_in_move, notes_parent, relocate};
+ghost use Rattle.oc_model.specs.Asking.{lost, send_ask, ask, next_epoch, act, descend, try_at, earlier, waits_awhile, try_first, next_try, round, ask_before, comes_back, patience_at, joins, took_yes, refused, took_no, not_seen, unreachable, notes_parent, relocate};
 ghost use Rattle.oc_step.specs.StepView.{goes};
 
 use oc_base::{MAX_DEPTH, Memory, NodeId, Rank, Refusal};
 use oc_model::{Answer, Body, MAX_PATIENCE, Mode, Record, Search};
 use oc_state::Volatile;
-use oc_state::modes::{is_asking, is_descending};
+use oc_state::modes::{is_asking, is_descending, parent_of};
 use oc_state::ranks::{ancestors_by, next_epoch, precedes_any, rank_or_last};
 use oc_step::Step;
 
@@ -294,24 +294,16 @@ pub fn unreachable(step: &mut Step, peer: NodeId) -> Result<(), Memory>
 
 // The rule Relocate
 
-/// The parent that a node with a wish left last: being moved is leaving too.
-fn left_in_move(step: &Step) -> Option<NodeId>
-    ensures { result ≡ left_in_move step.now.plan.node.kept.mode step.now.plan.node.soft.wish step.now.plan.node.soft.left }
-{
-    let volatile = step.volatile();
-    match (step.position().mode, volatile.wish) {
-        (Mode::Joined(parent), Some(_)) => Some(parent),
-        _ => volatile.left,
-    }
-}
-
-/// An operator's move of a node that wishes for another place counts as leaving its parent, so that it waits
-/// longer there when it comes back.
+/// Notes the parent of a node with a wish as left, so that a moved node waits longer if it comes back.
+#[tactic(auto, using(crate::proofs::AskByMode::left_with_wish, crate::proofs::AskByMode::left_without))]
 fn note_parent(step: &mut Step)
     ensures { step.new ≡ goes step.old (notes_parent step.old.plan) }
 {
-    let left = left_in_move(step);
     let volatile = step.volatile();
+    let left = match volatile.wish {
+        Some(_) => parent_of(step.position().mode).or(volatile.left),
+        None => volatile.left,
+    };
     step.set_volatile(Volatile { left, ..volatile });
 }
 

@@ -44,7 +44,7 @@ fn restart_key(running: Running, old: &Config, new: &Config) -> Option<ConfigKey
         Some(ConfigKey::Chunk)
     } else if !same_presence(&old.keys, &new.keys) {
         Some(ConfigKey::NodeKey)
-    } else if !same_text(listen_at(running.me, old), listen_at(running.me, new)) {
+    } else if !keeps_listen(running.me, old, new) {
         Some(ConfigKey::Listen)
     } else if !keeps_areas(running, &old.areas, &new.areas) {
         Some(ConfigKey::Area)
@@ -69,6 +69,13 @@ fn same_presence(old: &Option<Keyring>, new: &Option<Keyring>) -> bool
     ensures { result ≡ same_presence old.now new.now }
 {
     old.is_some() == new.is_some()
+}
+
+/// Whether a node listens where it did.
+fn keeps_listen(node: NodeId, old: &Config, new: &Config) -> bool
+    ensures { result ≡ same_text (listen_at node old.now) (listen_at node new.now) }
+{
+    same_text(listen_at(node, old), listen_at(node, new))
 }
 
 /// Where a node listens.

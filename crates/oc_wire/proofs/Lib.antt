@@ -13,4 +13,4 @@ pub mod Sizes
 pub mod Puts
 pub mod Lifts
 mod Rows
-mod UnderKeys
+pub mod UnderKeys

@@ -2,7 +2,7 @@ use Rattle.std.proofs.Common.{◌≡◌, [], drop, vec_len}
 use Rattle.toml.specs.View.{items_view}
 use Rattle.oc_config.specs.Accepted.{keys_from}
 use Rattle.oc_config.specs.Values.{section_of}
-use Rattle.oc_config.proofs.keys.spelled_keys.Given as goal
+use Rattle.oc_config.proofs.keyring.spelled_keys.Given as goal
 
 -- what is left of the values gives what all of them give
 abbrev pub invariant-loop-value : goal.invariant-loop-value

@@ -4,7 +4,7 @@ use Rattle.toml.specs.View.{items_view}
 use Rattle.oc_config.specs.Accepted.{keys_from}
 use Rattle.oc_config.specs.Values.{section_of}
 use Rattle.oc_config.proofs.Spelled.{key_put, key_fault, keys_end}
-use Rattle.oc_config.proofs.keys.spelled_keys.Goals as goal
+use Rattle.oc_config.proofs.keyring.spelled_keys.Goals as goal
 
 pub loop-value-init : goal.loop-value-init
 loop-value-init c = record {

@@ -19,7 +19,7 @@ mod config;
 mod config_key;
 mod fault;
 mod key_name;
-mod keys;
+mod keyring;
 mod known;
 mod law;
 mod name;

@@ -8,7 +8,7 @@ ghost use Rattle.oc_config.specs.Reading.{chain_within, keys_known, line_at, gre
 use crate::config::{Config, FIRST_CHUNK, MAX_CHUNK};
 use crate::config_key::ConfigKey;
 use crate::fault::ConfigFault;
-use crate::keys::keys;
+use crate::keyring::keys;
 use crate::known::{check, check_all};
 use crate::nodes::{Split, nodes};
 use crate::rules::{rule_tables, rules};

@@ -7,9 +7,8 @@ ghost use Rattle.oc_link.specs.declared.call.Call.TheVariants as acts;
 ghost use Rattle.oc_http.specs.Writing.{IsHost};
 ghost use Rattle.oc_model.specs.declared.message.Message.{Message};
 ghost use Rattle.oc_routes.specs.Responses.{address_of};
-ghost use Rattle.oc_wire.specs.Macs.{request_of};
 ghost use Rattle.oc_wire.specs.Spelling.{HasSpelling};
-ghost use Rattle.oc_deeds.specs.Deeds.{Probes};
+ghost use Rattle.oc_deeds.specs.Deeds.{Probes, dial_text};
 ghost use Rattle.oc_deeds.specs.Deeds as deeds;
 ghost use Rattle.oc_deeds.specs.Dials.{brings, dialling};
 ghost use Rattle.oc_server.specs.Scenes.{Breaks, Did, IsServing};
@@ -73,13 +72,16 @@ impl<D: Disk, L: Link, K: Sink> Server<D, L, K> {
     }
 }
 
-/// The request that brings a message to its receiver.
+/// The text of a dial: the request that brings a message to its receiver, and nothing where that has no address.
 fn request_to(alloc: Global, config: &Config, message: &Message) -> Result<Vec<u8>, Memory>
     requires body { HasSpelling message.now.body }
-    requires host { IsHost (address_of config.now.addresses message.now.to) }
-    ensures { IfOk result (λ text. text.items ≡ request_of (key_of config.now.keys) (address_of config.now.addresses message.now.to) message.now) }
+    requires host { 0 < length (address_of config.now.addresses message.now.to) → IsHost (address_of config.now.addresses message.now.to) }
+    ensures { IfOk result (λ text. text.items ≡ dial_text (key_of config.now.keys) (address_of config.now.addresses message.now.to) message.now) }
 {
     let address = address_of(config, message.to);
+    if address.is_empty() {
+        return Ok(Vec::new(alloc));
+    }
     to_http(alloc, message, address, config.key())
 }
 

@@ -38,4 +38,4 @@ pub request_to-requires-clause-host : goal.request_to-requires-clause-host
 request_to-requires-clause-host g c =
     let s = c.args.self.now in
     let nodes = s.kept.node.control.nodes in
-    c.requires.serving.placed.hosts c.in-Some.message.to (receiver_of_sendable nodes c.in-Some.message (one_sendable nodes s.outbox c.args.place c.in-Some.message (sym c.take.ensures.message ∙ c.in-Some.is) c.requires.serving.lawful.sendable))
+    c.requires.serving.placed.hosts c.in-Some.message.to

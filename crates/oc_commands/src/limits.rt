@@ -1,4 +1,4 @@
-//! Which numbers the limits are.
+//! The values of the limits.
 
 ghost use Rattle.std.specs.Prelude.{◌≡◌, ◌^◌, ◌+◌, ◌-◌};
 ghost use Rattle.oc_base.specs.declared.limits.TheConstants.{
@@ -57,8 +57,9 @@ ghost use Rattle.oc_deeds.specs.declared.pace.TheConstants.{LEAST_INTERVAL, MOST
 ghost use Rattle.oc_updown.specs.declared.leases.TheConstants.{LEASE_TIME};
 ghost use Rattle.oc_words.specs.declared.request.TheConstants.{ENDLESS, MAX_EVENTS, MAX_FOLLOWED, MAX_TURNS};
 
-/// The limits, as the protocol's pages give them: contracts cite the constants, and this law says which numbers those are
-/// that operators, clients and other nodes meet, so that none of these can change unseen.
+/// The limits, as the protocol's pages give them. Contracts cite the constants, and this law states
+/// the values that operators, clients and other nodes meet, so that none of these can change
+/// unseen.
 pub fn limits_are_as_published()
     ensures network { (MAX_NODES ≡ 1024) × (MAX_CHAIN ≡ 16) × (MAX_AREA ≡ 255) × (MAX_DEPTH ≡ 1000) × (MAX_ANCESTORS ≡ 1000) }
     ensures measures { (MAX_RATE ≡ 2 ^ 40) × (MAX_HOPS ≡ 255) × (MAX_TIME ≡ 2 ^ 40) × (LAST_SECOND ≡ 2 ^ 41) × (LEASE_TIME ≡ 30) }

@@ -7,6 +7,7 @@ ghost use Rattle.oc_deeds.specs.Records.{network_of, network_text, record_head, 
 use crate::brief::put_place;
 use crate::log::Log;
 use oc_base::{Memory, NodeId, Shelf, put, put_with_number};
+use oc_model::{Header, Sizes};
 use oc_node::Node;
 use oc_replay::put_has_line;
 use oc_schedule::{EventList, Schedule, print};
@@ -64,10 +65,14 @@ fn put_network(alloc: Global, out: &mut Vec<u8>, node: &Node, areas: &[u8]) -> R
     ensures { OnOk result (out.new.items ≡ out.old.items ++ network_text (network_of node.now.control)) }
 {
     let schedule = Schedule {
-        nodes: node.nodes(),
-        chain: node.chain(),
-        chunk: node.chunk(),
-        areas: copy(alloc, areas)?,
+        header: Header {
+            sizes: Sizes {
+                nodes: node.nodes(),
+                chain: node.chain(),
+                chunk: node.chunk(),
+            },
+            areas: copy(alloc, areas)?,
+        },
         events: EventList::new(alloc),
     };
     let text = print(alloc, &schedule)?;

@@ -185,7 +185,7 @@ module _ (ended : Bool) (h : Header) (few : h.nodes ≤ MAX_NODES) (me : ℕ) (n
 
   -- Notes
 
-  -- what begins so has words, of which the first begins so
+  -- a line that begins with this byte has words, of which the first begins with it
   marked_words : (t : List ℕ) → (p : List ℕ) × (ps : List (List ℕ)) × (words (33 ∷ t) ≡ (33 ∷ p) ∷ ps)
   marked_words t = by_parts (slice_split (λ b. b == 32) t) refl where
     by_parts : (parts : List (List ℕ)) → slice_split (λ b. b == 32) t ≡ parts → (p : List ℕ) × (ps : List (List ℕ)) × (words (33 ∷ t) ≡ (33 ∷ p) ∷ ps)

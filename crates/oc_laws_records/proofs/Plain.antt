@@ -243,7 +243,7 @@ plain_probe : (peer : Option ℕ) (started : ℕ) (s : Setting) (a : Running) �
 plain_probe None started s a = tt
 plain_probe (Some peer) started s a = (tt, (tt, tt))
 
--- what results from a message's reply
+-- the deeds for a message's reply
 delivered_plain : (peer : ℕ) (message : Option Message) → IsOfRecord (delivered_or peer message)
 delivered_plain peer None = tt
 delivered_plain peer (Some message) = tt
@@ -259,7 +259,7 @@ input_plain : (me nodes : ℕ) (key : Option (List ℕ)) (peer : ℕ) (reading :
 input_plain me nodes key peer (Ok reply) = reply_plain me nodes key peer reply
 input_plain me nodes key peer (Err fault) = tt
 
--- what came back on a dial
+-- the reply on a dial
 back_plain : (t : NodeTerms) (errand : Errand) (reading : Result Reply HttpFault) (probing : Option Probing) (now median started : ℕ) (s : Setting) (a : Running)
     → ArePlain (happens probing (comes_back t.me t.nodes t.keys errand reading) now median started s a)
 back_plain t (errands.Message to fetch) reading probing now median started s a = plain_brought (input_of t.me t.nodes t.keys to reading) s a (input_plain t.me t.nodes t.keys to reading)
@@ -275,7 +275,7 @@ back_means t lent None coming came means probing now median started s a =
 back_means t lent (Some errand) coming came means probing now median started s a =
     subst (λ (x : Came). ArePlain (happens probing x now median started s a)) (sym (means.3)) (back_plain t errand (means.0) probing now median started s a)
 
--- what is done with what an event means
+-- the deeds for the meaning of an event
 happened : (t : NodeTerms) (lent : List ℕ) (errand : Option Errand) (event : LinkEvent) (came : Came) → Means t lent errand event came
     → (probing : Option Probing) (now median started : ℕ) (s : Setting) (a : Running) → ArePlain (happens probing came now median started s a)
 happened t lent errand (events.Request x) came means probing now median started s a =

@@ -1,4 +1,4 @@
--- What a node writes as its record is the text of a lawful run.
+-- The record that a node writes is the text of a lawful run.
 use Rattle.std.proofs.Common.{◌≡◌, ◌∙◌, ℕ, Bool, true, false, IfSome, Option, Some, None, List, [], ◌∷◌, ◌++◌, refl, sym, ap, subst, arith, codes, append-nil, length}
 use Rattle.std.specs.List.{AllByRecursion}
 use Rattle.oc_base.proofs.Each.{all_append}

@@ -34,7 +34,7 @@ second = record { node = new_node two 2; lines = Taken (Tick 7) ∷ []; cut = []
 abbrev both : List Run
 both = first ∷ second ∷ []
 
--- the lengths of all groups stand for the files
+-- the lengths of all groups serve as the digest of the files
 abbrev lengths : Node → List ℕ
 lengths n = map (λ l. l.held) (shelf n.groups)
 

@@ -1,4 +1,4 @@
--- Which inputs a running node takes, by their kinds, and what it notes.
+-- The kinds of inputs that a running node takes, and the notes it makes.
 use Rattle.std.specs.Prelude.{◌≤◌, List}
 use Rattle.std.specs.List.{AllByRecursion}
 use Rattle.oc_base.specs.declared.limits.TheConstants.{MAX_TIME}
@@ -15,7 +15,7 @@ IsOfRecord (Relocate peer) = ⊥
 IsOfRecord (Pull peer) = ⊥
 IsOfRecord i = Unit {0}
 
--- a deed that takes such an input, or none, and notes no more than a line
+-- a deed that takes an input of these kinds, or none, and notes no more than a line
 abbrev pub IsPlain : Deed → Type 0
 IsPlain (Takes i) = IsOfRecord i
 IsPlain (Accepts i) = IsOfRecord i

@@ -1,4 +1,4 @@
--- Who is not reached, as choices by tests.
+-- The rule for a node that is not reached, as choices by tests.
 use Rattle.std.specs.Option.{option_or}
 use Rattle.std.proofs.Common.{◌≡◌, ℕ, if◌then◌else◌, Option, Some, None, refl}
 use Rattle.oc_model.specs.declared.mode.Mode.{Mode}

@@ -44,7 +44,7 @@ held_cut c d number next permitted permits coming later calls first more =
 
 -- Turns
 
--- how many bytes are refused makes no difference to what is given
+-- the number of refused bytes makes no difference to the bytes given
 refused_alike : (c d count more : ℕ) (text : Option (List ℕ)) (calls : List Call) → given c (refuses d count text ++ calls) ≡ given c (refuses d more text ++ calls)
 refused_alike c d count more None calls = refl
 refused_alike c d count more (Some text) calls = refl

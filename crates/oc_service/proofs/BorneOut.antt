@@ -306,7 +306,7 @@ mild_probe : (peer : Option ℕ) (started : ℕ) (s : Setting) (a : Running) →
 mild_probe None started s a = refl
 mild_probe (Some peer) started s a = refl
 
--- what came back on a dial
+-- the reply on a dial
 back_borne : (t : NodeTerms) (event : LinkEvent) (errand : Errand) (reading : Result Reply HttpFault) (probing : Option Probing) (now median started : ℕ) (s : Setting) (a : Running)
     → AreBorneOut event (happens probing (comes_back t.me t.nodes t.keys errand reading) now median started s a)
 back_borne t event (errands.Message to fetch) reading probing now median started s a = borne_mild event (brought (input_of t.me t.nodes t.keys to reading) s a) (mild_brought (input_of t.me t.nodes t.keys to reading) s a)
@@ -322,7 +322,7 @@ back_means t event lent None coming came means probing now median started s a =
 back_means t event lent (Some errand) coming came means probing now median started s a =
     subst (λ (x : Came). AreBorneOut event (happens probing x now median started s a)) (sym (means.3)) (back_borne t event errand (means.0) probing now median started s a)
 
--- what is done with what an event means
+-- the deeds for the meaning of an event
 happened : (t : NodeTerms) (lent : List ℕ) (errand : Option Errand) (event : LinkEvent) (came : Came) → Means t lent errand event came
     → (probing : Option Probing) (now median started : ℕ) (s : Setting) (a : Running) → AreBorneOut event (happens probing came now median started s a)
 happened t lent errand (events.Request x) came means probing now median started s a =
@@ -395,7 +395,7 @@ node_borne event terms calls s ms ts m heard =
 
 -- An early end
 
--- no more deeds than this many are a front of these
+-- a list of at most this number of deeds is a prefix of these
 front_of : (xs ys gs : List Deed) (k : ℕ) → gs ≡ xs ++ ys → length xs ≤ k → (rest : List Deed) × (take k gs ≡ xs ++ rest)
 front_of [] ys gs k is few = (take k gs, refl)
 front_of (x ∷ xs) ys gs zero is few = absurd (omega (arith, few))
@@ -427,7 +427,7 @@ pub due_or_none : (due : Option ℕ) → (due ≡ None) ⊎ ((place : ℕ) × (d
 due_or_none None = inl refl
 due_or_none (Some place) = inr (place, refl)
 
--- what was done of all, and of one more turn, and the one deed under way
+-- the deeds of all turns, and of one more, and the one under way
 module _ (event : LinkEvent) (terms : NodeTerms) (calls : Option (List Call)) (s : Setting) (ms : List Measure) (ts : List Observation) (last : Observation) (m : Machine)
     (heard : AreHeard s terms calls ts (begun s ms m)) where
   abbrev all : List Deed

@@ -42,7 +42,7 @@ module _ (s : Setting) (recorded : s.log ≡ logs.Record) where
   rest_whole : (ms : List Measure) (ts : List Observation) (m : Machine) → Whole (rest ms ts m)
   rest_whole ms ts m = leads_then s None None None (own_measures s ms) (turns_deeds s ts (begun s ms m)) (own_whole ms) (turns_whole ts (begun s ms m))
 
-  -- the beginning, and a front of what is done after it
+  -- the beginning, and a prefix of the deeds after it
   begun_record : (n : Node) (ds behind : List Deed) → Whole (ds ++ behind) → IsRecorded s (record_head n.control (shelf n.groups)) (Says (told_first s.log n.control (shelf n.groups)) ∷ ds) behind
   begun_record n ds behind whole =
       let front = leads_front s None None ds behind whole in

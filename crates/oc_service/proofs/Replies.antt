@@ -1,4 +1,4 @@
--- What a node gives its connections, from what its turns did.
+-- The replies that a node gives its connections, from the deeds of its turns.
 use Rattle.std.proofs.Common.{◌≡◌, ◌⊎◌, ◌∙◌, ℕ, Option, None, Some, List, [], ◌∷◌, ◌++◌, refl, sym, ap, subst}
 use Rattle.std.specs.Prelude.{◌==◌, if◌then◌else◌, Bool, true, false}
 use Rattle.std.proofs.lemmas.List.{append_assoc}
@@ -151,7 +151,7 @@ own_answered answer back s (x ∷ ms) a =
     (one_answered answer back s (told_ahead s.log s.me (Measured x.peer x.rate x.hops)) (Measured x.peer x.rate x.hops) (x.from == s.me) a)
     (λ p q. own_answered p q s ms (after_all (own_measure s x) a))
 
--- a turn begins with a reading of the clock, so it is all the same what was answered before
+-- a turn begins with a reading of the clock, so the earlier answers make no difference
 turn_answered : (answer : Answer) (back : Option Message) (s : Setting) (t : Observation) (m : Machine) → AreAnsweredBy answer back s (turn_deeds s t m) m.running
 turn_answered answer back s t m = turn_answers m.pace m.probing t s m.running
 

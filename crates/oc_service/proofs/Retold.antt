@@ -1,4 +1,4 @@
--- What a run tells, where its output is told of in other words that follow.
+-- The end of a run, with its output stated in other relations that follow.
 use Rattle.std.proofs.Common.{ℕ, Option, List, [], ◌∷◌, ap}
 use Rattle.oc_config.specs.Settings.{Settings}
 use Rattle.oc_io.specs.DiskView.{DiskView}
@@ -24,7 +24,7 @@ pub record TellsRun (r q : OnRun) : Type 0 where
   pub stopped : (end : TurnEnd) (deeds : List Deed) (under : Under) → r.stopped end deeds under → q.stopped end deeds under
   pub deaf : r.deaf → q.deaf
 
--- An output that is seen as another one: what the one takes, the other takes
+-- An output that is seen as another one: each takes what the other takes
 module _ {D K J : Type 0} (view : D → DiskView) (takes fails : K → List ℕ → K → Type 0) (adds adds_less : J → List ℕ → J → Type 0) (seen : K → J)
     (added : (a b : K) (text : List ℕ) → takes a text b → adds (seen a) text (seen b)) (added_less : (a b : K) (text : List ℕ) → fails a text b → adds_less (seen a) text (seen b)) where
   -- at each prefix of deeds

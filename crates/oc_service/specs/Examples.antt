@@ -31,7 +31,7 @@ idle = record { node = new_node (record { nodes = 2; chain = 1; chunk = 4096; ar
 abbrev ticked : Pace
 ticked = record { last = Some 0; interval = 100; most = 1000; whole = false; second = None }
 
--- what a quiet turn is told
+-- the observation of a quiet turn
 abbrev quiet : Observation
 quiet = record { before = 0; event = events.Quiet; bytes = []; came = comes.Nothing; now = 5; median = 0; started = 5; seconds = 7 }
 

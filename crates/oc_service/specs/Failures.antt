@@ -9,7 +9,7 @@ use Rattle.oc_routes.specs.declared.refused.Refused.{Refused}
 use Rattle.oc_routes.specs.declared.refused.Refused.TheVariants.{Source}
 use Rattle.oc_deeds.specs.Deeds.{Deed, Drops, Refuses, Sees}
 
--- what the link told last, after a deed
+-- the last event that the link reported, after a deed
 abbrev pub told_last : LinkEvent → Deed → LinkEvent
 told_last event (Sees new wait bytes) = new
 told_last event d = event
@@ -31,14 +31,15 @@ AreBorneOut event (d ∷ ds) = IsBorneOut event d × AreBorneOut (told_last even
 
 -- By the counts of the link
 
--- the count of what such a line tells rose from `old` to `now`
+-- the count that this line reports rose from `old` to `now`
 abbrev pub RisesFor : Deed → LinkCounts → LinkCounts → Type 0
 RisesFor (Refuses c count refusal) old now = IsFailure refusal.why (Rose old.reading now.reading)
 RisesFor (Drops c true) old now = Rose old.writing now.writing
 RisesFor d old now = Unit {0}
 
--- The counts of a link go from `now` to `new` over these deeds, and what it told last before made `now` of `old`: each line of a failure is
--- written where its count rose by what the link told last.
+-- The counts of a link go from `now` to `new` over these deeds, and the last event before them
+-- changed `old` to `now`: each line of a failure is written only if its count rose with the last
+-- event.
 abbrev pub RiseForLines : LinkCounts → LinkCounts → List Deed → LinkCounts → Type 0
 RiseForLines old now [] new = new ≡ now
 RiseForLines old now (Sees event wait bytes ∷ ds) new = (at : LinkCounts) × CountsEvent event wait now at × RiseForLines now at ds new

@@ -1,4 +1,4 @@
--- What a node gives its connections: the replies to their requests.
+-- The bytes that a node gives its connections: the replies to their requests.
 use Rattle.std.specs.Prelude.{Option, List, []}
 use Rattle.oc_link.specs.Told.{Told}
 use Rattle.oc_link.specs.declared.call.Call.{Call}
@@ -11,7 +11,8 @@ use Rattle.oc_deeds.specs.Settled.{AreServed, IsSettled}
 abbrev pub ServesFrom : Setting → List Deed → Running → Option (List Call) → Option (List Call) → Type 0
 ServesFrom s deeds a = Told (λ made later. IsSettled made [] → AreServed s made later deeds a)
 
--- Each request is answered by the step of its input, and each connection is given these replies.
+-- Each request is answered by the step of its input, and each connection is given the replies to
+-- its requests.
 pub record GivesReplies (s : Setting) (deeds : List Deed) (a : Running) (before behind : Option (List Call)) : Type 0 where
   pub answered : AreAnswered s deeds a
   pub served : ServesFrom s deeds a before behind

@@ -1,5 +1,5 @@
-//! What requests ask: the line of the input that results from a request, or the line and the reply of one that is
-//! refused.
+//! The meaning of requests: the line of the input that results from a request, or the line and the
+//! reply of one that is refused.
 
 ghost use Rattle.std.specs.Prelude.{◌≤◌, length};
 ghost use Rattle.oc_policy.specs.declared.deciding.TheConstants.{MAX_RULES as RULE_LIMIT};
@@ -34,7 +34,7 @@ pub fn put_words(alloc: Global, given: &str, said: &mut String) -> Result<(), Fa
     }
 }
 
-/// The line of the input that results from a request; empty where there is none.
+/// The line of the input that results from a request; empty if there is none.
 fn line_of(alloc: Global, bytes: Vec<u8>, rules: &[Rule], me: NodeId) -> Result<Vec<u8>, RouteFault>
     requires { length rules.now ≤ RULE_LIMIT }
 {

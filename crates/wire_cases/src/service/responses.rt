@@ -1,4 +1,4 @@
-//! What a request is answered for the answer of its step.
+//! The reply to a request, given the answer of its step.
 
 ghost use Rattle.std.specs.Prelude.{option_map};
 ghost use Rattle.std.specs.Option.{ForSome};
@@ -15,11 +15,12 @@ use oc_wire::decode;
 use std::alloc::Global;
 use test_tools::{Fault, RowFields, put_spelled, spelled_in};
 
-/// Puts the words of a row: what becomes of the connection, the content that is sent, and the text.
+/// Appends the words of a row: the further use of the connection, the content that is sent, and the
+/// text.
 pub fn put_words(alloc: Global, given: &str, said: &mut String) -> Result<(), Fault> {
     let (turn, rest) = given.split_once(' ').unwrap_or((given, ""));
     let (reply, text) = rest.split_once(' ').unwrap_or((rest, ""));
-    // A match, since a check does not find the type of the answer in a `?` that is an argument.
+    // A `match`, since the check does not find the type of the answer in a `?` that is an argument.
     match turn_in(RowFields::of(turn, ',')) {
         Ok(turn) => put_answered(alloc, turn, reply, text, said),
         Err(fault) => Err(fault),
@@ -84,7 +85,8 @@ fn answer_in(mut fields: RowFields<'_>) -> Result<Answer, Fault> {
     }
 }
 
-/// The response, where the message of these bytes goes back to the sender, or this is what the node tells of itself.
+/// The response, if the message of these bytes goes back to the sender, or if this is the node's
+/// report about itself.
 fn response_of(
     alloc: Global,
     request: &ReadRequest,

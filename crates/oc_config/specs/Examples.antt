@@ -101,6 +101,16 @@ five_keys = item other_key (item other_key (item other_key (item other_key (item
 abbrev pub one_place : Settings
 one_place = record two_keys_read { keys = None }
 
+-- then there is room for three
+abbrev pub grown : Settings
+grown = record one_place {
+  retired = false ∷ false ∷ false ∷ [];
+  addresses = Some (codes "a:1") ∷ None ∷ None ∷ [];
+  listens = Some (codes "a:1") ∷ None ∷ None ∷ [];
+  areas = 0 ∷ 0 ∷ 0 ∷ [];
+  names = None ∷ None ∷ None ∷ [];
+}
+
 -- at the first node, which writes a record or not
 abbrev pub running : Bool → Running
 running recorded = record { me = 1; recorded = recorded }

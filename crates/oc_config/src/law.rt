@@ -4,7 +4,7 @@ ghost use Rattle.oc_http.specs.Writing.{IsHost};
 ghost use Rattle.oc_config.specs.Addresses.{is_address};
 ghost use Rattle.toml.specs.Data.{item, no_items, no_members};
 ghost use Rattle.oc_config.specs.Changes.{config_change};
-ghost use Rattle.oc_config.specs.Examples.{accepts, five_keys, has_key, named, one_node, one_place, other_key, placed, read, retired_and_placed};
+ghost use Rattle.oc_config.specs.Examples.{accepts, five_keys, grown, has_key, named, one_node, one_place, other_key, placed, read, retired_and_placed};
 ghost use Rattle.oc_config.specs.Examples.{retired_node, retired_read, running, two_keys_read, with_room, with_room_read};
 ghost use Rattle.oc_config.specs.Laws.{IsSaid};
 ghost use Rattle.oc_config.specs.Reading.{common_in, greatest_of, settings_in, node_tables_in};
@@ -42,9 +42,9 @@ pub fn examples_are_read()
 
 /// Worked examples of configurations that are read again come out as they should. They are computed.
 pub fn examples_are_taken_over()
-    ensures grown { config_change (running false) one_place with_room_read ≡ Ok with_room_read }
-    ensures recorded { config_change (running true) one_place with_room_read ≡ Err Nodes }
-    ensures shrunk { config_change (running false) with_room_read one_place ≡ Err Nodes }
+    ensures grown { config_change (running false) one_place grown ≡ Ok grown }
+    ensures recorded { config_change (running true) one_place grown ≡ Err Nodes }
+    ensures shrunk { config_change (running false) grown one_place ≡ Err Nodes }
     ensures keyed { config_change (running false) one_place two_keys_read ≡ Err NodeKey }
     ensures moved { config_change (running false) one_place (record one_place { listens = None ∷ [] }) ≡ Err Listen }
     ensures area { config_change (running false) one_place (record one_place { areas = 1 ∷ [] }) ≡ Ok (record one_place { areas = 1 ∷ [] }) }

@@ -1,6 +1,9 @@
 use Rattle.std.proofs.Common.{◌+◌, ap, sym, drop, ◌∙◌, arith, List, ℕ}
+use Rattle.std.specs.Prelude.{Vec}
+use Rattle.std.specs.declared.alloc.Global.{Global}
 use Rattle.std.proofs.lemmas.Result.{err_from_is_err_and}
 use Rattle.toml.specs.View.{items_view}
+use Rattle.oc_policy.specs.declared.key.Key.{Key}
 use Rattle.oc_config.specs.Accepted.{keys_from}
 use Rattle.oc_config.specs.Values.{section_of}
 use Rattle.oc_config.proofs.Spelled.{key_put, key_fault, keys_end}
@@ -26,7 +29,7 @@ pub returns-in_err-accepted_key-clause-said : goal.returns-in_err-accepted_key-c
 returns-in_err-accepted_key-clause-said c =
     let m = c.loop-value in
     let p = err_from_is_err_and c.from_residual.result c.from_residual.ensures.1 in
-    rw (p.1, p.2) (key_fault _ (section_of c.args.top.now) _ m.keys.items c.in_err-accepted_key.field-0.0 c.args.values.now m.value-index c.value-item.result c.loop-value-test.true c.value-item.is m.invariant.rest c.in_err-accepted_key.ensures)
+    rw (p.1, p.2) (key_fault {X = Vec Key Global} (λ v. v.items) (section_of c.args.top.now) _ m.keys.items c.in_err-accepted_key.field-0.0 c.args.values.now m.value-index c.value-item.result c.loop-value-test.true c.value-item.is m.invariant.rest c.in_err-accepted_key.ensures)
 
 pub returns-in_err-push-clause-said : goal.returns-in_err-push-clause-said
 returns-in_err-push-clause-said c =

@@ -1,8 +1,9 @@
 //! The keys of a network.
 
-ghost use Rattle.std.specs.Prelude.{◌≡◌, ◌≤◌, [], IfOk, IfSome, length, vec_len};
+ghost use Rattle.std.specs.Prelude.{◌≡◌, ◌≤◌, [], Some, IfOk, IfSome, length, vec_len};
+ghost use Rattle.toml.specs.Data.{as_array};
 ghost use Rattle.toml.specs.View.{view, items_view};
-ghost use Rattle.oc_config.specs.Accepted.{accepted_in, keyring_in, keys_from, keys_in, node_key_in, node_key_of};
+ghost use Rattle.oc_config.specs.Accepted.{accepted_in, accepted_of, keyring_in, keys_from, keys_in, node_key_in, node_key_of};
 ghost use Rattle.oc_config.specs.Values.{Gives, GivesBy, read_as, section_of};
 ghost use Rattle.oc_config.specs.declared.config_key.ConfigKey.TheVariants.{Accept};
 
@@ -62,11 +63,38 @@ fn accepted(alloc: Global, top: &Section<'_>) -> Result<Vec<Key>, ConfigFault>
 {
     match top.value_at(ConfigKey::Accept) {
         None => Ok(Vec::new(alloc)),
-        Some(value) => match value.as_array() {
-            Some(values) if values.len() <= MAX_ACCEPTED => spelled_keys(alloc, top, values),
-            _ => Err(top.refuses(ConfigKey::Accept)),
-        },
+        Some(value) => listed_keys(alloc, top, value),
     }
+}
+
+/// The keys that an array spells, a few of them at most.
+fn listed_keys(
+    alloc: Global,
+    top: &Section<'_>,
+    value: &Value,
+) -> Result<Vec<Key>, ConfigFault>
+    ensures said { GivesBy (λ v. v.items) result (accepted_of (section_of top.now) (as_array (view value.now))) }
+    ensures count { IfOk result (λ v. vec_len v ≤ MAX_ACCEPTED) }
+{
+    match value.as_array() {
+        Some(values) => counted_keys(alloc, top, values),
+        None => Err(top.refuses(ConfigKey::Accept)),
+    }
+}
+
+/// The keys that these values spell, which are a few at most.
+fn counted_keys(
+    alloc: Global,
+    top: &Section<'_>,
+    values: &[Value],
+) -> Result<Vec<Key>, ConfigFault>
+    ensures said { GivesBy (λ v. v.items) result (accepted_of (section_of top.now) (Some (items_view values.now))) }
+    ensures count { IfOk result (λ v. vec_len v ≤ MAX_ACCEPTED) }
+{
+    if MAX_ACCEPTED < values.len() {
+        return Err(top.refuses(ConfigKey::Accept));
+    }
+    spelled_keys(alloc, top, values)
 }
 
 /// The keys that these values spell.

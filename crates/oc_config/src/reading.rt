@@ -3,7 +3,7 @@ ghost use Rattle.toml.specs.View.{table_view, view};
 ghost use Rattle.oc_updown.specs.MeasureLines.{IsMeasure};
 ghost use Rattle.oc_config.specs.Values.{Gives, GivesBy, section_of, sections_of};
 ghost use Rattle.oc_config.specs.Reading.{IsCommon, IsConfig, Reads, ReadsTable, settings_in, with_tables, chain_in, chunk_in, common_in};
-ghost use Rattle.oc_config.specs.Reading.{chain_within, keys_known, line_at, greatest_in, measures_in, node_tables_in};
+ghost use Rattle.oc_config.specs.Reading.{chain_within, keys_known, line_at, greatest_in, greatest_of, measures_in, node_tables_in};
 
 use crate::config::{Config, FIRST_CHUNK, MAX_CHUNK};
 use crate::config_key::ConfigKey;
@@ -93,7 +93,7 @@ fn read_parts(
     ensures exact { Gives result (with_tables (section_of top.now) common (sections_of tables.now)) }
     ensures lawful { IfOk result IsConfig }
 {
-    let greatest = common.nodes.unwrap_or(tables.len() as u32);
+    let greatest = greatest_of(&common, tables);
     let places = nodes(alloc, greatest, tables)?;
     check_chain(top, common.chain, greatest)?;
     let measures = measures(alloc, top, greatest)?;
@@ -113,6 +113,19 @@ fn read_parts(
         measures,
         rules,
     })
+}
+
+/// The greatest id: what is said, or the number of tables.
+fn greatest_of(common: &Common, tables: &[Section<'_>]) -> u32
+    requires common { IsCommon common.now }
+    requires count { (1 ≤ length tables.now) × (length tables.now ≤ MAX_NODES) }
+    ensures said { result ≡ greatest_of common.now (sections_of tables.now) }
+    ensures range { (1 ≤ result) × (result ≤ MAX_NODES) }
+{
+    match common.nodes {
+        Some(nodes) => nodes,
+        None => tables.len() as u32,
+    }
 }
 
 /// What is said for all nodes.

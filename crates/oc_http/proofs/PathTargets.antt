@@ -1,12 +1,10 @@
 -- The path of a target that was written from a path.
-use Rattle.std.proofs.Common.{◌≡◌, ℕ, ◌+◌, not, ◌==◌, true, false, List, [], ◌∷◌, ◌++◌, length, take, Some, refl, ap, ◌∙◌, subst, arith, append-nil}
+use Rattle.std.proofs.Common.{◌≡◌, ℕ, ◌+◌, not, ◌==◌, false, List, [], ◌∷◌, ◌++◌, length, take, Some, refl, ap, ◌∙◌, subst, arith, append-nil}
 use Rattle.std.specs.Prelude.{All, Bool, Option, None, if◌then◌else◌}
 use Rattle.std.specs.List.{AllByRecursion, prefix_len}
-use Rattle.std.specs.Str.{byte}
 use Rattle.std.proofs.Math.Seq.{take-append-add}
 use Rattle.std.proofs.lemmas.Bool.Decides.{nat_tests}
 use Rattle.std.proofs.lemmas.List.Elements.{recursion_from_All}
-use Rattle.percent_encoding.specs.AsciiSet.{should_percent_encode}
 use Rattle.percent_encoding.proofs.PercentLemmas.{All-percent_encode, IsEscapeByte}
 use Rattle.oc_http.specs.Escapes.{AreBytes, decoded, is_plain, path_text}
 use Rattle.oc_http.specs.Targets.{path_of}

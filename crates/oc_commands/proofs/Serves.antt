@@ -18,7 +18,7 @@ use Rattle.oc_keep.specs.declared.errors.KeepLoad.{KeepLoad}
 use Rattle.oc_service.specs.OnSite.{NodeEnds, at_run, setting_of}
 use Rattle.oc_service.specs.declared.running.NodeEnd.{NodeEnd}
 use Rattle.oc_service.specs.declared.running.NodeEnd.TheVariants as nodes
-use Rattle.oc_server.specs.declared.ends.TurnEnd.TheVariants as turns
+use Rattle.oc_deeds.specs.declared.ends.TurnEnd.TheVariants as turns
 use Rattle.oc_words.specs.declared.request.Paths.{Paths}
 use Rattle.oc_words.specs.declared.request.Invocation.{Invocation}
 use Rattle.oc_words.specs.declared.request.Invocation.TheVariants.{Node}

@@ -33,8 +33,8 @@ use Rattle.oc_commands.specs.declared.serving.ServiceEnd.TheVariants as services
 use Rattle.oc_commands.specs.declared.token.TokenEnd.{TokenEnd}
 use Rattle.oc_commands.specs.declared.token.TokenEnd.TheVariants as tokens
 use Rattle.oc_service.specs.declared.running.NodeEnd.TheVariants as nodes
-use Rattle.oc_server.specs.declared.ends.TurnEnd.{TurnEnd}
-use Rattle.oc_server.specs.declared.ends.TurnEnd.TheVariants as turns
+use Rattle.oc_deeds.specs.declared.ends.TurnEnd.{TurnEnd}
+use Rattle.oc_deeds.specs.declared.ends.TurnEnd.TheVariants as turns
 
 -- no replay ends with status 2
 replay_is_other : (end : ReplayEnd) → number_of (status_of_replay end) ≡ 2 → ⊥

@@ -65,8 +65,8 @@ use Rattle.oc_link.specs.declared.call.Call.{Call}
 use Rattle.oc_link.specs.declared.counts.LinkCounts.{LinkCounts}
 use Rattle.oc_service.specs.declared.running.NodeEnd.{NodeEnd}
 use Rattle.oc_service.specs.declared.running.NodeEnd.TheVariants as nodes
-use Rattle.oc_server.specs.declared.ends.TurnEnd.{TurnEnd}
-use Rattle.oc_server.specs.declared.ends.TurnEnd.TheVariants as turns
+use Rattle.oc_deeds.specs.declared.ends.TurnEnd.{TurnEnd}
+use Rattle.oc_deeds.specs.declared.ends.TurnEnd.TheVariants as turns
 
 -- all that the first says of an input the second says too
 pub record TellsInput (i j : Input) : Type 0 where

@@ -15,8 +15,8 @@ use Rattle.oc_replay.specs.declared.end.ReplayEnd.{ReplayEnd}
 use Rattle.oc_replay.specs.declared.end.ReplayEnd.TheVariants as replays
 use Rattle.oc_service.specs.declared.running.NodeEnd.{NodeEnd}
 use Rattle.oc_service.specs.declared.running.NodeEnd.TheVariants as nodes
-use Rattle.oc_server.specs.declared.ends.TurnEnd.{TurnEnd}
-use Rattle.oc_server.specs.declared.ends.TurnEnd.TheVariants as turns
+use Rattle.oc_deeds.specs.declared.ends.TurnEnd.{TurnEnd}
+use Rattle.oc_deeds.specs.declared.ends.TurnEnd.TheVariants as turns
 use Rattle.oc_commands.specs.declared.checking.CheckEnd.{CheckEnd}
 use Rattle.oc_commands.specs.declared.checking.CheckEnd.TheVariants as checks
 use Rattle.oc_commands.specs.declared.checking.ConfiguredEnd.{ConfiguredEnd}

@@ -33,8 +33,8 @@ use Rattle.oc_schedule.specs.declared.fault.What.{What}
 use Rattle.oc_schedule.specs.declared.fault.What.TheVariants.{Bytes}
 use Rattle.oc_service.specs.declared.running.NodeEnd.{NodeEnd}
 use Rattle.oc_service.specs.declared.running.NodeEnd.TheVariants as nodes
-use Rattle.oc_server.specs.declared.ends.TurnEnd.{TurnEnd}
-use Rattle.oc_server.specs.declared.ends.TurnEnd.TheVariants as turns
+use Rattle.oc_deeds.specs.declared.ends.TurnEnd.{TurnEnd}
+use Rattle.oc_deeds.specs.declared.ends.TurnEnd.TheVariants as turns
 use Rattle.oc_words.specs.declared.command.TheConstants.{VERSION}
 use Rattle.oc_commands.specs.declared.checking.CheckEnd.{CheckEnd}
 use Rattle.oc_commands.specs.declared.checking.CheckEnd.TheVariants as checks

@@ -7,6 +7,7 @@ pub mod ToldInputs
 pub mod Recorded
 pub mod Outgoing
 pub mod Responding
+pub mod Doing
 pub mod TickDue
 pub mod Probings
 pub mod WorksOn

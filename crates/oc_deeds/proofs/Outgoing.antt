@@ -1,12 +1,11 @@
 -- Messages that are dialled, one after another.
-use Rattle.std.proofs.Common.{◌≡◌, ℕ, zero, suc, Option, None, Some, List, [], ◌∷◌, ◌++◌, slice_get, refl, sym, ap, ◌∙◌}
+use Rattle.std.proofs.Common.{◌≡◌, ◌<◌, ℕ, zero, suc, Option, None, Some, List, [], ◌∷◌, ◌++◌, slice_get, refl, sym, ap, ◌∙◌, arith, length, subst}
 use Rattle.std.proofs.lemmas.List.{append_assoc, append-nil}
 use Rattle.oc_model.specs.declared.message.Message.{Message}
 use Rattle.oc_deeds.specs.Choices.{free_number, next_to_dial}
 use Rattle.oc_deeds.specs.Deeds.{Deed, Dials, Running, Setting, after, after_all}
-use Rattle.oc_deeds.specs.Under.{Cuts}
-use Rattle.oc_deeds.specs.Under.{Idle}
-use Rattle.oc_deeds.specs.Sends.{dials_at, dials_it, dials_next, sends}
+use Rattle.oc_deeds.specs.Parts.{Part, in_turn}
+use Rattle.oc_deeds.specs.Sends.{dialled, dials_as, dials_at, dials_it, dials_next, sends}
 use Rattle.oc_deeds.specs.declared.choosing.TheConstants.{MAX_DIALS}
 use Rattle.oc_deeds.proofs.Chains.{after_append}
 
@@ -39,10 +38,6 @@ sends_zero s a = refl
 abbrev pub AreWhole : ℕ → List Deed → Setting → Running → Type 0
 AreWhole left deeds s a = deeds ++ sends left s (after_all deeds a) ≡ sends MAX_DIALS s a
 
--- none yet
-pub whole_none : (s : Setting) (a : Running) → AreWhole MAX_DIALS [] s a
-whole_none s a = refl
-
 -- one more
 pub whole_one : (left rest place : ℕ) (m : Message) (deeds : List Deed) (s : Setting) (a b : Running) → left ≡ suc rest → b ≡ after_all deeds a
     → next_to_dial b.outbox b.dials ≡ Some place → slice_get b.outbox place ≡ Some m → AreWhole left deeds s a
@@ -66,6 +61,32 @@ whole_last left deeds s a b here none whole =
 pub whole_all : (deeds : List Deed) (s : Setting) (a : Running) → AreWhole 0 deeds s a → deeds ≡ sends MAX_DIALS s a
 whole_all deeds s a whole = sym (append-nil deeds) ∙ ap (λ (ds : List Deed). deeds ++ ds) (sym (sends_zero s (after_all deeds a))) ∙ whole
 
--- a front of them
-pub whole_cut : (left : ℕ) (deeds : List Deed) (s : Setting) (a : Running) → AreWhole left deeds s a → Cuts (sends MAX_DIALS s a) deeds Idle
-whole_cut left deeds s a whole = record { behind = sends left s (after_all deeds a); front = sym whole; next = tt }
+-- Part by part
+
+-- a message that is there is dialled under this number
+there_is : (place : ℕ) (ms : List Message) → place < length ms → (m : Message) × (slice_get ms place ≡ Some m)
+there_is place [] few = absurd (omega (arith, few))
+there_is zero (m ∷ ms) few = (m, refl)
+there_is (suc place) (m ∷ ms) few = there_is place ms (omega (arith, few))
+
+dialled_there : (place number : ℕ) (m : Message) (s : Setting) (b : Running) → number ≡ free_number b.dials → slice_get b.outbox place ≡ Some m → dials_as place number s b ≡ Dials place m (free_number b.dials) ∷ []
+dialled_there place number m s b is there =
+    ap (λ (o : Option Message). dialled place number o s b) there ∙ ap (λ (n : ℕ). Dials place m n ∷ []) is
+
+-- the oldest that may be, and then the others
+pub sends_part : (left rest place number : ℕ) (s : Setting) (b : Running) → left ≡ suc rest → number ≡ free_number b.dials → next_to_dial b.outbox b.dials ≡ Some place → place < length b.outbox
+    → sends left s b ≡ in_turn (dials_as place number) (sends rest) s b
+sends_part left rest place number s b is free may within =
+    let at = there_is place b.outbox within in
+    ap (λ (n : ℕ). sends n s b) is
+    ∙ sends_some rest place at.0 s b may at.1
+    ∙ ap (λ (ds : List Deed). ds ++ sends rest s (after_all ds b)) (sym (dialled_there place number at.0 s b free at.1))
+
+-- with one more the others are fewer
+pub part_one : (left rest place number : ℕ) (p : Part) (s : Setting) (a b : Running) → left ≡ suc rest → b ≡ after_all (p s a) a → number ≡ free_number b.dials
+    → next_to_dial b.outbox b.dials ≡ Some place → place < length b.outbox → AreWhole left (p s a) s a → AreWhole rest (in_turn p (dials_as place number) s a) s a
+part_one left rest place number p s a b is here free may within whole =
+    let at = there_is place b.outbox within in
+    let one : dials_as place number s (after_all (p s a) a) ≡ Dials place at.0 (free_number b.dials) ∷ [] =
+    ap (λ (r : Running). dials_as place number s r) (sym here) ∙ dialled_there place number at.0 s b free at.1 in
+    subst (λ (ds : List Deed). AreWhole rest (p s a ++ ds) s a) (sym one) (whole_one left rest place at.0 (p s a) s a b is here may at.1 whole)

@@ -1,6 +1,7 @@
 -- Which deeds answer a request, or let it wait.
-use Rattle.std.proofs.Common.{◌≡◌, ℕ, Bool, true, false, Option, [], ◌∷◌, cond, is_some, ap}
+use Rattle.std.proofs.Common.{◌≡◌, ℕ, Bool, true, false, Option, List, [], ◌∷◌, cond, is_some, ap, sym, ◌∙◌}
 use Rattle.oc_base.specs.Groups.{shelf}
+use Rattle.oc_base.specs.declared.shelf.Shelf.{Shelf}
 use Rattle.oc_model.specs.Node.{Node}
 use Rattle.oc_routes.specs.Conditions.{unmet}
 use Rattle.oc_routes.specs.declared.verdict.Request.{Request}
@@ -15,6 +16,12 @@ use Rattle.oc_deeds.specs.Works.{pending}
 pub condition_part : (c now : ℕ) (request : Request) (why : Option Refusal) (s : Setting) (a : Running) → unmet request.asked.operation a.node.control.me (shelf a.node.groups) ≡ why
     → takes_on c request now s a ≡ refuses_or why c request now s a
 condition_part c now request why s a is = ap (λ (o : Option Refusal). refuses_or o c request now s a) is
+
+-- as it was found of this node
+pub condition_told : (request : Request) (why found : Option Refusal) (me : ℕ) (lines : List Shelf) (n : Node) → found ≡ unmet request.asked.operation me lines → me ≡ n.control.me → lines ≡ shelf n.groups → found ≡ why
+    → unmet request.asked.operation n.control.me (shelf n.groups) ≡ why
+condition_told request why found me lines n is same held told =
+    sym (is ∙ ap (λ (x : ℕ). unmet request.asked.operation x lines) same ∙ ap (λ (ls : List Shelf). unmet request.asked.operation n.control.me ls) held) ∙ told
 
 -- and whether it hurries the next tick
 pub condition_hurries : (request : Request) (why : Option Refusal) (n : Node) → unmet request.asked.operation n.control.me (shelf n.groups) ≡ why

@@ -16,3 +16,7 @@ one d s a = d ∷ []
 infixl 10 ◌>>◌
 abbrev pub ◌>>◌ : Part → Part → Part
 (p >> q) s a = p s a ++ q s (after_all (p s a) a)
+
+-- the same, for clauses
+abbrev pub in_turn : Part → Part → Part
+in_turn p q = p >> q

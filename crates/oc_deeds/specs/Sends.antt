@@ -23,3 +23,11 @@ dials_next s a = dials_at (next_to_dial a.outbox a.dials) s a
 unfoldable pub sends : ℕ → Part
 sends zero = nothing
 sends (suc n) = dials_next >> sends n
+
+-- the message at a place, if it is there, is dialled under this number
+abbrev pub dialled : ℕ → ℕ → Option Message → Part
+dialled place dial None s a = []
+dialled place dial (Some m) s a = Dials place m dial ∷ []
+
+abbrev pub dials_as : ℕ → ℕ → Part
+dials_as place dial s a = dialled place dial (slice_get a.outbox place) s a

@@ -53,3 +53,7 @@ IsBefore logs.Brief n i (Some b) = IsNoted n i b
 abbrev pub told_behind : Option Before → Control → Answer → List ℕ
 told_behind None n answer = []
 told_behind (Some b) n answer = asked_line b.told.items answer ++ lost_lines n b.leased.items ++ moved_line b.mode n
+
+-- and it is said
+abbrev pub says_behind : Option Before → Answer → Part
+says_behind before answer s a = Says (told_behind before a.node.control answer) ∷ []

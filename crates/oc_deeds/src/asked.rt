@@ -13,6 +13,13 @@ use oc_link::ConnectionId;
 use oc_model::{Answer, Input, Message};
 use oc_routes::{Holding, Operation, Request, split_reply};
 
+/// What a request's input brought: the answer of its step, and the message that goes back to its sender.
+#[derive(Drop)]
+pub struct Accepted {
+    pub answer: Answer,
+    pub back: Option<Message>,
+}
+
 /// A request that waits on this connection since this time, in milliseconds, without its input.
 pub fn waiting(connection: ConnectionId, request: Request, now: u64) -> Waiting
     ensures { result ≡ asks.waiting connection request now }

@@ -16,12 +16,12 @@ pub enum Due {
     Nothing,
 }
 
-/// What is to be done with the work at a place.
-pub fn due_at(works: &[Work], place: usize) -> Due
-    ensures { result ≡ due_of (slice_get works.now place) }
+/// What is to be done with the work at an index.
+pub fn due_at(works: &[Work], index: usize) -> Due
+    ensures { result ≡ due_of (slice_get works.now index) }
 {
-    match works.get(place) {
-        Some(Work::Aside(place)) => Due::Aside(*place),
+    match works.get(index) {
+        Some(Work::Aside(transfer)) => Due::Aside(*transfer),
         Some(Work::Waits(waiting)) => Due::Waits(to_wake(waiting)),
         Some(Work::Content(_)) => Due::Nothing,
         None => Due::Nothing,

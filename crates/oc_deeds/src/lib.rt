@@ -7,6 +7,11 @@
 //! what is due by itself and how long a turn may wait ([`choosing`]), what came back on a dial ([`reading`]), from which
 //! place a content is given ([`contents`]), and what is told of an input ([`brief`], [`record`]).
 //!
+//! What a turn does is decided over a [`Doer`], which says what the node is and does one deed at a time. [`takes_due`] takes up
+//! work that is due by itself, and [`deals`] deals with what came; both end with a tick, where one is due, and with the messages
+//! that are dialled. Their contracts speak of parts alone: the part was done (`does`), or a front of it was, and then it ended
+//! (`stops`). What a deed does to files, to a link and to an output is said where a `Doer` is made.
+//!
 //! What is under way is a list of [`Works`], of [`Dials`] and of messages ([`Outbox`]). A content under way is a place in a
 //! group and not bytes ([`Transfer`]), so nothing grows with its length. A follower that has all of a group waits
 //! ([`Waiting`]).
@@ -21,10 +26,14 @@ mod came;
 pub mod choosing;
 pub mod contents;
 mod dials;
+mod doer;
 mod due;
+mod ends;
 mod law;
 pub mod lines;
 mod log;
+mod moving;
+mod obeying;
 mod outbox;
 mod pace;
 pub mod probing;
@@ -32,19 +41,26 @@ pub mod reading;
 pub mod record;
 mod reply_in_place;
 pub mod rooms;
+mod sending;
+mod taking_up;
+mod told;
+mod turning;
 mod turn_law;
 mod work;
 mod works;
 
 pub use came::Came;
 pub use dials::{Dialling, Dials, Errand, errand_in};
+pub use doer::Doer;
 pub use due::{Due, due_at};
+pub use ends::TurnEnd;
 pub use law::{
     connections_are_given_their_replies, examples_compute, what_is_given_in_chunks_is_there,
 };
 pub use log::Log;
 pub use outbox::{Outbox, is_fetch, put_all};
 pub use pace::{Pace, most_interval, quickened};
+pub use turning::{deals, takes_due};
 pub use turn_law::{brief_lines_compute, turns_compute};
 pub use work::{Pending, Transfer, Waiting, Work, client_input, pending_of};
 pub use works::Works;

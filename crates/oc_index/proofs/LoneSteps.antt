@@ -29,14 +29,19 @@ header nodes chain chunk areas = record { nodes = nodes; chain = chain; chunk = 
 
 -- A new node
 
--- a copy of the areas is of the same header
-pub header_copied : (nodes chain chunk : ℕ) (areas given : List ℕ) → areas ≡ given → IsHeader (record { nodes = nodes; chain = chain; chunk = chunk; areas = given }) → IsHeader (record { nodes = nodes; chain = chain; chunk = chunk; areas = areas })
-header_copied nodes chain chunk areas given is fair = subst (λ (list : List ℕ). IsHeader (header nodes chain chunk list)) (sym is) fair
+-- the header of these numbers and of a copy of its areas is the same
+same_copied : (h : Header) (nodes chain chunk : ℕ) (areas given : List ℕ) → record { nodes = nodes; chain = chain; chunk = chunk; areas = given } ≡ h → areas ≡ given → header nodes chain chunk areas ≡ h
+same_copied h nodes chain chunk areas given view is = ap (λ (list : List ℕ). header nodes chain chunk list) is ∙ view
 
-pub new_is : (nodes chain chunk me : ℕ) (areas given : List ℕ) (control : Control) → areas ≡ given → control ≡ new_control (record { nodes = nodes; chain = chain; chunk = chunk; areas = areas }) me
-    → record { control = control; groups = [] } ≡ new_node (record { nodes = nodes; chain = chain; chunk = chunk; areas = given }) me
-new_is nodes chain chunk me areas given control is new =
-    ap (λ (c : Control). whole c []) new ∙ ap (λ (list : List ℕ). new_node (header nodes chain chunk list) me) is
+-- a copy of the areas is of the same header
+pub header_copied : (h : Header) (nodes chain chunk : ℕ) (areas given : List ℕ) → record { nodes = nodes; chain = chain; chunk = chunk; areas = given } ≡ h → areas ≡ given → IsHeader h
+    → IsHeader (record { nodes = nodes; chain = chain; chunk = chunk; areas = areas })
+header_copied h nodes chain chunk areas given view is fair = subst IsHeader (sym (same_copied h nodes chain chunk areas given view is)) fair
+
+pub new_is : (h : Header) (nodes chain chunk me : ℕ) (areas given : List ℕ) (control : Control) → record { nodes = nodes; chain = chain; chunk = chunk; areas = given } ≡ h → areas ≡ given
+    → control ≡ new_control (record { nodes = nodes; chain = chain; chunk = chunk; areas = areas }) me → record { control = control; groups = [] } ≡ new_node h me
+new_is h nodes chain chunk me areas given control view is new =
+    ap (λ (c : Control). whole c []) new ∙ ap (λ (j : Header). new_node j me) (same_copied h nodes chain chunk areas given view is)
 
 pub new_areas : (nodes chain chunk me : ℕ) (areas given kept : List ℕ) (control : Control) → kept ≡ given → areas ≡ given → control ≡ new_control (record { nodes = nodes; chain = chain; chunk = chunk; areas = areas }) me → kept ≡ control.areas
 new_areas nodes chain chunk me areas given kept control same is new = same ∙ sym is ∙ sym (ap (λ (c : Control). c.areas) new)

@@ -14,8 +14,7 @@ pub struct Seat {
 impl Seat {
     /// The seat of this id, in a network with a copy of this header.
     pub fn new(alloc: Global, id: NodeId, header: &Header) -> Result<Seat, Memory>
-        ensures id { IfOk result (λ seat. seat.id ≡ id) }
-        ensures header { IfOk result (λ seat. seat.header ≡ header.now) }
+        ensures { IfOk result (λ seat. seat ≡ record { id = id; header = header.now }) }
     {
         let areas = header.areas.to_vec(alloc)?;
         Ok(Seat {

@@ -20,7 +20,7 @@ use Rattle.oc_deeds.specs.Recorded.{IsNext, IsRecorded, IsRecordOf, RecordLine, 
 use Rattle.oc_deeds.specs.Records.{record_head}
 use Rattle.oc_deeds.specs.Under.{Under}
 use Rattle.oc_deeds.specs.Within.{IsWithin}
-use Rattle.oc_server.specs.declared.ends.TurnEnd.{TurnEnd}
+use Rattle.oc_deeds.specs.declared.ends.TurnEnd.{TurnEnd}
 use Rattle.oc_deeds.specs.declared.log.Log.TheVariants.{Record}
 use Rattle.oc_service.specs.OnSite.{DidOn, StoppedOn, header_of_settings, heard_before, machine_on, setting_of, terms_in}
 use Rattle.oc_service.specs.WhatNodeDoes.{Machine, begun, own_measures, turns_deeds}

@@ -8,7 +8,7 @@ ghost use Rattle.oc_routes.specs.Verdicts.{NodeTerms};
 ghost use Rattle.oc_deeds.specs.Deeds.{Deed, Setting};
 ghost use Rattle.oc_deeds.specs.Under.{Under};
 ghost use Rattle.oc_deeds.specs.Turns.{Observation};
-ghost use Rattle.oc_server.specs.declared.ends.TurnEnd.{TurnEnd};
+ghost use Rattle.oc_deeds.specs.declared.ends.TurnEnd.{TurnEnd};
 ghost use Rattle.oc_deeds.specs.declared.log.Log.TheVariants.{Record as RecordLog};
 ghost use Rattle.oc_service.specs.OnSite.{DidOn, StoppedOn, header_of_settings, setting_of};
 ghost use Rattle.oc_service.specs.WhatNodeDoes.{Machine, begun, node_deeds};

@@ -1,23 +1,22 @@
 -- What is written of an input before its frame, and then a part that takes it.
-use Rattle.std.proofs.Common.{◌≡◌, ℕ, false, Option, List, [], ◌∷◌, ◌++◌, refl, sym, ap, subst}
+use Rattle.std.proofs.Common.{◌≡◌, ℕ, false, Option, List, [], ◌∷◌, ◌++◌, refl, sym, subst}
 use Rattle.oc_link.specs.declared.call.Call.{Call}
 use Rattle.oc_link.specs.declared.counts.LinkCounts.{LinkCounts}
 use Rattle.oc_io.specs.DiskView.{DiskView}
-use Rattle.oc_keep.specs.KeptView.{IsHonest, node_of}
 use Rattle.oc_model.specs.Lawful.{IsInput}
-use Rattle.oc_model.specs.Node.{Header, Node}
+use Rattle.oc_model.specs.Node.{Header}
 use Rattle.oc_model.specs.declared.input.Input.{Input}
-use Rattle.oc_deeds.specs.Deeds.{Running, Says}
+use Rattle.oc_deeds.specs.Deeds.{Says}
 use Rattle.oc_server.specs.Noting.{NoteBreaks}
 use Rattle.oc_server.specs.Parts.{Does, Stops}
 use Rattle.oc_deeds.specs.Parts.{Part, ◌>>◌}
 use Rattle.oc_deeds.specs.Records.{told_ahead}
-use Rattle.oc_server.specs.Scenes.{Did, IsServing, running, setting}
+use Rattle.oc_server.specs.Scenes.{Did, IsServing}
 use Rattle.oc_deeds.specs.Telling.{says_ahead}
-use Rattle.oc_server.specs.declared.ends.TurnEnd.{TurnEnd}
+use Rattle.oc_deeds.specs.declared.ends.TurnEnd.{TurnEnd}
 use Rattle.oc_server.specs.declared.server.Server.{Server}
-use Rattle.oc_server.proofs.Parts.{does_one, does_then, stops_behind, stops_in}
-use Rattle.oc_server.proofs.Scenes.{still_honest, still_serving}
+use Rattle.oc_server.proofs.Parts.{does_one, stops_behind, stops_in}
+use Rattle.oc_server.proofs.Scenes.{still_serving}
 use Rattle.oc_server.proofs.Stopping.{note_stops}
 
 module _ {D L K : Type 0} (view : D → DiskView) (takes fails : K → List ℕ → K → Type 0) (faults : K → ℕ) (story : L → Option (List Call)) (counts : L → LinkCounts) (i : Input) (a : Server D L K) where
@@ -39,21 +38,10 @@ module _ {D L K : Type 0} (view : D → DiskView) (takes fails : K → List ℕ 
     pub ahead_serving : IsServing a → IsServing b
     ahead_serving serving = still_serving view takes fails faults story counts (Says line ∷ []) a b did serving
 
-    -- the node is the same
-    pub ahead_honest : IsHonest view a.kept → IsHonest view b.kept
-    ahead_honest honest = still_honest view takes fails faults story counts (Says line ∷ []) a b did honest
-
-    pub ahead_node : IsHonest view a.kept → node_of b.kept ≡ node_of a.kept
-    ahead_node honest = ap (λ (r : Running). r.node) (did.done honest).after
-
     pub ahead_input : IsInput a.kept.node.control.nodes a.kept.node.control.me i → IsInput b.kept.node.control.nodes b.kept.node.control.me i
     ahead_input lawful =
         subst (λ (me : ℕ). IsInput b.kept.node.control.nodes me i) (sym did.same.me)
         (subst (λ (h : Header). IsInput h.nodes a.kept.node.control.me i) (sym did.same.header) lawful)
-
-    pub ahead_then : (takes_then : (x y z : K) (s t : List ℕ) → takes x s y → takes y t z → takes x (s ++ t) z) (p : Part) (c : Server D L K) → Does view takes faults story counts p b c
-        → Does view takes faults story counts (says_ahead i >> p) a c
-    ahead_then takes_then p c does = does_then view takes fails faults story counts takes_then (says_ahead i) p a b c said does
 
     pub ahead_then_stops : (takes_then : (x y z : K) (s t : List ℕ) → takes x s y → takes y t z → takes x (s ++ t) z) (end : TurnEnd) (p : Part) (c : Server D L K) → Stops view takes fails faults story counts end p b c
         → Stops view takes fails faults story counts end (says_ahead i >> p) a c

@@ -10,7 +10,6 @@ pub mod Dialled
 pub mod Pieces
 pub mod Parts
 pub mod Stopping
-pub mod ToldInputs
 pub mod Ahead
 pub mod Responding
 pub mod Turning

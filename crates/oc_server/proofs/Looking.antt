@@ -14,8 +14,8 @@ use Rattle.oc_io.specs.Faults.{NoFall}
 use Rattle.oc_server.proofs.Moments.{looks_on, one_look}
 use Rattle.oc_server.specs.Looks.{LookCause, LooksOn, LooksOnly, LookStops, LooksUntil}
 use Rattle.oc_server.specs.Scenes.{KeepsAll, KeepsOne}
-use Rattle.oc_server.specs.declared.ends.TurnEnd.{TurnEnd}
-use Rattle.oc_server.specs.declared.ends.TurnEnd.TheVariants as ends
+use Rattle.oc_deeds.specs.declared.ends.TurnEnd.{TurnEnd}
+use Rattle.oc_deeds.specs.declared.ends.TurnEnd.TheVariants as ends
 
 -- disks to which nothing happened
 pub go_on_none : {D : Type 0} (view : D → DiskView) (d : Disks D) → AllGoOn view d d

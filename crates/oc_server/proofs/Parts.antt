@@ -10,7 +10,7 @@ use Rattle.oc_server.specs.Parts.{Does, Stops}
 use Rattle.oc_deeds.specs.Parts.{Part, one, ◌>>◌}
 use Rattle.oc_server.specs.Scenes.{Breaks, Did, IsServing, running, setting}
 use Rattle.oc_deeds.specs.Under.{Under}
-use Rattle.oc_server.specs.declared.ends.TurnEnd.{TurnEnd}
+use Rattle.oc_deeds.specs.declared.ends.TurnEnd.{TurnEnd}
 use Rattle.oc_server.specs.declared.server.Server.{Server}
 use Rattle.oc_server.proofs.Scenes.{breaks_first, breaks_then, did_none, did_then, setting_stays, still_honest, still_serving}
 use Rattle.oc_deeds.proofs.Cuts.{cuts_behind, cuts_more, cuts_none}

@@ -26,8 +26,8 @@ use Rattle.oc_deeds.specs.Done.{AreDone}
 use Rattle.oc_server.specs.Scenes.{Breaks, BreaksBehind, Did, HasCause, IsServing, KeepsAll, LeavesAt, LeavesUnder, WritesAt, running, setting}
 use Rattle.oc_deeds.specs.Lawful.{IsPlaced}
 use Rattle.oc_deeds.specs.Under.{Under, Idle, Taking, Noting, under_line}
-use Rattle.oc_server.specs.declared.ends.TurnEnd.{TurnEnd}
-use Rattle.oc_server.specs.declared.ends.TurnEnd.TheVariants as ends
+use Rattle.oc_deeds.specs.declared.ends.TurnEnd.{TurnEnd}
+use Rattle.oc_deeds.specs.declared.ends.TurnEnd.TheVariants as ends
 use Rattle.oc_deeds.specs.declared.log.Log.{Log}
 use Rattle.oc_server.specs.declared.server.Server.{Server}
 use Rattle.oc_deeds.proofs.Chains.{after_append, calls_append, counts_append, counts_listening, inputs_append, lines_append}

@@ -7,8 +7,8 @@ use Rattle.oc_deeds.specs.Deeds.{Deed}
 use Rattle.oc_server.specs.Runs.{ServeEnds, Serves, ServesUpTo, Turned}
 use Rattle.oc_server.specs.Scenes.{BreaksBehind, Did, IsServing}
 use Rattle.oc_deeds.specs.Under.{Under}
-use Rattle.oc_server.specs.declared.ends.TurnEnd.{TurnEnd}
-use Rattle.oc_server.specs.declared.ends.TurnEnd.TheVariants as ends
+use Rattle.oc_deeds.specs.declared.ends.TurnEnd.{TurnEnd}
+use Rattle.oc_deeds.specs.declared.ends.TurnEnd.TheVariants as ends
 use Rattle.oc_server.specs.declared.turns.Turns.{Turns}
 use Rattle.oc_server.proofs.Scenes.{breaks_then, did_none, did_then, still_serving}
 

@@ -17,7 +17,6 @@ use Rattle.oc_model.specs.declared.input.Input.{Input}
 use Rattle.oc_model.specs.declared.message.Message.{Message}
 use Rattle.oc_model.specs.Node.{Node}
 use Rattle.oc_deeds.specs.Deeds.{Deed, Running, after, calls, finish, input_of, line, with_input}
-use Rattle.oc_server.specs.Giving.{LookBreaks}
 use Rattle.oc_server.specs.Looks.{LooksOnly, LookStops}
 use Rattle.oc_server.specs.Moments.{TakesOne}
 use Rattle.oc_server.specs.Noting.{LineStops, NoteBreaks}
@@ -26,8 +25,8 @@ use Rattle.oc_server.specs.Scenes.{Breaks, Did, IsLawful, KeepsAll, running, set
 use Rattle.oc_deeds.specs.Lawful.{IsLawfulWork}
 use Rattle.oc_deeds.specs.Under.{Idle}
 use Rattle.oc_deeds.specs.declared.dials.Dialling.{Dialling}
-use Rattle.oc_server.specs.declared.ends.TurnEnd.{TurnEnd}
-use Rattle.oc_server.specs.declared.ends.TurnEnd.TheVariants as ends
+use Rattle.oc_deeds.specs.declared.ends.TurnEnd.{TurnEnd}
+use Rattle.oc_deeds.specs.declared.ends.TurnEnd.TheVariants as ends
 use Rattle.oc_server.specs.declared.server.Server.{Server}
 use Rattle.oc_deeds.specs.declared.work.Transfer.{Transfer}
 use Rattle.oc_deeds.specs.declared.work.Work.{Work}
@@ -162,16 +161,6 @@ module _ {D L K : Type 0} (view : D → DiskView) (takes fails : K → List ℕ 
   look_breaks takes_nothing ends.Link old new sink told counted stops = absurd stops.cause
   look_breaks takes_nothing ends.Full old new sink told counted stops = absurd stops.cause
   look_breaks takes_nothing ends.Sink old new sink told counted stops = absurd stops.cause
-
-  -- the same by its end
-  pub look_breaks_by : (takes_nothing : (k : K) → takes k [] k) (end : TurnEnd) (old new : Server D L K) → new.sink ≡ old.sink → story new.link ≡ story old.link → counts new.link ≡ counts old.link
-      → LookStops view end old.kept new.kept → LookBreaks view takes fails faults story counts end old new
-  look_breaks_by takes_nothing ends.Memory old new sink told counted stops = look_breaks takes_nothing ends.Memory old new sink told counted stops
-  look_breaks_by takes_nothing ends.Disk old new sink told counted stops = look_breaks takes_nothing ends.Disk old new sink told counted stops
-  look_breaks_by takes_nothing ends.Served old new sink told counted stops = absurd stops.cause
-  look_breaks_by takes_nothing ends.Link old new sink told counted stops = absurd stops.cause
-  look_breaks_by takes_nothing ends.Full old new sink told counted stops = absurd stops.cause
-  look_breaks_by takes_nothing ends.Sink old new sink told counted stops = absurd stops.cause
 
   -- memory ran out, and the files are as they were
   pub memory_breaks : (takes_nothing : (k : K) → takes k [] k) (old new : Server D L K) → new.kept ≡ old.kept → new.sink ≡ old.sink → story new.link ≡ story old.link → counts new.link ≡ counts old.link

@@ -3,20 +3,21 @@ use Rattle.std.proofs.Common.{◌≡◌, ℕ, false, Option, List, [], ◌∷◌
 use Rattle.oc_link.specs.declared.call.Call.{Call}
 use Rattle.oc_link.specs.declared.counts.LinkCounts.{LinkCounts}
 use Rattle.oc_io.specs.DiskView.{DiskView}
-use Rattle.oc_keep.specs.KeptView.{IsHonest}
+use Rattle.oc_keep.specs.KeptView.{IsHonest, NodeSurvives, node_of}
 use Rattle.oc_model.specs.declared.input.Input.{Input}
 use Rattle.oc_deeds.specs.Deeds.{Accepts, Deed, Takes}
-use Rattle.oc_server.specs.Giving.{LookBreaks}
-use Rattle.oc_server.specs.Noting.{NoteBreaks}
+use Rattle.oc_server.specs.Looks.{LookStops}
+use Rattle.oc_server.specs.Noting.{LineStops, NoteBreaks}
 use Rattle.oc_deeds.specs.Under.{IsUnder, under_of}
 use Rattle.oc_deeds.specs.Parts.{Part}
 use Rattle.oc_server.specs.Parts.{Stops}
 use Rattle.oc_server.specs.Scenes.{Breaks, running, setting}
 use Rattle.oc_deeds.specs.Under.{Idle, Noting, Taking, Under}
-use Rattle.oc_server.specs.declared.ends.TurnEnd.{TurnEnd}
-use Rattle.oc_server.specs.declared.ends.TurnEnd.TheVariants as ends
+use Rattle.oc_deeds.specs.declared.ends.TurnEnd.{TurnEnd}
+use Rattle.oc_deeds.specs.declared.ends.TurnEnd.TheVariants as ends
 use Rattle.oc_server.specs.declared.server.Server.{Server}
 use Rattle.oc_server.proofs.Parts.{stops_first}
+use Rattle.oc_server.proofs.Steps.{line_breaks_as, look_breaks, memory_breaks}
 
 module _ {D L K : Type 0} (view : D → DiskView) (takes fails : K → List ℕ → K → Type 0) (faults : K → ℕ) (story : L → Option (List Call)) (counts : L → LinkCounts) (takes_nothing : (k : K) → takes k [] k) where
   -- with nothing under way
@@ -24,24 +25,17 @@ module _ {D L K : Type 0} (view : D → DiskView) (takes fails : K → List ℕ 
       → Breaks view takes fails faults story counts end Idle a c → Stops view takes fails faults story counts end p a c
   stops_idle end p a c is_open breaks = stops_first view takes fails faults story counts takes_nothing end Idle p a c is_open (λ honest. tt) breaks
 
-  -- a look that ended has nothing under way
-  pub look_only : (end : TurnEnd) (a c : Server D L K) → LookBreaks view takes fails faults story counts end a c → Breaks view takes fails faults story counts end Idle a c
-  look_only ends.Memory a c breaks = breaks
-  look_only ends.Disk a c breaks = breaks
-  look_only ends.Sink a c breaks = absurd breaks
-  look_only ends.Full a c breaks = absurd breaks
-  look_only ends.Link a c breaks = absurd breaks
-  look_only ends.Served a c breaks = absurd breaks
+  -- where memory ran out, and the files are as they were
+  pub memory_stops : (p : Part) (a c : Server D L K) → a.kept.closed ≡ false → c.kept ≡ a.kept → c.sink ≡ a.sink → story c.link ≡ story a.link → counts c.link ≡ counts a.link
+      → (IsHonest view a.kept → NodeSurvives view a.kept (node_of a.kept)) → Stops view takes fails faults story counts ends.Memory p a c
+  memory_stops p a c is_open kept sink told counted survives =
+      stops_idle ends.Memory p a c is_open (memory_breaks view takes fails faults story counts takes_nothing a c kept sink told counted survives)
 
   -- in a look
-  pub look_stops : (end : TurnEnd) (p : Part) (a c : Server D L K) → a.kept.closed ≡ false
-      → LookBreaks view takes fails faults story counts end a c → Stops view takes fails faults story counts end p a c
-  look_stops ends.Memory p a c is_open breaks = stops_idle ends.Memory p a c is_open breaks
-  look_stops ends.Disk p a c is_open breaks = stops_idle ends.Disk p a c is_open breaks
-  look_stops ends.Sink p a c is_open breaks = absurd breaks
-  look_stops ends.Full p a c is_open breaks = absurd breaks
-  look_stops ends.Link p a c is_open breaks = absurd breaks
-  look_stops ends.Served p a c is_open breaks = absurd breaks
+  pub look_stops : (end : TurnEnd) (p : Part) (a c : Server D L K) → a.kept.closed ≡ false → c.sink ≡ a.sink → story c.link ≡ story a.link → counts c.link ≡ counts a.link
+      → LookStops view end a.kept c.kept → Stops view takes fails faults story counts end p a c
+  look_stops end p a c is_open sink told counted stops =
+      stops_idle end p a c is_open (look_breaks view takes fails faults story counts takes_nothing end a c sink told counted stops)
 
   -- with what its only deed has under way
   pub stops_deed : (end : TurnEnd) (under : Under) (d : Deed) (p : Part) (a c : Server D L K) → a.kept.closed ≡ false
@@ -60,6 +54,14 @@ module _ {D L K : Type 0} (view : D → DiskView) (takes fails : K → List ℕ 
   note_stops ends.Full line d p a c is_open is next breaks = absurd breaks
   note_stops ends.Link line d p a c is_open is next breaks = absurd breaks
   note_stops ends.Served line d p a c is_open is next breaks = absurd breaks
+
+  -- the same by what the output tells
+  pub line_stops : (end : TurnEnd) (text line : List ℕ) (d : Deed) (p : Part) (a c : Server D L K) → a.kept.closed ≡ false
+      → (IsHonest view a.kept → p (setting a) (running a) ≡ d ∷ []) → Noting line ≡ under_of d
+      → text ≡ line → c.kept ≡ a.kept → story c.link ≡ story a.link → counts c.link ≡ counts a.link
+      → LineStops fails faults end text a.sink c.sink → (IsHonest view a.kept → NodeSurvives view a.kept (node_of a.kept)) → Stops view takes fails faults story counts end p a c
+  line_stops end text line d p a c is_open is next same kept told counted stops survives =
+      note_stops end line d p a c is_open is next (line_breaks_as view takes fails faults story counts end text line a c same kept told counted stops survives)
 
   -- in its input
   pub takes_stops : (end : TurnEnd) (i : Input) (p : Part) (a c : Server D L K) → a.kept.closed ≡ false

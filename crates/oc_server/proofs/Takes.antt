@@ -37,8 +37,8 @@ use Rattle.oc_deeds.specs.Lawful.{IsLawfulDial, IsLawfulWork}
 use Rattle.oc_deeds.specs.Under.{Taking}
 use Rattle.oc_deeds.specs.Sending.{AreSendable}
 use Rattle.oc_deeds.specs.declared.dials.Dialling.{Dialling}
-use Rattle.oc_server.specs.declared.ends.TurnEnd.{TurnEnd}
-use Rattle.oc_server.specs.declared.ends.TurnEnd.TheVariants as ends
+use Rattle.oc_deeds.specs.declared.ends.TurnEnd.{TurnEnd}
+use Rattle.oc_deeds.specs.declared.ends.TurnEnd.TheVariants as ends
 use Rattle.oc_server.specs.declared.server.Server.{Server}
 use Rattle.oc_deeds.specs.declared.work.Work.{Work}
 use Rattle.oc_server.proofs.Looking.{go_on_none, keeps_one, named}

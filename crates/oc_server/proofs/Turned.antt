@@ -15,7 +15,7 @@ use Rattle.oc_model.specs.Node.{Control, Node}
 use Rattle.oc_model.specs.declared.input.Input.{Input}
 use Rattle.oc_io.specs.DiskView.{DiskView}
 use Rattle.oc_io.specs.Faults.{NoFall}
-use Rattle.oc_server.specs.declared.ends.TurnEnd.TheVariants as ends
+use Rattle.oc_deeds.specs.declared.ends.TurnEnd.TheVariants as ends
 use Rattle.oc_server.specs.Looks.{LooksOnly, LookStops, LooksUntil, end_of_ready, end_of_tidy}
 use Rattle.oc_server.proofs.Looking.{named}
 use Rattle.oc_server.proofs.Moments.{one_look}

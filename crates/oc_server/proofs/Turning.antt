@@ -23,21 +23,21 @@ use Rattle.oc_deeds.specs.Deeds.{Deed, Reads, Running, Sees, after_all, after, c
 use Rattle.oc_server.specs.Looks.{Renews}
 use Rattle.oc_server.specs.Parts.{Does, Stops}
 use Rattle.oc_deeds.specs.Parts.{Part, one, ◌>>◌}
-use Rattle.oc_server.specs.Runs.{CouldCome, DealStops, Dealt, IsLent, IsRead, MayRead, behind_reading, due_in, lent_in, reads_by, NextStops, NextTaken, Turned, TurnStops}
+use Rattle.oc_server.specs.Runs.{CouldCome, IsLent, IsRead, MayRead, behind_reading, due_in, lent_in, reads_by, NextStops, NextTaken, Turned, TurnStops}
 use Rattle.oc_deeds.specs.Measured.{IsMeasured}
 use Rattle.oc_deeds.specs.Served.{is_something, is_served}
 use Rattle.oc_server.specs.Scenes.{Breaks, Did, IsServing, running, setting}
 use Rattle.oc_deeds.specs.Under.{Idle}
 use Rattle.oc_deeds.specs.Hurries.{came_hurries}
-use Rattle.oc_deeds.specs.Turns.{Means, Observation, deals, happens, quickened, takes_due, ticks_and_sends, pace_behind, paced, probed, probing_behind, takes_at, takes_next, takes_one, ticks, turn}
+use Rattle.oc_deeds.specs.Turns.{Means, Observation, deals, quickened, takes_due, pace_behind, paced, probed, probing_behind, takes_at, takes_next, takes_one, turn}
 use Rattle.oc_deeds.specs.declared.came.Came.{Came}
 use Rattle.oc_deeds.specs.declared.came.Came.TheVariants as comes
 use Rattle.oc_deeds.specs.declared.dials.Errand.{Errand}
-use Rattle.oc_server.specs.declared.ends.TurnEnd.{TurnEnd}
+use Rattle.oc_deeds.specs.declared.ends.TurnEnd.{TurnEnd}
 use Rattle.oc_deeds.specs.declared.pace.Pace.{Pace}
 use Rattle.oc_server.specs.declared.server.Server.{Server}
 use Rattle.oc_server.specs.declared.turns.Turns.{Turns}
-use Rattle.oc_server.proofs.Parts.{does_after, does_as, does_then, one_then, stops_after, stops_as, stops_in}
+use Rattle.oc_server.proofs.Parts.{does_after, does_as, does_then, one_then}
 use Rattle.oc_server.proofs.Scenes.{breaks_behind, breaks_first, still_honest, still_renewed}
 
 -- What was lent
@@ -74,6 +74,24 @@ lent_is event bytes lent more None b z told adds behind = record { bytes_lent = 
 lent_is event bytes lent more (Some calls) b None told adds behind = record { bytes_lent = lent; is_lent = tt; could = tt; means = λ t errand came m. m }
 lent_is event bytes lent more (Some calls) None (Some end) told adds behind = absurd behind
 lent_is event bytes lent more (Some calls) (Some now) (Some end) told adds behind = lent_by event calls now end bytes lent told adds
+
+-- What came was dealt with.
+pub record Dealt {D L K : Type 0} (view : D → DiskView) (takes : K → List ℕ → K → Type 0) (faults : K → ℕ) (story : L → Option (List Call)) (counts : L → LinkCounts) (came : Came) (now : ℕ) (old new : Turns D L K) : Type 0 where
+  pub median : ℕ
+  pub started : ℕ
+  pub seconds : ℕ
+  pub measured : IsMeasured old.probing came now median
+  pub does : Does view takes faults story counts (deals old.pace old.probing came now median started seconds) old.server new.server
+  pub pace : IsHonest view old.server.kept → new.pace ≡ paced (quickened (came_hurries came (node_of old.server.kept)) old.pace) now seconds
+  pub probing : new.probing ≡ probed came now old.server.dials old.probing
+
+-- A front of that was done, and then it ended so.
+pub record DealStops {D L K : Type 0} (view : D → DiskView) (takes fails : K → List ℕ → K → Type 0) (faults : K → ℕ) (story : L → Option (List Call)) (counts : L → LinkCounts) (end : TurnEnd) (came : Came) (now : ℕ) (old new : Turns D L K) : Type 0 where
+  pub median : ℕ
+  pub started : ℕ
+  pub seconds : ℕ
+  pub measured : IsMeasured old.probing came now median
+  pub stops : Stops view takes fails faults story counts end (deals old.pace old.probing came now median started seconds) old.server new.server
 
 module _ {D L K : Type 0} (view : D → DiskView) (takes fails : K → List ℕ → K → Type 0) (faults : K → ℕ) (story : L → Option (List Call)) (counts : L → LinkCounts) where
   -- What is kept to read heads
@@ -268,33 +286,6 @@ module _ {D L K : Type 0} (view : D → DiskView) (takes fails : K → List ℕ 
                 inr (is_read dealt.median dealt.started dealt.seconds _
                 (calls_behind _ (story new.server.link) (adds-then _ _ (story c.link) (story d.link) (story new.server.link) (read.done c_honest).calls made)) dealt.measured honest);
           }
-
-  -- What came was dealt with
-
-  module _ (takes_then : (a b c : K) (x y : List ℕ) → takes a x b → takes b y c → takes a (x ++ y) c) (pace : Pace) (probing : Option Probing) (came : Came) (now median started : ℕ) (hurries : Bool) (a b c : Server D L K)
-      (does : Does view takes faults story counts (happens probing came now median started) a b) (is : IsHonest view a.kept → hurries ≡ came_hurries came (node_of a.kept)) where
-    abbrev ticks_by : Bool → ℕ → Part
-    ticks_by soon seconds = ticks_and_sends (quickened soon pace) now seconds
-
-    same_ticks : (seconds : ℕ) → IsHonest view a.kept → ticks_by hurries seconds (setting b) (running b) ≡ ticks_by (came_hurries came (node_of a.kept)) seconds (setting b) (running b)
-    same_ticks seconds honest = ap (λ (soon : Bool). ticks_by soon seconds (setting b) (running b)) (is honest)
-
-    pub does_deal : (seconds : ℕ) → Does view takes faults story counts (ticks_by hurries seconds) b c → Does view takes faults story counts (deals pace probing came now median started seconds) a c
-    does_deal seconds ticks =
-        does_as view takes fails faults story counts (happens probing came now median started >> ticks_by (came_hurries came (node_of a.kept)) seconds) (deals pace probing came now median started seconds) a c (λ honest. refl)
-        (does_after view takes fails faults story counts takes_then (happens probing came now median started) (ticks_by (came_hurries came (node_of a.kept)) seconds) (ticks_by hurries seconds) a b c does (same_ticks seconds) ticks)
-
-    pub stops_deal : (end : TurnEnd) (seconds : ℕ) → Stops view takes fails faults story counts end (ticks_by hurries seconds) b c → Stops view takes fails faults story counts end (deals pace probing came now median started seconds) a c
-    stops_deal end seconds stops =
-        stops_as view takes fails faults story counts end (happens probing came now median started >> ticks_by (came_hurries came (node_of a.kept)) seconds) (deals pace probing came now median started seconds) a c (λ honest. refl)
-        (stops_after view takes fails faults story counts takes_then end (happens probing came now median started) (ticks_by (came_hurries came (node_of a.kept)) seconds) (ticks_by hurries seconds) a b c does (same_ticks seconds) stops)
-
-  -- it ended so before a tick
-  pub stops_in_deal : (end : TurnEnd) (pace : Pace) (probing : Option Probing) (came : Came) (now median started : ℕ) (a c : Server D L K) → Stops view takes fails faults story counts end (happens probing came now median started) a c
-      → Stops view takes fails faults story counts end (deals pace probing came now median started 0) a c
-  stops_in_deal end pace probing came now median started a c stops =
-      stops_as view takes fails faults story counts end (happens probing came now median started >> ticks_and_sends (quickened (came_hurries came (node_of a.kept)) pace) now 0) (deals pace probing came now median started 0) a c (λ honest. refl)
-      (stops_in view takes fails faults story counts end (happens probing came now median started) (ticks_and_sends (quickened (came_hurries came (node_of a.kept)) pace) now 0) a c stops)
 
   -- A turn
 

@@ -18,8 +18,8 @@ use Rattle.oc_server.specs.Scenes.{running, setting}
 use Rattle.oc_deeds.specs.Settled.{AreServed, IsSettled}
 use Rattle.oc_server.specs.Settled.{deeds_of, deeds_until, deeds_up_to}
 use Rattle.oc_deeds.specs.Turns.{Observation, turn}
-use Rattle.oc_server.specs.declared.ends.TurnEnd.{TurnEnd}
-use Rattle.oc_server.specs.declared.ends.TurnEnd.TheVariants as ends
+use Rattle.oc_deeds.specs.declared.ends.TurnEnd.{TurnEnd}
+use Rattle.oc_deeds.specs.declared.ends.TurnEnd.TheVariants as ends
 use Rattle.oc_server.specs.declared.server.Server.{Server}
 use Rattle.oc_server.specs.declared.turns.Turns.{Turns}
 use Rattle.oc_deeds.proofs.TurnOrdered.{asked_only, calls_joined, due_or_asked, same_story, served_in_order, was_told}

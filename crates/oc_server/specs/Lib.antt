@@ -2,7 +2,6 @@ pub mod Looks
 pub mod Moments
 pub mod Scenes
 pub mod Noting
-pub mod Giving
 pub mod Parts
 pub mod Runs
 pub mod Lawful

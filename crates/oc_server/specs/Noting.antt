@@ -7,8 +7,8 @@ use Rattle.oc_io.specs.DiskView.{DiskView}
 use Rattle.oc_io.specs.Faults.{Rose}
 use Rattle.oc_server.specs.Scenes.{Breaks}
 use Rattle.oc_deeds.specs.Under.{Idle, Noting}
-use Rattle.oc_server.specs.declared.ends.TurnEnd.{TurnEnd}
-use Rattle.oc_server.specs.declared.ends.TurnEnd.TheVariants as ends
+use Rattle.oc_deeds.specs.declared.ends.TurnEnd.{TurnEnd}
+use Rattle.oc_deeds.specs.declared.ends.TurnEnd.TheVariants as ends
 use Rattle.oc_server.specs.declared.server.Server.{Server}
 
 -- the output failed in a line

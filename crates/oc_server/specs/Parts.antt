@@ -9,7 +9,7 @@ use Rattle.oc_deeds.specs.Under.{Cuts, Under}
 use Rattle.oc_deeds.specs.Deeds.{Deed}
 use Rattle.oc_server.specs.Scenes.{BreaksBehind, Did, running, setting}
 use Rattle.oc_deeds.specs.Under.{Under}
-use Rattle.oc_server.specs.declared.ends.TurnEnd.{TurnEnd}
+use Rattle.oc_deeds.specs.declared.ends.TurnEnd.{TurnEnd}
 use Rattle.oc_server.specs.declared.server.Server.{Server}
 
 -- The part was done.

@@ -19,10 +19,9 @@ use Rattle.oc_deeds.specs.Deeds.{dials_behind, errand_in}
 use Rattle.oc_deeds.specs.Hurries.{came_hurries}
 use Rattle.oc_server.specs.Looks.{Renews}
 use Rattle.oc_server.specs.Parts.{Does, Stops}
-use Rattle.oc_deeds.specs.Turns.{Means, Observation, deals, pace_behind, paced, probed, probing_behind, quickened, takes_next, turn}
-use Rattle.oc_deeds.specs.declared.came.Came.{Came}
-use Rattle.oc_server.specs.declared.ends.TurnEnd.{TurnEnd}
-use Rattle.oc_server.specs.declared.ends.TurnEnd.TheVariants as ends
+use Rattle.oc_deeds.specs.Turns.{Means, Observation, pace_behind, paced, probed, probing_behind, quickened, takes_next, turn}
+use Rattle.oc_deeds.specs.declared.ends.TurnEnd.{TurnEnd}
+use Rattle.oc_deeds.specs.declared.ends.TurnEnd.TheVariants as ends
 use Rattle.oc_server.specs.declared.server.Server.{Server}
 use Rattle.oc_server.specs.declared.turns.Turns.{Turns}
 
@@ -69,24 +68,6 @@ MayRead story None old new t = IsRead old (behind_reading t.before (story old.se
 MayRead story (Some place) old new t = Unit {0}
 
 -- One thing that happened
-
--- What came was dealt with.
-pub record Dealt {D L K : Type 0} (view : D → DiskView) (takes : K → List ℕ → K → Type 0) (faults : K → ℕ) (story : L → Option (List Call)) (counts : L → LinkCounts) (came : Came) (now : ℕ) (old new : Turns D L K) : Type 0 where
-  pub median : ℕ
-  pub started : ℕ
-  pub seconds : ℕ
-  pub measured : IsMeasured old.probing came now median
-  pub does : Does view takes faults story counts (deals old.pace old.probing came now median started seconds) old.server new.server
-  pub pace : IsHonest view old.server.kept → new.pace ≡ paced (quickened (came_hurries came (node_of old.server.kept)) old.pace) now seconds
-  pub probing : new.probing ≡ probed came now old.server.dials old.probing
-
--- A front of that was done, and then it ended so.
-pub record DealStops {D L K : Type 0} (view : D → DiskView) (takes fails : K → List ℕ → K → Type 0) (faults : K → ℕ) (story : L → Option (List Call)) (counts : L → LinkCounts) (end : TurnEnd) (came : Came) (now : ℕ) (old new : Turns D L K) : Type 0 where
-  pub median : ℕ
-  pub started : ℕ
-  pub seconds : ℕ
-  pub measured : IsMeasured old.probing came now median
-  pub stops : Stops view takes fails faults story counts end (deals old.pace old.probing came now median started seconds) old.server new.server
 
 -- One thing that happened at the link was taken, in a turn that began at this time.
 pub record NextTaken {D L K : Type 0} (view : D → DiskView) (takes : K → List ℕ → K → Type 0) (faults : K → ℕ) (story : L → Option (List Call)) (counts : L → LinkCounts) (before : ℕ) (served : Bool) (old new : Turns D L K) : Type 0 where

@@ -22,14 +22,14 @@ use Rattle.oc_node.specs.OutcomeView.{OutcomeView}
 use Rattle.oc_policy.specs.declared.deciding.TheConstants.{MAX_RULES}
 use Rattle.oc_deeds.specs.Done.{AreDone, CountsAll}
 use Rattle.oc_deeds.specs.Lawful.{IsLawfulDial, IsLawfulWork, IsPlaced}
-use Rattle.oc_deeds.specs.Under.{Idle, Noting, Taking, Under, under_line}
+use Rattle.oc_deeds.specs.Under.{Idle, Taking, Under, under_line}
 use Rattle.oc_deeds.specs.Deeds.{Deed, Running, Setting, inputs_of, line, lines}
 use Rattle.oc_server.specs.Looks.{LooksOn, LooksOnly, RunsSafely}
 use Rattle.oc_server.specs.Moments.{AtEachPrefix}
 use Rattle.oc_deeds.specs.Sending.{AreSendable}
 use Rattle.oc_deeds.specs.Within.{IsWithin}
-use Rattle.oc_server.specs.declared.ends.TurnEnd.{TurnEnd}
-use Rattle.oc_server.specs.declared.ends.TurnEnd.TheVariants as ends
+use Rattle.oc_deeds.specs.declared.ends.TurnEnd.{TurnEnd}
+use Rattle.oc_deeds.specs.declared.ends.TurnEnd.TheVariants as ends
 use Rattle.oc_config.specs.Settings.{key_of}
 use Rattle.oc_server.specs.declared.server.Server.{Server}
 

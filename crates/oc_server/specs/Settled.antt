@@ -5,8 +5,8 @@ use Rattle.oc_link.specs.declared.counts.LinkCounts.{LinkCounts}
 use Rattle.oc_io.specs.DiskView.{DiskView}
 use Rattle.oc_deeds.specs.Deeds.{Deed}
 use Rattle.oc_server.specs.Runs.{ServeEnds, Serves, ServesUpTo}
-use Rattle.oc_server.specs.declared.ends.TurnEnd.{TurnEnd}
-use Rattle.oc_server.specs.declared.ends.TurnEnd.TheVariants as ends
+use Rattle.oc_deeds.specs.declared.ends.TurnEnd.{TurnEnd}
+use Rattle.oc_deeds.specs.declared.ends.TurnEnd.TheVariants as ends
 use Rattle.oc_server.specs.declared.turns.Turns.{Turns}
 
 -- What was done over turns

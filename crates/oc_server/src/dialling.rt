@@ -1,79 +1,26 @@
 //! Dials that begin.
 
-ghost use Rattle.std.specs.Prelude.{◌≡◌, ◌<◌, ◌∷◌, ◌++◌, [], OnErr, OnOk, IfErr, IfOk, length, slice_get, Some};
-ghost use Rattle.oc_base.specs.Lawful.{IsNode};
+ghost use Rattle.std.specs.Prelude.{◌≡◌, ◌<◌, ◌∷◌, ◌++◌, [], OnErr, OnOk, IfOk, length};
 ghost use Rattle.oc_link.specs.Told.{AddsAll};
 ghost use Rattle.oc_link.specs.declared.call.Call.TheVariants as acts;
 ghost use Rattle.oc_http.specs.Writing.{IsHost};
 ghost use Rattle.oc_model.specs.declared.message.Message.{Message};
 ghost use Rattle.oc_routes.specs.Responses.{address_of};
 ghost use Rattle.oc_wire.specs.Spelling.{HasSpelling};
-ghost use Rattle.oc_deeds.specs.Deeds.{Probes, dial_text};
-ghost use Rattle.oc_deeds.specs.Deeds as deeds;
-ghost use Rattle.oc_deeds.specs.Dials.{brings, dialling};
-ghost use Rattle.oc_server.specs.Scenes.{Breaks, Did, IsServing};
 ghost use Rattle.oc_config.specs.Settings.{key_of};
-ghost use Rattle.oc_deeds.specs.Under.{Idle};
+ghost use Rattle.oc_deeds.specs.Deeds.{dial_text};
+ghost use Rattle.oc_deeds.specs.Dials.{brings, dialling};
 
-use crate::ends::TurnEnd;
-use crate::server::Server;
 use oc_base::{Memory, NodeId};
 use oc_config::Config;
 use oc_deeds::{Dials, Errand, is_fetch};
-use oc_http::write_probe;
-use oc_io::{Disk, Sink};
 use oc_link::{DialId, Link};
 use oc_model::Message;
 use oc_wire::to_http;
 use std::alloc::Global;
 
-impl<D: Disk, L: Link, K: Sink> Server<D, L, K> {
-    /// Dials the message at a place of the outbox under this number.
-    pub fn dials(&mut self, place: usize, dial: DialId) -> Result<(), TurnEnd>
-        requires serving { IsServing self.old }
-        requires place { place < length self.old.outbox }
-        ensures did { OnOk result ((m : Message) × (slice_get self.old.outbox place ≡ Some m)
-            × Did D.view K.takes K.faults L.story L.counts (deeds.Dials place m dial ∷ []) self.old self.new) }
-        ensures breaks { IfErr result (λ end. (end ≡ TurnEnd.Memory) × Breaks D.view K.takes K.fails K.faults L.story L.counts end Idle self.old self.new) }
-    {
-        self.kept.recovers();
-        match self.outbox.take(place) {
-            Some(message) => {
-                let text = request_to(self.alloc, &self.config, &message)?;
-                let address = address_of(&self.config, message.to);
-                begin_dial(
-                    &mut self.link,
-                    &mut self.dials,
-                    address,
-                    &message,
-                    dial,
-                    &text,
-                )?;
-                Ok(())
-            }
-            None => Ok(()),
-        }
-    }
-
-    /// Begins the probe of a node under this number and at this time.
-    pub fn probes(&mut self, peer: NodeId, dial: DialId, now: u64) -> Result<(), TurnEnd>
-        requires serving { IsServing self.old }
-        requires peer { IsNode self.old.kept.node.control.nodes peer }
-        ensures did { OnOk result (Did D.view K.takes K.faults L.story L.counts (Probes peer dial now ∷ []) self.old self.new) }
-        ensures breaks { IfErr result (λ end. (end ≡ TurnEnd.Memory) × Breaks D.view K.takes K.fails K.faults L.story L.counts end Idle self.old self.new) }
-    {
-        self.kept.recovers();
-        let address = address_of(&self.config, peer);
-        let text = write_probe(self.alloc, address)?;
-        let errand = Errand::Probe { peer, since: now };
-        self.dials.begin(dial, errand)?;
-        self.link.dial(dial, address, &text);
-        Ok(())
-    }
-}
-
 /// The text of a dial: the request that brings a message to its receiver, and nothing where that has no address.
-fn request_to(alloc: Global, config: &Config, message: &Message) -> Result<Vec<u8>, Memory>
+pub(crate) fn request_to(alloc: Global, config: &Config, message: &Message) -> Result<Vec<u8>, Memory>
     requires body { HasSpelling message.now.body }
     requires host { 0 < length (address_of config.now.addresses message.now.to) → IsHost (address_of config.now.addresses message.now.to) }
     ensures { IfOk result (λ text. text.items ≡ dial_text (key_of config.now.keys) (address_of config.now.addresses message.now.to) message.now) }
@@ -86,7 +33,7 @@ fn request_to(alloc: Global, config: &Config, message: &Message) -> Result<Vec<u
 }
 
 /// Begins the dial of a message to this address, with this request.
-fn begin_dial<L: Link>(
+pub(crate) fn begin_dial<L: Link>(
     link: &mut L,
     dials: &mut Dials,
     address: &str,
@@ -109,7 +56,7 @@ fn begin_dial<L: Link>(
 }
 
 /// The address of a node.
-fn address_of(config: &Config, node: NodeId) -> &str
+pub(crate) fn address_of(config: &Config, node: NodeId) -> &str
     ensures { result.now ≡ address_of config.now.addresses node }
 {
     oc_routes::address_of(&config.addresses, node)

@@ -1,129 +1,30 @@
 //! What connections are given.
 
-ghost use Rattle.std.specs.Prelude.{◌≡◌, ◌≤◌, ◌∷◌, ◌++◌, [], OnOk, IfErr, IfOk, false, length, option_map, take, unwrap_or, vec_len};
+ghost use Rattle.std.specs.Prelude.{◌≡◌, ◌≤◌, ◌++◌, OnOk, IfErr, IfOk, false, length, option_map, take, unwrap_or, vec_len};
 ghost use Rattle.oc_link.specs.Told.{AddsAll};
 ghost use Rattle.oc_keep.specs.KeptView.{IsHonest, node_of};
 ghost use Rattle.oc_routes.specs.Contents.{ending, part_of, piece_of};
-ghost use Rattle.oc_deeds.specs.Deeds.{BreaksOff, Gives, LaysAside, Permits, Replies, Waits, finish, first_piece, first_rest, piece, rest, takes_request};
-ghost use Rattle.oc_server.specs.Giving.{LookBreaks};
+ghost use Rattle.oc_deeds.specs.Deeds.{finish, first_piece, first_rest, piece, rest, takes_request};
 ghost use Rattle.oc_server.specs.Looks.{LooksOnly, LookStops};
-ghost use Rattle.oc_server.specs.Scenes.{Breaks, Did, IsServing};
-ghost use Rattle.oc_deeds.specs.Lawful.{IsLawfulWaiting};
-ghost use Rattle.oc_deeds.specs.Under.{Idle};
 
-use crate::ends::TurnEnd;
-use crate::server::Server;
 use oc_base::{GroupName, Memory, put};
-use oc_deeds::contents::{begin_rest, keeps, piece_text, place_behind, place_of};
-use oc_deeds::{Pending, Transfer, Waiting, Work};
-use oc_io::{Disk, Sink};
+use oc_deeds::contents::{piece_text, place_behind};
+use oc_deeds::{Pending, Transfer, TurnEnd};
+use oc_io::Disk;
 use oc_keep::{Kept, KeptRead};
 use oc_link::{ConnectionId, Ending, Link};
-use oc_routes::{CONTINUE, PIECE_BYTES, Response, UnderWay};
+use oc_routes::{PIECE_BYTES, UnderWay};
 use std::alloc::Global;
 
 /// The next piece of a content, as it is sent, and what is left of it.
 #[derive(Drop)]
-struct Piece {
-    text: Vec<u8>,
-    rest: Option<Transfer>,
-}
-
-impl<D: Disk, L: Link, K: Sink> Server<D, L, K> {
-    /// Gives a connection the permission to send the body of its request.
-    pub fn permits(&mut self, connection: ConnectionId)
-        requires { IsServing self.old }
-        ensures { Did D.view K.takes K.faults L.story L.counts (Permits connection ∷ []) self.old self.new }
-    {
-        self.link.give(connection, CONTINUE);
-    }
-
-    /// Takes a request that waits.
-    pub fn waits(&mut self, waiting: Waiting) -> Result<(), TurnEnd>
-        requires serving { IsServing self.old }
-        requires waiting { IsLawfulWaiting self.old.kept.node.control.nodes self.old.kept.node.control.me waiting }
-        ensures did { OnOk result (Did D.view K.takes K.faults L.story L.counts (Waits waiting ∷ []) self.old self.new) }
-        ensures breaks { IfErr result (λ end. (end ≡ TurnEnd.Memory) × Breaks D.view K.takes K.fails K.faults L.story L.counts end Idle self.old self.new) }
-    {
-        self.kept.recovers();
-        let (connection, count) = (waiting.connection, waiting.request.count);
-        self.works.begin(Work::Waits(waiting))?;
-        self.link.take(connection, count);
-        Ok(())
-    }
-
-    /// Answers a request: gives its response, and of a content the first piece.
-    pub fn replies(
-        &mut self,
-        request: Pending,
-        response: &Response,
-        now: u64,
-    ) -> Result<(), TurnEnd>
-        requires { IsServing self.old }
-        ensures did { OnOk result (Did D.view K.takes K.faults L.story L.counts
-            (Replies request response.now now ∷ []) self.old self.new) }
-        ensures breaks { IfErr result (λ end. LookBreaks D.view K.takes K.fails K.faults L.story L.counts end self.old self.new) }
-    {
-        let place = place_of(&request, response, now);
-        let piece = first_piece(self.alloc, &mut self.kept, &place, now)?;
-        self.kept.recovers();
-        let text = joined(self.alloc, response.text.items(), &piece.text)?;
-        let _waited = self.works.take(request.connection);
-        begin_rest(&mut self.works, &piece.rest)?;
-        take_request(&mut self.link, &request);
-        let all = whole(&text, response.text.items());
-        self.link.give(request.connection, all);
-        let ending = Ending {
-            keeps: keeps(response.connection),
-            watched: request.told,
-        };
-        finish(&mut self.link, request.connection, ending, &piece.rest);
-        Ok(())
-    }
-
-    /// Gives the next piece of a content.
-    pub fn gives(&mut self, place: Transfer, now: u64) -> Result<(), TurnEnd>
-        requires { IsServing self.old }
-        ensures did { OnOk result (Did D.view K.takes K.faults L.story L.counts (Gives place now ∷ []) self.old self.new) }
-        ensures breaks { IfErr result (λ end. LookBreaks D.view K.takes K.fails K.faults L.story L.counts end self.old self.new) }
-    {
-        let piece = next_piece(self.alloc, &mut self.kept, &place, now)?;
-        self.kept.recovers();
-        let _given = self.works.take(place.connection);
-        begin_rest(&mut self.works, &piece.rest)?;
-        self.link.give(place.connection, &piece.text);
-        let ending = Ending {
-            keeps: place.keeps,
-            watched: place.told,
-        };
-        finish(&mut self.link, place.connection, ending, &piece.rest);
-        Ok(())
-    }
-
-    /// A content has nothing to give until its group has grown.
-    pub fn lays_aside(&mut self, place: Transfer) -> Result<(), TurnEnd>
-        requires { IsServing self.old }
-        ensures did { OnOk result (Did D.view K.takes K.faults L.story L.counts (LaysAside place ∷ []) self.old self.new) }
-        ensures breaks { IfErr result (λ end. (end ≡ TurnEnd.Memory) × Breaks D.view K.takes K.fails K.faults L.story L.counts end Idle self.old self.new) }
-    {
-        self.kept.recovers();
-        let _content = self.works.take(place.connection);
-        self.works.begin(Work::Aside(place))?;
-        Ok(())
-    }
-
-    /// Breaks a connection off.
-    pub fn breaks_off(&mut self, connection: ConnectionId)
-        requires { IsServing self.old }
-        ensures { Did D.view K.takes K.faults L.story L.counts (BreaksOff connection ∷ []) self.old self.new }
-    {
-        let _gone = self.works.take(connection);
-        self.link.break_off(connection);
-    }
+pub(crate) struct Piece {
+    pub(crate) text: Vec<u8>,
+    pub(crate) rest: Option<Transfer>,
 }
 
 /// Takes a request that was not taken before.
-fn take_request<L: Link>(link: &mut L, request: &Pending)
+pub(crate) fn take_request<L: Link>(link: &mut L, request: &Pending)
     ensures calls { AddsAll (takes_request request.now) (L.story link.old) (L.story link.new) }
     ensures counts { L.counts link.new ≡ L.counts link.old }
 {
@@ -133,7 +34,7 @@ fn take_request<L: Link>(link: &mut L, request: &Pending)
 }
 
 /// Says that a reply is whole, where nothing of it is left.
-fn finish<L: Link>(link: &mut L, connection: ConnectionId, ending: Ending, left: &Option<Transfer>)
+pub(crate) fn finish<L: Link>(link: &mut L, connection: ConnectionId, ending: Ending, left: &Option<Transfer>)
     ensures calls { AddsAll (finish connection ending.keeps ending.watched left.now) (L.story link.old) (L.story link.new) }
     ensures counts { L.counts link.new ≡ L.counts link.old }
 {
@@ -143,7 +44,7 @@ fn finish<L: Link>(link: &mut L, connection: ConnectionId, ending: Ending, left:
 }
 
 /// One text after another; none where the second is empty, and the first is the whole.
-fn joined(alloc: Global, first: &[u8], more: &[u8]) -> Result<Option<Vec<u8>>, Memory>
+pub(crate) fn joined(alloc: Global, first: &[u8], more: &[u8]) -> Result<Option<Vec<u8>>, Memory>
     ensures { IfOk result (λ both. unwrap_or (option_map (λ text. text.items) both) first.now ≡ first.now ++ more.now) }
 {
     if more.is_empty() {
@@ -156,7 +57,7 @@ fn joined(alloc: Global, first: &[u8], more: &[u8]) -> Result<Option<Vec<u8>>, M
 }
 
 /// Both texts, or else the first.
-fn whole<'a>(both: &'a Option<Vec<u8>>, first: &'a [u8]) -> &'a [u8]
+pub(crate) fn whole<'a>(both: &'a Option<Vec<u8>>, first: &'a [u8]) -> &'a [u8]
     ensures { result.now ≡ unwrap_or (option_map (λ text. text.items) both.now) first.now }
 {
     match both {
@@ -166,7 +67,7 @@ fn whole<'a>(both: &'a Option<Vec<u8>>, first: &'a [u8]) -> &'a [u8]
 }
 
 /// Reads the first piece of the content of a response, if it has one. Nothing of the node changes.
-fn first_piece<D: Disk>(
+pub(crate) fn first_piece<D: Disk>(
     alloc: Global,
     kept: &mut Kept<D>,
     place: &Option<Transfer>,
@@ -188,7 +89,7 @@ fn first_piece<D: Disk>(
 }
 
 /// Reads the next piece of a content. Nothing of the node changes.
-fn next_piece<D: Disk>(
+pub(crate) fn next_piece<D: Disk>(
     alloc: Global,
     kept: &mut Kept<D>,
     place: &Transfer,

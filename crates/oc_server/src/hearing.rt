@@ -11,13 +11,12 @@ ghost use Rattle.oc_deeds.specs.Under.{Idle};
 ghost use Rattle.oc_deeds.specs.Lawful.{IsLawfulErrand};
 ghost use Rattle.oc_deeds.specs.Turns.{Means, MeansBack};
 
-use crate::asking::Happened;
-use crate::ends::TurnEnd;
+use crate::asking::Heard;
 use crate::server::Server;
 use oc_base::Memory;
 use oc_config::Config;
 use oc_deeds::reading::{Hearer, comes_back};
-use oc_deeds::{Came, Errand};
+use oc_deeds::{Came, Errand, TurnEnd};
 use oc_http::HeadReader;
 use oc_io::{Disk, Sink};
 use oc_keep::Kept;
@@ -27,7 +26,7 @@ use std::alloc::Global;
 
 impl<D: Disk, L: Link, K: Sink> Server<D, L, K> {
     /// What came by the event that the link told last. It is to be asked before any other call of the link.
-    pub fn understands(&mut self, happened: Happened) -> Result<Came, TurnEnd>
+    pub fn understands(&mut self, happened: Heard) -> Result<Came, TurnEnd>
         requires serving { IsServing self.old }
         requires errand { IfSome happened.errand (IsLawfulErrand self.old.kept.node.control.nodes) }
         ensures means { IfOk result (Means (reads_by self.old) (L.lends self.old.link) happened.errand happened.event) }
@@ -40,7 +39,7 @@ impl<D: Disk, L: Link, K: Sink> Server<D, L, K> {
     }
 
     /// What an event is, by what the link lends.
-    fn meaning_of(&mut self, happened: Happened) -> Result<Came, Memory>
+    fn meaning_of(&mut self, happened: Heard) -> Result<Came, Memory>
         requires rules { length self.old.config.rules ≤ MAX_RULES }
         requires errand { IfSome happened.errand (IsLawfulErrand self.old.kept.node.control.nodes) }
         ensures means { IfOk result (Means (reads_by self.old) (L.lends self.old.link) happened.errand happened.event) }

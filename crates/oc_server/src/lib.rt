@@ -2,10 +2,11 @@
 //!
 //! A [`Server`] is a node on its files with its outbox, what is under way on its connections, its dials, its link and its
 //! output. What it does is a list of deeds: `oc_deeds` says of each what it makes of the node, which line it writes
-//! and which calls it makes on the link. Each method of a `Server` does one deed. Its contract says that the deed was
-//! done (`Did`), or how it broke (`Breaks`): why, what every crash leaves, and which part of a line was written
-//! (`specs/Scenes`). While deeds are done every crash at any moment leaves the node of a prefix of them
-//! (`specs/Moments`). What holds between any two calls is `IsServing`.
+//! and which calls it makes on the link, and decides which are done. A `Server` is a `Doer` of that crate: each method of
+//! `impl Doer for Server` does one deed. That deeds were done (`Did`), or how one broke (`Breaks`), says why, what every
+//! crash leaves, and which part of a line was written (`specs/Scenes`); a part of a turn is done, or ends partway through, by
+//! that (`Does` and `Stops` in `specs/Parts`). While deeds are done every crash at any moment leaves the node of a prefix of
+//! them (`specs/Moments`). What holds between any two calls is `IsServing`.
 //!
 //! A content under way is a place in a group and not bytes: each piece is read when it is given, so nothing grows with its
 //! length.
@@ -20,24 +21,19 @@
 mod answering;
 mod asking;
 mod dialling;
-mod ends;
+mod doing;
 mod giving;
 mod hearing;
 mod noting;
 mod order_law;
 mod sendable;
-mod sending;
 mod server;
-mod serving;
 mod taking;
-mod taking_up;
 mod telling;
 mod tidying;
 mod turns;
 
-pub use asking::Happened;
-pub use ends::TurnEnd;
+pub use asking::Heard;
 pub use order_law::turns_are_in_order;
 pub use server::Server;
-pub use taking::Accepted;
 pub use turns::Turns;

@@ -13,7 +13,7 @@ ghost use Rattle.oc_server.specs.Scenes.{running, setting};
 ghost use Rattle.oc_deeds.specs.Settled.{AreServed, IsSettled};
 ghost use Rattle.oc_server.specs.Settled.{deeds_until};
 ghost use Rattle.oc_deeds.specs.Turns.{Observation, turn};
-ghost use Rattle.oc_server.specs.declared.ends.TurnEnd.{TurnEnd};
+ghost use Rattle.oc_deeds.specs.declared.ends.TurnEnd.{TurnEnd};
 ghost use Rattle.oc_deeds.specs.declared.pace.Pace.{Pace};
 ghost use Rattle.oc_server.specs.declared.turns.Turns.{Turns};
 

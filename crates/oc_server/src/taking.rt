@@ -1,41 +1,31 @@
 //! Inputs that are taken.
 
-ghost use Rattle.std.specs.Prelude.{◌≡◌, [], ◌∷◌, false, IfOk, IfErr, IfSome, OnOk};
+ghost use Rattle.std.specs.Prelude.{◌≡◌, [], ◌∷◌, false, IfOk, IfErr, OnOk};
 ghost use Rattle.hex.specs.Hex.{IsBytes};
 ghost use Rattle.oc_model.specs.Lawful.{IsInput};
 ghost use Rattle.oc_model.specs.Step.{step};
 ghost use Rattle.oc_keep.specs.KeptView.{IsHonest, node_of};
 ghost use Rattle.oc_routes.specs.Inputs as inputs;
-ghost use Rattle.oc_wire.specs.Spelling.{HasSpelling};
-ghost use Rattle.oc_deeds.specs.Deeds.{Accepts, Takes, back_to, sender_of, taken_line};
+ghost use Rattle.oc_deeds.specs.Deeds.{Takes, taken_line};
 ghost use Rattle.oc_deeds.specs.Records.{told_ahead};
 ghost use Rattle.oc_server.specs.Scenes as scenes;
 ghost use Rattle.oc_server.specs.Scenes.{Breaks, Did, IsServing, KeepStops, KeepsOne};
 ghost use Rattle.oc_deeds.specs.Under.{Taking};
 ghost use Rattle.oc_deeds.specs.Within.{BringsBytes, HasBytes};
 
-use crate::ends::TurnEnd;
 use crate::noting::write_line;
 use crate::sendable::sendable;
 use crate::server::Server;
 use oc_base::Memory;
-use oc_deeds::asked::{held_back, sender_of};
-use oc_deeds::{Log, put_all};
+use oc_deeds::{Log, TurnEnd, put_all};
 use oc_io::{Disk, Sink};
 use oc_keep::{KeepError, Kept, Outcome};
 use oc_laws_step::lawful_nodes_stay_lawful;
 use oc_link::Link;
-use oc_model::{Answer, Body, Input, Message};
+use oc_model::{Answer, Body, Input};
 use oc_routes::put_input_line;
 use oc_wire::spellings_are_read;
 use std::alloc::Global;
-
-/// What a request's input brought: the answer of its step, and the message that goes back to its sender.
-#[derive(Drop)]
-pub struct Accepted {
-    pub answer: Answer,
-    pub back: Option<Message>,
-}
 
 impl<D: Disk, L: Link, K: Sink> Server<D, L, K> {
     /// Takes an input: makes its frame safe, changes the node, and then writes its line, where each input has one there.
@@ -56,34 +46,10 @@ impl<D: Disk, L: Link, K: Sink> Server<D, L, K> {
         put_all(&mut self.outbox, outcome.sends);
         Ok(answer)
     }
-
-    /// Takes the input of a request. The first message that goes back to the sender of a message is its reply, and
-    /// does not go to the outbox.
-    pub fn accepts(&mut self, input: Input) -> Result<Accepted, TurnEnd>
-        requires serving { IsServing self.old }
-        requires input { IsInput self.old.kept.node.control.nodes self.old.kept.node.control.me input }
-        ensures did { OnOk result (Did D.view K.takes K.faults L.story L.counts (Accepts input ∷ []) self.old self.new) }
-        ensures answer { IfOk result (λ accepted. IsHonest D.view self.old.kept → accepted.answer ≡ (step (node_of self.old.kept) input).answer) }
-        ensures back { IfOk result (λ accepted. IsHonest D.view self.old.kept → accepted.back ≡ back_to (sender_of input) (step (node_of self.old.kept) input).sends) }
-        ensures text { IfOk result (λ accepted. IfSome accepted.back (λ m. HasSpelling m.body)) }
-        ensures breaks { IfErr result (λ end. Breaks D.view K.takes K.fails K.faults L.story L.counts end (Taking input) self.old self.new) }
-    {
-        self.kept.recovers();
-        let line = line_of(self.alloc, self.log, &self.kept, &input)?;
-        let sender = sender_of(&input);
-        let outcome = keep(&mut self.kept, input)?;
-        write_line(&mut self.sink, &line)?;
-        let (back, others) = held_back(sender, outcome.sends);
-        put_all(&mut self.outbox, others);
-        Ok(Accepted {
-            answer: outcome.answer,
-            back,
-        })
-    }
 }
 
 /// The line of an input of this node that is written after its frame; none where not each input has one there.
-fn line_of<D: Disk>(
+pub(crate) fn line_of<D: Disk>(
     alloc: Global,
     log: Log,
     kept: &Kept<D>,
@@ -128,7 +94,7 @@ fn input_line<D: Disk>(alloc: Global, kept: &Kept<D>, input: &Input) -> Result<V
 }
 
 /// Takes an input into the files of its node.
-fn keep<D: Disk>(kept: &mut Kept<D>, input: Input) -> Result<Outcome, TurnEnd>
+pub(crate) fn keep<D: Disk>(kept: &mut Kept<D>, input: Input) -> Result<Outcome, TurnEnd>
     requires open { kept.old.closed ≡ false }
     requires input { IsInput kept.old.node.control.nodes kept.old.node.control.me input }
     ensures kept { IfOk result (λ outcome. KeepsOne D.view input outcome kept.old kept.new) }

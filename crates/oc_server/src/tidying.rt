@@ -6,8 +6,8 @@ ghost use Rattle.oc_server.specs.Looks.{LooksOnly, LookStops, end_of_tidy};
 ghost use Rattle.oc_server.specs.Scenes.{Breaks, Did, IsServing};
 ghost use Rattle.oc_deeds.specs.Under.{Idle};
 
-use crate::ends::TurnEnd;
 use crate::server::Server;
+use oc_deeds::TurnEnd;
 use oc_io::{Disk, Failed, Sink};
 use oc_keep::{Kept, TidyError};
 use oc_link::Link;

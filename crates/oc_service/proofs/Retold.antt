@@ -11,8 +11,8 @@ use Rattle.oc_deeds.specs.Deeds.{Deed}
 use Rattle.oc_server.specs.Moments.{AtEachPrefix, node_after}
 use Rattle.oc_deeds.specs.Under.{Under}
 use Rattle.oc_server.specs.Scenes.{WritesAt}
-use Rattle.oc_server.specs.declared.ends.TurnEnd.{TurnEnd}
-use Rattle.oc_server.specs.declared.ends.TurnEnd.TheVariants as ends
+use Rattle.oc_deeds.specs.declared.ends.TurnEnd.{TurnEnd}
+use Rattle.oc_deeds.specs.declared.ends.TurnEnd.TheVariants as ends
 use Rattle.oc_service.specs.AtAnyMoment.{AlwaysRecovers}
 use Rattle.oc_service.specs.OnSite.{DidOn, OnRun, StoppedOn, WasDeaf, at_run}
 use Rattle.oc_service.specs.declared.running.Task.{Task}

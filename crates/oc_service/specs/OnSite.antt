@@ -35,8 +35,8 @@ use Rattle.oc_server.specs.Scenes.{CountsAt, WritesAt}
 use Rattle.oc_deeds.specs.Under.{Idle, Taking, Under, under_line}
 use Rattle.oc_deeds.specs.Turns.{Observation}
 use Rattle.oc_deeds.specs.Within.{IsWithin}
-use Rattle.oc_server.specs.declared.ends.TurnEnd.{TurnEnd}
-use Rattle.oc_server.specs.declared.ends.TurnEnd.TheVariants as ends
+use Rattle.oc_deeds.specs.declared.ends.TurnEnd.{TurnEnd}
+use Rattle.oc_deeds.specs.declared.ends.TurnEnd.TheVariants as ends
 use Rattle.oc_service.specs.AtAnyMoment.{AlwaysRecovers}
 use Rattle.oc_service.specs.Failures.{AreBorneOut}
 use Rattle.oc_service.specs.WhatNodeDoes.{Machine, at_first, begins, begun, due_at, node_behind, node_deeds, turn_deeds}

@@ -14,8 +14,8 @@ use Rattle.oc_server.specs.Runs.{reads_by}
 use Rattle.oc_server.specs.Scenes.{BreaksBehind, Did, running, setting}
 use Rattle.oc_deeds.specs.Under.{Under}
 use Rattle.oc_deeds.specs.Turns.{Observation}
-use Rattle.oc_server.specs.declared.ends.TurnEnd.{TurnEnd}
-use Rattle.oc_server.specs.declared.ends.TurnEnd.TheVariants as ends
+use Rattle.oc_deeds.specs.declared.ends.TurnEnd.{TurnEnd}
+use Rattle.oc_deeds.specs.declared.ends.TurnEnd.TheVariants as ends
 use Rattle.oc_server.specs.declared.server.Server.{Server}
 use Rattle.oc_server.specs.declared.turns.Turns.{Turns}
 use Rattle.oc_service.specs.WhatNodeDoes.{Machine, begins, begun, due_at, node_behind, node_deeds, turn_deeds}

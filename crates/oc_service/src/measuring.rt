@@ -7,10 +7,11 @@ ghost use Rattle.oc_service.specs.Measuring.{begins_with, takes_own_measure, tak
 ghost use Rattle.oc_service.specs.WhatNodeDoes.{begins_on, own_measure, own_measures};
 ghost use Rattle.oc_updown.specs.MeasureLines.{IsMeasure};
 
+use oc_deeds::TurnEnd;
 use oc_io::{Disk, Sink};
 use oc_link::Link;
 use oc_model::Input;
-use oc_server::{Server, TurnEnd};
+use oc_server::Server;
 use oc_updown::Measure;
 
 /// Reports the node's position in the tree, or begins its record, as the log asks, and takes the

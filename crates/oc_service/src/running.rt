@@ -20,12 +20,12 @@ use crate::measuring::begin;
 use crate::site::Site;
 use oc_base::NodeId;
 use oc_config::Config;
-use oc_deeds::Log;
+use oc_deeds::{Log, TurnEnd};
 use oc_io::{Disk, Sink};
 use oc_keep::{Files, KeepLoad};
 use oc_link::Link;
 use oc_routes::address_of;
-use oc_server::{Server, TurnEnd, Turns, turns_are_in_order};
+use oc_server::{Server, Turns, turns_are_in_order};
 use std::alloc::Global;
 
 /// The task of a node.

@@ -15,8 +15,8 @@ use oc_io::Disk;
 use oc_keep::{FileError, Files, KeepLoad, Kept, Seat};
 use std::alloc::Global;
 
-/// The node of this seat that these files recover. Files of a node on disks that do not fail are refused only where memory
-/// runs out.
+/// The node of this seat that these files recover. Files of a node on disks that do not fail are refused only
+/// where memory runs out.
 pub(crate) fn load<D: Disk + Drop>(
     alloc: Global,
     files: Files<D>,

@@ -16,10 +16,10 @@ pub returns-clause-lawful : goal.returns-clause-lawful
 returns-clause-lawful g c =
     let bs = c.deref.result.now in
     let ls = c.records.inside.lines.items in
-    let all : AllByRecursion (IsLine c.records.inside.nodes) ls = subst (λ (q : Records). AllByRecursion (IsLine q.header.nodes) q.lines) (sym c.records.view_is) c.requires.lines in
+    let all : AllByRecursion (IsLine c.records.inside.header.nodes) ls = subst (λ (q : Records). AllByRecursion (IsLine q.header.nodes) q.lines) (sym c.records.view_is) c.requires.lines in
     let left : c.in_ok-picked.field-0.items ≡ picked bs ls = c.in_ok-picked.ensures in
     record {
       header = subst (λ (q : Records). IsHeader q.header) (sym c.records.view_is) c.requires.header;
-      lines = subst (λ (ks : List ToldLine). AllByRecursion (IsLine c.records.inside.nodes) ks) (sym left) (picked_all (IsLine c.records.inside.nodes) bs ls all);
+      lines = subst (λ (ks : List ToldLine). AllByRecursion (IsLine c.records.inside.header.nodes) ks) (sym left) (picked_all (IsLine c.records.inside.header.nodes) bs ls all);
       few = omega (arith, picked_few bs ls, ap length left, ap (λ (q : Records). length q.lines) c.records.view_is, c.requires.few);
     }

@@ -1,5 +1,4 @@
-use Rattle.std.proofs.Common.{◌≡◌, ◌∙◌, List, ap, arith, ℕ}
-use Rattle.oc_model.specs.Node.{Header}
+use Rattle.std.proofs.Common.{◌≡◌, ℕ, ap, arith}
 use Rattle.oc_schedule.specs.Script.{Script}
 use Rattle.oc_replay.proofs.Opened.{opened-nodes, opened-opening}
 use Rattle.oc_replay.proofs.replaying.play.Goals as goal
@@ -8,19 +7,16 @@ use Rattle.oc_replay.proofs.replaying.play.Goals as goal
 pub tell-requires-clause-opened : goal.tell-requires-clause-opened
 tell-requires-clause-opened g c =
     let inside = c.schedule.inside in
-    let opened = λ (areas : List ℕ). let h : Header = record { nodes = inside.nodes; chain = inside.chain; chunk = inside.chunk; areas = areas } in h in
-    opened-opening c.args.schedule.now (opened c.deref.result.now) (g.T.Stage.world c.open.new.self) inside.events
-    (ap opened c.deref.ensures.value ∙ ap (λ (s : Script). s.header) c.schedule.view_is)
+    opened-opening c.args.schedule.now inside.header (g.T.Stage.world c.open.new.self) inside.events
+    (ap (λ (s : Script). s.header) c.schedule.view_is)
     (ap (λ (s : Script). s.events) c.schedule.view_is)
     c.in_ok-open.ensures c.requires
 
 pub tell-requires-clause-nodes : goal.tell-requires-clause-nodes
 tell-requires-clause-nodes g c =
-    let inside = c.schedule.inside in
-    let opened = λ (areas : List ℕ). let h : Header = record { nodes = inside.nodes; chain = inside.chain; chunk = inside.chunk; areas = areas } in h in
-    opened-nodes (opened c.deref.result.now) (g.T.Stage.world c.open.new.self) c.in_ok-open.ensures
+    opened-nodes c.schedule.inside.header (g.T.Stage.world c.open.new.self) c.in_ok-open.ensures
 
 pub tell-requires-clause-few : goal.tell-requires-clause-few
 tell-requires-clause-few g c =
-    let nodes : c.schedule.inside.nodes ≡ c.args.schedule.now.header.nodes = ap (λ (s : Script). s.header.nodes) c.schedule.view_is in
+    let nodes : c.schedule.inside.header.nodes ≡ c.args.schedule.now.header.nodes = ap (λ (s : Script). s.header.nodes) c.schedule.view_is in
     omega (arith, nodes, c.requires.header.few)

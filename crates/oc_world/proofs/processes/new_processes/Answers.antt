@@ -1,4 +1,4 @@
-use Rattle.std.proofs.Common.{◌≡◌, ◌+◌, ◌-◌, List, [], ◌∷◌, ◌++◌, ap, ◌∙◌, map}
+use Rattle.std.proofs.Common.{◌≡◌, ◌<◌, ◌+◌, ◌-◌, List, [], ◌∷◌, ◌++◌, ap, ◌∙◌, map, arith}
 use Rattle.std.specs.List.{range_with_len}
 use Rattle.oc_model.specs.Node.{Header}
 use Rattle.oc_model.specs.World.{Process}
@@ -14,7 +14,9 @@ loop-before-preserved c =
     let ps = processes_of sites in
     let k = c.loop-before.before in
     let h : Header = c.args.header.now in
+    let nodes : c.header.inside.sizes.nodes ≡ h.nodes = ap (λ (j : Header). j.nodes) c.header.view_is in
+    let less : k < h.nodes = omega (arith, c.loop-before-test.true, nodes) in
     let pushed : processes_of c.push.new.self.items ≡ ps ++ new_process h (k + 1) ∷ [] =
     ap processes_of c.in_ok-push.ensures.items ∙ (one_behind sites c.in_ok-new.field-0 ∙ ap (λ (p : ProcessView). ps ++ p.process ∷ []) c.in_ok-new.ensures) in
-    ap (λ (l : List Process). l ++ map (new_process h) (range_with_len (1 + (k + 1)) (c.args.header.now.nodes - (k + 1)))) pushed
-    ∙ one_more h ps k c.args.header.now.nodes (map (new_process h) (range_with_len 1 c.args.header.now.nodes)) c.loop-before-test.true c.loop-before.invariant
+    ap (λ (l : List Process). l ++ map (new_process h) (range_with_len (1 + (k + 1)) (h.nodes - (k + 1)))) pushed
+    ∙ one_more h ps k h.nodes (map (new_process h) (range_with_len 1 h.nodes)) less c.loop-before.invariant

@@ -1,24 +1,26 @@
-use Rattle.std.proofs.Common.{◌≡◌, ◌∷◌, [], List, ℕ, refl, subst, ◌∙◌}
+use Rattle.std.proofs.Common.{◌≡◌, List, ℕ, refl, subst, ◌∙◌}
 use Rattle.std.proofs.lemmas.Result.{err_from_is_err_and}
+use Rattle.oc_link.proofs.Stories.{adds-none}
 use Rattle.oc_deeds.specs.Deeds.{Says}
-use Rattle.oc_server.specs.Noting.{NoteBreaks}
 use Rattle.oc_deeds.specs.Records.{told_ahead}
-use Rattle.oc_server.specs.Scenes.{Did}
 use Rattle.oc_deeds.proofs.Results.{done_then, err_then}
-use Rattle.oc_server.proofs.Steps.{memory_breaks}
+use Rattle.oc_server.proofs.Steps.{did_line, line_breaks_as, memory_breaks}
 use Rattle.oc_server.proofs.server.Server.says_ahead.Goals as goal
 
 pub returns-clause-did : goal.returns-clause-did
 returns-clause-did g c =
     let s = c.args.self.now in
-    let is : c.deref.result.now ≡ told_ahead s.log s.kept.node.control.me c.args.input.now = c.deref.ensures.value ∙ c.in_ok-line.ensures in
-    done_then c.says.result (λ did. subst (λ (t : List ℕ). Did g.D.Disk.view g.K.Sink.takes g.K.Sink.faults g.L.Link.story g.L.Link.counts (Says t ∷ []) s c.says.new.self) is did) c.says.ensures.did
+    let text = told_ahead s.log s.kept.node.control.me c.args.input.now in
+    let is : c.deref.result.now ≡ text = c.deref.ensures.value ∙ c.in_ok-line.ensures in
+    done_then c.write_line.result (λ wrote. did_line g.D.Disk.view g.K.Sink.takes g.K.Sink.fails g.K.Sink.faults g.L.Link.story g.L.Link.counts (Says text) s c.write_line.new.sink s.works s.link refl c.requires.serving.is_open refl
+    (subst (λ (t : List ℕ). g.K.Sink.takes s.sink t c.write_line.new.sink) is wrote) c.write_line.ensures.count (λ all. all) refl (adds-none (g.L.Link.story s.link))) c.write_line.ensures.wrote
 
 pub returns-clause-breaks : goal.returns-clause-breaks
 returns-clause-breaks g c =
     let s = c.args.self.now in
-    let is : c.deref.result.now ≡ told_ahead s.log s.kept.node.control.me c.args.input.now = c.deref.ensures.value ∙ c.in_ok-line.ensures in
-    err_then c.says.result (λ end breaks. subst (λ (t : List ℕ). NoteBreaks g.D.Disk.view g.K.Sink.takes g.K.Sink.fails g.K.Sink.faults g.L.Link.story g.L.Link.counts end t s c.says.new.self) is breaks) c.says.ensures.breaks
+    let text = told_ahead s.log s.kept.node.control.me c.args.input.now in
+    let is : c.deref.result.now ≡ text = c.deref.ensures.value ∙ c.in_ok-line.ensures in
+    err_then c.write_line.result (λ end stops. line_breaks_as g.D.Disk.view g.K.Sink.takes g.K.Sink.fails g.K.Sink.faults g.L.Link.story g.L.Link.counts end c.deref.result.now text s (record s { sink = c.write_line.new.sink }) is refl refl refl stops (c.recovers.ensures.survives c.requires.serving.is_open)) c.write_line.ensures.stops
 
 pub returns-in_err-line-clause-breaks : goal.returns-in_err-line-clause-breaks
 returns-in_err-line-clause-breaks g c =

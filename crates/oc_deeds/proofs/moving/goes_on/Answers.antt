@@ -1,0 +1,43 @@
+use Rattle.std.proofs.Common.{List, sym, ap, ◌∙◌}
+use Rattle.oc_base.specs.declared.shelf.Shelf.{Shelf}
+use Rattle.oc_deeds.specs.Choices.{prospect_of}
+use Rattle.oc_deeds.specs.Deeds.{BreaksOff, Gives, LaysAside}
+use Rattle.oc_deeds.specs.Rooms.{goes_on, moves}
+use Rattle.oc_deeds.proofs.Results.{done_then, err_then}
+use Rattle.oc_deeds.specs.Parts.{one}
+use Rattle.oc_deeds.proofs.moving.goes_on.Goals as goal
+
+pub returns-in-Gives-clause-did : goal.returns-in-Gives-clause-did
+returns-in-Gives-clause-did g c =
+    let p = c.args.transfer in
+    let now = c.args.now in
+    let s = c.args.doer.now in
+    done_then c.gives.result (λ did. c.parts_go_on.ensures.as_same (one (Gives p now)) (goes_on p now) s c.gives.new.self (λ honest. ap (moves p now) (ap (λ (lines : List Shelf). prospect_of p lines now) (sym (c.shelf.ensures honest)) ∙ sym c.prospect_of.ensures ∙ c.in-Gives.is)) did) c.gives.ensures.did
+
+pub returns-in-Gives-clause-breaks : goal.returns-in-Gives-clause-breaks
+returns-in-Gives-clause-breaks g c =
+    let p = c.args.transfer in
+    let now = c.args.now in
+    let s = c.args.doer.now in
+    err_then c.gives.result (λ end stops. c.parts_stop.ensures.as_same end (one (Gives p now)) (goes_on p now) s c.gives.new.self (λ honest. ap (moves p now) (ap (λ (lines : List Shelf). prospect_of p lines now) (sym (c.shelf.ensures honest)) ∙ sym c.prospect_of.ensures ∙ c.in-Gives.is)) stops) c.gives.ensures.breaks
+
+pub returns-in-Waits-clause-did : goal.returns-in-Waits-clause-did
+returns-in-Waits-clause-did g c =
+    let p = c.args.transfer in
+    let now = c.args.now in
+    let s = c.args.doer.now in
+    done_then c.lays_aside.result (λ did. c.parts_go_on.ensures.as_same (one (LaysAside p)) (goes_on p now) s c.lays_aside.new.self (λ honest. ap (moves p now) (ap (λ (lines : List Shelf). prospect_of p lines now) (sym (c.shelf.ensures honest)) ∙ sym c.prospect_of.ensures ∙ c.in-Waits.is)) did) c.lays_aside.ensures.did
+
+pub returns-in-Waits-clause-breaks : goal.returns-in-Waits-clause-breaks
+returns-in-Waits-clause-breaks g c =
+    let p = c.args.transfer in
+    let now = c.args.now in
+    let s = c.args.doer.now in
+    err_then c.lays_aside.result (λ end stops. c.parts_stop.ensures.as_same end (one (LaysAside p)) (goes_on p now) s c.lays_aside.new.self (λ honest. ap (moves p now) (ap (λ (lines : List Shelf). prospect_of p lines now) (sym (c.shelf.ensures honest)) ∙ sym c.prospect_of.ensures ∙ c.in-Waits.is)) stops) c.lays_aside.ensures.breaks
+
+pub returns-in-Breaks-clause-did : goal.returns-in-Breaks-clause-did
+returns-in-Breaks-clause-did g c =
+    let p = c.args.transfer in
+    let now = c.args.now in
+    let s = c.args.doer.now in
+    c.parts_go_on.ensures.as_same (one (BreaksOff p.connection)) (goes_on p now) s c.breaks_off.new.self (λ honest. ap (moves p now) (ap (λ (lines : List Shelf). prospect_of p lines now) (sym (c.shelf.ensures honest)) ∙ sym c.prospect_of.ensures ∙ c.in-Breaks.is)) c.breaks_off.ensures

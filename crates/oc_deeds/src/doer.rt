@@ -1,0 +1,233 @@
+//! What does deeds: a running node with its files, its link and its output, or what stands for one.
+
+ghost use Rattle.std.specs.Prelude.{◌≡◌, ◌<◌, IfErr, IfOk, IfSome, List, OnOk, [], length};
+ghost use Rattle.std.specs.List.{AllByRecursion};
+ghost use Rattle.oc_base.specs.Groups.{shelf};
+ghost use Rattle.oc_base.specs.Lawful.{IsNode};
+ghost use Rattle.oc_model.specs.Lawful.{IsInput};
+ghost use Rattle.oc_model.specs.Step.{step};
+ghost use Rattle.oc_routes.specs.Asks.{IsLawfulAsk};
+ghost use Rattle.oc_routes.specs.Lawful.{IsAsked};
+ghost use Rattle.oc_wire.specs.Spelling.{HasSpelling};
+ghost use Rattle.oc_deeds.specs.Asks.{has_to_wait, replies};
+ghost use Rattle.oc_deeds.specs.Deeds.{Accepts, BreaksOff, Drops, Gives, LaysAside, Notes, Permits, Probes, Reads, Refuses, Running, Setting, Takes, Tells, Waits, after_all, back_to, sender_of};
+ghost use Rattle.oc_deeds.specs.Lawful.{IsLawfulWaiting, IsLawfulWork};
+ghost use Rattle.oc_deeds.specs.Parts.{Part, in_turn, nothing, one};
+ghost use Rattle.oc_deeds.specs.Sends.{dials_as};
+ghost use Rattle.oc_deeds.specs.Telling.{says_ahead, says_behind};
+ghost use Rattle.oc_deeds.specs.declared.ends.TurnEnd.{TurnEnd};
+ghost use Rattle.oc_deeds.specs.declared.ends.TurnEnd.TheVariants.{Memory as MemoryEnd};
+
+use crate::asked::Accepted;
+use crate::brief::Before;
+use crate::dials::Dialling;
+use crate::ends::TurnEnd;
+use crate::log::Log;
+use crate::outbox::Outbox;
+use crate::work::{Pending, Transfer, Waiting, Work};
+use oc_base::{NodeId, Shelf};
+use oc_link::{ConnectionId, DialId};
+use oc_model::{Answer, Input};
+use oc_node::Node;
+use oc_routes::{Refusal, Request};
+use std::alloc::Global;
+
+/// What does deeds, one after another. What is decided of them asks it for what the node is, and then for a deed.
+pub trait Doer {
+    /// The running node.
+    ghost running: { Self → Running };
+
+    /// Which node it is.
+    ghost setting: { Self → Setting };
+
+    /// Its disks keep the disk model.
+    ghost honest: { Self → Type 0 };
+
+    /// What holds between any two deeds.
+    ghost serving: { Self → Type 0 };
+
+    /// A part of a turn was done.
+    ghost does: { Part → Self → Self → Type 0 };
+
+    /// A front of a part was done, and then it ended so.
+    ghost stops: { TurnEnd → Part → Self → Self → Type 0 };
+
+    // What the node is
+
+    /// What allocates for it.
+    fn alloc(&self) -> Global;
+
+    /// Its control state.
+    fn node(&self) -> &Node
+        ensures { result.now.control ≡ (running self.now).node.control };
+
+    /// What it holds of each group.
+    fn shelf(&self) -> &[Shelf]
+        ensures { honest self.now → result.now ≡ shelf (running self.now).node.groups };
+
+    /// The messages that it has still to send.
+    fn outbox(&self) -> &Outbox
+        ensures { result.now ≡ (running self.now).outbox };
+
+    /// What is under way on its connections.
+    fn works(&self) -> &[Work]
+        ensures { result.now ≡ (running self.now).works };
+
+    /// What it has dialled.
+    fn dials_made(&self) -> &[Dialling]
+        ensures { result.now ≡ (running self.now).dials };
+
+    /// What it writes of its inputs.
+    fn log(&self) -> Log
+        ensures { result ≡ (setting self.now).log };
+
+    // Deeds
+
+    /// The time in milliseconds.
+    fn millis(&mut self) -> u64
+        requires { serving self.old }
+        ensures { does (one (Reads result)) self.old self.new };
+
+    /// The time in seconds.
+    fn seconds(&mut self) -> u64
+        requires { serving self.old }
+        ensures { does (one (Tells result)) self.old self.new };
+
+    /// Takes an input. It answers what the step does.
+    fn takes(&mut self, input: Input) -> Result<Answer, TurnEnd>
+        requires serving { serving self.old }
+        requires input { IsInput (running self.old).node.control.nodes (running self.old).node.control.me input }
+        ensures did { OnOk result (does (one (Takes input)) self.old self.new) }
+        ensures answer { IfOk result (λ answer. honest self.old → answer ≡ (step (running self.old).node input).answer) }
+        ensures breaks { IfErr result (λ end. stops end (one (Takes input)) self.old self.new) };
+
+    /// Takes the input of a request. It answers what the step does, and the message that goes back to its sender.
+    fn accepts(&mut self, input: Input) -> Result<Accepted, TurnEnd>
+        requires serving { serving self.old }
+        requires input { IsInput (running self.old).node.control.nodes (running self.old).node.control.me input }
+        ensures did { OnOk result (does (one (Accepts input)) self.old self.new) }
+        ensures answer { IfOk result (λ accepted. honest self.old → accepted.answer ≡ (step (running self.old).node input).answer) }
+        ensures back { IfOk result (λ accepted. honest self.old → accepted.back ≡ back_to (sender_of input) (step (running self.old).node input).sends) }
+        ensures text { IfOk result (λ accepted. IfSome accepted.back (λ m. HasSpelling m.body)) }
+        ensures breaks { IfErr result (λ end. stops end (one (Accepts input)) self.old self.new) };
+
+    /// Writes what is told of an input before its frame.
+    fn says_ahead(&mut self, input: &Input) -> Result<(), TurnEnd>
+        requires serving { serving self.old }
+        requires input { IsInput (running self.old).node.control.nodes (running self.old).node.control.me input.now }
+        ensures did { OnOk result (does (says_ahead input.now) self.old self.new) }
+        ensures breaks { IfErr result (λ end. stops end (says_ahead input.now) self.old self.new) };
+
+    /// Writes what is told of an input that was taken, by what was known before it.
+    fn says_behind(&mut self, before: Option<Before>, answer: Answer) -> Result<(), TurnEnd>
+        requires { serving self.old }
+        ensures did { OnOk result (does (says_behind before answer) self.old self.new) }
+        ensures breaks { IfErr result (λ end. stops end (says_behind before answer) self.old self.new) };
+
+    /// Writes the line `! WHY`.
+    fn notes(&mut self, why: &[u8]) -> Result<(), TurnEnd>
+        requires { serving self.old }
+        ensures did { OnOk result (does (one (Notes why.now)) self.old self.new) }
+        ensures breaks { IfErr result (λ end. stops end (one (Notes why.now)) self.old self.new) };
+
+    /// Gives a connection the permission to send the body of its request.
+    fn permits(&mut self, connection: ConnectionId)
+        requires { serving self.old }
+        ensures { does (one (Permits connection)) self.old self.new };
+
+    /// Takes a request that waits.
+    fn waits(&mut self, waiting: Waiting) -> Result<(), TurnEnd>
+        requires serving { serving self.old }
+        requires waiting { IsLawfulWaiting (running self.old).node.control.nodes (running self.old).node.control.me waiting }
+        ensures did { OnOk result (does (one (Waits waiting)) self.old self.new) }
+        ensures breaks { IfErr result (λ end. stops end (one (Waits waiting)) self.old self.new) };
+
+    /// Answers a request by what its input brought.
+    fn replies(&mut self, pending: Pending, accepted: &Accepted, now: u64) -> Result<(), TurnEnd>
+        requires serving { serving self.old }
+        requires asks { IsAsked pending.asked.operation }
+        requires back { IfSome accepted.now.back (λ m. HasSpelling m.body) }
+        ensures did { OnOk result (does (replies pending now accepted.now.answer accepted.now.back) self.old self.new) }
+        ensures breaks { IfErr result (λ end. stops end (replies pending now accepted.now.answer accepted.now.back) self.old self.new) };
+
+    /// Refuses a request of this many bytes.
+    fn refuses(&mut self, connection: ConnectionId, count: u64, refusal: Refusal) -> Result<(), TurnEnd>
+        requires { serving self.old }
+        ensures did { OnOk result (does (one (Refuses connection count refusal)) self.old self.new) }
+        ensures breaks { IfErr result (λ end. stops end (one (Refuses connection count refusal)) self.old self.new) };
+
+    /// Breaks a connection off.
+    fn breaks_off(&mut self, connection: ConnectionId)
+        requires { serving self.old }
+        ensures { does (one (BreaksOff connection)) self.old self.new };
+
+    /// Gives the next piece of a content.
+    fn gives(&mut self, transfer: Transfer, now: u64) -> Result<(), TurnEnd>
+        requires { serving self.old }
+        ensures did { OnOk result (does (one (Gives transfer now)) self.old self.new) }
+        ensures breaks { IfErr result (λ end. stops end (one (Gives transfer now)) self.old self.new) };
+
+    /// A content has nothing to give until its group has grown.
+    fn lays_aside(&mut self, transfer: Transfer) -> Result<(), TurnEnd>
+        requires { serving self.old }
+        ensures did { OnOk result (does (one (LaysAside transfer)) self.old self.new) }
+        ensures breaks { IfErr result (λ end. stops end (one (LaysAside transfer)) self.old self.new) };
+
+    /// What is under way on a connection is over. A line says so where `told`.
+    fn drops(&mut self, connection: ConnectionId, told: bool) -> Result<(), TurnEnd>
+        requires { serving self.old }
+        ensures did { OnOk result (does (one (Drops connection told)) self.old self.new) }
+        ensures breaks { IfErr result (λ end. stops end (one (Drops connection told)) self.old self.new) };
+
+    /// Dials the message at an index of the outbox under this number.
+    fn dials(&mut self, index: usize, dial: DialId) -> Result<(), TurnEnd>
+        requires serving { serving self.old }
+        requires index { index < length (running self.old).outbox }
+        ensures did { OnOk result (does (dials_as index dial) self.old self.new) }
+        ensures breaks { IfErr result (λ end. stops end (dials_as index dial) self.old self.new) };
+
+    /// Begins the probe of a node under this number and at this time.
+    fn probes(&mut self, peer: NodeId, dial: DialId, now: u64) -> Result<(), TurnEnd>
+        requires serving { serving self.old }
+        requires peer { IsNode (running self.old).node.control.nodes peer }
+        ensures did { OnOk result (does (one (Probes peer dial now)) self.old self.new) }
+        ensures breaks { IfErr result (λ end. stops end (one (Probes peer dial now)) self.old self.new) };
+
+    /// Whether a request is to wait. Nothing of the node changes.
+    fn has_to_wait(&mut self, request: &Request) -> Result<bool, TurnEnd>
+        requires serving { serving self.old }
+        requires request { IsLawfulAsk (running self.old).node.control.nodes (running self.old).node.control.me request.now }
+        ensures waits { IfOk result (λ waits. honest self.old → waits ≡ has_to_wait request.now (running self.old).node) }
+        ensures did { OnOk result (does nothing self.old self.new) }
+        ensures breaks { IfErr result (λ end. stops end nothing self.old self.new) };
+
+    // Laws, which do nothing
+
+    /// Whatever was to be done, memory may run out before it.
+    fn may_end(&self)
+        requires { serving self.now }
+        ensures { (p : Part) → stops MemoryEnd p self.now self.now };
+
+    /// Parts go on from one another.
+    fn parts_go_on()
+        ensures stays_serving { (p : Part) (a b : Self) → does p a b → serving a → serving b }
+        ensures stays_honest { (p : Part) (a b : Self) → does p a b → honest a → honest b }
+        ensures stays_set { (p : Part) (a b : Self) → does p a b → setting b ≡ setting a }
+        ensures same_me { (p : Part) (a b : Self) → does p a b → (running b).node.control.me ≡ (running a).node.control.me }
+        ensures same_nodes { (p : Part) (a b : Self) → does p a b → (running b).node.control.nodes ≡ (running a).node.control.nodes }
+        ensures leaves { (p : Part) (a b : Self) → does p a b → honest a → running b ≡ after_all (p (setting a) (running a)) (running a) }
+        ensures nothing_done { (p : Part) (a : Self) → serving a → (honest a → p (setting a) (running a) ≡ []) → does p a a }
+        ensures as_same { (p q : Part) (a b : Self) → (honest a → q (setting a) (running a) ≡ p (setting a) (running a)) → does p a b → does q a b }
+        ensures follows { (p q r : Part) (a b c : Self) → does p a b → (honest a → r (setting b) (running b) ≡ q (setting b) (running b)) → does r b c → does (in_turn p q) a c };
+
+    /// And end partway through.
+    fn parts_stop()
+        ensures as_same { (end : TurnEnd) (p q : Part) (a c : Self) → (honest a → q (setting a) (running a) ≡ p (setting a) (running a)) → stops end p a c → stops end q a c }
+        ensures in_first { (end : TurnEnd) (p q : Part) (a c : Self) → stops end p a c → stops end (in_turn p q) a c }
+        ensures follows { (end : TurnEnd) (p q r : Part) (a b c : Self) → does p a b → (honest a → r (setting b) (running b) ≡ q (setting b) (running b)) → stops end r b c → stops end (in_turn p q) a c };
+
+    /// What is under way is lawful, and which node it is.
+    fn is_lawful()
+        ensures lawful_works { (a : Self) → serving a → AllByRecursion (IsLawfulWork (running a).node.control.nodes (running a).node.control.me) (running a).works }
+        ensures same_me { (a : Self) → (setting a).me ≡ (running a).node.control.me };
+}

@@ -1,0 +1,8 @@
+use Rattle.std.proofs.Common.{refl}
+use Rattle.oc_server.proofs.doing.ServerDoer.is_lawful.Goals as goal
+
+pub returns-clause-lawful_works : goal.returns-clause-lawful_works
+returns-clause-lawful_works g c = λ s serving. serving.lawful.works
+
+pub returns-clause-same_me : goal.returns-clause-same_me
+returns-clause-same_me g c = λ s. refl

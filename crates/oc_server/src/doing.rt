@@ -1,0 +1,239 @@
+//! What a server does: each deed, on its files, its link and its output.
+
+ghost use Rattle.oc_keep.specs.KeptView.{IsHonest};
+ghost use Rattle.oc_server.specs.Parts.{Does, Stops};
+ghost use Rattle.oc_server.specs.Scenes.{IsServing};
+ghost use Rattle.oc_server.specs.Scenes as scenes;
+
+use crate::answering::has_to_wait;
+use crate::dialling::{address_of, begin_dial, request_to};
+use crate::giving::{finish, first_piece, joined, next_piece, take_request, whole};
+use crate::noting::{refuse, write_line, write_told};
+use crate::server::Server;
+use crate::taking::{keep, line_of};
+use oc_base::{NodeId, Shelf};
+use oc_deeds::asked::{Accepted, held_back, sender_of};
+use oc_deeds::brief::{Before, behind};
+use oc_deeds::contents::{begin_rest, keeps, place_of};
+use oc_deeds::lines::put_note;
+use oc_deeds::{
+    Dialling, Doer, Errand, Log, Outbox, Pending, Transfer, TurnEnd, Waiting, Work, put_all,
+};
+use oc_http::write_probe;
+use oc_io::{Disk, Sink};
+use oc_link::{ConnectionId, DialId, Ending, Link};
+use oc_model::{Answer, Input};
+use oc_node::Node;
+use oc_routes::{CONTINUE, Refusal, Request, put_refusal_line, refusal_reply};
+use std::alloc::Global;
+
+impl<D: Disk, L: Link, K: Sink> Doer for Server<D, L, K> {
+    ghost running = { scenes.running };
+
+    ghost setting = { scenes.setting };
+
+    ghost honest = { λ s. IsHonest D.view s.kept };
+
+    ghost serving = { IsServing };
+
+    ghost does = { Does D.view K.takes K.faults L.story L.counts };
+
+    ghost stops = { Stops D.view K.takes K.fails K.faults L.story L.counts };
+
+    fn alloc(&self) -> Global {
+        self.alloc
+    }
+
+    fn node(&self) -> &Node {
+        self.kept.node()
+    }
+
+    fn shelf(&self) -> &[Shelf] {
+        self.kept.shelf()
+    }
+
+    fn outbox(&self) -> &Outbox {
+        &self.outbox
+    }
+
+    fn works(&self) -> &[Work] {
+        self.works.list()
+    }
+
+    fn dials_made(&self) -> &[Dialling] {
+        self.dials.list()
+    }
+
+    fn log(&self) -> Log {
+        self.log
+    }
+
+    fn millis(&mut self) -> u64 {
+        self.link.millis()
+    }
+
+    fn seconds(&mut self) -> u64 {
+        self.link.now()
+    }
+
+    fn takes(&mut self, input: Input) -> Result<Answer, TurnEnd> {
+        self.takes(input)
+    }
+
+    fn accepts(&mut self, input: Input) -> Result<Accepted, TurnEnd> {
+        self.kept.recovers();
+        let line = line_of(self.alloc, self.log, &self.kept, &input)?;
+        let sender = sender_of(&input);
+        let outcome = keep(&mut self.kept, input)?;
+        write_line(&mut self.sink, &line)?;
+        // The first message that goes back to the sender of a message is its reply.
+        let (back, others) = held_back(sender, outcome.sends);
+        put_all(&mut self.outbox, others);
+        Ok(Accepted {
+            answer: outcome.answer,
+            back,
+        })
+    }
+
+    fn says_ahead(&mut self, input: &Input) -> Result<(), TurnEnd> {
+        self.says_ahead(input)
+    }
+
+    fn says_behind(&mut self, before: Option<Before>, answer: Answer) -> Result<(), TurnEnd> {
+        self.kept.recovers();
+        let text = behind(self.alloc, &before, self.kept.node(), answer)?;
+        write_line(&mut self.sink, &text)
+    }
+
+    fn notes(&mut self, why: &[u8]) -> Result<(), TurnEnd> {
+        self.kept.recovers();
+        let mut line = Vec::new(self.alloc);
+        put_note(&mut line, why)?;
+        write_line(&mut self.sink, &line)
+    }
+
+    fn permits(&mut self, connection: ConnectionId) {
+        self.link.give(connection, CONTINUE);
+    }
+
+    fn waits(&mut self, waiting: Waiting) -> Result<(), TurnEnd> {
+        self.kept.recovers();
+        let (connection, count) = (waiting.connection, waiting.request.count);
+        self.works.begin(Work::Waits(waiting))?;
+        self.link.take(connection, count);
+        Ok(())
+    }
+
+    fn replies(&mut self, pending: Pending, accepted: &Accepted, now: u64) -> Result<(), TurnEnd> {
+        self.kept.recovers();
+        let response = self.response_to(&pending, accepted)?;
+        let place = place_of(&pending, &response, now);
+        let piece = first_piece(self.alloc, &mut self.kept, &place, now)?;
+        self.kept.recovers();
+        let text = joined(self.alloc, response.text.items(), &piece.text)?;
+        let _waited = self.works.take(pending.connection);
+        begin_rest(&mut self.works, &piece.rest)?;
+        take_request(&mut self.link, &pending);
+        let all = whole(&text, response.text.items());
+        self.link.give(pending.connection, all);
+        let ending = Ending {
+            keeps: keeps(response.connection),
+            watched: pending.told,
+        };
+        finish(&mut self.link, pending.connection, ending, &piece.rest);
+        Ok(())
+    }
+
+    fn refuses(
+        &mut self,
+        connection: ConnectionId,
+        count: u64,
+        refusal: Refusal,
+    ) -> Result<(), TurnEnd> {
+        self.kept.recovers();
+        let reply = refusal_reply(self.alloc, refusal)?;
+        let mut line = Vec::new(self.alloc);
+        put_refusal_line(&mut line, refusal.why)?;
+        // The line is written before the reply is given.
+        write_line(&mut self.sink, &line)?;
+        refuse(&mut self.link, connection, count, reply);
+        Ok(())
+    }
+
+    fn breaks_off(&mut self, connection: ConnectionId) {
+        let _gone = self.works.take(connection);
+        self.link.break_off(connection);
+    }
+
+    fn gives(&mut self, transfer: Transfer, now: u64) -> Result<(), TurnEnd> {
+        let piece = next_piece(self.alloc, &mut self.kept, &transfer, now)?;
+        self.kept.recovers();
+        let _given = self.works.take(transfer.connection);
+        begin_rest(&mut self.works, &piece.rest)?;
+        self.link.give(transfer.connection, &piece.text);
+        let ending = Ending {
+            keeps: transfer.keeps,
+            watched: transfer.told,
+        };
+        finish(&mut self.link, transfer.connection, ending, &piece.rest);
+        Ok(())
+    }
+
+    fn lays_aside(&mut self, transfer: Transfer) -> Result<(), TurnEnd> {
+        self.kept.recovers();
+        let _content = self.works.take(transfer.connection);
+        self.works.begin(Work::Aside(transfer))?;
+        Ok(())
+    }
+
+    fn drops(&mut self, connection: ConnectionId, told: bool) -> Result<(), TurnEnd> {
+        self.kept.recovers();
+        write_told(&mut self.sink, told)?;
+        let _gone = self.works.take(connection);
+        Ok(())
+    }
+
+    fn dials(&mut self, index: usize, dial: DialId) -> Result<(), TurnEnd> {
+        self.kept.recovers();
+        match self.outbox.take(index) {
+            Some(message) => {
+                let text = request_to(self.alloc, &self.config, &message)?;
+                let address = address_of(&self.config, message.to);
+                begin_dial(
+                    &mut self.link,
+                    &mut self.dials,
+                    address,
+                    &message,
+                    dial,
+                    &text,
+                )?;
+                Ok(())
+            }
+            None => Ok(()),
+        }
+    }
+
+    fn probes(&mut self, peer: NodeId, dial: DialId, now: u64) -> Result<(), TurnEnd> {
+        self.kept.recovers();
+        let address = address_of(&self.config, peer);
+        let text = write_probe(self.alloc, address)?;
+        let errand = Errand::Probe { peer, since: now };
+        self.dials.begin(dial, errand)?;
+        self.link.dial(dial, address, &text);
+        Ok(())
+    }
+
+    fn has_to_wait(&mut self, request: &Request) -> Result<bool, TurnEnd> {
+        has_to_wait(&mut self.kept, request)
+    }
+
+    fn may_end(&self) {
+        self.kept.recovers();
+    }
+
+    fn parts_go_on() {}
+
+    fn parts_stop() {}
+
+    fn is_lawful() {}
+}

@@ -2,7 +2,7 @@ use Rattle.std.proofs.Common.{refl, sym, ◌∙◌, Option}
 use Rattle.std.proofs.lemmas.Result.{err_from_is_err_and}
 use Rattle.oc_server.proofs.Dialled.{dialled}
 use Rattle.oc_deeds.proofs.Lawful.{none_there}
-use Rattle.oc_deeds.proofs.Messages.{one_sendable, receiver_of_sendable, text_of_sendable}
+use Rattle.oc_deeds.proofs.Messages.{one_sendable, text_of_sendable}
 use Rattle.oc_server.proofs.Parts.{does_one}
 use Rattle.oc_server.proofs.Stopping.{memory_stops}
 use Rattle.oc_server.specs.Scenes.{setting, running}

@@ -36,6 +36,7 @@ pub fn config_change(
 fn restart_key(running: Running, old: &Config, new: &Config) -> Option<ConfigKey>
     ensures { result ≡ restart_key running old.now new.now }
 {
+    let me = running.me;
     if !keeps_nodes(running, old.addresses.len(), new.addresses.len()) {
         Some(ConfigKey::Nodes)
     } else if old.chain != new.chain {
@@ -44,7 +45,7 @@ fn restart_key(running: Running, old: &Config, new: &Config) -> Option<ConfigKey
         Some(ConfigKey::Chunk)
     } else if !same_presence(&old.keys, &new.keys) {
         Some(ConfigKey::NodeKey)
-    } else if !keeps_listen(running.me, old, new) {
+    } else if !keeps_listen(me, old, new) {
         Some(ConfigKey::Listen)
     } else if !keeps_areas(running, &old.areas, &new.areas) {
         Some(ConfigKey::Area)

@@ -14,3 +14,4 @@ mod Splits
 mod Spelled
 pub mod Ipv6
 pub mod AddressBytes
+mod Stays

@@ -1,5 +1,5 @@
 -- Which changes of its configuration a node takes over while it runs.
-use Rattle.std.specs.Prelude.{ℕ, Bool, true, false, not, ◌-◌, ◌&&◌, ◌==◌, nat_lt, if◌then◌else◌, Option, Some, None, is_some, Result, Ok, Err, List, length, slice_index_or}
+use Rattle.std.specs.Prelude.{◌≡◌, ℕ, ◌≤◌, Bool, true, false, not, ◌-◌, ◌&&◌, ◌==◌, nat_lt, if◌then◌else◌, Option, Some, None, is_some, Result, Ok, Err, List, length, slice_index_or}
 use Rattle.std.specs.List.{list_any}
 use Rattle.std.specs.Str.{bytes_eq}
 use Rattle.oc_updown.specs.declared.measure_lines.Measure.{Measure}
@@ -49,6 +49,16 @@ taken_over new (Some key) = Err key
 
 abbrev pub config_change : Running → Settings → Settings → Result Settings ConfigKey
 config_change r old new = taken_over new (restart_key r old new)
+
+-- what stays as it was where settings are taken over: all that a network shares, but that there may be more nodes, where the node listens,
+-- and, where it writes a record, all of the header of that
+pub record Stays (r : Running) (old new : Settings) : Type 0 where
+  pub chain : old.chain ≡ new.chain
+  pub chunk : old.chunk ≡ new.chunk
+  pub nodes : length old.addresses ≤ length new.addresses
+  pub keyed : same_presence old.keys new.keys ≡ true
+  pub listen : listen_at r.me old ≡ listen_at r.me new
+  pub recorded : r.recorded ≡ true → (length old.addresses ≡ length new.addresses) × (old.areas ≡ new.areas)
 
 -- one measure is another
 abbrev pub same_measure : Measure → Measure → Bool

@@ -3,13 +3,14 @@ ghost use Rattle.std.specs.List.{AllByRecursion};
 ghost use Rattle.oc_http.specs.Writing.{IsHost};
 ghost use Rattle.oc_config.specs.Addresses.{is_address};
 ghost use Rattle.toml.specs.Data.{item, no_items, no_members};
-ghost use Rattle.oc_config.specs.Changes.{config_change};
+ghost use Rattle.oc_config.specs.Changes.{Stays, config_change};
 ghost use Rattle.oc_config.specs.Examples.{accepts, five_keys, grown, has_key, named, one_node, one_place, other_key, placed, read, retired_and_placed};
 ghost use Rattle.oc_config.specs.Examples.{retired_node, retired_read, running, two_keys_read, with_room, with_room_read};
 ghost use Rattle.oc_config.specs.Laws.{IsSaid};
 ghost use Rattle.oc_config.specs.Reading.{common_in, greatest_of, settings_in, node_tables_in};
 ghost use Rattle.oc_config.specs.Settings.{Settings};
 ghost use Rattle.oc_config.specs.Values.{Section};
+ghost use Rattle.oc_config.specs.declared.change.Running.{Running};
 ghost use Rattle.oc_config.specs.declared.config_key.ConfigKey.TheVariants.{Accept, Area, Id, Listen, Name, NodeKey, Nodes, Retired};
 ghost use Rattle.oc_config.specs.declared.fault.ConfigFault.TheVariants.{Value};
 ghost use Rattle.oc_config.specs.declared.reading.Common.{Common};
@@ -38,6 +39,13 @@ pub fn examples_are_read()
     ensures keys { read (accepts (item other_key no_items) has_key) ≡ Ok two_keys_read }
     ensures many { read (accepts five_keys has_key) ≡ Err (Value Top Accept) }
     ensures keyless { read (accepts no_items no_members) ≡ Err (Value Top Accept) }
+{}
+
+/// A node goes on with all of a new configuration or with none of it, and where it goes on with it the network is as it
+/// was, but that more nodes may have come.
+pub fn a_change_keeps_the_network()
+    ensures { (running : Running) (old new taken : Settings) → config_change running old new ≡ Ok taken
+        → (taken ≡ new) × Stays running old new }
 {}
 
 /// Worked examples of configurations that are read again come out as they should. They are computed.

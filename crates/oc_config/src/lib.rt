@@ -10,7 +10,8 @@
 //! `specs/Accepted` what the keys of the network do, `specs/AccessRules` what the table of a rule does, and
 //! `specs/Known` which keys are none.
 //!
-//! A node that runs may read its configuration again: [`config_change`] says what it then goes by (`specs/Changes`).
+//! A node that runs may read its configuration again: [`config_change`] says what it then goes by (`specs/Changes`), and
+//! [`a_change_keeps_the_network`] what stays.
 #![tactic(auto)]
 
 mod address;
@@ -37,7 +38,8 @@ pub use config_key::ConfigKey;
 pub use fault::ConfigFault;
 pub use key_name::KeyName;
 pub use law::{
-    each_address_is_a_host, each_node_has_its_table, examples_are_read, examples_are_taken_over,
+    a_change_keeps_the_network, each_address_is_a_host, each_node_has_its_table, examples_are_read,
+    examples_are_taken_over,
 };
 pub use oc_base::Why;
 pub use name::MAX_NAME_BYTES;

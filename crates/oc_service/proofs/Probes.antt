@@ -27,11 +27,15 @@ same_peers f me id [] = refl
 same_peers f me id (None ∷ places) = same_peers f me (id + 1) places
 same_peers f me id (Some x ∷ places) = ap (λ (ids : List ℕ). if id == me then ids else id ∷ ids) (same_peers f me (id + 1) places)
 
-pub made_for : {A : Type 0} (me : ℕ) (places : List (Option A)) (p : Probing) → p.gauge ≡ replicate (length places) [] → p.rotation ≡ record { coming = peers_of me places } → IsMadeFor (length places) p
-made_for me places p gauge rotation = record {
+made_of : {A : Type 0} (me : ℕ) (places : List (Option A)) (p : Probing) → p.gauge ≡ replicate (length places) [] → p.rotation ≡ record { coming = peers_of me places } → IsMadeFor (length places) p
+made_of me places p gauge rotation = record {
   rates = subst (λ (g : List (List ℕ)). length g ≡ length places) (sym gauge) (length-replicate (length places) []);
   peers = subst (λ (r : RotationView). AllByRecursion (IsNode (length places)) r.coming) (sym rotation) (all_peers me (length places) 1 places (omega arith) (omega arith));
 }
+
+pub made_for : {A : Type 0} (f : A → List ℕ) (me : ℕ) (places : List (Option A)) (p : Probing) → p.gauge ≡ replicate (length places) [] → p.rotation ≡ record { coming = peers_of me places }
+    → IsMadeFor (length (map (option_map f) places)) p
+made_for f me places p gauge rotation = subst (λ (n : ℕ). IsMadeFor n p) (sym (length-map places (option_map f))) (made_of me places p gauge rotation)
 
 abbrev probing_from : List (List ℕ) → RotationView → Probing
 probing_from gauge rotation = record { gauge = gauge; rotation = rotation }

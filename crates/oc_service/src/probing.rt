@@ -18,7 +18,7 @@ pub(crate) fn first_probing(
 ) -> Result<Option<Probing>, Memory>
     requires { length addresses.now ≤ MAX_NODES }
     ensures first { IfOk result (λ probing. probing ≡ probing_at_first probes me (map (option_map string_bytes) addresses.now)) }
-    ensures made { IfOk result (λ probing. IfSome probing (IsMadeFor (length addresses.now))) }
+    ensures made { IfOk result (λ probing. IfSome probing (IsMadeFor (length (map (option_map string_bytes) addresses.now)))) }
 {
     if probes {
         Ok(Some(make_probing(alloc, me, addresses)?))
@@ -35,7 +35,7 @@ fn make_probing(
 ) -> Result<Probing, Memory>
     requires { length addresses.now ≤ MAX_NODES }
     ensures first { IfOk result (λ probing. probing ≡ probing_of me (map (option_map string_bytes) addresses.now)) }
-    ensures made { IfOk result (IsMadeFor (length addresses.now)) }
+    ensures made { IfOk result (IsMadeFor (length (map (option_map string_bytes) addresses.now))) }
 {
     Ok(Probing {
         gauge: Gauge::new(alloc, addresses.len() as u32)?,

@@ -55,5 +55,5 @@ told_behind None n answer = []
 told_behind (Some b) n answer = asked_line b.told.items answer ++ lost_lines n b.leased.items ++ moved_line b.mode n
 
 -- and it is said
-abbrev pub says_behind : Option Before → Answer → Part
-says_behind before answer s a = Says (told_behind before a.node.control answer) ∷ []
+abbrev pub says_after : Option Before → Answer → Part
+says_after before answer s a = Says (told_behind before a.node.control answer) ∷ []

@@ -14,7 +14,7 @@ ghost use Rattle.oc_deeds.specs.Deeds.{Accepts, BreaksOff, Drops, Gives, LaysAsi
 ghost use Rattle.oc_deeds.specs.Lawful.{IsLawfulWaiting, IsLawfulWork};
 ghost use Rattle.oc_deeds.specs.Parts.{Part, in_turn, nothing, one};
 ghost use Rattle.oc_deeds.specs.Sends.{dials_as};
-ghost use Rattle.oc_deeds.specs.Telling.{says_ahead, says_behind};
+ghost use Rattle.oc_deeds.specs.Telling.{says_ahead, says_after};
 ghost use Rattle.oc_deeds.specs.declared.ends.TurnEnd.{TurnEnd};
 ghost use Rattle.oc_deeds.specs.declared.ends.TurnEnd.TheVariants.{Memory as MemoryEnd};
 
@@ -119,10 +119,10 @@ pub trait Doer {
         ensures breaks { IfErr result (λ end. stops end (says_ahead input.now) self.old self.new) };
 
     /// Writes what is told of an input that was taken, by what was known before it.
-    fn says_behind(&mut self, before: Option<Before>, answer: Answer) -> Result<(), TurnEnd>
+    fn says_after(&mut self, before: Option<Before>, answer: Answer) -> Result<(), TurnEnd>
         requires { serving self.old }
-        ensures did { OnOk result (does (says_behind before answer) self.old self.new) }
-        ensures breaks { IfErr result (λ end. stops end (says_behind before answer) self.old self.new) };
+        ensures did { OnOk result (does (says_after before answer) self.old self.new) }
+        ensures breaks { IfErr result (λ end. stops end (says_after before answer) self.old self.new) };
 
     /// Writes the line `! WHY`.
     fn notes(&mut self, why: &[u8]) -> Result<(), TurnEnd>
@@ -151,7 +151,12 @@ pub trait Doer {
         ensures breaks { IfErr result (λ end. stops end (replies pending now accepted.now.answer accepted.now.back) self.old self.new) };
 
     /// Refuses a request of this many bytes.
-    fn refuses(&mut self, connection: ConnectionId, count: u64, refusal: Refusal) -> Result<(), TurnEnd>
+    fn refuses(
+        &mut self,
+        connection: ConnectionId,
+        count: u64,
+        refusal: Refusal,
+    ) -> Result<(), TurnEnd>
         requires { serving self.old }
         ensures did { OnOk result (does (one (Refuses connection count refusal)) self.old self.new) }
         ensures breaks { IfErr result (λ end. stops end (one (Refuses connection count refusal)) self.old self.new) };

@@ -44,8 +44,8 @@ pub mod rooms;
 mod sending;
 mod taking_up;
 mod told;
-mod turning;
 mod turn_law;
+mod turning;
 mod work;
 mod works;
 
@@ -59,8 +59,8 @@ pub use law::{
 };
 pub use log::Log;
 pub use outbox::{Outbox, is_fetch, put_all};
-pub use pace::{Pace, most_interval, quickened};
-pub use turning::{deals, takes_due};
+pub use pace::{Pace, most_interval};
 pub use turn_law::{brief_lines_compute, turns_compute};
+pub use turning::{deals, takes_due};
 pub use work::{Pending, Transfer, Waiting, Work, client_input, pending_of};
 pub use works::Works;

@@ -94,11 +94,11 @@ fn answers_or_waits<W: Doer>(
         return Ok(false);
     }
     let pending = pending_of(connection, &request, request.input.is_some(), false);
-    answers(doer, pending, request.input, now)
+    responds(doer, pending, request.input, now)
 }
 
 /// Takes the input of a request, if it has one, and answers it.
-pub fn answers<W: Doer>(
+pub fn responds<W: Doer>(
     doer: &mut W,
     pending: Pending,
     input: Option<Input>,
@@ -114,7 +114,7 @@ pub fn answers<W: Doer>(
     W::parts_go_on();
     W::parts_stop();
     match input {
-        Some(input) => accepts_and_answers(doer, pending, input, now),
+        Some(input) => accepts_and_responds(doer, pending, input, now),
         None => {
             let accepted = Accepted {
                 answer: Answer::Ok,
@@ -127,7 +127,7 @@ pub fn answers<W: Doer>(
 }
 
 /// Takes the input of a request, and answers it.
-fn accepts_and_answers<W: Doer>(
+fn accepts_and_responds<W: Doer>(
     doer: &mut W,
     pending: Pending,
     input: Input,

@@ -15,7 +15,7 @@ use crate::due::{Due, due_at};
 use crate::ends::TurnEnd;
 use crate::lines::probe_note;
 use crate::moving::goes_on;
-use crate::obeying::answers;
+use crate::obeying::responds;
 use crate::pace::Pace;
 use crate::told::{takes_ahead, takes_in};
 use crate::work::{Pending, client_input};
@@ -51,7 +51,7 @@ fn wakes<W: Doer>(doer: &mut W, pending: Pending, now: u64) -> Result<(), TurnEn
     W::parts_stop();
     let input = client_input(&pending.asked.operation, pending.asked.hint);
     // A request for content does not hurry the next tick.
-    let _hurries = answers(doer, pending, input, now)?;
+    let _hurries = responds(doer, pending, input, now)?;
     Ok(())
 }
 

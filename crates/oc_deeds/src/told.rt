@@ -68,7 +68,7 @@ fn takes_told<W: Doer>(doer: &mut W, input: Input) -> Result<(), TurnEnd>
     doer.may_end();
     let before = known_before(doer.alloc(), doer.log(), doer.node(), &input)?;
     let answer = doer.takes(input)?;
-    doer.says_behind(before, answer)
+    doer.says_after(before, answer)
 }
 
 /// Takes the input of a request, and writes what is told after it.
@@ -86,6 +86,6 @@ fn accepts_told<W: Doer>(doer: &mut W, input: Input) -> Result<Accepted, TurnEnd
     doer.may_end();
     let before = known_before(doer.alloc(), doer.log(), doer.node(), &input)?;
     let accepted = doer.accepts(input)?;
-    doer.says_behind(before, accepted.answer)?;
+    doer.says_after(before, accepted.answer)?;
     Ok(accepted)
 }

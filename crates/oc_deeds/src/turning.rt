@@ -16,9 +16,7 @@ use crate::obeying::obeys;
 use crate::pace::{Pace, quickened};
 use crate::probing::{measured, next_peer};
 use crate::sending::sends;
-use crate::taking_up::{
-    notes_fault, probes_it, takes_brought, takes_measure, takes_up, ticked,
-};
+use crate::taking_up::{notes_fault, probes_it, takes_brought, takes_measure, takes_up, ticked};
 use oc_base::{MAX_RATE, NodeId};
 use oc_probe::{ProbeFault, Probing, rate_of};
 

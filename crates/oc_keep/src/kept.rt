@@ -83,7 +83,7 @@ impl<D: Disk> Kept<D> {
             alternate,
             content,
         } = files;
-        let (store, list) = match Store::load(alloc, control, alternate, seat.header.sizes.nodes) {
+        let (store, list) = match Store::load(alloc, control, alternate, seat.nodes()) {
             Ok(loaded) => loaded,
             Err((control, alternate, error)) => {
                 return Err((

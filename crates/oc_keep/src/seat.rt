@@ -25,4 +25,11 @@ impl Seat {
             },
         })
     }
+
+    /// The number of nodes of the network.
+    pub fn nodes(&self) -> u32
+        ensures { result ≡ self.now.header.nodes }
+    {
+        self.header.sizes.nodes
+    }
 }

@@ -43,7 +43,7 @@ fn way_at<N: Nodes>(
 {
     match records.lines.get(place) {
         None => Ok(None),
-        Some(line) => way_of(alloc, nodes, records.header.sizes.nodes, line, started),
+        Some(line) => way_of(alloc, nodes, records.nodes(), line, started),
     }
 }
 
@@ -60,8 +60,9 @@ pub(crate) fn first_heads<N: Nodes>(
     ensures heads { IfOk result (λ heads. AreHeads records.now.header.nodes records.now.lines [] heads.items) }
     ensures ways { IfOk result (λ heads. HaveWays N.digest records.now (N.world nodes.now) heads.items) }
 {
-    let mut heads = Vec::with_capacity(alloc, records.header.sizes.nodes as usize)?;
-    for before in 0..records.header.sizes.nodes {
+    let count = records.nodes();
+    let mut heads = Vec::with_capacity(alloc, count as usize)?;
+    for before in 0..count {
         let place = places.first[before as usize];
         let way = way_at(alloc, nodes, records, NodeId(before + 1), place, false)?;
         heads.push(Head {

@@ -139,7 +139,7 @@ pub fn merge<N: Nodes>(
     requires new { N.world nodes.old ≡ new_world records.now.header }
     ensures { IfOk result (λ merged. IsMergeOf N.digest records.now merged.0 merged.1) }
 {
-    let places = find_places(alloc, records.header.sizes.nodes, &records.lines)?;
+    let places = find_places(alloc, records.nodes(), &records.lines)?;
     let heads = first_heads(alloc, nodes, records, &places)?;
     let mut fronts = Fronts {
         heads,
@@ -154,11 +154,19 @@ pub fn merge<N: Nodes>(
     }
     let end = end_at(&records.lines, &fronts.heads);
     let schedule = Schedule {
-        header: Header {
-            sizes: records.header.sizes,
-            areas: records.header.areas.to_vec(alloc)?,
-        },
+        header: copied(alloc, &records.header)?,
         events,
     };
     Ok((schedule, end))
+}
+
+/// A copy of a header.
+fn copied(alloc: Global, header: &Header) -> Result<Header, Memory>
+    ensures { IfOk result (λ copy. copy ≡ header.now) }
+{
+    let areas = header.areas.to_vec(alloc)?;
+    Ok(Header {
+        sizes: header.sizes,
+        areas,
+    })
 }

@@ -70,7 +70,8 @@ fn agreed(
             areas: vec![in alloc; 0; sizes.nodes as usize]?,
         }),
         Some(first) => {
-            if first.sizes == sizes {
+            let own = first.sizes;
+            if own.nodes == sizes.nodes && own.chain == sizes.chain && own.chunk == sizes.chunk {
                 Ok(first)
             } else {
                 Err(refused(number, Why::Header))

@@ -18,3 +18,15 @@ impl Model for Records {
 
     ghost view = { λ r. record { header = r.header; lines = r.lines.items } };
 }
+
+impl Records {
+    ghost use Rattle.std.specs.Prelude.{◌≡◌};
+
+    /// The number of nodes of the network.
+    pub fn nodes(&self) -> u32
+        ensures { result ≡ self.now.header.nodes }
+    {
+        let header = &self.header;
+        header.sizes.nodes
+    }
+}

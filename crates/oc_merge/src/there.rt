@@ -169,7 +169,7 @@ fn fold_line<A: Alone>(
         return Ok(true);
     };
     let found = found_behind(&records.lines, next, place);
-    let behind = behind_line(alloc, one, records.header.sizes.nodes, line, found)?;
+    let behind = behind_line(alloc, one, records.nodes(), line, found)?;
     folds[at] = behind.node;
     Ok(behind.there)
 }
@@ -179,13 +179,10 @@ fn new_nodes<A: Alone>(alloc: Global, records: &Records) -> Result<Vec<Option<A>
     requires { AreRecords records.now }
     ensures { IfOk result (λ folds. AreFoldsAt A.node A.digest records.now 0 folds.items) }
 {
-    let mut folds = Vec::with_capacity(alloc, records.header.sizes.nodes as usize)?;
-    for before in 0..records.header.sizes.nodes {
-        let one = A::new(
-            alloc,
-            &records.header,
-            NodeId(before + 1),
-        )?;
+    let count = records.nodes();
+    let mut folds = Vec::with_capacity(alloc, count as usize)?;
+    for before in 0..count {
+        let one = A::new(alloc, &records.header, NodeId(before + 1))?;
         folds.push(Some(one))?;
     }
     Ok(folds)
@@ -196,7 +193,7 @@ fn are_there<A: Alone>(alloc: Global, records: &Records) -> Result<Vec<bool>, Me
     requires { AreRecords records.now }
     ensures { IfOk result (λ there. there.items ≡ are_there A.digest records.now 0 records.now.lines) }
 {
-    let next = find_places(alloc, records.header.sizes.nodes, &records.lines)?.next;
+    let next = find_places(alloc, records.nodes(), &records.lines)?.next;
     let mut folds = new_nodes::<A>(alloc, records)?;
     let mut there = Vec::with_capacity(alloc, records.lines.len())?;
     for place in 0..records.lines.len() {

@@ -129,13 +129,14 @@ fn play<K: Sink, T: Stage>(
     ensures count { NoFall (K.faults sink.old) (K.faults sink.new) }
     ensures cause { IsErrOf result ReportFault.Sink → Rose (K.faults sink.old) (K.faults sink.new) }
 {
-    stage.open(&schedule.header)?;
+    let header = &schedule.header;
+    stage.open(header)?;
     tell(
         alloc,
         sink,
         stage,
         &schedule.events,
-        schedule.header.sizes.nodes,
+        header.sizes.nodes,
         summary,
     )
 }

@@ -25,8 +25,8 @@ use oc_keep::{Kept, ReadyError};
 use oc_link::Link;
 use oc_model::{Answer, Input};
 use oc_routes::{
-    Answered, Directory, Holding, Manner, Operation, Request, Response, Seen, is_to_wait, report_of,
-    respond,
+    Answered, Directory, Holding, Manner, Operation, Request, Response, Seen, is_to_wait,
+    report_of, respond,
 };
 use std::alloc::Global;
 
@@ -95,9 +95,17 @@ pub(crate) fn has_to_wait<D: Disk>(kept: &mut Kept<D>, request: &Request) -> Res
     else {
         return Ok(false);
     };
-    let answer = answer_now(kept, client_input(&request.asked.operation, request.asked.hint))?;
+    let answer = answer_now(
+        kept,
+        client_input(&request.asked.operation, request.asked.hint),
+    )?;
     let holding = Holding::in_shelf(kept.shelf(), group);
-    Ok(is_to_wait(&request.asked.operation, request.asked.hint, answer, holding))
+    Ok(is_to_wait(
+        &request.asked.operation,
+        request.asked.hint,
+        answer,
+        holding,
+    ))
 }
 
 /// The answer that an input would have now. Nothing of the node changes.

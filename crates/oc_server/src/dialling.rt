@@ -20,7 +20,11 @@ use oc_wire::to_http;
 use std::alloc::Global;
 
 /// The text of a dial: the request that brings a message to its receiver, and nothing where that has no address.
-pub(crate) fn request_to(alloc: Global, config: &Config, message: &Message) -> Result<Vec<u8>, Memory>
+pub(crate) fn request_to(
+    alloc: Global,
+    config: &Config,
+    message: &Message,
+) -> Result<Vec<u8>, Memory>
     requires body { HasSpelling message.now.body }
     requires host { 0 < length (address_of config.now.addresses message.now.to) → IsHost (address_of config.now.addresses message.now.to) }
     ensures { IfOk result (λ text. text.items ≡ dial_text (key_of config.now.keys) (address_of config.now.addresses message.now.to) message.now) }

@@ -99,7 +99,7 @@ impl<D: Disk, L: Link, K: Sink> Doer for Server<D, L, K> {
         self.says_ahead(input)
     }
 
-    fn says_behind(&mut self, before: Option<Before>, answer: Answer) -> Result<(), TurnEnd> {
+    fn says_after(&mut self, before: Option<Before>, answer: Answer) -> Result<(), TurnEnd> {
         self.kept.recovers();
         let text = behind(self.alloc, &before, self.kept.node(), answer)?;
         write_line(&mut self.sink, &text)

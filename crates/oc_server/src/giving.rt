@@ -34,7 +34,12 @@ pub(crate) fn take_request<L: Link>(link: &mut L, request: &Pending)
 }
 
 /// Says that a reply is whole, where nothing of it is left.
-pub(crate) fn finish<L: Link>(link: &mut L, connection: ConnectionId, ending: Ending, left: &Option<Transfer>)
+pub(crate) fn finish<L: Link>(
+    link: &mut L,
+    connection: ConnectionId,
+    ending: Ending,
+    left: &Option<Transfer>,
+)
     ensures calls { AddsAll (finish connection ending.keeps ending.watched left.now) (L.story link.old) (L.story link.new) }
     ensures counts { L.counts link.new ≡ L.counts link.old }
 {

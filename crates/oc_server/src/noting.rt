@@ -14,7 +14,12 @@ use oc_link::{ConnectionId, Ending, Link};
 const WRITE_LINE: &[u8] = b"! write\n";
 
 /// Gives a refusal, which ends its connection; where it has no text the connection is broken off.
-pub(crate) fn refuse<L: Link>(link: &mut L, connection: ConnectionId, count: u64, reply: Option<Vec<u8>>)
+pub(crate) fn refuse<L: Link>(
+    link: &mut L,
+    connection: ConnectionId,
+    count: u64,
+    reply: Option<Vec<u8>>,
+)
     ensures calls { AddsAll (refuses connection count (option_map (λ text. text.items) reply)) (L.story link.old) (L.story link.new) }
     ensures counts { L.counts link.new ≡ L.counts link.old }
 {

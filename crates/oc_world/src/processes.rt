@@ -11,10 +11,7 @@ use oc_model::Header;
 use std::alloc::Global;
 
 /// The processes of a new world.
-pub(crate) fn new_processes(
-    alloc: Global,
-    header: &Header,
-) -> Result<Vec<Process>, Memory>
+pub(crate) fn new_processes(alloc: Global, header: &Header) -> Result<Vec<Process>, Memory>
     requires { IsHeader header.now }
     ensures { IfOk result (λ processes. processes_of processes.items
         ≡ (new_world header.now).processes) }

@@ -38,7 +38,7 @@ returns-clause-did g c =
     let wait = waiting c.args.connection request c.args.now in
     let looked = c.in_ok-has_to_wait.ensures in
     let is = c.pending_of-pending.ensures ∙ ap (λ (told : Bool). pending c.args.connection request told false) c.is_some.ensures in
-    done_then c.answers.result (λ does. c.parts_go_on.ensures.as_same (in_turn nothing (responds (pending c.args.connection request (is_some request.input) false) request.input c.args.now)) (answers_or_waits c.args.connection request c.args.now) c.args.doer.now c.answers.new.doer (λ honest. answers_part c.args.connection c.args.now request (g.W.Doer.setting c.args.doer.now) (g.W.Doer.running c.args.doer.now) (sym (looked.waits honest) ∙ c.if-branch.false)) (c.parts_go_on.ensures.follows nothing (responds (pending c.args.connection request (is_some request.input) false) request.input c.args.now) (responds c.pending_of-pending.result request.input c.args.now) c.args.doer.now c.has_to_wait.new.self c.answers.new.doer looked.did (λ honest. ap (λ (r : Pending). responds r request.input c.args.now (g.W.Doer.setting c.has_to_wait.new.self) (g.W.Doer.running c.has_to_wait.new.self)) is) does)) c.answers.ensures.did
+    done_then c.responds.result (λ does. c.parts_go_on.ensures.as_same (in_turn nothing (responds (pending c.args.connection request (is_some request.input) false) request.input c.args.now)) (answers_or_waits c.args.connection request c.args.now) c.args.doer.now c.responds.new.doer (λ honest. answers_part c.args.connection c.args.now request (g.W.Doer.setting c.args.doer.now) (g.W.Doer.running c.args.doer.now) (sym (looked.waits honest) ∙ c.if-branch.false)) (c.parts_go_on.ensures.follows nothing (responds (pending c.args.connection request (is_some request.input) false) request.input c.args.now) (responds c.pending_of-pending.result request.input c.args.now) c.args.doer.now c.has_to_wait.new.self c.responds.new.doer looked.did (λ honest. ap (λ (r : Pending). responds r request.input c.args.now (g.W.Doer.setting c.has_to_wait.new.self) (g.W.Doer.running c.has_to_wait.new.self)) is) does)) c.responds.ensures.did
 
 pub returns-clause-breaks : goal.returns-clause-breaks
 returns-clause-breaks g c =
@@ -46,4 +46,4 @@ returns-clause-breaks g c =
     let wait = waiting c.args.connection request c.args.now in
     let looked = c.in_ok-has_to_wait.ensures in
     let is = c.pending_of-pending.ensures ∙ ap (λ (told : Bool). pending c.args.connection request told false) c.is_some.ensures in
-    err_then c.answers.result (λ end stops. c.parts_stop.ensures.as_same _ (in_turn nothing (responds (pending c.args.connection request (is_some request.input) false) request.input c.args.now)) (answers_or_waits c.args.connection request c.args.now) c.args.doer.now c.answers.new.doer (λ honest. answers_part c.args.connection c.args.now request (g.W.Doer.setting c.args.doer.now) (g.W.Doer.running c.args.doer.now) (sym (looked.waits honest) ∙ c.if-branch.false)) (c.parts_stop.ensures.follows _ nothing (responds (pending c.args.connection request (is_some request.input) false) request.input c.args.now) (responds c.pending_of-pending.result request.input c.args.now) c.args.doer.now c.has_to_wait.new.self c.answers.new.doer looked.did (λ honest. ap (λ (r : Pending). responds r request.input c.args.now (g.W.Doer.setting c.has_to_wait.new.self) (g.W.Doer.running c.has_to_wait.new.self)) is) stops)) c.answers.ensures.breaks
+    err_then c.responds.result (λ end stops. c.parts_stop.ensures.as_same _ (in_turn nothing (responds (pending c.args.connection request (is_some request.input) false) request.input c.args.now)) (answers_or_waits c.args.connection request c.args.now) c.args.doer.now c.responds.new.doer (λ honest. answers_part c.args.connection c.args.now request (g.W.Doer.setting c.args.doer.now) (g.W.Doer.running c.args.doer.now) (sym (looked.waits honest) ∙ c.if-branch.false)) (c.parts_stop.ensures.follows _ nothing (responds (pending c.args.connection request (is_some request.input) false) request.input c.args.now) (responds c.pending_of-pending.result request.input c.args.now) c.args.doer.now c.has_to_wait.new.self c.responds.new.doer looked.did (λ honest. ap (λ (r : Pending). responds r request.input c.args.now (g.W.Doer.setting c.has_to_wait.new.self) (g.W.Doer.running c.has_to_wait.new.self)) is) stops)) c.responds.ensures.breaks

@@ -12,14 +12,14 @@ way_at-requires-clause-count g c = ap (λ (v : World). length (ids v)) c.require
 pub way_at-requires-clause-own : goal.way_at-requires-clause-own
 way_at-requires-clause-own g c = λ l there.
     let r = c.args.records.now in
-    let less : c.loop-before.before < r.header.nodes = search rules in
+    let less : c.loop-before.before < r.header.nodes = omega (arith, c.loop-before-test.true, c.nodes-count.ensures) in
     let place : c.index-place.result.now ≡ 0 + before_own (c.loop-before.before + 1) (drop 0 r.lines) =
     first_read r.header.nodes r.lines c.args.places.now.first.items c.args.places.now.next.items c.loop-before.before c.index-place.result.now c.requires.places less c.index-place.ensures in
     own_first_place (c.loop-before.before + 1) r.lines c.index-place.result.now l place there
 
 pub way_at-requires-clause-started : goal.way_at-requires-clause-started
 way_at-requires-clause-started g c =
-    let less : c.loop-before.before < c.args.records.now.header.nodes = search rules in
+    let less : c.loop-before.before < c.args.records.now.header.nodes = omega (arith, c.loop-before-test.true, c.nodes-count.ensures) in
     let is : IsNode c.args.records.now.header.nodes (c.loop-before.before + 1) = (omega arith, omega (arith, less)) in
     sym (ap (λ (v : World). is_up v (c.loop-before.before + 1)) c.requires.new ∙ down_new c.args.records.now.header (c.loop-before.before + 1) is)
 
@@ -28,7 +28,7 @@ loop-before-preserved g c =
     let r = c.args.records.now in
     let w = g.N.Nodes.world c.args.nodes.now in
     let h : Head = record { place = c.index-place.result.now; started = false; way = c.in_ok-way.way } in
-    let less : c.loop-before.before < r.header.nodes = search rules in
+    let less : c.loop-before.before < r.header.nodes = omega (arith, c.loop-before-test.true, c.nodes-count.ensures) in
     let place : c.index-place.result.now ≡ 0 + before_own (c.loop-before.before + 1) (drop 0 r.lines) =
     first_read r.header.nodes r.lines c.args.places.now.first.items c.args.places.now.next.items c.loop-before.before c.index-place.result.now c.requires.places less c.index-place.ensures in
     let more : c.push.new.self.items ≡ c.loop-before.heads.items ++ h ∷ [] = search rules in

@@ -1,4 +1,5 @@
-use Rattle.std.proofs.Common.{◌≡◌, ℕ, ap, arith}
+use Rattle.std.proofs.Common.{◌≡◌, ◌∙◌, ℕ, ap, arith, sym}
+use Rattle.oc_model.specs.Node.{Header}
 use Rattle.oc_schedule.specs.Script.{Script}
 use Rattle.oc_replay.proofs.Opened.{opened-nodes, opened-opening}
 use Rattle.oc_replay.proofs.replaying.play.Goals as goal
@@ -15,8 +16,10 @@ tell-requires-clause-opened g c =
 pub tell-requires-clause-nodes : goal.tell-requires-clause-nodes
 tell-requires-clause-nodes g c =
     opened-nodes c.schedule.inside.header (g.T.Stage.world c.open.new.self) c.in_ok-open.ensures
+    ∙ sym (ap (λ (h : Header). h.nodes) c.header.view_is)
 
 pub tell-requires-clause-few : goal.tell-requires-clause-few
 tell-requires-clause-few g c =
+    let here : c.header.inside.sizes.nodes ≡ c.schedule.inside.header.nodes = ap (λ (h : Header). h.nodes) c.header.view_is in
     let nodes : c.schedule.inside.header.nodes ≡ c.args.schedule.now.header.nodes = ap (λ (s : Script). s.header.nodes) c.schedule.view_is in
-    omega (arith, nodes, c.requires.header.few)
+    omega (arith, here, nodes, c.requires.header.few)

@@ -1,5 +1,6 @@
-use Rattle.std.proofs.Common.{ℕ, ◌+◌, ◌≤◌, refl, subst}
+use Rattle.std.proofs.Common.{ℕ, ◌+◌, ◌≤◌, refl, sym, subst}
 use Rattle.oc_base.specs.declared.limits.TheConstants.{MAX_BASE_ACKED}
+use Rattle.oc_model.specs.Lawful.{AreRecords}
 use Rattle.oc_store.specs.StoreView.{first_disk, second_disk}
 use Rattle.oc_keep.proofs.Loads.{loaded_kept, loaded_node, loads_controls, loads_files}
 use Rattle.oc_keep.proofs.kept.Kept.load.Goals as goal
@@ -10,10 +11,12 @@ returns-in-Err-clause-safely_err g c =
     loads_controls g.D.Disk.view a.seat.header a.seat.id a.files.control a.files.alternate a.files.content c.in-Err.control c.in-Err.alternate (λ x h. g.met.D.Disk.consistent x h) c.in-Err.ensures.safely_err
 
 pub returns-in-Err-clause-refuses : goal.returns-in-Err-clause-refuses
-returns-in-Err-clause-refuses g c = c.in-Err.ensures.refuses
+returns-in-Err-clause-refuses g c = rw c.nodes.ensures at c.in-Err.ensures.refuses
 
 pub returns-in-Err-load-clause-refuses : goal.returns-in-Err-load-clause-refuses
-returns-in-Err-load-clause-refuses g c = (c.in-Ok.ensures.loaded.good_first, c.in-Ok.ensures.loaded.good_second, c.in-Err-load.ensures.refuses)
+returns-in-Err-load-clause-refuses g c =
+    let loaded = rw c.nodes.ensures at c.in-Ok.ensures.loaded in
+    (loaded.good_first, loaded.good_second, c.in-Err-load.ensures.refuses)
 
 pub returns-in-Err-load-clause-safely_err : goal.returns-in-Err-load-clause-safely_err
 returns-in-Err-load-clause-safely_err g c =
@@ -45,8 +48,9 @@ invariant_of-result g c =
     let l = c.in-Ok-load.content in
     let n = c.in-Ok-start.node in
     let started = rw c.deref.ensures.value at c.in-Ok-start.ensures.started in
+    let loaded = rw c.nodes.ensures at c.in-Ok.ensures.loaded in
     loaded_kept g.D.Disk.view a.seat.header a.seat.id a.files.control a.files.alternate a.files.content n s l c.in-Ok.loaded.1.items
-    started c.in-Ok.ensures.loaded c.in-Ok.ensures.safely c.in-Ok-load.ensures.loaded c.in-Ok-load.ensures.safely
+    started loaded c.in-Ok.ensures.safely c.in-Ok-load.ensures.loaded c.in-Ok-load.ensures.safely
     c.in-Ok-start.ensures.reached (subst (λ (end : ℕ). n.control.kept.log.length ≤ MAX_BASE_ACKED + end) c.end.ensures c.in-Ok-start.ensures.log) c.in-Ok-start.ensures.short
 
 pub returns-in-Ok-start-clause-loaded : goal.returns-in-Ok-start-clause-loaded
@@ -56,11 +60,12 @@ returns-in-Ok-start-clause-loaded g c =
     let l = c.in-Ok-load.content in
     let n = c.in-Ok-start.node in
     let started = rw c.deref.ensures.value at c.in-Ok-start.ensures.started in
+    let loaded = rw c.nodes.ensures at c.in-Ok.ensures.loaded in
     let h = a.seat.header in
     loaded_node g.D.Disk.view h a.seat.id a.files.control a.files.alternate a.files.content n s l c.in-Ok.loaded.1.items
-    started c.in-Ok.ensures.loaded c.in-Ok.ensures.safely c.in-Ok-load.ensures.loaded c.in-Ok-load.ensures.safely
+    started loaded c.in-Ok.ensures.safely c.in-Ok-load.ensures.loaded c.in-Ok-load.ensures.safely
     (loaded_kept g.D.Disk.view h a.seat.id a.files.control a.files.alternate a.files.content n s l c.in-Ok.loaded.1.items
-    started c.in-Ok.ensures.loaded c.in-Ok.ensures.safely c.in-Ok-load.ensures.loaded c.in-Ok-load.ensures.safely
+    started loaded c.in-Ok.ensures.safely c.in-Ok-load.ensures.loaded c.in-Ok-load.ensures.safely
     c.in-Ok-start.ensures.reached (subst (λ (end : ℕ). n.control.kept.log.length ≤ MAX_BASE_ACKED + end) c.end.ensures c.in-Ok-start.ensures.log) c.in-Ok-start.ensures.short)
 
 pub returns-in-Err-clause-loaded : goal.returns-in-Err-clause-loaded
@@ -102,8 +107,14 @@ start-requires-clause-header g c = c.requires.header
 pub start-requires-clause-id : goal.start-requires-clause-id
 start-requires-clause-id g c = c.requires.id
 
+pub start-requires-clause-lawful : goal.start-requires-clause-lawful
+start-requires-clause-lawful g c =
+    subst (λ (n : ℕ). AreRecords n c.deref.result.now) c.nodes.ensures (subst (AreRecords c.nodes.result) (sym c.deref.ensures.value) c.in-Ok.ensures.loaded.lawful)
+
 pub returns-in-Err-clause-works : goal.returns-in-Err-clause-works
-returns-in-Err-clause-works g c = λ sure files. c.in-Err.ensures.works sure.control sure.alternate files.control files.alternate
+returns-in-Err-clause-works g c = λ sure files.
+    let works = rw c.nodes.ensures at c.in-Err.ensures.works in
+    works sure.control sure.alternate files.control files.alternate
 
 pub returns-in-Err-load-clause-works : goal.returns-in-Err-load-clause-works
 returns-in-Err-load-clause-works g c = λ sure files. c.in-Err-load.ensures.works sure.content files.content.0 files.content.1

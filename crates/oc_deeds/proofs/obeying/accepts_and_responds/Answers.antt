@@ -8,7 +8,7 @@ use Rattle.oc_deeds.specs.Deeds.{back_to, sender_of}
 use Rattle.oc_deeds.specs.Hurries.{hurries}
 use Rattle.oc_deeds.specs.Parts.{Part, in_turn}
 use Rattle.oc_deeds.specs.Telling.{accepts_in}
-use Rattle.oc_deeds.proofs.obeying.accepts_and_answers.Goals as goal
+use Rattle.oc_deeds.proofs.obeying.accepts_and_responds.Goals as goal
 
 pub replies-requires-clause-serving : goal.replies-requires-clause-serving
 replies-requires-clause-serving g c =

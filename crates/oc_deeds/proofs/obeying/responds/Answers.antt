@@ -5,22 +5,22 @@ use Rattle.oc_model.specs.declared.answer.Answer.TheVariants as answers
 use Rattle.oc_deeds.specs.Asks.{replies, responds}
 use Rattle.oc_deeds.specs.Hurries.{input_hurries}
 use Rattle.oc_deeds.proofs.Results.{done_then, err_then, ok_then}
-use Rattle.oc_deeds.proofs.obeying.answers.Goals as goal
+use Rattle.oc_deeds.proofs.obeying.responds.Goals as goal
 
 pub returns-in-Some-clause-did : goal.returns-in-Some-clause-did
 returns-in-Some-clause-did g c =
     let s = c.args.doer.now in
-    done_then c.accepts_and_answers.result (λ does. c.parts_go_on.ensures.as_same (responds c.args.pending (Some c.in-Some.input) c.args.now) (responds c.args.pending c.args.input c.args.now) s c.accepts_and_answers.new.doer (λ honest. ap (λ (o : Option Input). responds c.args.pending o c.args.now (g.W.Doer.setting s) (g.W.Doer.running s)) c.in-Some.is) does) c.accepts_and_answers.ensures.did
+    done_then c.accepts_and_responds.result (λ does. c.parts_go_on.ensures.as_same (responds c.args.pending (Some c.in-Some.input) c.args.now) (responds c.args.pending c.args.input c.args.now) s c.accepts_and_responds.new.doer (λ honest. ap (λ (o : Option Input). responds c.args.pending o c.args.now (g.W.Doer.setting s) (g.W.Doer.running s)) c.in-Some.is) does) c.accepts_and_responds.ensures.did
 
 pub returns-in-Some-clause-hurries : goal.returns-in-Some-clause-hurries
 returns-in-Some-clause-hurries g c =
     let s = c.args.doer.now in
-    ok_then c.accepts_and_answers.result (λ b is honest. is honest ∙ sym (ap (λ (o : Option Input). input_hurries c.args.pending.asked.operation o (g.W.Doer.running s).node) c.in-Some.is)) c.accepts_and_answers.ensures.hurries
+    ok_then c.accepts_and_responds.result (λ b is honest. is honest ∙ sym (ap (λ (o : Option Input). input_hurries c.args.pending.asked.operation o (g.W.Doer.running s).node) c.in-Some.is)) c.accepts_and_responds.ensures.hurries
 
 pub returns-in-Some-clause-breaks : goal.returns-in-Some-clause-breaks
 returns-in-Some-clause-breaks g c =
     let s = c.args.doer.now in
-    err_then c.accepts_and_answers.result (λ end stops. c.parts_stop.ensures.as_same end (responds c.args.pending (Some c.in-Some.input) c.args.now) (responds c.args.pending c.args.input c.args.now) s c.accepts_and_answers.new.doer (λ honest. ap (λ (o : Option Input). responds c.args.pending o c.args.now (g.W.Doer.setting s) (g.W.Doer.running s)) c.in-Some.is) stops) c.accepts_and_answers.ensures.breaks
+    err_then c.accepts_and_responds.result (λ end stops. c.parts_stop.ensures.as_same end (responds c.args.pending (Some c.in-Some.input) c.args.now) (responds c.args.pending c.args.input c.args.now) s c.accepts_and_responds.new.doer (λ honest. ap (λ (o : Option Input). responds c.args.pending o c.args.now (g.W.Doer.setting s) (g.W.Doer.running s)) c.in-Some.is) stops) c.accepts_and_responds.ensures.breaks
 
 pub returns-in_ok-replies-in-None-clause-did : goal.returns-in_ok-replies-in-None-clause-did
 returns-in_ok-replies-in-None-clause-did g c =

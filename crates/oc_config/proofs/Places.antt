@@ -192,7 +192,7 @@ listen_good t address listen good e =
     let read = steps (read_if Listen t listen_of (value_in Listen t)) (listen_or address) listen e in
     let same : option_or read.value address ≡ listen = cc read.then in
     subst (Passes is_address) same (or_good read.value address
-        (read_good Listen t listen_of is_address (λ d text. address_good (as_str d) text) (value_in Listen t) read.value read.first) (reached address good))
+    (read_good Listen t listen_of is_address (λ d text. address_good (as_str d) text) (value_in Listen t) read.value read.first) (reached address good))
 
 -- an entry that is made of these
 good_made : (retired : Bool) (address listen : Option (List ℕ)) (area : ℕ) (name : Option (List ℕ)) (place : NodeSettings) → made retired address listen area name ≡ given place

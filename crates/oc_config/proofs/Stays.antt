@@ -69,7 +69,7 @@ recorded_areas false a b on is = cc
 pub change_keeps : (r : Running) (old new taken : Settings) → config_change r old new ≡ Ok taken → (taken ≡ new) × Stays r old new
 change_keeps r old new taken is =
     let all = passed_all (keeps_nodes r (length old.addresses) (length new.addresses)) (old.chain == new.chain) (old.chunk == new.chunk) (same_presence old.keys new.keys)
-        (same_text (listen_at r.me old) (listen_at r.me new)) (keeps_areas r old.areas new.areas) new taken is in (
+    (same_text (listen_at r.me old) (listen_at r.me new)) (keeps_areas r old.areas new.areas) new taken is in (
       all.same,
       record {
         chain = same_number old.chain new.chain all.chain_is;

@@ -1,7 +1,6 @@
 -- What a name of a node is.
 use Rattle.std.specs.Prelude.{ℕ, Bool, not, ◌&&◌, ◌==◌, nat_le, List, length}
 use Rattle.std.specs.List.{list_all}
-
 use Rattle.oc_config.specs.declared.name.TheConstants.{MAX_NAME_BYTES}
 
 -- a byte from 32 to 126, but neither `"` nor a backslash

@@ -19,11 +19,7 @@ pub struct Running {
 
 /// What a node goes by after its configuration was read again: all of the new one, or the first key, in the order of
 /// `restart_key`, whose change needs a new start of the node; then the old one stays.
-pub fn config_change(
-    running: Running,
-    old: &Config,
-    new: Config,
-) -> Result<Config, ConfigKey>
+pub fn config_change(running: Running, old: &Config, new: Config) -> Result<Config, ConfigKey>
     ensures { result ≡ config_change running old.now new }
 {
     match restart_key(running, old, &new) {

@@ -68,11 +68,7 @@ fn accepted(alloc: Global, top: &Section<'_>) -> Result<Vec<Key>, ConfigFault>
 }
 
 /// The keys that an array spells, a few of them at most.
-fn listed_keys(
-    alloc: Global,
-    top: &Section<'_>,
-    value: &Value,
-) -> Result<Vec<Key>, ConfigFault>
+fn listed_keys(alloc: Global, top: &Section<'_>, value: &Value) -> Result<Vec<Key>, ConfigFault>
     ensures said { GivesBy (λ v. v.items) result (accepted_of (section_of top.now) (as_array (view value.now))) }
     ensures count { IfOk result (λ v. vec_len v ≤ MAX_ACCEPTED) }
 {
@@ -83,11 +79,7 @@ fn listed_keys(
 }
 
 /// The keys that these values spell, which are a few at most.
-fn counted_keys(
-    alloc: Global,
-    top: &Section<'_>,
-    values: &[Value],
-) -> Result<Vec<Key>, ConfigFault>
+fn counted_keys(alloc: Global, top: &Section<'_>, values: &[Value]) -> Result<Vec<Key>, ConfigFault>
     ensures said { GivesBy (λ v. v.items) result (accepted_of (section_of top.now) (Some (items_view values.now))) }
     ensures count { IfOk result (λ v. vec_len v ≤ MAX_ACCEPTED) }
 {
@@ -98,11 +90,7 @@ fn counted_keys(
 }
 
 /// The keys that these values spell.
-fn spelled_keys(
-    alloc: Global,
-    top: &Section<'_>,
-    values: &[Value],
-) -> Result<Vec<Key>, ConfigFault>
+fn spelled_keys(alloc: Global, top: &Section<'_>, values: &[Value]) -> Result<Vec<Key>, ConfigFault>
     ensures said { GivesBy (λ v. v.items) result (keys_from (section_of top.now) [] (items_view values.now)) }
     ensures count { IfOk result (λ v. vec_len v ≡ length values.now) }
 {

@@ -41,8 +41,8 @@ pub use law::{
     a_change_keeps_the_network, each_address_is_a_host, each_node_has_its_table, examples_are_read,
     examples_are_taken_over,
 };
-pub use oc_base::Why;
 pub use name::MAX_NAME_BYTES;
+pub use oc_base::Why;
 pub use oc_policy::{Action, Demand, Key as NodeKey, Keyring, MAX_ACCEPTED, Prefix, Rule, Token};
 pub use oc_updown::Measure;
 pub use reading::read;

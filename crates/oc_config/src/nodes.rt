@@ -210,10 +210,7 @@ fn address<'a>(table: &Section<'a>) -> Result<&'a str, ConfigFault>
 }
 
 /// Where a node with this address, if it has one, listens.
-fn listen<'a>(
-    table: &Section<'a>,
-    address: Option<&'a str>,
-) -> Result<Option<&'a str>, ConfigFault>
+fn listen<'a>(table: &Section<'a>, address: Option<&'a str>) -> Result<Option<&'a str>, ConfigFault>
     ensures { GivesBy (λ o. option_map (λ s. s.now) o) result (listen_in (section_of table.now) (option_map (λ s. s.now) address.entry)) }
 {
     match table.value_at(ConfigKey::Listen) {
@@ -298,7 +295,7 @@ impl Split {
         ensures { (so_far : List (Option NodeSettings)) (place : Option NodeSettings) → said_at place ≡ entry
             → AreOf self.old.retired.items self.old.addresses.items self.old.listens.items self.old.areas.items self.old.names.items so_far
             → OnOk result (AreOf self.new.retired.items self.new.addresses.items self.new.listens.items self.new.areas.items self.new.names.items
-                (so_far ++ place ∷ [])) }
+            (so_far ++ place ∷ [])) }
     {
         self.retired.push(entry.retired)?;
         self.addresses.push(entry.address)?;

@@ -27,11 +27,7 @@ impl Model for Rotation {
 
 impl Rotation {
     /// The other nodes than `me` whose place in this list, by their ids, holds something, from the least one on.
-    pub fn new<T>(
-        alloc: Global,
-        me: NodeId,
-        places: &[Option<T>],
-    ) -> Result<Rotation, Memory>
+    pub fn new<T>(alloc: Global, me: NodeId, places: &[Option<T>]) -> Result<Rotation, Memory>
         requires { length places.now ≤ MAX_NODES }
         ensures { IfOk result (λ rotation. rotation ≡ record { coming = peers_of me places.now }) }
     {
@@ -60,11 +56,7 @@ impl Rotation {
 }
 
 /// The ids, but that of `me`, of the places that hold something.
-fn peers_of<T>(
-    alloc: Global,
-    me: NodeId,
-    places: &[Option<T>],
-) -> Result<Vec<NodeId>, Memory>
+fn peers_of<T>(alloc: Global, me: NodeId, places: &[Option<T>]) -> Result<Vec<NodeId>, Memory>
     requires { length places.now ≤ MAX_NODES }
     ensures { IfOk result (λ peers. peers.items ≡ peers_of me places.now) }
 {

@@ -25,12 +25,7 @@ pub fn put_words(alloc: Global, given: &str, said: &mut String) -> Result<(), Fa
     play(alloc, &mut rates, given, said)
 }
 
-fn play(
-    alloc: Global,
-    rates: &mut Rates,
-    steps: &str,
-    said: &mut String,
-) -> Result<(), Fault> {
+fn play(alloc: Global, rates: &mut Rates, steps: &str, said: &mut String) -> Result<(), Fault> {
     for field in steps.split_ascii_whitespace() {
         let step = RowStep::of(field);
         match step.word {
@@ -67,11 +62,7 @@ fn turn(alloc: Global, mut fields: RowFields<'_>, said: &mut String) -> Result<(
 }
 
 /// The places of this many nodes, of which those with these ids hold nothing.
-fn places_of(
-    alloc: Global,
-    nodes: u32,
-    absent: RowFields<'_>,
-) -> Result<Vec<Option<bool>>, Fault>
+fn places_of(alloc: Global, nodes: u32, absent: RowFields<'_>) -> Result<Vec<Option<bool>>, Fault>
     requires { nodes ≤ MAX_NODES }
     ensures { IfOk result (λ places. vec_len places ≤ MAX_NODES) }
 {

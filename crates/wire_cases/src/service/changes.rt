@@ -31,12 +31,7 @@ fn config_in(alloc: Global, text: &str) -> Result<Config, Fault> {
 }
 
 /// Puts how many measures of the node are new.
-fn put_taken(
-    said: &mut String,
-    running: Running,
-    old: &Config,
-    new: &Config,
-) -> Result<(), Fault> {
+fn put_taken(said: &mut String, running: Running, old: &Config, new: &Config) -> Result<(), Fault> {
     let mut count: u32 = 0;
     for measure in &new.measures {
         if is_new(*measure, running, old) {

@@ -1,5 +1,5 @@
 -- The effect of `node` at each of its ends.
-use Rattle.std.specs.Prelude.{◌≡◌, ℕ, ◌<◌, ◌⊎◌, Option, Some, None, Result, Ok, Err, List, [], length, ⊤}
+use Rattle.std.specs.Prelude.{◌≡◌, ℕ, ◌-◌, ◌<◌, ◌⊎◌, true, Option, Some, None, is_some, Result, Ok, Err, List, [], length, slice_index_or, ⊤}
 use Rattle.oc_base.specs.Lawful.{IsNode}
 use Rattle.oc_base.specs.declared.limits.TheConstants.{MAX_SCHEDULE_BYTES}
 use Rattle.oc_config.specs.Reading.{settings_of}
@@ -21,9 +21,13 @@ use Rattle.oc_commands.specs.Outside.{Input, OnNode, Output}
 use Rattle.oc_commands.specs.declared.serving.ServiceEnd.{ServiceEnd}
 use Rattle.oc_commands.specs.declared.serving.ServiceEnd.TheVariants.{Config, Stranger, Ran}
 
--- this is the id of a node of the configuration
+-- this is the id of a node that has an address
+abbrev pub HasAddress : List (Option (List ℕ)) → ℕ → Type 0
+HasAddress addresses id = IsNode (length addresses) id × (is_some (slice_index_or addresses (id - 1) None) ≡ true)
+
+-- the configuration has such a node
 abbrev pub HasNode : Settings → Service → Type 0
-HasNode s v = IsNode (length s.addresses) v.id
+HasNode s v = HasAddress s.addresses v.id
 
 -- the form in which the node logs its inputs
 abbrev pub log_of : LogWord → Log
@@ -55,6 +59,11 @@ UnlessRan end so = so
 abbrev pub IsMemberOf : ℕ → ℕ → Option ℕ → Type 0
 IsMemberOf nodes id (Some me) = IsNode nodes id × (me ≡ id)
 IsMemberOf nodes id None = IsNode nodes id → ⊥
+
+-- the node of this id, if it has an address
+abbrev pub IsPlacedOf : List (Option (List ℕ)) → ℕ → Option ℕ → Type 0
+IsPlacedOf addresses id (Some me) = HasAddress addresses id × (me ≡ id)
+IsPlacedOf addresses id None = HasAddress addresses id → ⊥
 
 -- ---- which status has to come
 

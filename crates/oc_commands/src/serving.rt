@@ -1,9 +1,10 @@
 //! The command `node`, which runs a node.
-ghost use Rattle.std.specs.Prelude.{◌≡◌, length};
+ghost use Rattle.std.specs.Prelude.{◌≡◌, ◌-◌, None, is_some, length, slice_index_or};
+ghost use Rattle.oc_base.specs.Lawful.{IsNode};
 ghost use Rattle.oc_config.specs.Reading.{IsConfig};
 ghost use Rattle.oc_keep.specs.Files.{disks_in};
 ghost use Rattle.oc_io.specs.Faults.{NoFall};
-ghost use Rattle.oc_commands.specs.AtNode.{HappenedAtNode, IsMemberOf, RunsService, UnlessRan, log_of};
+ghost use Rattle.oc_commands.specs.AtNode.{HappenedAtNode, IsMemberOf, IsPlacedOf, RunsService, UnlessRan, log_of};
 ghost use Rattle.oc_commands.specs.Ends.{status_of_service};
 ghost use Rattle.oc_commands.specs.Outside.{at_node, at_sink, at_source};
 ghost use Rattle.oc_words.specs.Status.{number_of};
@@ -22,7 +23,7 @@ use std::alloc::Global;
 pub enum ServiceEnd {
     /// There is no configuration.
     Config(ConfigEnd),
-    /// No node of the configuration has this id.
+    /// No node of the configuration has this id, or it has no address there.
     Stranger,
     /// The node ran, and this is the end of its run.
     Ran(NodeEnd),
@@ -75,7 +76,7 @@ fn serve_config<D: Disk, L: Link, K: Sink>(
     ensures link { UnlessRan result.end (result.site.link ≡ site.link) }
     ensures done_count { number_of (status_of_service result.end) ≡ 0 → NoFall (K.faults site.sink) (K.faults result.site.sink) }
 {
-    match member_of(&config, service.id) {
+    match placed_of(&config, service.id) {
         Some(me) => {
             let task = Task {
                 me,
@@ -105,6 +106,24 @@ fn log_of(word: LogWord) -> Log
         LogWord::Record => Log::Record,
         LogWord::Brief => Log::Brief,
     }
+}
+
+/// The node of a configuration with this id, if it has an address there.
+fn placed_of(config: &Config, id: u64) -> Option<NodeId>
+    requires { IsConfig config.now }
+    ensures { IsPlacedOf config.now.addresses id result }
+{
+    match member_of(config, id) {
+        Some(me) if has_address(config, me) => Some(me),
+        _ => None,
+    }
+}
+
+fn has_address(config: &Config, node: NodeId) -> bool
+    requires { IsNode (length config.now.addresses) node }
+    ensures { result ≡ is_some (slice_index_or config.now.addresses (node - 1) None) }
+{
+    config.addresses[node.index()].is_some()
 }
 
 /// The node of a configuration with this id, if there is one.

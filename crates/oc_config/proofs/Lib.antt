@@ -11,5 +11,7 @@ pub mod Lawful
 mod Lines
 mod Keys
 mod Splits
+mod Spelled
 pub mod Ipv6
 pub mod AddressBytes
+mod Stays

@@ -1,20 +1,23 @@
 -- The places of nodes, as the tables are put into them.
-use Rattle.std.proofs.Common.{◌≡◌, ℕ, zero, suc, ◌+◌, ◌-◌, ◌≤◌, inl, inr, true, Option, Some, None, Result, Ok, List, [], ◌∷◌, length, get_or, replicate, refl, sym, ap, ◌∙◌, subst, arith}
+use Rattle.std.proofs.Common.{◌≡◌, ℕ, zero, suc, ◌-◌, ◌≤◌, inl, inr, true, false, Option, Some, None, Result, Ok, List, [], ◌∷◌, map, length, get_or, replicate, refl, sym, ap, ◌∙◌, subst, arith}
 use Rattle.std.proofs.lemmas.List.{length-set, get_or-set_same, get_or-set_other}
 use Rattle.std.proofs.lemmas.Bool.{and_parts, cases_Bool, cases_eq}
-use Rattle.std.specs.Prelude.{Bool, if◌then◌else◌, slice_set, unwrap_or}
-use Rattle.std.specs.List.{AllByRecursion, list_any}
+use Rattle.std.specs.Prelude.{Bool, IfSome, if◌then◌else◌, slice_set}
+use Rattle.std.specs.List.{AllByRecursion}
+use Rattle.std.specs.Option.{option_or}
 use Rattle.oc_base.specs.Steps.{◌>>=◌}
 use Rattle.toml.specs.Data.{Data, as_integer, as_str}
 use Rattle.oc_config.specs.Addresses.{is_address, is_reachable}
-use Rattle.oc_config.specs.Nodes.{id_in, address_of, reachable_of, address_in, listen_of, listen_in, node_area_in, place_of, listening_entry, entry_with, entry_in, has_address, new_address, new_entry, new_entry_in, put_place, put_new, node_in, nodes_in, address_at, addresses_of, listen_at, listens_of}
+use Rattle.oc_config.specs.Names.{is_name}
+use Rattle.oc_config.specs.Nodes.{id_in, retired_in, address_of, reachable_of, address_in, address_unless, listen_of, listen_in, node_area_in, lawful_name, name_of, name_in, entry_with, entry_in, is_new, new_entry_in, put_place, put_new, node_in, nodes_in, address_at, listen_at, name_at}
 use Rattle.oc_config.specs.Settings.{NodeSettings}
 use Rattle.oc_config.specs.Values.{Section, value_in, required, read_as, read_if, whole_in}
 use Rattle.oc_config.specs.declared.fault.ConfigFault.{ConfigFault}
 use Rattle.oc_config.specs.declared.fault.ConfigFault.TheVariants.{Value}
-use Rattle.oc_config.specs.declared.config_key.ConfigKey.TheVariants.{Id, Address, Listen}
+use Rattle.oc_config.specs.declared.config_key.ConfigKey.{ConfigKey}
+use Rattle.oc_config.specs.declared.config_key.ConfigKey.TheVariants.{Id, Address, Listen, Name}
 use Rattle.oc_config.proofs.Results.{steps, there}
-use Rattle.oc_config.proofs.Lists.{none_or_some, filter_map_put}
+use Rattle.oc_config.proofs.Lists.{none_or_some}
 use Rattle.oc_config.proofs.Tables.{within_range}
 
 -- a table that was put into an empty place
@@ -34,11 +37,29 @@ id_range nodes t id e =
     within_range 1 nodes (as_integer step.value) id (there (whole_in 1 nodes step.value) (Value t.place Id) id step.then)
 
 -- what a step gives
-abbrev some_listen : List ℕ → Result (Option (List ℕ)) ConfigFault
-some_listen text = Ok (Some text)
+abbrev some_text : List ℕ → Result (Option (List ℕ)) ConfigFault
+some_text text = Ok (Some text)
 
-abbrev listen_or : Option (List ℕ) → List ℕ → Result (List ℕ) ConfigFault
-listen_or listen address = Ok (unwrap_or listen address)
+abbrev listen_or : Option (List ℕ) → Option (List ℕ) → Result (Option (List ℕ)) ConfigFault
+listen_or address listen = Ok (option_or listen address)
+
+abbrev made : Bool → Option (List ℕ) → Option (List ℕ) → ℕ → Option (List ℕ) → Result NodeSettings ConfigFault
+made retired address listen area name = Ok (record { retired = retired; address = address; listen = listen; area = area; name = name })
+
+abbrev then_name : Section → Bool → Option (List ℕ) → Option (List ℕ) → ℕ → Result NodeSettings ConfigFault
+then_name t retired address listen area = name_in t >>= made retired address listen area
+
+abbrev then_area : Section → Bool → Option (List ℕ) → Option (List ℕ) → Result NodeSettings ConfigFault
+then_area t retired address listen = node_area_in t >>= then_name t retired address listen
+
+abbrev then_address : Section → Bool → Result NodeSettings ConfigFault
+then_address t retired = address_unless retired t >>= entry_with t retired
+
+abbrev then_new : List (Option NodeSettings) → Section → Bool → Option (List ℕ) → Result NodeSettings ConfigFault
+then_new places t retired address = is_new places t address >>= (λ done. entry_with t retired address)
+
+abbrev then_new_address : List (Option NodeSettings) → Section → Bool → Result NodeSettings ConfigFault
+then_new_address places t retired = address_unless retired t >>= then_new places t retired
 
 abbrev given : {A : Type 0} → A → Result A ConfigFault
 given x = Ok x
@@ -46,20 +67,15 @@ given x = Ok x
 same_places : (a b : List (Option NodeSettings)) → given a ≡ given b → a ≡ b
 same_places a b e = cc e
 
--- an address that no table before has is that of the table
-same_new : (places : List (Option NodeSettings)) (t : Section) (address new : List ℕ) → new_address places t address ≡ Ok new → address ≡ new
-same_new places t address new e = elim (cases_Bool (list_any (has_address address) places)) [
-  | inl taken ↦ let bad = rw taken at e in cc bad
-  | inr free ↦ let good = rw free at e in cc good
-]
-
 -- what is new is what the table says
 of_new : (places : List (Option NodeSettings)) (t : Section) (place : NodeSettings) → new_entry_in places t ≡ Ok place → entry_in t ≡ Ok place
 of_new places t place e =
-    let address = steps (address_in t) (λ address. new_entry places t address) place e in
-    let new = steps (new_address places t address.value) (λ address. entry_with t address) place address.then in
-    let same = same_new places t address.value new.value new.first in
-    ap (λ (r : Result (List ℕ) ConfigFault). r >>= entry_with t) address.first ∙ ap (entry_with t) same ∙ new.then
+    let retired = steps (retired_in t) (then_new_address places t) place e in
+    let address = steps (address_unless retired.value t) (then_new places t retired.value) place retired.then in
+    let new = steps (is_new places t address.value) (λ done. entry_with t retired.value address.value) place address.then in
+    ap (λ (r : Result Bool ConfigFault). r >>= then_address t) retired.first
+    ∙ ap (λ (r : Result (Option (List ℕ)) ConfigFault). r >>= entry_with t retired.value) address.first
+    ∙ new.then
 
 -- the table of a node that is read is put
 pub put : (places next : List (Option NodeSettings)) (t : Section) → node_in places t ≡ Ok next → IsPut places next t
@@ -100,16 +116,18 @@ put_there : (places next : List (Option NodeSettings)) (t : Section) → (p : Is
 put_there places next t p =
     ap (λ (xs : List (Option NodeSettings)). get_or xs (p.id - 1) None) p.next_is ∙ get_or-set_same places (p.id - 1) (Some p.place) None (omega (arith, p.first, p.last))
 
--- and one node more has a place
-put_more : (places next : List (Option NodeSettings)) (t : Section) → IsPut places next t → length (addresses_of next) ≡ length (addresses_of places) + 1
-put_more places next t p =
-    ap (λ (xs : List (Option NodeSettings)). length (addresses_of xs)) p.next_is
-    ∙ filter_map_put address_at places (p.id - 1) None (Some p.place) p.place.address (omega (arith, p.first, p.last)) (ap address_at p.free) refl
+-- what is at a place has its addresses and its name
+abbrev pub Passes : (List ℕ → Bool) → Option (List ℕ) → Type 0
+Passes test o = IfSome o (λ text. test text ≡ true)
 
--- what is at a place has its addresses
+pub record IsGoodEntry (place : NodeSettings) : Type 0 where
+  pub address : Passes is_reachable place.address
+  pub listen : Passes is_address place.listen
+  pub name : Passes is_name place.name
+
 abbrev pub IsGood : Option NodeSettings → Type 0
 IsGood None = Unit {0}
-IsGood (Some place) = (is_reachable place.address ≡ true) × (is_address place.listen ≡ true)
+IsGood (Some place) = IsGoodEntry place
 
 set_good : (places : List (Option NodeSettings)) (i : ℕ) (o : Option NodeSettings) → AllByRecursion IsGood places → IsGood o → AllByRecursion IsGood (slice_set places i o)
 set_good [] i o all good = tt
@@ -134,32 +152,70 @@ address_good : (o : Option (List ℕ)) (text : List ℕ) → address_of o ≡ So
 address_good None text e = cc
 address_good (Some s) text e = passes is_address s text e
 
-listen_good : (t : Section) (o : Option Data) (address : List ℕ) (text : Option (List ℕ)) → is_address address ≡ true → read_if Listen t listen_of o ≡ Ok text → is_address (unwrap_or text address) ≡ true
-listen_good t None address text good e =
-    let none : text ≡ None = cc in ap (λ (o : Option (List ℕ)). is_address (unwrap_or o address)) none ∙ good
-listen_good t (Some d) address text good e =
-    let read = steps (read_as Listen t (listen_of d)) some_listen text e in
-    let same : Some read.value ≡ text = cc read.then in
-    ap (λ (o : Option (List ℕ)). is_address (unwrap_or o address)) (sym same) ∙ address_good (as_str d) read.value (there (listen_of d) (Value t.place Listen) read.value read.first)
+name_good : (o : Option (List ℕ)) (text : List ℕ) → lawful_name o ≡ Some text → is_name text ≡ true
+name_good None text e = cc
+name_good (Some s) text e = passes is_name s text e
 
-same_entry : (address listen : List ℕ) (area : ℕ) (place : NodeSettings) → place_of address listen area ≡ given place → (address ≡ place.address) × (listen ≡ place.listen)
-same_entry address listen area place e =
-    let made : NodeSettings = record { address = address; listen = listen; area = area } in
-    let same : made ≡ place = cc e in
-    (ap (λ (p : NodeSettings). p.address) same, ap (λ (p : NodeSettings). p.listen) same)
+-- what is read of a key, where it is read, passes a test
+read_good : (key : ConfigKey) (t : Section) (read : Data → Option (List ℕ)) (test : List ℕ → Bool) → ((d : Data) (text : List ℕ) → read d ≡ Some text → test text ≡ true)
+    → (o : Option Data) (text : Option (List ℕ)) → read_if key t read o ≡ Ok text → Passes test text
+read_good key t read test good None text e =
+    let none : None ≡ text = cc e in
+    subst (Passes test) none tt
+read_good key t read test good (Some d) text e =
+    let step = steps (read_as key t (read d)) some_text text e in
+    let same : Some step.value ≡ text = cc step.then in
+    subst (Passes test) same (good d step.value (there (read d) (Value t.place key) step.value step.first))
+
+-- the address that is not left out
+unless_good : (retired : Bool) (t : Section) (address : Option (List ℕ)) → address_unless retired t ≡ Ok address → Passes is_reachable address
+unless_good true t address e =
+    let none : None ≡ address = cc e in
+    subst (Passes is_reachable) none tt
+unless_good false t address e =
+    let step = steps (address_in t) some_text address e in
+    let value = steps (required Address t) (λ d. read_as Address t (reachable_of (as_str d))) step.value step.first in
+    let same : Some step.value ≡ address = cc step.then in
+    subst (Passes is_reachable) same (reachable_good (as_str value.value) step.value (there (reachable_of (as_str value.value)) (Value t.place Address) step.value value.then))
+
+-- who can be reached listens somewhere
+reached : (address : Option (List ℕ)) → Passes is_reachable address → Passes is_address address
+reached None good = tt
+reached (Some text) good = (and_parts _ _ good).0
+
+or_good : (listen address : Option (List ℕ)) → Passes is_address listen → Passes is_address address → Passes is_address (option_or listen address)
+or_good None address first second = second
+or_good (Some text) address first second = first
+
+listen_good : (t : Section) (address listen : Option (List ℕ)) → Passes is_reachable address → listen_in t address ≡ Ok listen → Passes is_address listen
+listen_good t address listen good e =
+    let read = steps (read_if Listen t listen_of (value_in Listen t)) (listen_or address) listen e in
+    let same : option_or read.value address ≡ listen = cc read.then in
+    subst (Passes is_address) same (or_good read.value address
+    (read_good Listen t listen_of is_address (λ d text. address_good (as_str d) text) (value_in Listen t) read.value read.first) (reached address good))
+
+-- an entry that is made of these
+good_made : (retired : Bool) (address listen : Option (List ℕ)) (area : ℕ) (name : Option (List ℕ)) (place : NodeSettings) → made retired address listen area name ≡ given place
+    → Passes is_reachable address → Passes is_address listen → Passes is_name name → IsGoodEntry place
+good_made retired address listen area name place e first second third =
+    let one : NodeSettings = record { retired = retired; address = address; listen = listen; area = area; name = name } in
+    let same : one ≡ place = cc e in
+    record {
+      address = subst (λ (p : NodeSettings). Passes is_reachable p.address) same first;
+      listen = subst (λ (p : NodeSettings). Passes is_address p.listen) same second;
+      name = subst (λ (p : NodeSettings). Passes is_name p.name) same third;
+    }
 
 entry_good : (t : Section) (place : NodeSettings) → entry_in t ≡ Ok place → IsGood (Some place)
 entry_good t place e =
-    let address = steps (address_in t) (λ address. entry_with t address) place e in
-    let value = steps (required Address t) (λ d. read_as Address t (reachable_of (as_str d))) address.value address.first in
-    let good = reachable_good (as_str value.value) address.value (there (reachable_of (as_str value.value)) (Value t.place Address) address.value value.then) in
-    let listen = steps (listen_in t address.value) (λ listen. listening_entry t address.value listen) place address.then in
-    let read = steps (read_if Listen t listen_of (value_in Listen t)) (λ listen. listen_or listen address.value) listen.value listen.first in
-    let listens = listen_good t (value_in Listen t) address.value read.value (and_parts _ _ good).0 read.first in
-    let listen_is : unwrap_or read.value address.value ≡ listen.value = cc read.then in
-    let area = steps (node_area_in t) (λ area. place_of address.value listen.value area) place listen.then in
-    let same = same_entry address.value listen.value area.value place area.then in
-    (ap is_reachable (sym same.0) ∙ good, ap is_address (sym same.1 ∙ sym listen_is) ∙ listens)
+    let retired = steps (retired_in t) (then_address t) place e in
+    let address = steps (address_unless retired.value t) (entry_with t retired.value) place retired.then in
+    let listen = steps (listen_in t address.value) (then_area t retired.value address.value) place address.then in
+    let area = steps (node_area_in t) (then_name t retired.value address.value listen.value) place listen.then in
+    let name = steps (name_in t) (made retired.value address.value listen.value area.value) place area.then in
+    let good = unless_good retired.value t address.value address.first in
+    good_made retired.value address.value listen.value area.value name.value place name.then good (listen_good t address.value listen.value good listen.first)
+    (read_good Name t name_of is_name (λ d text. name_good (as_str d) text) (value_in Name t) name.value name.first)
 
 put_good : (places next : List (Option NodeSettings)) (t : Section) → IsPut places next t → AllByRecursion IsGood places → AllByRecursion IsGood next
 put_good places next t p all =
@@ -177,7 +233,6 @@ pub record AreSaid (places after : List (Option NodeSettings)) (nodes : ℕ) (t 
 
 pub record ArePut (places after : List (Option NodeSettings)) (ts : List Section) : Type 0 where
   pub long : length after ≡ length places
-  pub count : length (addresses_of after) ≡ length (addresses_of places) + length ts
   pub kept : (i : ℕ) (place : NodeSettings) → get_or places i None ≡ Some place → get_or after i None ≡ Some place
   pub good : AllByRecursion IsGood places → AllByRecursion IsGood after
   pub said : AllByRecursion (AreSaid places after (length places)) ts
@@ -205,7 +260,6 @@ put_all [] places after e =
     let same : places ≡ after = cc in
     record {
       long = ap length (sym same);
-      count = omega (arith, ap (λ (xs : List (Option NodeSettings)). length (addresses_of xs)) same);
       kept = λ i place is. subst (λ (xs : List (Option NodeSettings)). get_or xs i None ≡ Some place) same is;
       good = λ all. subst (λ (xs : List (Option NodeSettings)). AllByRecursion IsGood xs) same all;
       said = tt;
@@ -217,7 +271,6 @@ put_all (t ∷ ts) places after e =
     let long = put_length places step.value t one in
     record {
       long = rest.long ∙ long;
-      count = omega (arith, rest.count, put_more places step.value t one);
       kept = λ i place is. rest.kept i place (put_keeps places step.value t i place one is);
       good = λ all. rest.good (put_good places step.value t one all);
       said = (
@@ -235,22 +288,24 @@ put_all (t ∷ ts) places after e =
     }
 
 -- at first all places are empty
-pub none_first : (n : ℕ) → length (addresses_of (replicate n None)) ≡ 0
-none_first zero = refl
-none_first (suc n) = none_first n
-
 pub all_none : (n : ℕ) → AllByRecursion IsGood (replicate n None)
 all_none zero = tt
 all_none (suc n) = (tt, all_none n)
 
 -- of good places each address is one
-pub addresses_good : (places : List (Option NodeSettings)) → AllByRecursion IsGood places → AllByRecursion (λ address. is_reachable address ≡ true) (addresses_of places)
+pub addresses_good : (places : List (Option NodeSettings)) → AllByRecursion IsGood places → AllByRecursion (Passes is_reachable) (map address_at places)
 addresses_good [] all = tt
-addresses_good (None ∷ places) all = addresses_good places all.1
-addresses_good (Some place ∷ places) all = (all.0.0, addresses_good places all.1)
+addresses_good (None ∷ places) all = (tt, addresses_good places all.1)
+addresses_good (Some place ∷ places) all = (all.0.address, addresses_good places all.1)
 
 -- and so is each at which a node listens
-pub listens_good : (places : List (Option NodeSettings)) → AllByRecursion IsGood places → AllByRecursion (λ address. is_address address ≡ true) (listens_of places)
+pub listens_good : (places : List (Option NodeSettings)) → AllByRecursion IsGood places → AllByRecursion (Passes is_address) (map listen_at places)
 listens_good [] all = tt
-listens_good (None ∷ places) all = listens_good places all.1
-listens_good (Some place ∷ places) all = (all.0.1, listens_good places all.1)
+listens_good (None ∷ places) all = (tt, listens_good places all.1)
+listens_good (Some place ∷ places) all = (all.0.listen, listens_good places all.1)
+
+-- each name is one
+pub names_good : (places : List (Option NodeSettings)) → AllByRecursion IsGood places → AllByRecursion (Passes is_name) (map name_at places)
+names_good [] all = tt
+names_good (None ∷ places) all = (tt, names_good places all.1)
+names_good (Some place ∷ places) all = (all.0.name, names_good places all.1)

@@ -3,32 +3,31 @@ use Rattle.std.proofs.Common.{◌≡◌, ℕ, [], None, Option, Result, Ok, List
 use Rattle.std.specs.List.{AllByRecursion}
 use Rattle.oc_config.specs.AccessRules.{rules_from, rule_tables_in}
 use Rattle.oc_config.specs.Laws.{IsSaid}
-use Rattle.oc_config.specs.Nodes.{nodes_in, addresses_of, listens_of, areas_of}
-use Rattle.oc_config.specs.Reading.{common_in, node_tables_in, chain_within, measures_in, keys_known, settings_with, with_keys, with_rule_tables, with_rules, with_measures, with_chain, with_tables, with_nodes, settings_in}
+use Rattle.oc_config.specs.Nodes.{nodes_in}
+use Rattle.oc_config.specs.Reading.{common_in, greatest_of, node_tables_in, chain_within, measures_in, keys_known, settings_with, with_keys, with_rule_tables, with_rules, with_measures, with_chain, with_tables, with_nodes, settings_in}
 use Rattle.oc_config.specs.Settings.{NodeSettings, Settings}
 use Rattle.oc_config.specs.Values.{Section}
 use Rattle.oc_config.specs.declared.fault.ConfigFault.{ConfigFault}
 use Rattle.oc_config.specs.declared.reading.Common.{Common}
 use Rattle.oc_config.proofs.Results.{steps}
-use Rattle.oc_config.proofs.Said.{settings_say}
+use Rattle.oc_config.proofs.Said.{HasLists, settings_say}
 
 same_Ok : (a b : Settings) (r : Result Settings ConfigFault) → r ≡ Ok a → r ≡ Ok b → a ≡ b
 same_Ok a b r x y = let e : Ok a ≡ r = sym x in cc
 
 -- the places that settings were read from
-record HasPlaces (s : Settings) (tables : List Section) : Type 0 where
+record HasPlaces (s : Settings) (n : ℕ) (tables : List Section) : Type 0 where
   places : List (Option NodeSettings)
-  nodes : nodes_in (replicate (length tables) None) tables ≡ Ok places
-  addresses : s.addresses ≡ addresses_of places
-  listens : s.listens ≡ listens_of places
-  areas : s.areas ≡ areas_of places
+  nodes : nodes_in (replicate n None) tables ≡ Ok places
+  lists : HasLists s places
 
-places_of : (text : Section) (common : Common) (s : Settings) (tables : List Section) → with_tables text common tables ≡ Ok s → HasPlaces s tables
+places_of : (text : Section) (common : Common) (s : Settings) (tables : List Section) → with_tables text common tables ≡ Ok s → HasPlaces s (greatest_of common tables) tables
 places_of text common s tables e =
-    let nodes = steps (nodes_in (replicate (length tables) None) tables) (λ places. with_chain text common tables places) s e in
+    let n = greatest_of common tables in
+    let nodes = steps (nodes_in (replicate n None) tables) (λ places. with_chain text common tables places) s e in
     let places = nodes.value in
-    let within = steps (chain_within text (length tables) common.chain) (λ done. with_measures text common tables places) s nodes.then in
-    let measures = steps (measures_in (length tables) text) (λ measures. with_rules text common tables places measures) s within.then in
+    let within = steps (chain_within text n common.chain) (λ done. with_measures text common tables places) s nodes.then in
+    let measures = steps (measures_in n text) (λ measures. with_rules text common tables places measures) s within.then in
     let found = steps (rule_tables_in text) (λ rule_tables. with_rule_tables text common tables places measures.value rule_tables) s measures.then in
     let rules = steps (rules_from [] found.value) (λ rules. with_keys text common tables places measures.value found.value rules) s found.then in
     let keys = steps (keys_known text tables found.value) (λ done. settings_with common places measures.value rules.value) s rules.then in
@@ -36,16 +35,24 @@ places_of text common s tables e =
     record {
       places = places;
       nodes = nodes.first;
-      addresses = ap (λ (r : Settings). r.addresses) (sym same);
-      listens = ap (λ (r : Settings). r.listens) (sym same);
-      areas = ap (λ (r : Settings). r.areas) (sym same);
+      lists = record {
+        retired = ap (λ (r : Settings). r.retired) (sym same);
+        addresses = ap (λ (r : Settings). r.addresses) (sym same);
+        listens = ap (λ (r : Settings). r.listens) (sym same);
+        areas = ap (λ (r : Settings). r.areas) (sym same);
+        names = ap (λ (r : Settings). r.names) (sym same);
+      };
     }
 
 -- what each table says, settings say
-pub settled_say : (text : Section) (s : Settings) (tables : List Section) → settings_in text ≡ Ok s → node_tables_in text ≡ Ok tables → AllByRecursion (IsSaid s (length tables)) tables
-settled_say text s tables e there =
-    let common = steps (common_in text) (λ common. with_nodes text common) s e in
-    let found = steps (node_tables_in text) (λ ts. with_tables text common.value ts) s common.then in
+pub settled_say : (text : Section) (s : Settings) (common : Common) (tables : List Section) → settings_in text ≡ Ok s → common_in text ≡ Ok common → node_tables_in text ≡ Ok tables
+    → AllByRecursion (IsSaid s (greatest_of common tables)) tables
+settled_say text s common tables e said there =
+    let top = steps (common_in text) (λ common. with_nodes text common) s e in
+    let found = steps (node_tables_in text) (λ ts. with_tables text top.value ts) s top.then in
+    let same_top : top.value ≡ common = cc in
     let same : found.value ≡ tables = cc in
-    let has = places_of text common.value s found.value found.then in
-    subst (λ (ts : List Section). AllByRecursion (IsSaid s (length ts)) ts) same (settings_say s found.value has.places has.nodes has.addresses has.listens has.areas)
+    let has = places_of text top.value s found.value found.then in
+    subst (λ (c : Common). AllByRecursion (IsSaid s (greatest_of c tables)) tables) same_top
+    (subst (λ (ts : List Section). AllByRecursion (IsSaid s (greatest_of top.value ts)) ts) same
+    (settings_say s (greatest_of top.value found.value) found.value has.places has.nodes has.lists))

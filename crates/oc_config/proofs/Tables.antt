@@ -88,7 +88,7 @@ front_before kind number front t None = refl
 front_before kind number front t (Some others) = ap Some (sym (append_assoc front (section_in kind number t ∷ []) others))
 
 -- a value and those after it
-next_value : (vs : List Value) (i : ℕ) (v : Value) → i < length vs → v ≡ get_or vs i v → drop i vs ≡ v ∷ drop (i + 1) vs
+pub next_value : (vs : List Value) (i : ℕ) (v : Value) → i < length vs → v ≡ get_or vs i v → drop i vs ≡ v ∷ drop (i + 1) vs
 next_value vs i v inside is = rw (add-one, drop-cons vs i v) (ap (λ (x : Value). x ∷ drop (suc i) vs) (sym is))
 
 -- a value that is a table goes after the front

@@ -3,7 +3,7 @@ use Rattle.std.specs.Prelude.{ℕ, Bool, not, ◌&&◌, ◌||◌, ◌==◌, nat_
 use Rattle.std.specs.List.{list_all, list_any}
 use Rattle.std.specs.Str.{byte, bytes_eq}
 use Rattle.oc_config.specs.declared.config_key.ConfigKey.{ConfigKey}
-use Rattle.oc_config.specs.declared.config_key.ConfigKey.TheVariants.{Chain, Chunk, NodeKey, Node, Id, Address, Listen, Area, Measures, Rule, Allow, Prefix, Method, Token}
+use Rattle.oc_config.specs.declared.config_key.ConfigKey.TheVariants.{Chain, Nodes, Chunk, NodeKey, Accept, Node, Id, Retired, Address, Listen, Area, Name, Measures, Rule, Allow, Prefix, Method, Token}
 use Rattle.oc_config.specs.declared.key_name.TheConstants.{MAX_KEY_BYTES}
 use Rattle.oc_config.specs.declared.section_name.Kind.{Kind}
 use Rattle.oc_config.specs.declared.section_name.Kind.TheVariants as kinds
@@ -13,13 +13,17 @@ use Rattle.oc_config.specs.declared.section_name.SectionName.TheVariants as plac
 -- a key as it appears in the text
 abbrev pub key_text : ConfigKey → List ℕ
 key_text Chain = codes "chain"
+key_text Nodes = codes "nodes"
 key_text Chunk = codes "chunk"
 key_text NodeKey = codes "key"
+key_text Accept = codes "accept"
 key_text Node = codes "node"
 key_text Id = codes "id"
+key_text Retired = codes "retired"
 key_text Address = codes "address"
 key_text Listen = codes "listen"
 key_text Area = codes "area"
+key_text Name = codes "name"
 key_text Measures = codes "measures"
 key_text Rule = codes "rule"
 key_text Allow = codes "allow"
@@ -34,8 +38,8 @@ place_in kinds.Rule number = places.Rule number
 
 -- the keys that a table can have
 abbrev pub keys_at : SectionName → List ConfigKey
-keys_at places.Top = Chain ∷ Chunk ∷ NodeKey ∷ Node ∷ Measures ∷ Rule ∷ []
-keys_at (places.Node number) = Id ∷ Address ∷ Listen ∷ Area ∷ []
+keys_at places.Top = Chain ∷ Nodes ∷ Chunk ∷ NodeKey ∷ Accept ∷ Node ∷ Measures ∷ Rule ∷ []
+keys_at (places.Node number) = Id ∷ Retired ∷ Address ∷ Listen ∷ Area ∷ Name ∷ []
 keys_at (places.Rule number) = Allow ∷ Prefix ∷ Method ∷ Area ∷ Token ∷ []
 
 abbrev pub is_known : SectionName → List ℕ → Bool

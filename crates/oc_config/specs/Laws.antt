@@ -4,12 +4,18 @@ use Rattle.oc_config.specs.Nodes.{id_in, entry_in}
 use Rattle.oc_config.specs.Settings.{NodeSettings, Settings}
 use Rattle.oc_config.specs.Values.{Section}
 
--- the settings say of the node with this table's id, one of `nodes` nodes, what the table says
+-- the settings say this of the node with this id
+pub record Say (s : Settings) (id : ℕ) (place : NodeSettings) : Type 0 where
+  pub retired : slice_get s.retired (id - 1) ≡ Some place.retired
+  pub address : slice_get s.addresses (id - 1) ≡ Some place.address
+  pub listen : slice_get s.listens (id - 1) ≡ Some place.listen
+  pub area : slice_get s.areas (id - 1) ≡ Some place.area
+  pub name : slice_get s.names (id - 1) ≡ Some place.name
+
+-- the settings say of the node with this table's id, where the greatest id is `nodes`, what the table says
 pub record IsSaid (s : Settings) (nodes : ℕ) (table : Section) : Type 0 where
   pub id : ℕ
   pub place : NodeSettings
   pub id_is : id_in nodes table ≡ Ok id
   pub place_is : entry_in table ≡ Ok place
-  pub address : slice_get s.addresses (id - 1) ≡ Some place.address
-  pub listen : slice_get s.listens (id - 1) ≡ Some place.listen
-  pub area : slice_get s.areas (id - 1) ≡ Some place.area
+  pub say : Say s id place

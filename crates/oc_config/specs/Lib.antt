@@ -2,8 +2,12 @@ pub mod Keys
 pub mod Settings
 pub mod Values
 pub mod Addresses
+pub mod Names
+pub mod Accepted
 pub mod Nodes
 pub mod AccessRules
 pub mod Known
 pub mod Reading
 pub mod Laws
+pub mod Changes
+pub mod Examples

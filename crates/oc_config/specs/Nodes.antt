@@ -1,22 +1,38 @@
 -- The tables of nodes.
-use Rattle.std.specs.Prelude.{◌≡◌, ℕ, Bool, false, ◌-◌, ◌++◌, if◌then◌else◌, Option, Some, None, unwrap_or, is_some, Result, Ok, Err, String, string_bytes, List, [], ◌∷◌, map, length, slice_index_or, slice_set}
-use Rattle.std.specs.List.{filter_map, list_any}
+use Rattle.std.specs.Prelude.{◌≡◌, ℕ, Bool, true, false, ◌-◌, ◌&&◌, if◌then◌else◌, Option, Some, None, unwrap_or, option_map, is_some, Result, Ok, Err, String, string_bytes, List, [], ◌∷◌, map, length, slice_index_or, slice_set}
+use Rattle.std.specs.List.{list_any}
+use Rattle.std.specs.Option.{option_or}
 use Rattle.std.specs.Str.{bytes_eq}
 use Rattle.std.specs.declared.alloc.Global.{Global}
-use Rattle.toml.specs.Data.{Data, as_str}
+use Rattle.toml.specs.Data.{Data, as_bool, as_str}
 use Rattle.oc_base.specs.Steps.{◌>>=◌}
 use Rattle.oc_config.specs.Addresses.{is_address, is_reachable}
+use Rattle.oc_config.specs.Names.{is_name}
 use Rattle.oc_config.specs.Settings.{NodeSettings}
 use Rattle.oc_config.specs.Values.{Section, value_in, required, read_as, read_if, whole_in, area_in}
 use Rattle.oc_config.specs.declared.fault.ConfigFault.{ConfigFault}
 use Rattle.oc_config.specs.declared.fault.ConfigFault.TheVariants.{Value, Repeat, Memory}
-use Rattle.oc_config.specs.declared.config_key.ConfigKey.TheVariants.{Id, Address, Listen}
+use Rattle.oc_config.specs.declared.config_key.ConfigKey.TheVariants.{Id, Retired, Address, Listen, Name}
 
--- the id that a table says, of this many nodes
+-- the id that a table says, where the greatest id is this
 abbrev pub id_in : ℕ → Section → Result ℕ ConfigFault
 id_in nodes s = do
   d ← required Id s
   read_as Id s (whole_in 1 nodes d)
+
+-- yes or no, but not yes of a node that has an address
+abbrev pub unless_placed : Bool → Option Bool → Option Bool
+unless_placed placed None = None
+unless_placed placed (Some retired) = if retired && placed then None else Some retired
+
+abbrev pub retired_of : Section → Data → Option Bool
+retired_of s d = unless_placed (is_some (value_in Address s)) (as_bool d)
+
+-- whether a node is retired, which it is not where nothing is said
+abbrev pub retired_in : Section → Result Bool ConfigFault
+retired_in s = do
+  retired ← read_if Retired s (retired_of s) (value_in Retired s)
+  Ok (unwrap_or retired false)
 
 -- the text, where others can reach a node at it
 abbrev pub reachable_of : Option (List ℕ) → Option (List ℕ)
@@ -28,6 +44,13 @@ address_in s = do
   d ← required Address s
   read_as Address s (reachable_of (as_str d))
 
+-- the address of a node, which a retired one does not have
+abbrev pub address_unless : Bool → Section → Result (Option (List ℕ)) ConfigFault
+address_unless true s = Ok None
+address_unless false s = do
+  address ← address_in s
+  Ok (Some address)
+
 -- the text, where a node can listen at it
 abbrev pub address_of : Option (List ℕ) → Option (List ℕ)
 address_of None = None
@@ -36,11 +59,11 @@ address_of (Some text) = if is_address text then Some text else None
 abbrev pub listen_of : Data → Option (List ℕ)
 listen_of d = address_of (as_str d)
 
--- where a node listens, which is its address where nothing else is said
-abbrev pub listen_in : Section → List ℕ → Result (List ℕ) ConfigFault
+-- where a node listens, which is its address, if it has one, where nothing else is said
+abbrev pub listen_in : Section → Option (List ℕ) → Result (Option (List ℕ)) ConfigFault
 listen_in s address = do
   listen ← read_if Listen s listen_of (value_in Listen s)
-  Ok (unwrap_or listen address)
+  Ok (option_or listen address)
 
 -- the area of a node, which is 0 where none is said
 abbrev pub node_area_in : Section → Result ℕ ConfigFault
@@ -48,46 +71,57 @@ node_area_in s = do
   area ← area_in s
   Ok (unwrap_or area 0)
 
--- what is said of a node, apart from its id
-abbrev pub place_of : List ℕ → List ℕ → ℕ → Result NodeSettings ConfigFault
-place_of address listen area = Ok (record { address = address; listen = listen; area = area })
+-- the text, where it is a name
+abbrev pub lawful_name : Option (List ℕ) → Option (List ℕ)
+lawful_name None = None
+lawful_name (Some text) = if is_name text then Some text else None
 
--- the same for a table, where this is the address and that where it listens
-abbrev pub listening_entry : Section → List ℕ → List ℕ → Result NodeSettings ConfigFault
-listening_entry s address listen = do
-  area ← node_area_in s
-  place_of address listen area
+abbrev pub name_of : Data → Option (List ℕ)
+name_of d = lawful_name (as_str d)
 
--- where this is the address
-abbrev pub entry_with : Section → List ℕ → Result NodeSettings ConfigFault
-entry_with s address = do
+-- the name of a node, if it has one
+abbrev pub name_in : Section → Result (Option (List ℕ)) ConfigFault
+name_in s = read_if Name s name_of (value_in Name s)
+
+-- what is said of a node, apart from its id, where this is said of its retirement and its address
+abbrev pub entry_with : Section → Bool → Option (List ℕ) → Result NodeSettings ConfigFault
+entry_with s retired address = do
   listen ← listen_in s address
-  listening_entry s address listen
+  area ← node_area_in s
+  name ← name_in s
+  Ok (record { retired = retired; address = address; listen = listen; area = area; name = name })
 
 abbrev pub entry_in : Section → Result NodeSettings ConfigFault
 entry_in s = do
-  address ← address_in s
-  entry_with s address
+  retired ← retired_in s
+  address ← address_unless retired s
+  entry_with s retired address
+
+-- a text is this one
+abbrev pub is_text : List ℕ → Option (List ℕ) → Bool
+is_text text None = false
+is_text text (Some said) = bytes_eq said text
 
 -- the node at a place has this address
 abbrev pub has_address : List ℕ → Option NodeSettings → Bool
 has_address address None = false
-has_address address (Some place) = bytes_eq place.address address
+has_address address (Some place) = is_text address place.address
 
--- the address, where no table before has it
-abbrev pub new_address : List (Option NodeSettings) → Section → List ℕ → Result (List ℕ) ConfigFault
-new_address places s address = if list_any (has_address address) places then Err (Value s.place Address) else Ok address
+abbrev pub is_taken : List (Option NodeSettings) → Option (List ℕ) → Bool
+is_taken places None = false
+is_taken places (Some address) = list_any (has_address address) places
+
+-- no table before has the address
+abbrev pub is_new : List (Option NodeSettings) → Section → Option (List ℕ) → Result (Unit {0}) ConfigFault
+is_new places s address = if is_taken places address then Err (Value s.place Address) else Ok tt
 
 -- what a table says of a node, where no table before has its address
-abbrev pub new_entry : List (Option NodeSettings) → Section → List ℕ → Result NodeSettings ConfigFault
-new_entry places s address = do
-  address ← new_address places s address
-  entry_with s address
-
 abbrev pub new_entry_in : List (Option NodeSettings) → Section → Result NodeSettings ConfigFault
 new_entry_in places s = do
-  address ← address_in s
-  new_entry places s address
+  retired ← retired_in s
+  address ← address_unless retired s
+  done ← is_new places s address
+  entry_with s retired address
 
 -- the places with this one at an id
 abbrev pub put_place : List (Option NodeSettings) → ℕ → NodeSettings → Result (List (Option NodeSettings)) ConfigFault
@@ -117,27 +151,28 @@ nodes_in places (s ∷ rest) = do
   next ← node_in places s
   nodes_in next rest
 
--- what is at each place
+-- what is said of a node where no table has its id
+abbrev pub unsaid : NodeSettings
+unsaid = record { retired = false; address = None; listen = None; area = 0; name = None }
+
+-- what is said of each node
+abbrev pub said_at : Option NodeSettings → NodeSettings
+said_at place = unwrap_or place unsaid
+
+abbrev pub retired_at : Option NodeSettings → Bool
+retired_at place = (said_at place).retired
+
 abbrev pub address_at : Option NodeSettings → Option (List ℕ)
-address_at None = None
-address_at (Some place) = Some place.address
+address_at place = (said_at place).address
 
 abbrev pub listen_at : Option NodeSettings → Option (List ℕ)
-listen_at None = None
-listen_at (Some place) = Some place.listen
+listen_at place = (said_at place).listen
 
-abbrev pub area_at : Option NodeSettings → Option ℕ
-area_at None = None
-area_at (Some place) = Some place.area
+abbrev pub area_at : Option NodeSettings → ℕ
+area_at place = (said_at place).area
 
-abbrev pub addresses_of : List (Option NodeSettings) → List (List ℕ)
-addresses_of places = filter_map address_at places
-
-abbrev pub listens_of : List (Option NodeSettings) → List (List ℕ)
-listens_of places = filter_map listen_at places
-
-abbrev pub areas_of : List (Option NodeSettings) → List ℕ
-areas_of places = filter_map area_at places
+abbrev pub name_at : Option NodeSettings → Option (List ℕ)
+name_at place = (said_at place).name
 
 -- one more table was put, or its fault was given
 abbrev pub GivesNode : Result (Unit {0}) ConfigFault → List (Option NodeSettings) → List (Option NodeSettings) → Section → Type 0
@@ -145,8 +180,10 @@ GivesNode (Ok done) old new s = node_in old s ≡ Ok new
 GivesNode (Err Memory) old new s = Unit {0}
 GivesNode (Err fault) old new s = node_in old s ≡ Err fault
 
--- the addresses, where nodes listen, and the areas of places
-pub record AreOf (told heard : List (String Global)) (near : List ℕ) (places : List (Option NodeSettings)) : Type 0 where
-  pub addresses : map string_bytes told ≡ addresses_of places
-  pub listens : map string_bytes heard ≡ listens_of places
-  pub areas : near ≡ areas_of places
+-- lists of what is said of each node, as code has them, are those of places
+pub record AreOf (retired : List Bool) (told heard : List (Option (String Global))) (near : List ℕ) (named : List (Option (String Global))) (places : List (Option NodeSettings)) : Type 0 where
+  pub retired_are : retired ≡ map retired_at places
+  pub addresses : map (option_map string_bytes) told ≡ map address_at places
+  pub listens : map (option_map string_bytes) heard ≡ map listen_at places
+  pub areas : near ≡ map area_at places
+  pub names : map (option_map string_bytes) named ≡ map name_at places

@@ -1,5 +1,5 @@
 -- What a text says as a configuration, or its first fault.
-use Rattle.std.specs.Prelude.{◌≡◌, ℕ, ◌+◌, ◌≤◌, ◌==◌, true, nat_lt, if◌then◌else◌, Option, Some, None, Result, Ok, Err, String, List, [], length, replicate, take, filter, All}
+use Rattle.std.specs.Prelude.{◌≡◌, ℕ, ◌+◌, ◌≤◌, ◌==◌, Bool, true, nat_lt, if◌then◌else◌, Option, Some, None, IfSome, unwrap_or, Result, Ok, Err, String, List, [], length, map, replicate, take, filter, All}
 use Rattle.std.specs.Str.{byte, is_utf8}
 use Rattle.std.specs.BTreeMap.{BTreeMap}
 use Rattle.std.specs.declared.alloc.Global.{Global}
@@ -12,19 +12,21 @@ use Rattle.oc_base.specs.declared.limits.TheConstants.{MAX_CHAIN, MAX_NODES}
 use Rattle.oc_updown.specs.MeasureLines as lines
 use Rattle.oc_updown.specs.declared.measure_fault.MeasureFault.{MeasureFault}
 use Rattle.oc_updown.specs.declared.measure_lines.Measure.{Measure}
-use Rattle.oc_policy.specs.Keys.{key_in}
+use Rattle.oc_policy.specs.declared.keyring.TheConstants.{MAX_ACCEPTED}
 use Rattle.oc_policy.specs.declared.deciding.TheConstants.{MAX_RULES}
 use Rattle.oc_policy.specs.declared.rule.Rule.{Rule}
+use Rattle.oc_config.specs.Accepted.{keys_in}
 use Rattle.oc_config.specs.AccessRules.{rules_from, rule_tables_in}
 use Rattle.oc_config.specs.Addresses.{is_address, is_reachable}
 use Rattle.oc_config.specs.Known.{known_in, all_known}
-use Rattle.oc_config.specs.Nodes.{nodes_in, addresses_of, listens_of, areas_of}
+use Rattle.oc_config.specs.Names.{is_name}
+use Rattle.oc_config.specs.Nodes.{nodes_in, retired_at, address_at, listen_at, area_at, name_at}
 use Rattle.oc_config.specs.Settings.{NodeSettings, Settings}
 use Rattle.oc_config.specs.Values.{Section, top, value_in, required, read_as, read_if, whole_in, tables_in, fault_of, Gives, GivesBy}
 use Rattle.oc_config.specs.declared.config.TheConstants.{MAX_CHUNK, FIRST_CHUNK}
 use Rattle.oc_config.specs.declared.fault.ConfigFault.{ConfigFault}
 use Rattle.oc_config.specs.declared.fault.ConfigFault.TheVariants.{Toml, Value}
-use Rattle.oc_config.specs.declared.config_key.ConfigKey.TheVariants.{Chain, Chunk, NodeKey, Node, Measures}
+use Rattle.oc_config.specs.declared.config_key.ConfigKey.TheVariants.{Chain, Nodes, Chunk, Node, Measures}
 use Rattle.oc_config.specs.declared.section_name.Kind.TheVariants as kinds
 use Rattle.oc_config.specs.declared.reading.Common.{Common}
 
@@ -34,6 +36,10 @@ chain_in s = do
   d ← required Chain s
   read_as Chain s (whole_in 1 MAX_CHAIN d)
 
+-- the greatest id of a node, if it is said
+abbrev pub greatest_in : Section → Result (Option ℕ) ConfigFault
+greatest_in s = read_if Nodes s (whole_in 1 MAX_NODES) (value_in Nodes s)
+
 -- the greatest number of bytes of a chunk
 abbrev pub chunk_at : Section → Option Data → Result ℕ ConfigFault
 chunk_at s None = Ok FIRST_CHUNK
@@ -42,25 +48,13 @@ chunk_at s (Some d) = read_as Chunk s (whole_in 1 MAX_CHUNK d)
 abbrev pub chunk_in : Section → Result ℕ ConfigFault
 chunk_in s = chunk_at s (value_in Chunk s)
 
--- the key that a text spells
-abbrev pub spelled_key : Option (List ℕ) → Option (List ℕ)
-spelled_key None = None
-spelled_key (Some text) = key_in text
-
-abbrev pub node_key_of : Data → Option (List ℕ)
-node_key_of d = spelled_key (as_str d)
-
--- the key of the nodes, if they have one
-abbrev pub node_key_in : Section → Result (Option (List ℕ)) ConfigFault
-node_key_in s = read_if NodeKey s node_key_of (value_in NodeKey s)
-
 -- the tables of the nodes
 abbrev pub node_tables_in : Section → Result (List Section) ConfigFault
 node_tables_in s = do
   d ← required Node s
   read_as Node s (tables_in kinds.Node 1 MAX_NODES d)
 
--- no more chain members than nodes
+-- no chain member past the greatest id
 abbrev pub chain_within : Section → ℕ → ℕ → Result (Unit {0}) ConfigFault
 chain_within s nodes chain = if nat_lt nodes chain then Err (Value s.place Chain) else Ok tt
 
@@ -79,6 +73,10 @@ measures_at nodes s (Some d) = do
 abbrev pub measures_in : ℕ → Section → Result (List Measure) ConfigFault
 measures_in nodes s = measures_at nodes s (value_in Measures s)
 
+-- the greatest id: what is said, or the number of tables
+abbrev pub greatest_of : Common → List Section → ℕ
+greatest_of common nodes = unwrap_or common.nodes (length nodes)
+
 -- What a text says, with the first fault in the order of these steps:
 
 -- all of it
@@ -86,10 +84,12 @@ abbrev pub settings_with : Common → List (Option NodeSettings) → List Measur
 settings_with common places measures rules = Ok (record {
   chain = common.chain;
   chunk = common.chunk;
-  key = common.key;
-  addresses = addresses_of places;
-  listens = listens_of places;
-  areas = areas_of places;
+  keys = common.keys;
+  retired = map retired_at places;
+  addresses = map address_at places;
+  listens = map listen_at places;
+  areas = map area_at places;
+  names = map name_at places;
   measures = measures;
   rules = rules;
 })
@@ -126,19 +126,19 @@ with_rules s common nodes places measures = do
 -- the measures
 abbrev pub with_measures : Section → Common → List Section → List (Option NodeSettings) → Result Settings ConfigFault
 with_measures s common nodes places = do
-  measures ← measures_in (length nodes) s
+  measures ← measures_in (greatest_of common nodes) s
   with_rules s common nodes places measures
 
--- the chain against the number of nodes
+-- the chain against the greatest id
 abbrev pub with_chain : Section → Common → List Section → List (Option NodeSettings) → Result Settings ConfigFault
 with_chain s common nodes places = do
-  done ← chain_within s (length nodes) common.chain
+  done ← chain_within s (greatest_of common nodes) common.chain
   with_measures s common nodes places
 
 -- the tables of nodes, one after another
 abbrev pub with_tables : Section → Common → List Section → Result Settings ConfigFault
 with_tables s common nodes = do
-  places ← nodes_in (replicate (length nodes) None) nodes
+  places ← nodes_in (replicate (greatest_of common nodes) None) nodes
   with_chain s common nodes places
 
 -- the array of the nodes
@@ -147,23 +147,14 @@ with_nodes s common = do
   nodes ← node_tables_in s
   with_tables s common nodes
 
--- the key
-abbrev pub common_of : Section → ℕ → ℕ → Result Common ConfigFault
-common_of s chain chunk = do
-  key ← node_key_in s
-  Ok (record { chain = chain; chunk = chunk; key = key })
-
--- the chunk
-abbrev pub common_with : Section → ℕ → Result Common ConfigFault
-common_with s chain = do
-  chunk ← chunk_in s
-  common_of s chain chunk
-
 -- what is said at the top for all nodes
 abbrev pub common_in : Section → Result Common ConfigFault
 common_in s = do
   chain ← chain_in s
-  common_with s chain
+  nodes ← greatest_in s
+  chunk ← chunk_in s
+  keys ← keys_in s
+  Ok (record { chain = chain; nodes = nodes; chunk = chunk; keys = keys })
 
 -- and these before all
 abbrev pub settings_in : Section → Result Settings ConfigFault
@@ -209,14 +200,34 @@ pub record ReadsTable (bytes : List ℕ) (result : Result (BTreeMap (String Glob
   pub in_text : IsLineOf bytes line
   pub gives : GivesBy table_view result (table_or_fault line (document bytes))
 
+-- what is said at the top is within its ranges
+pub record IsCommon (common : Common) : Type 0 where
+  pub chain : (1 ≤ common.chain) × (common.chain ≤ MAX_CHAIN)
+  pub nodes : IfSome common.nodes (λ n. (1 ≤ n) × (n ≤ MAX_NODES))
+  pub chunk : (1 ≤ common.chunk) × (common.chunk ≤ MAX_CHUNK)
+  pub keys : IfSome common.keys (λ ring. length ring.accept ≤ MAX_ACCEPTED)
+
+-- the lists of the nodes are as long as each other
+pub record HavePlaces (s : Settings) : Type 0 where
+  pub retired : length s.retired ≡ length s.addresses
+  pub listens : length s.listens ≡ length s.addresses
+  pub areas : length s.areas ≡ length s.addresses
+  pub names : length s.names ≡ length s.addresses
+
+-- where something is said it passes this test
+abbrev pub AllPassing : (List ℕ → Bool) → List (Option (List ℕ)) → Type 0
+AllPassing test texts = All (λ text. IfSome text (λ t. test t ≡ true)) texts
+
 -- settings within their ranges
 pub record IsConfig (s : Settings) : Type 0 where
   pub chain : (1 ≤ s.chain) × (s.chain ≤ MAX_CHAIN)
   pub chunk : (1 ≤ s.chunk) × (s.chunk ≤ MAX_CHUNK)
+  pub keys : IfSome s.keys (λ ring. length ring.accept ≤ MAX_ACCEPTED)
   pub nodes : (1 ≤ length s.addresses) × (length s.addresses ≤ MAX_NODES)
   pub within : s.chain ≤ length s.addresses
-  pub addresses : All (λ address. is_reachable address ≡ true) s.addresses
-  pub listens : (length s.listens ≡ length s.addresses) × All (λ address. is_address address ≡ true) s.listens
-  pub areas : length s.areas ≡ length s.addresses
+  pub places : HavePlaces s
+  pub addresses : AllPassing is_reachable s.addresses
+  pub listens : AllPassing is_address s.listens
+  pub names : AllPassing is_name s.names
   pub measures : All (lines.IsMeasure (length s.addresses)) s.measures
   pub rules : length s.rules ≤ MAX_RULES

@@ -1,22 +1,32 @@
 -- What a configuration says.
-use Rattle.std.specs.Prelude.{ℕ, Option, List}
+use Rattle.std.specs.Prelude.{ℕ, Bool, Option, option_map, List}
 use Rattle.oc_updown.specs.declared.measure_lines.Measure.{Measure}
+use Rattle.oc_policy.specs.Keys.{Keyring}
 use Rattle.oc_policy.specs.declared.rule.Rule.{Rule}
 
--- what is said of a node, apart from its id
+-- what is said of a node, apart from its id: whether it is retired, the address that others are told, which a retired one does not
+-- have, that at which it listens, its area and its name
 pub record NodeSettings : Type 0 where
-  pub address : List ℕ
-  pub listen : List ℕ
+  pub retired : Bool
+  pub address : Option (List ℕ)
+  pub listen : Option (List ℕ)
   pub area : ℕ
+  pub name : Option (List ℕ)
 
--- the chain members, the greatest number of bytes of a chunk, the key of the nodes if they have one, of each node by its id the address
--- that others are told, that at which it listens and its area, what was measured, and the rules
+-- the chain members, the greatest number of bytes of a chunk, the keys of the network if it has some, of each id that a node can have
+-- what is said of that node, what was measured, and the rules
 pub record Settings : Type 0 where
   pub chain : ℕ
   pub chunk : ℕ
-  pub key : Option (List ℕ)
-  pub addresses : List (List ℕ)
-  pub listens : List (List ℕ)
+  pub keys : Option Keyring
+  pub retired : List Bool
+  pub addresses : List (Option (List ℕ))
+  pub listens : List (Option (List ℕ))
   pub areas : List ℕ
+  pub names : List (Option (List ℕ))
   pub measures : List Measure
   pub rules : List Rule
+
+-- the key of what goes out
+abbrev pub key_of : Option Keyring → Option (List ℕ)
+key_of keys = option_map (λ ring. ring.key) keys

@@ -1,6 +1,7 @@
-ghost use Rattle.std.specs.Prelude.{◌≡◌};
+ghost use Rattle.std.specs.Prelude.{◌≡◌, option_map};
+ghost use Rattle.oc_config.specs.Settings.{key_of};
 
-use oc_policy::{Key, Rule};
+use oc_policy::{Key, Keyring, Rule};
 use oc_updown::Measure;
 use std::marker::Model;
 
@@ -11,20 +12,28 @@ pub const MAX_CHUNK: u32 = 524_288;
 pub const FIRST_CHUNK: u32 = 262_144;
 
 /// What a configuration says. Contracts see it as the record `Settings` of lists.
+///
+/// The lists of the nodes have a place for each id, from 1 to the greatest that a node can have, also where no table has
+/// it.
 #[derive(Drop)]
 pub struct Config {
     /// The number of chain members: the nodes 1 to this one.
     pub chain: u32,
     /// The greatest number of bytes of a group that one chunk carries.
     pub(crate) chunk: u32,
-    /// The key of the nodes, if they have one.
-    pub key: Option<Key>,
-    /// The address that others are told of each node, by its id: a host, `:` and a port.
-    pub addresses: Vec<String>,
+    /// The keys of the network, if it has some.
+    pub keys: Option<Keyring>,
+    /// Whether each node is retired, by its id.
+    pub retired: Vec<bool>,
+    /// The address that others are told of each node, by its id: a host, `:` and a port. A node that is retired has none,
+    /// nor has an id without a table.
+    pub addresses: Vec<Option<String>>,
     /// Where each node listens, by its id: its `listen`, or its address where it has none.
-    pub listens: Vec<String>,
+    pub listens: Vec<Option<String>>,
     /// The area of each node, by its id.
     pub areas: Vec<u8>,
+    /// The name of each node, by its id, if it has one.
+    pub names: Vec<Option<String>>,
     /// What was measured, in the order of the text.
     pub measures: Vec<Measure>,
     /// The access rules, in their order.
@@ -39,10 +48,20 @@ impl Config {
     {
         self.chunk
     }
+
+    /// The key under which what goes out has its MAC, if the network has one.
+    pub fn key(&self) -> Option<&Key>
+        ensures { option_map (λ k. k.now) result ≡ key_of self.now.keys }
+    {
+        match &self.keys {
+            Some(ring) => Some(&ring.key),
+            None => None,
+        }
+    }
 }
 
 impl Model for Config {
-    ghost use Rattle.std.specs.Prelude.{map, string_bytes};
+    ghost use Rattle.std.specs.Prelude.{map, option_map, string_bytes};
     ghost use Rattle.oc_config.specs.Settings.{Settings};
 
     ghost Value = { Settings };
@@ -50,10 +69,12 @@ impl Model for Config {
     ghost view = { λ c. record {
       chain = c.chain;
       chunk = c.chunk;
-      key = c.key;
-      addresses = map string_bytes c.addresses.items;
-      listens = map string_bytes c.listens.items;
+      keys = c.keys;
+      retired = c.retired.items;
+      addresses = map (option_map string_bytes) c.addresses.items;
+      listens = map (option_map string_bytes) c.listens.items;
       areas = c.areas.items;
+      names = map (option_map string_bytes) c.names.items;
       measures = c.measures.items;
       rules = c.rules.items;
     } };

@@ -7,15 +7,20 @@ use std::fmt;
 #[derive(Clone, Copy, Debug)]
 pub enum ConfigKey {
     Chain,
+    Nodes,
     Chunk,
     /// The key of the nodes.
     NodeKey,
+    /// The keys that are accepted besides it.
+    Accept,
     Node,
     Id,
+    Retired,
     Address,
     Listen,
     /// Of a node or of a rule.
     Area,
+    Name,
     Measures,
     Rule,
     Allow,
@@ -31,13 +36,17 @@ impl ConfigKey {
     {
         match self {
             ConfigKey::Chain => "chain",
+            ConfigKey::Nodes => "nodes",
             ConfigKey::Chunk => "chunk",
             ConfigKey::NodeKey => "key",
+            ConfigKey::Accept => "accept",
             ConfigKey::Node => "node",
             ConfigKey::Id => "id",
+            ConfigKey::Retired => "retired",
             ConfigKey::Address => "address",
             ConfigKey::Listen => "listen",
             ConfigKey::Area => "area",
+            ConfigKey::Name => "name",
             ConfigKey::Measures => "measures",
             ConfigKey::Rule => "rule",
             ConfigKey::Allow => "allow",

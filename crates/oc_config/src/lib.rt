@@ -7,16 +7,23 @@
 //!
 //! What the text is as a table is said by `toml` (`parse_document`); `specs/Reading` says what a table
 //! means, with its faults in their order, `specs/Nodes` what the table of a node means,
-//! `specs/AccessRules` what that of a rule does, and `specs/Known` which keys are none.
+//! `specs/Accepted` what the keys of the network do, `specs/AccessRules` what the table of a rule does, and
+//! `specs/Known` which keys are none.
+//!
+//! A node that runs may read its configuration again: [`config_change`] says what it then goes by (`specs/Changes`), and
+//! [`a_change_keeps_the_network`] what stays.
 #![tactic(auto)]
 
 mod address;
+mod change;
 mod config;
 mod config_key;
 mod fault;
 mod key_name;
+mod keyring;
 mod known;
 mod law;
+mod name;
 mod node_entry;
 mod nodes;
 mod reading;
@@ -25,13 +32,18 @@ mod section;
 mod section_name;
 mod values;
 
+pub use change::{Running, config_change, has_measure};
 pub use config::{Config, FIRST_CHUNK, MAX_CHUNK};
 pub use config_key::ConfigKey;
 pub use fault::ConfigFault;
 pub use key_name::KeyName;
-pub use law::{each_address_is_a_host, each_node_has_its_table};
+pub use law::{
+    a_change_keeps_the_network, each_address_is_a_host, each_node_has_its_table, examples_are_read,
+    examples_are_taken_over,
+};
+pub use name::MAX_NAME_BYTES;
 pub use oc_base::Why;
-pub use oc_policy::{Action, Demand, Key as NodeKey, Prefix, Rule, Token};
+pub use oc_policy::{Action, Demand, Key as NodeKey, Keyring, MAX_ACCEPTED, Prefix, Rule, Token};
 pub use oc_updown::Measure;
 pub use reading::read;
 pub use section_name::SectionName;

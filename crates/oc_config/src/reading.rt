@@ -1,13 +1,14 @@
-ghost use Rattle.std.specs.Prelude.{◌≡◌, ◌≤◌, IfOk, OnOk, All, length, vec_len};
+ghost use Rattle.std.specs.Prelude.{◌≡◌, ◌≤◌, IfOk, IfSome, OnOk, All, length, vec_len};
 ghost use Rattle.toml.specs.View.{table_view, view};
 ghost use Rattle.oc_updown.specs.MeasureLines.{IsMeasure};
 ghost use Rattle.oc_config.specs.Values.{Gives, GivesBy, section_of, sections_of};
-ghost use Rattle.oc_config.specs.Reading.{IsConfig, Reads, ReadsTable, settings_in, with_tables, chain_in, chunk_in, common_in};
-ghost use Rattle.oc_config.specs.Reading.{chain_within, keys_known, line_at, measures_in, node_key_in, node_key_of, node_tables_in};
+ghost use Rattle.oc_config.specs.Reading.{IsCommon, IsConfig, Reads, ReadsTable, settings_in, with_tables, chain_in, chunk_in, common_in};
+ghost use Rattle.oc_config.specs.Reading.{chain_within, keys_known, line_at, greatest_in, greatest_of, measures_in, node_tables_in};
 
 use crate::config::{Config, FIRST_CHUNK, MAX_CHUNK};
 use crate::config_key::ConfigKey;
 use crate::fault::ConfigFault;
+use crate::keyring::keys;
 use crate::known::{check, check_all};
 use crate::nodes::{Split, nodes};
 use crate::rules::{rule_tables, rules};
@@ -15,7 +16,7 @@ use crate::section::Section;
 use crate::section_name::Kind;
 use crate::values::{tables, whole};
 use oc_base::{MAX_CHAIN, MAX_NODES};
-use oc_policy::Key as NodeKey;
+use oc_policy::Keyring;
 use oc_updown::{Measure, read_lines};
 use std::alloc::Global;
 use toml::{Table, Value, table_from_slice};
@@ -24,16 +25,17 @@ use toml::{Table, Value, table_from_slice};
 #[derive(Drop)]
 pub(crate) struct Common {
     pub(crate) chain: u32,
+    pub(crate) nodes: Option<u32>,
     pub(crate) chunk: u32,
-    pub(crate) key: Option<NodeKey>,
+    pub(crate) keys: Option<Keyring>,
 }
 
 /// Reads the text of a configuration, any bytes: what it says, or its first fault.
 ///
-/// The text is TOML. The faults come in this order: the text, the chain, the chunk, the key, the array of nodes, then
-/// table for table what is wrong with a node, whether the chain has more members than there are nodes, the
-/// measures, the array of rules, then table for table what is wrong with a rule, and then a key that is none:
-/// at the top, in a table of a node, in a table of a rule.
+/// The text is TOML. The faults come in this order: the text, the chain, the greatest id, the chunk, the key, the keys
+/// that are accepted besides, the array of nodes, then table for table what is wrong with a node, whether the chain has
+/// members past the greatest id, the measures, the array of rules, then table for table what is wrong with a rule, and
+/// then a key that is none: at the top, in a table of a node, in a table of a rule.
 pub fn read(alloc: Global, bytes: &[u8]) -> Result<Config, ConfigFault>
     ensures exact { Reads bytes.now result }
     ensures lawful { IfOk result IsConfig }
@@ -74,7 +76,7 @@ fn read_table(alloc: Global, top: &Section<'_>) -> Result<Config, ConfigFault>
     ensures exact { Gives result (settings_in (section_of top.now)) }
     ensures lawful { IfOk result IsConfig }
 {
-    let common = read_common(top)?;
+    let common = read_common(alloc, top)?;
     let tables = node_tables(alloc, top)?;
     read_parts(alloc, top, common, &tables)
 }
@@ -86,16 +88,15 @@ fn read_parts(
     common: Common,
     tables: &[Section<'_>],
 ) -> Result<Config, ConfigFault>
-    requires chain { (1 ≤ common.chain) × (common.chain ≤ MAX_CHAIN) }
-    requires chunk { (1 ≤ common.chunk) × (common.chunk ≤ MAX_CHUNK) }
+    requires common { IsCommon common }
     requires count { (1 ≤ length tables.now) × (length tables.now ≤ MAX_NODES) }
     ensures exact { Gives result (with_tables (section_of top.now) common (sections_of tables.now)) }
     ensures lawful { IfOk result IsConfig }
 {
-    let places = nodes(alloc, tables)?;
-    let nodes = tables.len() as u32;
-    check_chain(top, common.chain, nodes)?;
-    let measures = measures(alloc, top, nodes)?;
+    let greatest = greatest_of(&common, tables);
+    let places = nodes(alloc, greatest, tables)?;
+    check_chain(top, common.chain, greatest)?;
+    let measures = measures(alloc, top, greatest)?;
     let rule_tables = rule_tables(alloc, top)?;
     let rules = rules(alloc, &rule_tables)?;
     check_keys(top, tables, &rule_tables)?;
@@ -103,26 +104,55 @@ fn read_parts(
     Ok(Config {
         chain: common.chain,
         chunk: common.chunk,
-        key: common.key,
+        keys: common.keys,
+        retired: split.retired,
         addresses: split.addresses,
         listens: split.listens,
         areas: split.areas,
+        names: split.names,
         measures,
         rules,
     })
 }
 
+/// The greatest id: what is said, or the number of tables.
+fn greatest_of(common: &Common, tables: &[Section<'_>]) -> u32
+    requires common { IsCommon common.now }
+    requires count { (1 ≤ length tables.now) × (length tables.now ≤ MAX_NODES) }
+    ensures said { result ≡ greatest_of common.now (sections_of tables.now) }
+    ensures range { (1 ≤ result) × (result ≤ MAX_NODES) }
+{
+    match common.nodes {
+        Some(nodes) => nodes,
+        None => tables.len() as u32,
+    }
+}
+
 /// What is said for all nodes.
-fn read_common(top: &Section<'_>) -> Result<Common, ConfigFault>
-    ensures said { result ≡ common_in (section_of top.now) }
-    ensures chain { IfOk result (λ n. (1 ≤ n.chain) × (n.chain ≤ MAX_CHAIN)) }
-    ensures chunk { IfOk result (λ n. (1 ≤ n.chunk) × (n.chunk ≤ MAX_CHUNK)) }
+fn read_common(alloc: Global, top: &Section<'_>) -> Result<Common, ConfigFault>
+    ensures said { Gives result (common_in (section_of top.now)) }
+    ensures lawful { IfOk result IsCommon }
 {
     Ok(Common {
         chain: chain(top)?,
+        nodes: greatest(top)?,
         chunk: chunk(top)?,
-        key: node_key(top)?,
+        keys: keys(alloc, top)?,
     })
+}
+
+/// The greatest id of a node, if it is said.
+fn greatest(top: &Section<'_>) -> Result<Option<u32>, ConfigFault>
+    ensures said { result ≡ greatest_in (section_of top.now) }
+    ensures range { IfOk result (λ nodes. IfSome nodes (λ n. (1 ≤ n) × (n ≤ MAX_NODES))) }
+{
+    match top.value_at(ConfigKey::Nodes) {
+        None => Ok(None),
+        Some(value) => match whole(value, 1, MAX_NODES) {
+            Some(nodes) => Ok(Some(nodes)),
+            None => Err(top.refuses(ConfigKey::Nodes)),
+        },
+    }
 }
 
 /// The number of chain members.
@@ -145,26 +175,6 @@ fn chunk(top: &Section<'_>) -> Result<u32, ConfigFault>
     }
 }
 
-/// The key of the nodes, if they have one.
-fn node_key(top: &Section<'_>) -> Result<Option<NodeKey>, ConfigFault>
-    ensures { result ≡ node_key_in (section_of top.now) }
-{
-    match top.value_at(ConfigKey::NodeKey) {
-        None => Ok(None),
-        Some(value) => match spelled_key(value) {
-            Some(key) => Ok(Some(key)),
-            None => Err(top.refuses(ConfigKey::NodeKey)),
-        },
-    }
-}
-
-/// The key that a value spells.
-fn spelled_key(value: &Value) -> Option<NodeKey>
-    ensures { result ≡ node_key_of (view value.now) }
-{
-    NodeKey::parse(value.as_str()?.as_bytes())
-}
-
 /// The tables of the nodes.
 fn node_tables<'a>(alloc: Global, top: &Section<'a>) -> Result<Vec<Section<'a>>, ConfigFault>
     ensures said { GivesBy (λ v. sections_of v.items) result (node_tables_in (section_of top.now)) }
@@ -175,7 +185,7 @@ fn node_tables<'a>(alloc: Global, top: &Section<'a>) -> Result<Vec<Section<'a>>,
     tables(alloc, value, Kind::Node, 1, MAX_NODES, fault)
 }
 
-/// Refuses a chain of more members than there are nodes.
+/// Refuses a chain with members past the greatest id.
 fn check_chain(top: &Section<'_>, chain: u32, nodes: u32) -> Result<(), ConfigFault>
     ensures said { result ≡ chain_within (section_of top.now) nodes chain }
     ensures within { OnOk result (chain ≤ nodes) }
@@ -199,7 +209,7 @@ fn check_keys(
     check_all(rules)
 }
 
-/// What was measured, in a network of this many nodes.
+/// What was measured, where the greatest id is this.
 fn measures(alloc: Global, top: &Section<'_>, nodes: u32) -> Result<Vec<Measure>, ConfigFault>
     ensures said { GivesBy (λ v. v.items) result (measures_in nodes (section_of top.now)) }
     ensures lawful { IfOk result (λ v. All (IsMeasure nodes) v.items) }

@@ -23,17 +23,21 @@ impl SectionName {
         match self {
             SectionName::Top => &[
                 ConfigKey::Chain,
+                ConfigKey::Nodes,
                 ConfigKey::Chunk,
                 ConfigKey::NodeKey,
+                ConfigKey::Accept,
                 ConfigKey::Node,
                 ConfigKey::Measures,
                 ConfigKey::Rule,
             ],
             SectionName::Node(_) => &[
                 ConfigKey::Id,
+                ConfigKey::Retired,
                 ConfigKey::Address,
                 ConfigKey::Listen,
                 ConfigKey::Area,
+                ConfigKey::Name,
             ],
             SectionName::Rule(_) => &[
                 ConfigKey::Allow,

@@ -1,6 +1,6 @@
 -- What a client is given as chunks is there, where the answer is that of its step.
 use Rattle.std.proofs.Common.{◌≡◌, ◌≤◌, ℕ, ◌+◌, ◌-◌, ◌^◌, Bool, true, false, Option, Some, None, List, length, refl, sym, ap, subst, ◌∙◌, arith}
-use Rattle.std.specs.Prelude.{if◌then◌else◌, nat_le}
+use Rattle.std.specs.Prelude.{◌==◌, if◌then◌else◌, nat_le}
 use Rattle.std.specs.Option.{option_map}
 use Rattle.std.proofs.lemmas.Bool.{false≢true}
 use Rattle.oc_base.specs.Groups.{bytes_of, group_of, or_empty, shelf, shelf_of}
@@ -16,13 +16,13 @@ use Rattle.oc_model.specs.declared.answer.Answer.{Answer}
 use Rattle.oc_model.specs.declared.answer.Answer.TheVariants as answers
 use Rattle.oc_model.specs.declared.input.Input.TheVariants as inputs
 use Rattle.oc_routes.specs.Contents.{begun}
-use Rattle.oc_routes.specs.Shown.{known_shown, of_shown, shown, told_text}
+use Rattle.oc_routes.specs.Shown.{here_answer, known_shown, location_of, of_shown, shown, told_text}
 use Rattle.oc_routes.specs.Waits.{holding}
 use Rattle.oc_routes.specs.declared.hint.Hint.{Hint}
 use Rattle.oc_routes.specs.declared.hint.Hint.TheVariants.{Plain, Here, Of, Known}
 use Rattle.oc_routes.specs.declared.holding.Holding.{Holding}
-use Rattle.oc_routes.specs.Group.{client_response, is_past, past_reply, served}
-use Rattle.oc_routes.specs.Responses.{whole_for}
+use Rattle.oc_routes.specs.Group.{client_response, given_response, here_response, is_past, past_reply, redirection, served}
+use Rattle.oc_routes.specs.Responses.{address_of, whole, whole_for}
 use Rattle.oc_routes.specs.declared.manner.Manner.{Manner}
 use Rattle.oc_routes.specs.declared.manner.Manner.TheVariants.{HeadAlone, Once, Follow}
 use Rattle.oc_routes.specs.declared.routes.Operation.TheVariants as asks
@@ -110,34 +110,70 @@ past_or_served : (group : List ℕ) (start count : ℕ) (manner : Manner) (seale
 past_or_served group start count manner sealed last true h ks serves = tt
 past_or_served group start count manner sealed last false h ks serves = served_there group manner sealed last start count ks serves
 
-client_there : (group : List ℕ) (start : ℕ) (manner : Manner) (told : List ℕ) (answer : Answer) (sealed last : Bool) (h : Holding) (addresses : List (List ℕ)) (ks : List Group) → ServesShown sealed answer (length (bytes_of group ks)) start
-    → IsGivable (content_at group (client_response group start manner told answer sealed last h addresses).content) ks
-client_there group start manner told answers.Ok sealed last h addresses ks serves = tt
-client_there group start manner told answers.Ignored sealed last h addresses ks serves = tt
-client_there group start manner told answers.Gap sealed last h addresses ks serves = tt
-client_there group start manner told answers.NotSource sealed last h addresses ks serves = tt
-client_there group start manner told answers.NoGroup sealed last h addresses ks serves = tt
-client_there group start manner told answers.Groups sealed last h addresses ks serves = tt
-client_there group start manner told answers.TooLong sealed last h addresses ks serves = tt
-client_there group start manner told answers.Own sealed last h addresses ks serves = tt
-client_there group start manner told answers.Fixed sealed last h addresses ks serves = tt
-client_there group start manner told answers.Waiting sealed last h addresses ks serves = tt
-client_there group start manner told answers.Spent sealed last h addresses ks serves = tt
-client_there group start manner told answers.Sealed sealed last h addresses ks serves = tt
-client_there group start manner told (answers.Redirect node) sealed last h addresses ks serves = tt
-client_there group start manner told (answers.Serve count) sealed last h addresses ks serves = past_or_served group start count manner sealed last (is_past start h) h ks serves
+-- what is given of what is here, by any answer
+given_there : (group : List ℕ) (start : ℕ) (manner : Manner) (answer : Answer) (sealed last : Bool) (h : Holding) (ks : List Group) → ServesShown sealed answer (length (bytes_of group ks)) start
+    → IsGivable (content_at group (given_response start manner answer sealed last h).content) ks
+given_there group start manner answers.Ok sealed last h ks serves = tt
+given_there group start manner answers.Ignored sealed last h ks serves = tt
+given_there group start manner answers.Gap sealed last h ks serves = tt
+given_there group start manner answers.NotSource sealed last h ks serves = tt
+given_there group start manner answers.NoGroup sealed last h ks serves = tt
+given_there group start manner answers.Groups sealed last h ks serves = tt
+given_there group start manner answers.TooLong sealed last h ks serves = tt
+given_there group start manner answers.Own sealed last h ks serves = tt
+given_there group start manner answers.Fixed sealed last h ks serves = tt
+given_there group start manner answers.Waiting sealed last h ks serves = tt
+given_there group start manner answers.Spent sealed last h ks serves = tt
+given_there group start manner answers.Sealed sealed last h ks serves = tt
+given_there group start manner (answers.Redirect node) sealed last h ks serves = tt
+given_there group start manner (answers.Serve count) sealed last h ks serves = past_or_served group start count manner sealed last (is_past start h) h ks serves
+
+-- what this node holds of a group is there
+abbrev HereServes : List ℕ → ℕ → Holding → List Group → Type 0
+HereServes group start h ks = ServesShown h.sealed (here_answer h start) (length (bytes_of group ks)) start
+
+-- who would be sent to a node without an address is given it
+here_given : (group : List ℕ) (start : ℕ) (manner : Manner) (last : Bool) (h : Holding) (ks : List Group) → HereServes group start h ks
+    → IsGivable (content_at group (here_response start manner last h).content) ks
+here_given group start Follow last h ks serves = tt
+here_given group start HeadAlone last h ks serves = given_there group start HeadAlone (here_answer h start) h.sealed last h ks serves
+here_given group start Once last h ks serves = given_there group start Once (here_answer h start) h.sealed last h ks serves
+
+sent_or_here : (group : List ℕ) (start : ℕ) (manner : Manner) (told : List ℕ) (node : ℕ) (last nowhere : Bool) (h : Holding) (addresses : List (Option (List ℕ))) (ks : List Group) → HereServes group start h ks
+    → IsGivable (content_at group (if nowhere then here_response start manner last h else whole (redirection (location_of (address_of addresses node) group start told manner))).content) ks
+sent_or_here group start manner told node last true h addresses ks serves = here_given group start manner last h ks serves
+sent_or_here group start manner told node last false h addresses ks serves = tt
+
+client_there : (group : List ℕ) (start : ℕ) (manner : Manner) (told : List ℕ) (answer : Answer) (sealed last : Bool) (h : Holding) (addresses : List (Option (List ℕ))) (ks : List Group) → ServesShown sealed answer (length (bytes_of group ks)) start
+    → HereServes group start h ks → IsGivable (content_at group (client_response group start manner told answer sealed last h addresses).content) ks
+client_there group start manner told answers.Ok sealed last h addresses ks serves here = tt
+client_there group start manner told answers.Ignored sealed last h addresses ks serves here = tt
+client_there group start manner told answers.Gap sealed last h addresses ks serves here = tt
+client_there group start manner told answers.NotSource sealed last h addresses ks serves here = tt
+client_there group start manner told answers.NoGroup sealed last h addresses ks serves here = tt
+client_there group start manner told answers.Groups sealed last h addresses ks serves here = tt
+client_there group start manner told answers.TooLong sealed last h addresses ks serves here = tt
+client_there group start manner told answers.Own sealed last h addresses ks serves here = tt
+client_there group start manner told answers.Fixed sealed last h addresses ks serves here = tt
+client_there group start manner told answers.Waiting sealed last h addresses ks serves here = tt
+client_there group start manner told answers.Spent sealed last h addresses ks serves here = tt
+client_there group start manner told answers.Sealed sealed last h addresses ks serves here = tt
+client_there group start manner told (answers.Redirect node) sealed last h addresses ks serves here =
+    sent_or_here group start manner told node last (length (address_of addresses node) == 0) h addresses ks here
+client_there group start manner told (answers.Serve count) sealed last h addresses ks serves here = given_there group start manner (answers.Serve count) sealed last h ks serves
 
 -- the reply to a client that is shown no more than is held
-reply_there : (group : List ℕ) (area start : ℕ) (manner : Manner) (hint : Hint) (last : Bool) (answer : Answer) (ks : List Group) (addresses : List (List ℕ))
+reply_there : (group : List ℕ) (area start : ℕ) (manner : Manner) (hint : Hint) (last : Bool) (answer : Answer) (ks : List Group) (addresses : List (Option (List ℕ)))
     → ServesShown (shown hint answer (holding group (shelf ks)) start).sealed (shown hint answer (holding group (shelf ks)) start).answer (holding group (shelf ks)).held start
     → IsGivable (client_content (asks.Client group area start manner) hint last answer ks addresses) ks
 reply_there group area start manner hint last answer ks addresses serves =
     let h = holding group (shelf ks) in
     client_there group start manner (told_text hint h) (shown hint answer h start).answer (shown hint answer h start).sealed last h addresses ks
     (subst (λ (n : ℕ). ServesShown (shown hint answer h start).sealed (shown hint answer h start).answer n start) (held_is group ks) serves)
+    (subst (λ (n : ℕ). ServesShown h.sealed (here_answer h start) n start) (held_is group ks) (here_serves h.there h.sealed h.held start))
 
 -- where the node answers itself
-pub here_there : (answer : Answer) (ks : List Group) (group : List ℕ) (area start : ℕ) (manner : Manner) (last : Bool) (addresses : List (List ℕ)) → IsGivable (client_content (asks.Client group area start manner) Here last answer ks addresses) ks
+pub here_there : (answer : Answer) (ks : List Group) (group : List ℕ) (area start : ℕ) (manner : Manner) (last : Bool) (addresses : List (Option (List ℕ))) → IsGivable (client_content (asks.Client group area start manner) Here last answer ks addresses) ks
 here_there answer ks group area start manner last addresses =
     let h = holding group (shelf ks) in
     reply_there group area start manner Here last answer ks addresses (here_serves h.there h.sealed h.held start)
@@ -171,7 +207,7 @@ groups_same n area start group =
     (client_keeps (line_of group (shelf n.groups)) (plan_begun n.control) area start)
 
 -- where the answer is that of the step
-pub step_there : (n : Node) (group : List ℕ) (area start : ℕ) (manner : Manner) (hint : Hint) (last : Bool) (addresses : List (List ℕ))
+pub step_there : (n : Node) (group : List ℕ) (area start : ℕ) (manner : Manner) (hint : Hint) (last : Bool) (addresses : List (Option (List ℕ)))
     → IsGivable (client_content (asks.Client group area start manner) hint last (step n (inputs.Client area start group)).answer (step n (inputs.Client area start group)).node.groups addresses) (step n (inputs.Client area start group)).node.groups
 step_there n group area start manner hint last addresses =
     let o = step n (inputs.Client area start group) in

@@ -163,7 +163,7 @@ abbrev pub HasInput : Verdict → Type 0
 HasInput (verdicts.Ask request) = IsInputOf request.asked.operation request.asked.hint request.input
 HasInput verdict = Unit {0}
 
-client_at_once : (group : List ℕ) (area start : ℕ) (manner : Manner) (hint : Hint) (last : Bool) (back : Option Message) (ks : List Group) (addresses : List (List ℕ)) (key : Option (List ℕ)) (told : List ℕ)
+client_at_once : (group : List ℕ) (area start : ℕ) (manner : Manner) (hint : Hint) (last : Bool) (back : Option Message) (ks : List Group) (addresses : List (Option (List ℕ))) (key : Option (List ℕ)) (told : List ℕ)
     → IsInputOf (asks.Client group area start manner) hint None
     → IsGivable (content_in (asks.Client group area start manner) (response_for (record { operation = asks.Client group area start manner; hint = hint }) last answers.Ok back (holding_for (asks.Client group area start manner) ks) addresses key told).content) ks
 client_at_once group area start manner Here last back ks addresses key told is = here_there answers.Ok ks group area start manner last addresses
@@ -171,7 +171,7 @@ client_at_once group area start manner Plain last back ks addresses key told is 
 client_at_once group area start manner (Of n) last back ks addresses key told is = let none : None ≡ Some (inputs.Client area start group) = is in absurd (cc none)
 client_at_once group area start manner Known last back ks addresses key told is = let none : None ≡ Some (inputs.Client area start group) = is in absurd (cc none)
 
-at_once : (operation : Operation) (hint : Hint) (last : Bool) (back : Option Message) (ks : List Group) (addresses : List (List ℕ)) (key : Option (List ℕ)) (told : List ℕ) → IsInputOf operation hint None
+at_once : (operation : Operation) (hint : Hint) (last : Bool) (back : Option Message) (ks : List Group) (addresses : List (Option (List ℕ))) (key : Option (List ℕ)) (told : List ℕ) → IsInputOf operation hint None
     → IsGivable (content_in operation (response_for (record { operation = operation; hint = hint }) last answers.Ok back (holding_for operation ks) addresses key told).content) ks
 at_once asks.Message hint last back ks addresses key told is = tt
 at_once (asks.Publish group at) hint last back ks addresses key told is = tt
@@ -180,7 +180,7 @@ at_once (asks.Client group area start manner) hint last back ks addresses key to
 at_once (asks.Probe manner) hint last back ks addresses key told is = tt
 at_once (asks.Report report manner) hint last back ks addresses key told is = tt
 
-client_by_step : (group : List ℕ) (area start : ℕ) (manner : Manner) (hint : Hint) (last : Bool) (i : Input) (back : Option Message) (n : Node) (addresses : List (List ℕ)) (key : Option (List ℕ)) (told : List ℕ)
+client_by_step : (group : List ℕ) (area start : ℕ) (manner : Manner) (hint : Hint) (last : Bool) (i : Input) (back : Option Message) (n : Node) (addresses : List (Option (List ℕ))) (key : Option (List ℕ)) (told : List ℕ)
     → Some i ≡ Some (inputs.Client area start group)
     → IsGivable (content_in (asks.Client group area start manner) (response_for (record { operation = asks.Client group area start manner; hint = hint }) last (step n i).answer back (holding_for (asks.Client group area start manner) (step n i).node.groups) addresses key told).content) (step n i).node.groups
 client_by_step group area start manner hint last i back n addresses key told is =
@@ -188,7 +188,7 @@ client_by_step group area start manner hint last i back n addresses key told is 
     subst (λ (j : Input). IsGivable (content_in (asks.Client group area start manner) (response_for (record { operation = asks.Client group area start manner; hint = hint }) last (step n j).answer back (holding_for (asks.Client group area start manner) (step n j).node.groups) addresses key told).content) (step n j).node.groups)
     (sym same) (step_there n group area start manner hint last addresses)
 
-client_step : (group : List ℕ) (area start : ℕ) (manner : Manner) (hint : Hint) (last : Bool) (i : Input) (back : Option Message) (n : Node) (addresses : List (List ℕ)) (key : Option (List ℕ)) (told : List ℕ)
+client_step : (group : List ℕ) (area start : ℕ) (manner : Manner) (hint : Hint) (last : Bool) (i : Input) (back : Option Message) (n : Node) (addresses : List (Option (List ℕ))) (key : Option (List ℕ)) (told : List ℕ)
     → IsInputOf (asks.Client group area start manner) hint (Some i)
     → IsGivable (content_in (asks.Client group area start manner) (response_for (record { operation = asks.Client group area start manner; hint = hint }) last (step n i).answer back (holding_for (asks.Client group area start manner) (step n i).node.groups) addresses key told).content) (step n i).node.groups
 client_step group area start manner Here last i back n addresses key told is = let none : Some i ≡ None = is in absurd (cc none)
@@ -196,7 +196,7 @@ client_step group area start manner Plain last i back n addresses key told is = 
 client_step group area start manner (Of m) last i back n addresses key told is = client_by_step group area start manner (Of m) last i back n addresses key told is
 client_step group area start manner Known last i back n addresses key told is = client_by_step group area start manner Known last i back n addresses key told is
 
-by_step : (operation : Operation) (hint : Hint) (last : Bool) (i : Input) (back : Option Message) (n : Node) (addresses : List (List ℕ)) (key : Option (List ℕ)) (told : List ℕ) → IsInputOf operation hint (Some i)
+by_step : (operation : Operation) (hint : Hint) (last : Bool) (i : Input) (back : Option Message) (n : Node) (addresses : List (Option (List ℕ))) (key : Option (List ℕ)) (told : List ℕ) → IsInputOf operation hint (Some i)
     → IsGivable (content_in operation (response_for (record { operation = operation; hint = hint }) last (step n i).answer back (holding_for operation (step n i).node.groups) addresses key told).content) (step n i).node.groups
 by_step asks.Message hint last i back n addresses key told is = tt
 by_step (asks.Publish group at) hint last i back n addresses key told is = tt
@@ -284,7 +284,7 @@ body_input t x came head rest said = by_permit (awaits_continue head && not x.pe
 
     by_length : (b : Bool) → HasInput (if b then unfinished x.coming false else whole t head request body)
     by_length true = unfinished_input x.coming false
-    by_length false = by_mac (is_forged t.key said.operation head.mac body)
+    by_length false = by_mac (is_forged t.keys said.operation head.mac body)
 
     by_permit : (b : Bool) → HasInput (if b then verdicts.Permit else if nat_lt (length rest) head.length then unfinished x.coming false else whole t head request body)
     by_permit true = tt
@@ -407,7 +407,7 @@ seen_gone d loss made bytes now ws settled = record {
       (sym (seen_phase c made (events.Gone d loss) bytes now ∙ ap (λ (b : Bool). (if b then after_loss (standing_of c made) else standing_of c made).phase) apart)) (settled c);
 }
 
-back_ready : (t : NodeTerms) (errand : Errand) (reading : Result Reply HttpFault) (made : List Call) (ws : List Work) → IsSettled made ws → IsReadyFor (comes_back t.me t.nodes t.key errand reading) made ws
+back_ready : (t : NodeTerms) (errand : Errand) (reading : Result Reply HttpFault) (made : List Call) (ws : List Work) → IsSettled made ws → IsReadyFor (comes_back t.me t.nodes t.keys errand reading) made ws
 back_ready t (errands.Message to fetch) reading made ws settled = settled
 back_ready t (errands.Probe peer since) reading made ws settled = settled
 

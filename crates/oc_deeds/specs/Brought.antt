@@ -10,6 +10,7 @@ use Rattle.oc_http.specs.declared.reply.Reply.{Reply}
 use Rattle.oc_model.specs.declared.input.Input.{Input}
 use Rattle.oc_model.specs.declared.input.Input.TheVariants.{Delivered, Unreachable}
 use Rattle.oc_model.specs.declared.message.Message.{Message}
+use Rattle.oc_policy.specs.Keys.{Keyring}
 use Rattle.oc_probe.specs.Faults.{fault_of_http}
 use Rattle.oc_probe.specs.declared.fault.ProbeFault.{ProbeFault}
 use Rattle.oc_probe.specs.declared.fault.ProbeFault.TheVariants as faults
@@ -55,26 +56,26 @@ abbrev pub delivered_or : ℕ → Option Message → Input
 delivered_or peer (Some message) = Delivered message
 delivered_or peer None = Unreachable peer
 
--- a response of 200 that has the MAC of its body, where the network has a key
-abbrev pub brings_message : Option (List ℕ) → Reply → Bool
-brings_message key reply = (reply.status == 200) && is_authentic key reply.mac reply.body
+-- a response of 200 that has the MAC of its body, under one of the keys, where the network has some
+abbrev pub brings_message : Option Keyring → Reply → Bool
+brings_message keys reply = (reply.status == 200) && is_authentic keys reply.mac reply.body
 
 -- the message of such a response to the node me, if it is one
-abbrev pub message_in : ℕ → ℕ → Option (List ℕ) → Reply → Option Message
-message_in me nodes key reply = if brings_message key reply then message_to me (decoded nodes reply.body) else None
+abbrev pub message_in : ℕ → ℕ → Option Keyring → Reply → Option Message
+message_in me nodes keys reply = if brings_message keys reply then message_to me (decoded nodes reply.body) else None
 
 -- The input that results from a response: of such a one, the message that it is; of 204, none; and of any other that the peer is not reached.
-abbrev pub input_of_reply : ℕ → ℕ → Option (List ℕ) → ℕ → Reply → Option Input
-input_of_reply me nodes key peer reply = if reply.status == 204 then None else Some (delivered_or peer (message_in me nodes key reply))
+abbrev pub input_of_reply : ℕ → ℕ → Option Keyring → ℕ → Reply → Option Input
+input_of_reply me nodes keys peer reply = if reply.status == 204 then None else Some (delivered_or peer (message_in me nodes keys reply))
 
 -- the same of what was read: where it is no response, the peer is not reached
-abbrev pub input_of : ℕ → ℕ → Option (List ℕ) → ℕ → Result Reply HttpFault → Option Input
-input_of me nodes key peer (Ok reply) = input_of_reply me nodes key peer reply
-input_of me nodes key peer (Err fault) = Some (Unreachable peer)
+abbrev pub input_of : ℕ → ℕ → Option Keyring → ℕ → Result Reply HttpFault → Option Input
+input_of me nodes keys peer (Ok reply) = input_of_reply me nodes keys peer reply
+input_of me nodes keys peer (Err fault) = Some (Unreachable peer)
 
-abbrev pub is_taken : Option (List ℕ) → Result Reply HttpFault → Bool
-is_taken key (Ok reply) = brings_message key reply
-is_taken key (Err fault) = false
+abbrev pub is_taken : Option Keyring → Result Reply HttpFault → Bool
+is_taken keys (Ok reply) = brings_message keys reply
+is_taken keys (Err fault) = false
 
 -- What results from a probe's reply
 
@@ -87,6 +88,6 @@ fault_of (Ok reply) = if is_answer reply then None else Some faults.Reply
 fault_of (Err fault) = Some (fault_of_http fault)
 
 -- What came back on a dial that was made for this, of which this was read.
-abbrev pub comes_back : ℕ → ℕ → Option (List ℕ) → Errand → Result Reply HttpFault → Came
-comes_back me nodes key (errands.Message to fetch) reading = comes.Reply (input_of me nodes key to reading) (is_taken key reading)
-comes_back me nodes key (errands.Probe peer since) reading = comes.Probed peer since (fault_of reading)
+abbrev pub comes_back : ℕ → ℕ → Option Keyring → Errand → Result Reply HttpFault → Came
+comes_back me nodes keys (errands.Message to fetch) reading = comes.Reply (input_of me nodes keys to reading) (is_taken keys reading)
+comes_back me nodes keys (errands.Probe peer since) reading = comes.Probed peer since (fault_of reading)

@@ -42,15 +42,21 @@ use Rattle.oc_deeds.specs.declared.work.Waiting.{Waiting}
 use Rattle.oc_deeds.specs.declared.work.Work.{Work}
 use Rattle.oc_deeds.specs.declared.work.Work.TheVariants as works
 
--- which node it is, the addresses of all by their ids, the key of the network, where it has one, and what is written of inputs
+-- which node it is, the addresses of all by their ids, where they have one, the key of what goes out, where the network has one, and what is
+-- written of inputs
 pub record Setting : Type 0 where
   pub me : ℕ
-  pub addresses : List (List ℕ)
+  pub addresses : List (Option (List ℕ))
   pub key : Option (List ℕ)
   pub log : Log
 
 abbrev pub address_in : Setting → ℕ → List ℕ
 address_in s node = address_of s.addresses node
+
+-- the text of a dial: the request that brings the message, and nothing to a node without an address, to which a dial has failed when it begins
+abbrev pub dial_text : Option (List ℕ) → List ℕ → Message → List ℕ
+dial_text key [] m = []
+dial_text key (b ∷ host) m = request_of key (b ∷ host) m
 
 -- a running node: its state, the messages that it has still to send, what is under way on its connections, and its dials
 pub record Running : Type 0 where
@@ -251,7 +257,7 @@ calls s (Replies r response now) a =
 calls s (Refuses c count refusal) a = refuses c count (refusal_text refusal)
 calls s (BreaksOff c) a = acts.BreakOff c ∷ []
 calls s (Gives p now) a = acts.Give p.connection (piece p a.node.groups) ∷ finish p.connection p.keeps p.told (rest p now a.node.groups)
-calls s (Dials place m d) a = acts.Dial d (address_in s m.to) (request_of s.key (address_in s m.to) m) ∷ []
+calls s (Dials place m d) a = acts.Dial d (address_in s m.to) (dial_text s.key (address_in s m.to) m) ∷ []
 calls s (Probes peer d now) a = acts.Dial d (address_in s peer) (probe_text (address_in s peer)) ∷ []
 calls s d a = []
 

@@ -29,7 +29,7 @@ use Rattle.oc_deeds.specs.declared.work.Work.TheVariants as works
 
 -- node 1 of 2, at these addresses
 abbrev example : Setting
-example = record { me = 1; addresses = codes "a:1" ∷ codes "b:2" ∷ []; key = None; log = Inputs }
+example = record { me = 1; addresses = Some (codes "a:1") ∷ Some (codes "b:2") ∷ []; key = None; log = Inputs }
 
 -- node 1, new, with these messages to send
 abbrev started : List Message → Running
@@ -99,6 +99,7 @@ pub record AreRuns : Type 0 where
   pub content_given : (after_all content published).works ≡ []
   pub dial_calls : calls_of example (dial ++ Sees reply 100 (codes "204") ∷ []) (started (look ∷ []))
       ≡ acts.Dial 3 (codes "b:2") (request_of None (codes "b:2") look) ∷ acts.Next reply (codes "204") ∷ []
+  pub dial_nowhere : calls_of (record example { addresses = Some (codes "a:1") ∷ None ∷ [] }) dial (started (look ∷ [])) ≡ acts.Dial 3 [] [] ∷ []
   pub dial_under_way : (after_all dial (started (look ∷ []))).dials ≡ dialling 3 (errands.Message 2 false) ∷ []
   pub dial_outbox : (after_all dial (started (look ∷ []))).outbox ≡ []
   pub dial_errand : errand_in reply (after_all dial (started (look ∷ []))).dials ≡ Some (errands.Message 2 false)

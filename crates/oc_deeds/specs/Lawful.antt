@@ -1,5 +1,5 @@
 -- What is lawful: of addresses, of what is under way, of what came, and of what is kept to probe with.
-use Rattle.std.specs.Prelude.{◌≡◌, ℕ, IfSome, List, length}
+use Rattle.std.specs.Prelude.{◌≡◌, ℕ, ◌<◌, Option, IfSome, List, length}
 use Rattle.std.specs.List.{AllByRecursion}
 use Rattle.oc_base.specs.Lawful.{IsNode}
 use Rattle.oc_http.specs.Writing.{IsHost}
@@ -18,10 +18,10 @@ use Rattle.oc_deeds.specs.declared.work.Waiting.{Waiting}
 use Rattle.oc_deeds.specs.declared.work.Work.{Work}
 use Rattle.oc_deeds.specs.declared.work.Work.TheVariants as works
 
--- each node has an address
-pub record IsPlaced (nodes : ℕ) (addresses : List (List ℕ)) : Type 0 where
+-- there is a place for the address of each node, and an address can stand in a request as its host
+pub record IsPlaced (nodes : ℕ) (addresses : List (Option (List ℕ))) : Type 0 where
   pub count : length addresses ≡ nodes
-  pub hosts : (x : ℕ) → IsNode nodes x → IsHost (address_of addresses x)
+  pub hosts : (x : ℕ) → 0 < length (address_of addresses x) → IsHost (address_of addresses x)
 
 -- what is asked is within its ranges, and so is the input
 pub record IsLawfulWaiting (nodes me : ℕ) (w : Waiting) : Type 0 where

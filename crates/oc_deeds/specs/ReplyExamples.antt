@@ -14,7 +14,7 @@ use Rattle.oc_deeds.specs.declared.work.Transfer.{Transfer}
 
 -- node 1 of 2, which holds three bytes of a group
 abbrev node_one : Setting
-node_one = record { me = 1; addresses = codes "a:1" ∷ codes "b:2" ∷ []; key = None; log = Inputs }
+node_one = record { me = 1; addresses = Some (codes "a:1") ∷ Some (codes "b:2") ∷ []; key = None; log = Inputs }
 
 abbrev holds_three : Running
 holds_three = record {

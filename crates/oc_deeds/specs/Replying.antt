@@ -96,6 +96,6 @@ holding_for (asks.Client group area start manner) groups = holding group (shelf 
 holding_for operation groups = holding_of None
 
 -- the content that a client is given by such a node for this answer of its step
-abbrev pub client_content : Operation → Hint → Bool → Answer → List Group → List (List ℕ) → Option UnderWay
+abbrev pub client_content : Operation → Hint → Bool → Answer → List Group → List (Option (List ℕ)) → Option UnderWay
 client_content operation hint last answer groups addresses =
     content_in operation (response_for (record { operation = operation; hint = hint }) last answer None (holding_for operation groups) addresses None []).content

@@ -29,7 +29,7 @@ use Rattle.oc_deeds.specs.declared.work.Work.TheVariants as works
 
 -- node 1 of 2, at these addresses
 abbrev example : Setting
-example = record { me = 1; addresses = codes "a:1" ∷ codes "b:2" ∷ []; key = None; log = Inputs }
+example = record { me = 1; addresses = Some (codes "a:1") ∷ Some (codes "b:2") ∷ []; key = None; log = Inputs }
 
 -- node 1, new, with this under way
 abbrev started : List Work → Running

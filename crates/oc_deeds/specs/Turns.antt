@@ -41,7 +41,7 @@ use Rattle.oc_deeds.specs.declared.work.Work.{Work}
 
 -- what came back on a dial, where it was made for this; a reply to no dial is nothing
 abbrev pub MeansBack : NodeTerms → List ℕ → Option Errand → Coming → Came → Type 0
-MeansBack t lent (Some errand) coming came = (reading : Result Reply HttpFault) × IsReading lent coming reading × HadMemory reading × (came ≡ comes_back t.me t.nodes t.key errand reading)
+MeansBack t lent (Some errand) coming came = (reading : Result Reply HttpFault) × IsReading lent coming reading × HadMemory reading × (came ≡ comes_back t.me t.nodes t.keys errand reading)
 MeansBack t lent None coming came = came ≡ comes.Nothing
 
 -- What an event is that lends these bytes, to a node that reads requests by these terms, where the dial whose reply it is was made for this.

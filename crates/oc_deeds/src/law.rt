@@ -40,9 +40,9 @@ pub fn connections_are_given_their_replies()
 
 /// What a client is given in chunks is there when it is answered, by the answer of its step or by the node itself.
 pub fn what_is_given_in_chunks_is_there()
-    ensures step { (n : Node) (group : List ℕ) (area start : ℕ) (manner : Manner) (hint : Hint) (last : Bool) (addresses : List (List ℕ))
+    ensures step { (n : Node) (group : List ℕ) (area start : ℕ) (manner : Manner) (hint : Hint) (last : Bool) (addresses : List (Option (List ℕ)))
         → IsGivable (client_content (Client group area start manner) hint last (step n (ClientInput area start group)).answer (step n (ClientInput area start group)).node.groups addresses)
         (step n (ClientInput area start group)).node.groups }
-    ensures here { (answer : Answer) (groups : List Group) (group : List ℕ) (area start : ℕ) (manner : Manner) (last : Bool) (addresses : List (List ℕ))
+    ensures here { (answer : Answer) (groups : List Group) (group : List ℕ) (area start : ℕ) (manner : Manner) (last : Bool) (addresses : List (Option (List ℕ)))
         → IsGivable (client_content (Client group area start manner) Here last answer groups addresses) groups }
 {}

@@ -17,17 +17,17 @@ use oc_base::{Memory, NodeId};
 use oc_http::{HeadReader, HttpFault};
 use oc_link::Coming;
 use oc_model::{Input, Message};
-use oc_policy::Key;
+use oc_policy::Keyring;
 use oc_probe::{PROBE_BYTES, ProbeFault};
 use oc_wire::{WireFault, decode, is_authentic};
 use std::alloc::Global;
 
-/// A node that hears back: its id, among how many nodes it is, and the key of the network, where it has one.
+/// A node that hears back: its id, among how many nodes it is, and the keys of the network, where it has some.
 #[derive(Clone, Copy, Drop)]
 pub struct Hearer<'a> {
     pub me: NodeId,
     pub nodes: u32,
-    pub key: Option<&'a Key>,
+    pub keys: Option<&'a Keyring>,
 }
 
 /// What came back on a dial that was made for this: these bytes, which end so. `Memory` where it runs out.
@@ -41,13 +41,13 @@ pub fn comes_back(
 ) -> Result<Came, Memory>
     requires { IsLawfulErrand hearer.now.nodes errand }
     ensures came { IfOk result (λ came. (reading : Result Reply HttpFault) × IsReading bytes.now coming reading
-        × HadMemory reading × (came ≡ comes_back hearer.now.me hearer.now.nodes (option_map (λ k. k.now) hearer.now.key) errand reading)) }
+        × HadMemory reading × (came ≡ comes_back hearer.now.me hearer.now.nodes (option_map (λ k. k.now) hearer.now.keys) errand reading)) }
     ensures lawful { IfOk result (IsLawfulCame hearer.now.nodes hearer.now.me) }
 {
     let reply = read_in_place(heads, bytes, coming);
     match errand {
         Errand::Message { to, .. } => {
-            let taken = is_taken(hearer.key, &reply);
+            let taken = is_taken(hearer.keys, &reply);
             let input = input_of(alloc, hearer, to, reply, taken)?;
             Ok(Came::Reply { input, taken })
         }
@@ -59,20 +59,20 @@ pub fn comes_back(
 }
 
 /// Whether what was read is a response of 200 that has its MAC.
-fn is_taken(key: Option<&Key>, reply: &Result<ReplyInPlace, HttpFault>) -> bool
-    ensures { result ≡ is_taken (option_map (λ k. k.now) key.entry) (reading reply.now) }
+fn is_taken(keys: Option<&Keyring>, reply: &Result<ReplyInPlace, HttpFault>) -> bool
+    ensures { result ≡ is_taken (option_map (λ k. k.now) keys.entry) (reading reply.now) }
 {
     match reply {
-        Ok(reply) => brings_message(key, reply),
+        Ok(reply) => brings_message(keys, reply),
         Err(_) => false,
     }
 }
 
-/// Whether a response has the status 200, and the MAC of its body where the network has a key.
-fn brings_message(key: Option<&Key>, reply: &ReplyInPlace) -> bool
-    ensures { result ≡ brings_message (option_map (λ k. k.now) key.entry) (reply_in reply.now) }
+/// Whether a response has the status 200, and the MAC of its body where the network has keys.
+fn brings_message(keys: Option<&Keyring>, reply: &ReplyInPlace) -> bool
+    ensures { result ≡ brings_message (option_map (λ k. k.now) keys.entry) (reply_in reply.now) }
 {
-    reply.head.status == 200 && is_authentic(key, reply.head.mac.as_ref(), reply.body)
+    reply.head.status == 200 && is_authentic(keys, reply.head.mac.as_ref(), reply.body)
 }
 
 /// The input that results from what a peer replied to a message. `taken` is whether it is a response of 200 that has its MAC,
@@ -85,8 +85,8 @@ fn input_of(
     taken: bool,
 ) -> Result<Option<Input>, Memory>
     requires peer { IsNode hearer.now.nodes peer }
-    requires taken { taken ≡ is_taken (option_map (λ k. k.now) hearer.now.key) (reading reply) }
-    ensures input { IfOk result (λ input. input ≡ input_of hearer.now.me hearer.now.nodes (option_map (λ k. k.now) hearer.now.key) peer (reading reply.entry)) }
+    requires taken { taken ≡ is_taken (option_map (λ k. k.now) hearer.now.keys) (reading reply) }
+    ensures input { IfOk result (λ input. input ≡ input_of hearer.now.me hearer.now.nodes (option_map (λ k. k.now) hearer.now.keys) peer (reading reply.entry)) }
     ensures memory { OnOk result (HadMemory (reading reply.entry)) }
     ensures lawful { IfOk result (λ input. IfSome input (IsInput hearer.now.nodes hearer.now.me)) }
 {
@@ -106,8 +106,8 @@ fn input_of_reply(
     brings: bool,
 ) -> Result<Option<Input>, Memory>
     requires peer { IsNode hearer.now.nodes peer }
-    requires brings { brings ≡ brings_message (option_map (λ k. k.now) hearer.now.key) (reply_in reply.now) }
-    ensures input { IfOk result (λ input. input ≡ input_of_reply hearer.now.me hearer.now.nodes (option_map (λ k. k.now) hearer.now.key) peer (reply_in reply.now)) }
+    requires brings { brings ≡ brings_message (option_map (λ k. k.now) hearer.now.keys) (reply_in reply.now) }
+    ensures input { IfOk result (λ input. input ≡ input_of_reply hearer.now.me hearer.now.nodes (option_map (λ k. k.now) hearer.now.keys) peer (reply_in reply.now)) }
     ensures lawful { IfOk result (λ input. IfSome input (IsInput hearer.now.nodes hearer.now.me)) }
 {
     if reply.head.status == 204 {
@@ -134,8 +134,8 @@ fn message_in(
     reply: &ReplyInPlace,
     brings: bool,
 ) -> Result<Option<Message>, Memory>
-    requires { brings ≡ brings_message (option_map (λ k. k.now) hearer.now.key) (reply_in reply.now) }
-    ensures message { IfOk result (λ message. message ≡ message_in hearer.now.me hearer.now.nodes (option_map (λ k. k.now) hearer.now.key) (reply_in reply.now)) }
+    requires { brings ≡ brings_message (option_map (λ k. k.now) hearer.now.keys) (reply_in reply.now) }
+    ensures message { IfOk result (λ message. message ≡ message_in hearer.now.me hearer.now.nodes (option_map (λ k. k.now) hearer.now.keys) (reply_in reply.now)) }
     ensures lawful { IfOk result (λ message. IfSome message (λ m. IsInput hearer.now.nodes hearer.now.me (Input.Delivered m))) }
 {
     if brings {

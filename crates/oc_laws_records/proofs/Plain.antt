@@ -171,7 +171,7 @@ body_plain t x came head rest said = by_permit (awaits_continue head && not x.pe
 
     by_length : (b : Bool) → AsksPlainly (if b then unfinished x.coming false else whole t head request body)
     by_length true = unfinished_plain x.coming false
-    by_length false = by_mac (is_forged t.key said.operation head.mac body)
+    by_length false = by_mac (is_forged t.keys said.operation head.mac body)
 
     by_permit : (b : Bool) → AsksPlainly (if b then verdicts.Permit else if nat_lt (length rest) head.length then unfinished x.coming false else whole t head request body)
     by_permit true = tt
@@ -261,8 +261,8 @@ input_plain me nodes key peer (Err fault) = tt
 
 -- the reply on a dial
 back_plain : (t : NodeTerms) (errand : Errand) (reading : Result Reply HttpFault) (probing : Option Probing) (now median started : ℕ) (s : Setting) (a : Running)
-    → ArePlain (happens probing (comes_back t.me t.nodes t.key errand reading) now median started s a)
-back_plain t (errands.Message to fetch) reading probing now median started s a = plain_brought (input_of t.me t.nodes t.key to reading) s a (input_plain t.me t.nodes t.key to reading)
+    → ArePlain (happens probing (comes_back t.me t.nodes t.keys errand reading) now median started s a)
+back_plain t (errands.Message to fetch) reading probing now median started s a = plain_brought (input_of t.me t.nodes t.keys to reading) s a (input_plain t.me t.nodes t.keys to reading)
 back_plain t (errands.Probe peer since) reading probing now median started s a = plain_measures probing peer (fault_of reading) median s a
 
 nothing_plain : (probing : Option Probing) (now median started : ℕ) (s : Setting) (a : Running) → ArePlain (happens probing comes.Nothing now median started s a)

@@ -1,4 +1,4 @@
-//! What a node accepts of whom: the access rules, and the key of a network with the MAC of a message under it.
+//! What a node accepts of whom: the access rules, and the keys of a network with the MAC of a message under one of them.
 //!
 //! A rule speaks of an action, of the groups within a prefix and of an area, and may ask for a token; what is absent
 //! speaks of all. [`decide`] gives what the first rule that matches says (`verdict`), and allows where none matches.
@@ -10,8 +10,8 @@
 //! [`Key::parse`] gives the bytes that a text spells, exactly where it is a key's (`specs/Keys`). [`mac_of`] is the MAC
 //! of a body under a key: HMAC-SHA-256, which `specs/Hmac` says as RFC 2104 over the definition of SHA-256 that `sha2`
 //! is proved of, in digits ([`macs_are_digits`]) that stand for nothing else ([`no_two_digests_have_one_spelling`]).
-//! [`is_mac_of`] says whether a text is this one, byte for byte. No call copies the body, and only [`rules_text`] takes
-//! memory.
+//! [`is_mac_of`] says whether a text is this one, byte for byte, and [`is_mac_in`] whether it is that of one of the keys
+//! of a [`Keyring`]. No call copies the body, and only [`rules_text`] takes memory.
 //!
 //! Tokens and MACs are compared over all their bytes, wherever the first that differs is, so that the time which this
 //! takes tells nobody how many were right. No contract says so: the loop of `are_same` has no way out.
@@ -21,6 +21,7 @@ mod deciding;
 mod demand;
 mod hmac;
 mod key;
+mod keyring;
 mod law;
 mod listing;
 mod mac;
@@ -34,6 +35,7 @@ pub use deciding::{Decision, MAX_RULES, decide};
 pub use demand::Demand;
 pub use hmac::hmac_sha256;
 pub use key::Key;
+pub use keyring::{Keyring, MAX_ACCEPTED, is_mac_in};
 pub use law::{
     a_shadowed_rule_decides_nothing, macs_are_digits, no_line_tells_a_token,
     no_two_digests_have_one_spelling,

@@ -1,27 +1,21 @@
 -- The peers of a node, in turn.
-use Rattle.std.specs.Prelude.{ℕ, ◌+◌, ◌-◌, zero, suc, List, [], ◌∷◌, ◌++◌, nat_lt, if◌then◌else◌}
+use Rattle.std.specs.Prelude.{ℕ, ◌+◌, ◌==◌, Option, Some, None, List, [], ◌∷◌, ◌++◌, if◌then◌else◌}
 
--- the ids of this number, from that one on
-abbrev pub ids : ℕ → ℕ → List ℕ
-ids first zero = []
-ids first (suc count) = first ∷ ids (first + 1) count
+-- the ids, but this one, of the places that hold something, where the first place is that of an id
+abbrev pub peers_from : {A : Type 0} → ℕ → ℕ → List (Option A) → List ℕ
+peers_from me id [] = []
+peers_from me id (None ∷ places) = peers_from me (id + 1) places
+peers_from me id (Some x ∷ places) = if id == me then peers_from me (id + 1) places else id ∷ peers_from me (id + 1) places
 
--- the other nodes, ascending
-abbrev pub others : ℕ → ℕ → List ℕ
-others me nodes = ids 1 (me - 1) ++ ids (me + 1) (nodes - me)
+-- the other nodes whose place, by their ids, holds something, ascending
+abbrev pub peers_of : {A : Type 0} → ℕ → List (Option A) → List ℕ
+peers_of me places = peers_from me 1 places
 
 -- the first one comes last
 abbrev pub turned : List ℕ → List ℕ
 turned [] = []
 turned (id ∷ rest) = rest ++ id ∷ []
 
--- the node of the rotation, the number of nodes, and the other nodes in the order in which they
--- come
+-- the peers in the order in which they come
 pub record RotationView : Type 0 where
-  pub me : ℕ
-  pub nodes : ℕ
   pub coming : List ℕ
-
--- the peer at this place of those that ascend, counted from 0
-abbrev pub peer_at : ℕ → ℕ → ℕ
-peer_at me place = if nat_lt (place + 1) me then place + 1 else place + 2

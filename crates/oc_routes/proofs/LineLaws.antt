@@ -1,5 +1,5 @@
 -- The lines of refusals are plain lines.
-use Rattle.std.proofs.Common.{◌≡◌, ℕ, ◌+◌, ◌<◌, ◌≤◌, ◌^◌, Bool, true, false, not, ◌&&◌, ◌||◌, ◌==◌, inl, inr, Option, None, IfSome, List, [], ◌∷◌, ◌++◌, length, decimal, codes, refl, sym, ap, ◌∙◌, append_assoc, length-append, arith}
+use Rattle.std.proofs.Common.{◌≡◌, ℕ, ◌+◌, ◌<◌, ◌≤◌, ◌^◌, Bool, true, false, not, ◌&&◌, ◌||◌, ◌==◌, if◌then◌else◌, inl, inr, Option, None, IfSome, List, [], ◌∷◌, ◌++◌, length, decimal, codes, refl, sym, ap, ◌∙◌, append_assoc, length-append, arith}
 use Rattle.std.specs.Prelude.{nat_le, nat_lt}
 use Rattle.std.specs.Char.{is_ascii_digit}
 use Rattle.std.specs.List.{list_all}
@@ -16,7 +16,7 @@ use Rattle.oc_model.specs.declared.answer.Answer.TheVariants as answers
 use Rattle.oc_routes.specs.Lines.{IsCounted, IsTellable}
 use Rattle.oc_routes.specs.PlainNames.{is_plain}
 use Rattle.oc_routes.specs.Publish.{IsPublishAnswer, publish_status}
-use Rattle.oc_routes.specs.Reasons.{no_group_line, past_line, publish_line, refused_line, seal_line}
+use Rattle.oc_routes.specs.Reasons.{bytes_text, no_group_line, nowhere_line, past_line, publish_line, refused_line, seal_line, source_url}
 use Rattle.oc_routes.specs.Refusals.{status_of}
 use Rattle.oc_routes.specs.Seal.{IsSealAnswer, seal_status}
 use Rattle.oc_routes.specs.declared.refused.Refused.{Refused}
@@ -73,27 +73,34 @@ denied_is rule false fits =
       ended = ap (λ (x : List ℕ). codes "access rule " ++ x) (sym (append_assoc (decimal rule) behind (10 ∷ [])));
     }
 
--- a text with a number twice
-twice : (front middle behind : List ℕ) (n : ℕ) → n < 2 ^ 64 → nat_le 1 (length front) ≡ true → IsPart 100 front → IsPart 100 middle → IsPart 100 behind
-    → IsPlainLine (front ++ decimal n ++ middle ++ decimal n ++ (behind ++ 10 ∷ []))
-twice front middle behind n fits long first second third =
-    let one = together 100 20 front (decimal n) first (number n fits) in
-    let two = together 120 100 (front ++ decimal n) middle one second in
-    let three = together 220 20 (front ++ decimal n ++ middle) (decimal n) two (number n fits) in
-    let part = together 240 100 (front ++ decimal n ++ middle ++ decimal n) behind three third in
+bytes_shown : (n : ℕ) → n < 2 ^ 64 → IsPart 26 (bytes_text n)
+bytes_shown n fits = by_test (n == 1)
+  where
+    by_test : (one : Bool) → IsPart 26 (if one then codes "1 byte" else decimal n ++ codes " bytes")
+    by_test true = record { short = omega arith; shown = refl }
+    by_test false = together 20 6 (decimal n) (codes " bytes") (number n fits) (record { short = omega arith; shown = refl })
+
+-- a text with a number of bytes, `text`, and with the number alone
+twice : (front text middle behind : List ℕ) (n : ℕ) → n < 2 ^ 64 → nat_le 1 (length front) ≡ true → IsPart 100 front → IsPart 26 text → IsPart 100 middle → IsPart 100 behind
+    → IsPlainLine (front ++ text ++ middle ++ decimal n ++ (behind ++ 10 ∷ []))
+twice front text middle behind n fits long first bytes second third =
+    let one = together 100 26 front text first bytes in
+    let two = together 126 100 (front ++ text) middle one second in
+    let three = together 226 20 (front ++ text ++ middle) (decimal n) two (number n fits) in
+    let part = together 246 100 (front ++ text ++ middle ++ decimal n) behind three third in
     let some : 1 ≤ length front = grind (arith, nat_tests) in
     record {
-      line = front ++ decimal n ++ middle ++ decimal n ++ behind;
-      some = omega (arith, some, length-append (front ++ decimal n ++ middle ++ decimal n) behind, length-append (front ++ decimal n ++ middle) (decimal n), length-append (front ++ decimal n) middle, length-append front (decimal n));
+      line = front ++ text ++ middle ++ decimal n ++ behind;
+      some = omega (arith, some, length-append (front ++ text ++ middle ++ decimal n) behind, length-append (front ++ text ++ middle) (decimal n), length-append (front ++ text) middle, length-append front text);
       most = omega (arith, part.short);
       shown = part.shown;
-      ended = sym (append_assoc (front ++ decimal n ++ middle ++ decimal n) behind (10 ∷ []));
+      ended = sym (append_assoc (front ++ text ++ middle ++ decimal n) behind (10 ∷ []));
     }
 
 at_is : (n : ℕ) → n < 2 ^ 64 → IsPlainLine (refused_line (At n))
 at_is n fits =
-    twice (codes "the group has ") (codes " bytes: at=") (codes " appends") n fits refl
-    (record { short = omega arith; shown = refl }) (record { short = omega arith; shown = refl }) (record { short = omega arith; shown = refl })
+    twice (codes "the group has ") (bytes_text n) (codes ": at=") (codes " appends") n fits refl
+    (record { short = omega arith; shown = refl }) (bytes_shown n fits) (record { short = omega arith; shown = refl }) (record { short = omega arith; shown = refl })
 
 -- a line of its own
 alone : (line : List ℕ) → nat_le 1 (length line) ≡ true → nat_le (length line) 1000 ≡ true → list_all is_shown line ≡ true → IsPlainLine (line ++ 10 ∷ [])
@@ -143,28 +150,36 @@ named name is = record {
       | inr good ↦ grind (arith, nat_tests)
     ]
 
--- what begins so and ends with the URL of a group at the source
-at_source : (front behind source group : List ℕ) → nat_le 1 (length front) ≡ true → IsPart 100 front → IsPart 10 behind → IsTellable source → IsGroupName group
-    → IsPlainLine (front ++ (codes "http://" ++ source ++ group) ++ (behind ++ 10 ∷ []))
-at_source front behind source group long first last tellable is =
-    let host = together 7 300 (codes "http://") source (record { short = omega arith; shown = refl }) (record { short = tellable.most; shown = tellable.shown }) in
-    let url = together 307 200 (codes "http://" ++ source) group host (named group is) in
-    let begun = together 100 507 front (codes "http://" ++ source ++ group) first url in
-    let part = together 607 10 (front ++ (codes "http://" ++ source ++ group)) behind begun last in
+-- the URL of a group at the source, where it has an address
+url_shown : (source group query : List ℕ) → IsPart 10 query → IsTellable source → IsGroupName group → IsPart 519 (source_url source group query)
+url_shown source group query last tellable is = by_test (length source == 0)
+  where
+    by_test : (none : Bool) → IsPart 519 (if none then [] else codes ", http://" ++ source ++ group ++ query)
+    by_test true = record { short = omega arith; shown = refl }
+    by_test false =
+        let host = together 9 300 (codes ", http://") source (record { short = omega arith; shown = refl }) (record { short = tellable.most; shown = tellable.shown }) in
+        let url = together 309 200 (codes ", http://" ++ source) group host (named group is) in
+        together 509 10 (codes ", http://" ++ source ++ group) query url last
+
+-- what begins so and ends with it
+at_source : (front query source group : List ℕ) → nat_le 1 (length front) ≡ true → IsPart 100 front → IsPart 10 query → IsTellable source → IsGroupName group
+    → IsPlainLine (front ++ source_url source group query ++ 10 ∷ [])
+at_source front query source group long first last tellable is =
+    let part = together 100 519 front (source_url source group query) first (url_shown source group query last tellable is) in
     let some : 1 ≤ length front = grind (arith, nat_tests) in
     record {
-      line = front ++ (codes "http://" ++ source ++ group) ++ behind;
-      some = omega (arith, some, length-append (front ++ (codes "http://" ++ source ++ group)) behind, length-append front (codes "http://" ++ source ++ group));
+      line = front ++ source_url source group query;
+      some = omega (arith, some, length-append front (source_url source group query));
       most = omega (arith, part.short);
       shown = part.shown;
-      ended = sym (append_assoc (front ++ (codes "http://" ++ source ++ group)) behind (10 ∷ []));
+      ended = refl;
     }
 
 pub publish_is : (answer : Answer) (source group : List ℕ) → IsPublishAnswer answer → (publish_status answer ≡ 200 → ⊥) → IsTellable source → IsGroupName group → IsPlainLine (publish_line answer source group)
 publish_is answers.NotSource source group known refuses tellable is =
-    at_source (codes "this node is not the source: publish at the source, ") [] source group refl (record { short = omega arith; shown = refl }) (record { short = omega arith; shown = refl }) tellable is
+    at_source (codes "this node is not the source: publish at the source") [] source group refl (record { short = omega arith; shown = refl }) (record { short = omega arith; shown = refl }) tellable is
 publish_is answers.Sealed source group known refuses tellable is = alone (codes "the group is sealed, and takes no more: publish another group") refl refl refl
-publish_is answers.Groups source group known refuses tellable is = alone (codes "64 groups are held: publish files into a folder") refl refl refl
+publish_is answers.Groups source group known refuses tellable is = alone (codes "64 groups are held, the most: publish into a group that is held") refl refl refl
 publish_is answers.TooLong source group known refuses tellable is = alone (codes "the group would be too long: at most 1099511627776 bytes fit") refl refl refl
 publish_is answers.Ok source group known refuses tellable is = absurd (refuses refl)
 publish_is answers.Ignored source group known refuses tellable is = absurd known
@@ -179,7 +194,7 @@ publish_is (answers.Serve count) source group known refuses tellable is = absurd
 
 pub seal_is : (answer : Answer) (source group : List ℕ) → IsSealAnswer answer → (seal_status answer ≡ 200 → ⊥) → IsTellable source → IsGroupName group → IsPlainLine (seal_line answer source group)
 seal_is answers.NotSource source group known refuses tellable is =
-    at_source (codes "this node is not the source: seal at the source, ") (codes "?seal") source group refl (record { short = omega arith; shown = refl }) (record { short = omega arith; shown = refl }) tellable is
+    at_source (codes "this node is not the source: seal at the source") (codes "?seal") source group refl (record { short = omega arith; shown = refl }) (record { short = omega arith; shown = refl }) tellable is
 seal_is answers.NoGroup source group known refuses tellable is = alone (codes "there is no such group: publish it first") refl refl refl
 seal_is answers.Ok source group known refuses tellable is = absurd (refuses refl)
 seal_is answers.Ignored source group known refuses tellable is = absurd (refuses refl)
@@ -199,7 +214,10 @@ seal_is (answers.Serve count) source group known refuses tellable is = absurd kn
 pub no_group_is : IsPlainLine no_group_line
 no_group_is = alone (codes "there is no such group here: look at /-/status for the names of groups") refl refl refl
 
+pub nowhere_is : IsPlainLine nowhere_line
+nowhere_is = alone (codes "the node that has more of this group has no address: ask again later, or ask another node") refl refl refl
+
 pub past_is : (n : ℕ) → n < 2 ^ 64 → IsPlainLine (past_line n)
 past_is n fits =
-    twice (codes "the group has ") (codes " bytes, and is sealed: start=") (codes " is the last start") n fits refl
-    (record { short = omega arith; shown = refl }) (record { short = omega arith; shown = refl }) (record { short = omega arith; shown = refl })
+    twice (codes "the group has ") (bytes_text n) (codes ", and is sealed: start=") (codes " is the last start") n fits refl
+    (record { short = omega arith; shown = refl }) (bytes_shown n fits) (record { short = omega arith; shown = refl }) (record { short = omega arith; shown = refl })

@@ -12,7 +12,7 @@ use Rattle.oc_http.specs.declared.fault.HttpFault.{HttpFault}
 use Rattle.oc_http.specs.declared.fault.HttpFault.TheVariants as http
 use Rattle.oc_http.specs.declared.head.Head.{Head}
 use Rattle.oc_model.specs.declared.input.Input.{Input}
-use Rattle.oc_policy.specs.Keys.{mac_digits}
+use Rattle.oc_policy.specs.Keys.{Keyring}
 use Rattle.oc_routes.specs.Connections.{awaits_continue, is_last}
 use Rattle.oc_routes.specs.Routes.{input_asked}
 use Rattle.oc_routes.specs.declared.fault.RouteFault.{RouteFault}
@@ -25,7 +25,8 @@ use Rattle.oc_routes.specs.Hints.{asked_with_hint}
 use Rattle.oc_routes.proofs.Bodies.{IsOfBody, of_body}
 use Rattle.oc_routes.proofs.Spared.{IsOther, IsSpared}
 use Rattle.oc_routes.proofs.SparedReplies.{head_spared}
-use Rattle.oc_wire.specs.Macs.{is_authentic}
+use Rattle.oc_wire.specs.Macs.{HasMac, is_authentic}
+use Rattle.oc_wire.proofs.UnderKeys.{believed}
 use Rattle.oc_routes.specs.Macs.{HaveMac, is_forged}
 use Rattle.oc_routes.specs.Verdicts.{IsVerdict, NodeTerms, answered, fault_met, input_for, is_head, is_none, refuse, routed, taken, unfinished, unread, verdict_for, whole}
 use Rattle.oc_routes.specs.declared.hint.Asked.{Asked}
@@ -33,13 +34,12 @@ use Rattle.oc_routes.specs.declared.verdict.Request.{Request}
 use Rattle.oc_routes.specs.declared.verdict.Verdict.{Verdict}
 use Rattle.oc_routes.specs.declared.verdict.Verdict.TheVariants.{Ask, Permit, Refuse}
 
--- an authentic body under a key has its MAC
-authentic_mac : (key : List ℕ) (mac : Option (List ℕ)) (body : List ℕ) → not (is_authentic (Some key) mac body) ≡ false → mac ≡ Some (mac_digits key body)
-authentic_mac key None body is = cc
-authentic_mac key (Some mac) body is = by_test (bytes_eq mac (mac_digits key body)) refl is
+-- an authentic body has its MAC under one of the keys
+authentic_mac : (ring : Keyring) (mac : Option (List ℕ)) (body : List ℕ) → not (is_authentic (Some ring) mac body) ≡ false → HasMac ring mac body
+authentic_mac ring mac body is = by_test (is_authentic (Some ring) mac body) refl is
   where
-    by_test : (b : Bool) → bytes_eq mac (mac_digits key body) ≡ b → not b ≡ false → Some mac ≡ Some (mac_digits key body)
-    by_test true same e = ap (λ (m : List ℕ). Some m) ((bytes_eq-Decides mac (mac_digits key body)).0 same)
+    by_test : (b : Bool) → is_authentic (Some ring) mac body ≡ b → not b ≡ false → HasMac ring mac body
+    by_test true same e = believed ring mac body same
     by_test false same e = cc
 
 -- a request that is answered asks what was asked
@@ -63,16 +63,16 @@ unfinished_no Ended false q e = cc
 unfinished_no Failed none q e = cc
 
 -- a whole request that is answered is not forged
-whole_mac : (t : NodeTerms) (key : List ℕ) (head : Head) (q r : Request) (body : List ℕ) → t.key ≡ Some key → q.asked.operation ≡ asks.Message
-    → (forged : Bool) → is_forged t.key r.asked.operation head.mac body ≡ forged
+whole_mac : (t : NodeTerms) (ring : Keyring) (head : Head) (q r : Request) (body : List ℕ) → t.keys ≡ Some ring → q.asked.operation ≡ asks.Message
+    → (forged : Bool) → is_forged t.keys r.asked.operation head.mac body ≡ forged
     → Ask q ≡ (if forged then refuse (is_head head.method) refusals.Mac else answered head r (input_asked t.nodes t.me r.asked.operation body))
-    → head.mac ≡ Some (mac_digits key body)
-whole_mac t key head q r body has asks_message true is e = cc
-whole_mac t key head q r body has asks_message false is e =
+    → HasMac ring head.mac body
+whole_mac t ring head q r body has asks_message true is e = cc
+whole_mac t ring head q r body has asks_message false is e =
     let same : q.asked.operation ≡ r.asked.operation = answered_asks head q r (input_asked t.nodes t.me r.asked.operation body) e in
-    authentic_mac key head.mac body
-    (ap (λ (k : Option (List ℕ)). is_forged k asks.Message head.mac body) (sym has)
-    ∙ ap (λ (o : Operation). is_forged t.key o head.mac body) (sym asks_message ∙ same) ∙ is)
+    authentic_mac ring head.mac body
+    (ap (λ (k : Option Keyring). is_forged k asks.Message head.mac body) (sym has)
+    ∙ ap (λ (o : Operation). is_forged t.keys o head.mac body) (sym asks_message ∙ same) ∙ is)
 
 -- a request that is answered has come whole
 come_whole : (coming : Coming) (q : Request) (done : Verdict) (permits short : Bool)
@@ -81,28 +81,28 @@ come_whole coming q done true short e = cc
 come_whole coming q done false true e = absurd (unfinished_no coming false q e)
 come_whole coming q done false false e = e
 
-routed_mac : (t : NodeTerms) (key : List ℕ) (a : Arrival) (came : ℕ) (head : Head) (rest : List ℕ) (asked : Result Asked Refused) (q : Request) → t.key ≡ Some key → q.asked.operation ≡ asks.Message
-    → Ask q ≡ routed t a came head rest asked → head.mac ≡ Some (mac_digits key (take head.length rest))
-routed_mac t key a came head rest (Err why) q has asks_message e = cc
-routed_mac t key a came head rest (Ok said) q has asks_message e =
-    whole_mac t key head q request (take head.length rest) has asks_message (is_forged t.key said.operation head.mac (take head.length rest)) refl
+routed_mac : (t : NodeTerms) (ring : Keyring) (a : Arrival) (came : ℕ) (head : Head) (rest : List ℕ) (asked : Result Asked Refused) (q : Request) → t.keys ≡ Some ring → q.asked.operation ≡ asks.Message
+    → Ask q ≡ routed t a came head rest asked → HasMac ring head.mac (take head.length rest)
+routed_mac t ring a came head rest (Err why) q has asks_message e = cc
+routed_mac t ring a came head rest (Ok said) q has asks_message e =
+    whole_mac t ring head q request (take head.length rest) has asks_message (is_forged t.keys said.operation head.mac (take head.length rest)) refl
     (come_whole a.coming q (whole t head request (take head.length rest)) (awaits_continue head && not a.permitted) (nat_lt (length rest) head.length) e)
   where
     request : Request
     request = record { count = came - length rest + head.length; asked = said; input = None; last = is_last head a.number }
 
--- a message that is taken under a key came with its MAC
-pub have_mac : (t : NodeTerms) (a : Arrival) (key bytes : List ℕ) (q : Request) → t.key ≡ Some key → q.asked.operation ≡ asks.Message → IsVerdict t a bytes (Ask q) → HaveMac key bytes
-have_mac t a key bytes q has asks_message x = by_answer x.answer x.answers x.verdict
+-- a message that is taken came with its MAC under one of the keys
+pub have_mac : (t : NodeTerms) (a : Arrival) (ring : Keyring) (bytes : List ℕ) (q : Request) → t.keys ≡ Some ring → q.asked.operation ≡ asks.Message → IsVerdict t a bytes (Ask q) → HaveMac ring bytes
+have_mac t a ring bytes q has asks_message x = by_answer x.answer x.answers x.verdict
   where
-    by_answer : (answer : Result Head HttpFault) → AnswersRequest bytes x.rest answer → Ask q ≡ verdict_for t a bytes x.rest answer → HaveMac key bytes
+    by_answer : (answer : Result Head HttpFault) → AnswersRequest bytes x.rest answer → Ask q ≡ verdict_for t a bytes x.rest answer → HaveMac ring bytes
     by_answer (Ok head) took e = record {
       front = took.0;
       rest = x.rest;
       head = head;
       bytes_are = took.1;
       says = took.2;
-      mac = routed_mac t key a (length bytes) head x.rest (asked_with_hint head t.rules) q has asks_message e;
+      mac = routed_mac t ring a (length bytes) head x.rest (asked_with_hint head t.rules) q has asks_message e;
     }
     by_answer (Err fault) took e = absurd (unread_no a.coming (is_none bytes) (begins_with_head (taken bytes x.rest)) (fault_met fault) q e)
 
@@ -142,16 +142,16 @@ answered_message : (head : Head) (r : Request) (input : Result (Option Input) Re
 answered_message head r (Ok input) e = cc
 answered_message head r (Err why) e = let same : why ≡ refusals.Message = cc in ap (λ (w : Refused). Err w) same
 
-whole_refused : (t : NodeTerms) (key : List ℕ) (head : Head) (r : Request) (body : List ℕ) → t.key ≡ Some key
-    → (forged : Bool) → is_forged t.key r.asked.operation head.mac body ≡ forged
+whole_refused : (t : NodeTerms) (ring : Keyring) (head : Head) (r : Request) (body : List ℕ) → t.keys ≡ Some ring
+    → (forged : Bool) → is_forged t.keys r.asked.operation head.mac body ≡ forged
     → SaysMessage (if forged then refuse (is_head head.method) refusals.Mac else answered head r (input_asked t.nodes t.me r.asked.operation body))
-    → head.mac ≡ Some (mac_digits key body)
-whole_refused t key head r body has true is e = cc
-whole_refused t key head r body has false is e =
+    → HasMac ring head.mac body
+whole_refused t ring head r body has true is e = cc
+whole_refused t ring head r body has false is e =
     let message : r.asked.operation ≡ asks.Message = input_message t.nodes t.me r.asked.operation body (answered_message head r (input_asked t.nodes t.me r.asked.operation body) e) in
-    authentic_mac key head.mac body
-    (ap (λ (k : Option (List ℕ)). is_forged k asks.Message head.mac body) (sym has)
-    ∙ ap (λ (o : Operation). is_forged t.key o head.mac body) (sym message) ∙ is)
+    authentic_mac ring head.mac body
+    (ap (λ (k : Option Keyring). is_forged k asks.Message head.mac body) (sym has)
+    ∙ ap (λ (o : Operation). is_forged t.keys o head.mac body) (sym message) ∙ is)
 
 refused_whole : (coming : Coming) (done : Verdict) (permits short : Bool)
     → SaysMessage (if permits then Permit else if short then unfinished coming false else done) → SaysMessage done
@@ -159,29 +159,29 @@ refused_whole coming done true short e = cc
 refused_whole coming done false true e = absurd (unfinished_other coming false e)
 refused_whole coming done false false e = e
 
-routed_refused : (t : NodeTerms) (key : List ℕ) (a : Arrival) (came : ℕ) (head : Head) (rest : List ℕ) (asked : Result Asked Refused) → t.key ≡ Some key → IsSpared asked
-    → SaysMessage (routed t a came head rest asked) → head.mac ≡ Some (mac_digits key (take head.length rest))
-routed_refused t key a came head rest (Err why) has spared e =
+routed_refused : (t : NodeTerms) (ring : Keyring) (a : Arrival) (came : ℕ) (head : Head) (rest : List ℕ) (asked : Result Asked Refused) → t.keys ≡ Some ring → IsSpared asked
+    → SaysMessage (routed t a came head rest asked) → HasMac ring head.mac (take head.length rest)
+routed_refused t ring a came head rest (Err why) has spared e =
     let same : why ≡ refusals.Message = cc in
     absurd (subst (λ (w : Refused). IsOther w) same spared)
-routed_refused t key a came head rest (Ok said) has spared e =
-    whole_refused t key head request (take head.length rest) has (is_forged t.key said.operation head.mac (take head.length rest)) refl
+routed_refused t ring a came head rest (Ok said) has spared e =
+    whole_refused t ring head request (take head.length rest) has (is_forged t.keys said.operation head.mac (take head.length rest)) refl
     (refused_whole a.coming (whole t head request (take head.length rest)) (awaits_continue head && not a.permitted) (nat_lt (length rest) head.length) e)
   where
     request : Request
     request = record { count = came - length rest + head.length; asked = said; input = None; last = is_last head a.number }
 
--- a body that is read as a message under a key came with its MAC, also where it is none
-pub read_mac : (t : NodeTerms) (a : Arrival) (key bytes : List ℕ) (head_alone : Bool) → t.key ≡ Some key → IsVerdict t a bytes (refuse head_alone refusals.Message) → HaveMac key bytes
-read_mac t a key bytes head_alone has x = by_answer x.answer x.answers (ap why_of x.verdict)
+-- a body that is read as a message came with its MAC under one of the keys, also where it is none
+pub read_mac : (t : NodeTerms) (a : Arrival) (ring : Keyring) (bytes : List ℕ) (head_alone : Bool) → t.keys ≡ Some ring → IsVerdict t a bytes (refuse head_alone refusals.Message) → HaveMac ring bytes
+read_mac t a ring bytes head_alone has x = by_answer x.answer x.answers (ap why_of x.verdict)
   where
-    by_answer : (answer : Result Head HttpFault) → AnswersRequest bytes x.rest answer → SaysMessage (verdict_for t a bytes x.rest answer) → HaveMac key bytes
+    by_answer : (answer : Result Head HttpFault) → AnswersRequest bytes x.rest answer → SaysMessage (verdict_for t a bytes x.rest answer) → HaveMac ring bytes
     by_answer (Ok head) took e = record {
       front = took.0;
       rest = x.rest;
       head = head;
       bytes_are = took.1;
       says = took.2;
-      mac = routed_refused t key a (length bytes) head x.rest (asked_with_hint head t.rules) has (head_spared head t.rules) e;
+      mac = routed_refused t ring a (length bytes) head x.rest (asked_with_hint head t.rules) has (head_spared head t.rules) e;
     }
     by_answer (Err fault) took e = absurd (unread_other a.coming (is_none bytes) (begins_with_head (taken bytes x.rest)) fault e)

@@ -25,7 +25,7 @@ sent_told (Ok x) address group start manner hint h told location tells at is =
 sent_told (Err e) address group start manner hint h told location tells at is = tt
 
 -- a client that is shown a redirection
-pub redirected : {M : Type 0} (r : Result Response M) (group : List ℕ) (start : ℕ) (manner : Manner) (hint : Hint) (last : Bool) (answer : Answer) (h : Holding) (addresses : List (List ℕ)) (s : Shown) (node : ℕ) (address : List ℕ)
+pub redirected : {M : Type 0} (r : Result Response M) (group : List ℕ) (start : ℕ) (manner : Manner) (hint : Hint) (last : Bool) (answer : Answer) (h : Holding) (addresses : List (Option (List ℕ))) (s : Shown) (node : ℕ) (address : List ℕ)
     → s ≡ shown hint answer h start → s.answer ≡ Redirect node → address ≡ address_of addresses node
     → IfOk r (λ (x : Response). x ≡ whole (redirection (location_of address group start (told_text hint h) manner))) → IfOk r (λ (x : Response). x ≡ group_response group start manner hint last answer h addresses)
 redirected (Ok x) group start manner hint last answer h addresses s node address shows sends at is =
@@ -35,14 +35,14 @@ redirected (Ok x) group start manner hint last answer h addresses s node address
     ∙ ap (λ (t : Shown). shown_response group start manner (told_text hint h) t last h addresses) shows
 redirected (Err e) group start manner hint last answer h addresses s node address shows sends at is = tt
 
-pub published : {M : Type 0} (r : Result Response M) (operation : Operation) (hint : Hint) (last : Bool) (answer : Answer) (back : Option Message) (h : Holding) (addresses : List (List ℕ)) (key : Option (List ℕ)) (report source group : List ℕ) (at : Option ℕ)
+pub published : {M : Type 0} (r : Result Response M) (operation : Operation) (hint : Hint) (last : Bool) (answer : Answer) (back : Option Message) (h : Holding) (addresses : List (Option (List ℕ))) (key : Option (List ℕ)) (report source group : List ℕ) (at : Option ℕ)
     → operation ≡ Publish group at → source ≡ source_in addresses
     → IfOk r (λ (x : Response). x ≡ publish_response answer source group) → IfOk r (λ (x : Response). x ≡ response_to operation hint last answer back h addresses key report)
 published (Ok x) operation hint last answer back h addresses key report source group at asks from is =
     is ∙ ap (λ (s : List ℕ). publish_response answer s group) from ∙ sym (ap (λ (o : Operation). response_to o hint last answer back h addresses key report) asks)
 published (Err e) operation hint last answer back h addresses key report source group at asks from is = tt
 
-pub sealed : {M : Type 0} (r : Result Response M) (operation : Operation) (hint : Hint) (last : Bool) (answer : Answer) (back : Option Message) (h : Holding) (addresses : List (List ℕ)) (key : Option (List ℕ)) (report source group : List ℕ) (at : Option ℕ)
+pub sealed : {M : Type 0} (r : Result Response M) (operation : Operation) (hint : Hint) (last : Bool) (answer : Answer) (back : Option Message) (h : Holding) (addresses : List (Option (List ℕ))) (key : Option (List ℕ)) (report source group : List ℕ) (at : Option ℕ)
     → operation ≡ Seal group at → source ≡ source_in addresses
     → IfOk r (λ (x : Response). x ≡ seal_response answer source group) → IfOk r (λ (x : Response). x ≡ response_to operation hint last answer back h addresses key report)
 sealed (Ok x) operation hint last answer back h addresses key report source group at asks from is =

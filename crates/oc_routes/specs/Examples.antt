@@ -165,7 +165,7 @@ holds held sealed = record { there = true; held = held; sealed = sealed }
 -- what a request is answered that tells nothing else, where the node holds nine bytes of its group
 abbrev answers_to : Operation → Answer → Bool → Bool → Option (List ℕ) → Response
 answers_to wanted answer sealed last key =
-    response_for (record { operation = wanted; hint = Plain }) last answer None (holds 9 sealed) (codes "h:1" ∷ codes "h:2" ∷ []) key []
+    response_for (record { operation = wanted; hint = Plain }) last answer None (holds 9 sealed) (Some (codes "h:1") ∷ Some (codes "h:2") ∷ []) key []
 
 abbrev answered : Operation → Answer → Bool → Bool → Response → Type 0
 answered wanted answer sealed last response = answers_to wanted answer sealed last None ≡ response
@@ -193,6 +193,8 @@ pub record AreAnswered : Type 0 where
   pub mac_line : refusal_line refusals.Mac ≡ codes "! mac\n"
   pub at_reply : refusal_text (refusing (refusals.At 325))
       ≡ Some (says (codes "HTTP/1.1 409 Conflict") (plain_text ∷ codes "Overcast-Length: 325" ∷ []) (codes "the group has 325 bytes: at=325 appends\n"))
+  pub at_reply_of_a_byte : refusal_text (refusing (refusals.At 1))
+      ≡ Some (says (codes "HTTP/1.1 409 Conflict") (plain_text ∷ codes "Overcast-Length: 1" ∷ []) (codes "the group has 1 byte: at=1 appends\n"))
   pub mac_reply : refusal_text (refusing refusals.Mac)
       ≡ Some (says (codes "HTTP/1.1 403 Forbidden") (plain_text ∷ []) (codes "the message has not the MAC of this network's key: give all nodes the same key\n"))
   pub denied_reply : refusal_text (refusing (refusals.Denied 1 false))
@@ -223,6 +225,8 @@ pub record AreAnswered : Type 0 where
       (record { text = lines (codes "HTTP/1.1 200 OK" ∷ octets ∷ codes "Content-Length: 0" ∷ closes ∷ []); content = Some (record { start = 10; count = 0; chunked = false }); connection = Close })
   pub not_the_source : answered (operations.Publish (codes "/a") None) answers.NotSource false false
       (ends_with (says (codes "HTTP/1.1 403 Forbidden") (plain_text ∷ []) (codes "this node is not the source: publish at the source, http://h:1/a\n")))
+  pub no_address_of_the_source : response_for (record { operation = operations.Seal (codes "/a") None; hint = Plain }) false answers.NotSource None (holds 9 false) (None ∷ []) None []
+      ≡ ends_with (says (codes "HTTP/1.1 403 Forbidden") (plain_text ∷ []) (codes "this node is not the source: seal at the source\n"))
   pub no_group_to_seal : answered (operations.Seal (codes "/a") None) answers.NoGroup false false
       (ends_with (says (codes "HTTP/1.1 404 Not Found") (plain_text ∷ []) (codes "there is no such group: publish it first\n")))
   pub served : answered (operations.Client (codes "/a") 0 2 Once) (answers.Serve 3) false false

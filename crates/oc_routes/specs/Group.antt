@@ -1,5 +1,5 @@
 -- A GET or HEAD of a group: a client is given its bytes from a byte on, or is sent to another node.
-use Rattle.std.specs.Prelude.{⊤, ℕ, Bool, true, false, not, ◌&&◌, nat_lt, if◌then◌else◌, Some, List, []}
+use Rattle.std.specs.Prelude.{⊤, ℕ, Bool, true, false, not, ◌&&◌, ◌==◌, nat_lt, if◌then◌else◌, Option, Some, List, [], length}
 use Rattle.oc_http.specs.Writing.{head_text}
 use Rattle.oc_http.specs.declared.framing.Framing.{Framing}
 use Rattle.oc_http.specs.declared.framing.Framing.TheVariants as framings
@@ -7,9 +7,9 @@ use Rattle.oc_http.specs.declared.reply.Reply.{Reply}
 use Rattle.oc_model.specs.declared.answer.Answer.{Answer}
 use Rattle.oc_model.specs.declared.answer.Answer.TheVariants as answers
 use Rattle.oc_routes.specs.Manners.{connection_for, content_for}
-use Rattle.oc_routes.specs.Reasons.{bare, no_group_line, past_line, telling}
+use Rattle.oc_routes.specs.Reasons.{bare, no_group_line, nowhere_line, past_line, telling}
 use Rattle.oc_routes.specs.Responses.{address_of, typed, whole, whole_for}
-use Rattle.oc_routes.specs.Shown.{location_of, shown, told_text}
+use Rattle.oc_routes.specs.Shown.{here_answer, location_of, shown, told_text}
 use Rattle.oc_routes.specs.declared.hint.Hint.{Hint}
 use Rattle.oc_routes.specs.declared.holding.Holding.{Holding}
 use Rattle.oc_routes.specs.declared.manner.Manner.{Manner}
@@ -59,17 +59,27 @@ served_or_past manner sealed last start count h =
 abbrev pub redirection : List ℕ → Reply
 redirection location = record (bare 302) { location = Some location }
 
--- to a client of such a node, which is shown `Redirect`, `Serve` or `NoGroup`, of a group that it is shown as sealed or not
-abbrev pub client_response : List ℕ → ℕ → Manner → List ℕ → Answer → Bool → Bool → Holding → List (List ℕ) → Response
-client_response group start manner told (answers.Redirect node) sealed last h addresses =
-    whole (redirection (location_of (address_of addresses node) group start told manner))
-client_response group start manner told (answers.Serve count) sealed last h addresses = served_or_past manner sealed last start count h
-client_response group start manner told refusal sealed last h addresses = whole_for manner (telling 404 no_group_line)
+-- what a client is given that is not sent elsewhere
+abbrev pub given_response : ℕ → Manner → Answer → Bool → Bool → Holding → Response
+given_response start manner (answers.Serve count) sealed last h = served_or_past manner sealed last start count h
+given_response start manner refusal sealed last h = whole_for manner (telling 404 no_group_line)
 
-abbrev pub shown_response : List ℕ → ℕ → Manner → List ℕ → Shown → Bool → Holding → List (List ℕ) → Response
+-- where the node to which it would be sent has no address: what is here, but 503 to a client that follows, which would ask without end
+abbrev pub here_response : ℕ → Manner → Bool → Holding → Response
+here_response start Follow last h = whole_for Follow (telling 503 nowhere_line)
+here_response start manner last h = given_response start manner (here_answer h start) h.sealed last h
+
+-- to a client of such a node, which is shown `Redirect`, `Serve` or `NoGroup`, of a group that it is shown as sealed or not
+abbrev pub client_response : List ℕ → ℕ → Manner → List ℕ → Answer → Bool → Bool → Holding → List (Option (List ℕ)) → Response
+client_response group start manner told (answers.Redirect node) sealed last h addresses =
+    if length (address_of addresses node) == 0 then here_response start manner last h
+    else whole (redirection (location_of (address_of addresses node) group start told manner))
+client_response group start manner told answer sealed last h addresses = given_response start manner answer sealed last h
+
+abbrev pub shown_response : List ℕ → ℕ → Manner → List ℕ → Shown → Bool → Holding → List (Option (List ℕ)) → Response
 shown_response group start manner told s last h addresses = client_response group start manner told s.answer s.sealed last h addresses
 
 -- to a client that tells this, for this answer of the step
-abbrev pub group_response : List ℕ → ℕ → Manner → Hint → Bool → Answer → Holding → List (List ℕ) → Response
+abbrev pub group_response : List ℕ → ℕ → Manner → Hint → Bool → Answer → Holding → List (Option (List ℕ)) → Response
 group_response group start manner hint last answer h addresses =
     shown_response group start manner (told_text hint h) (shown hint answer h start) last h addresses

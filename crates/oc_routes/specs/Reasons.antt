@@ -1,7 +1,7 @@
 -- The body of a reply of status 400 or above: one line that says what is wrong and what to do. The texts are no promise;
 -- that each is made of what the arguments here are, and of nothing else, is one: why a request is refused, with the number
 -- of the rule or the length of the group, or the answer of its step; the group's name and length; and the source's address.
-use Rattle.std.specs.Prelude.{ℕ, Bool, true, false, Some, None, List, [], ◌++◌, codes, decimal}
+use Rattle.std.specs.Prelude.{ℕ, ◌==◌, Bool, true, false, if◌then◌else◌, Some, None, List, [], ◌++◌, codes, decimal, length}
 use Rattle.oc_http.specs.Writing.{response_text, to_head_text}
 use Rattle.oc_http.specs.declared.content_type.ContentType.TheVariants.{Text}
 use Rattle.oc_http.specs.declared.reply.Reply.{Reply}
@@ -42,9 +42,13 @@ abbrev pub denied_line : ℕ → Bool → List ℕ
 denied_line rule true = codes "access rule " ++ decimal rule ++ codes " denies this without a token: send the field Authorization: Bearer TOKEN\n"
 denied_line rule false = codes "access rule " ++ decimal rule ++ codes " denies this: ask who runs this node\n"
 
+-- a number of bytes
+abbrev pub bytes_text : ℕ → List ℕ
+bytes_text count = if count == 1 then codes "1 byte" else decimal count ++ codes " bytes"
+
 -- a group of this length can be appended to there
 abbrev pub at_line : ℕ → List ℕ
-at_line length = codes "the group has " ++ decimal length ++ codes " bytes: at=" ++ decimal length ++ codes " appends\n"
+at_line length = codes "the group has " ++ bytes_text length ++ codes ": at=" ++ decimal length ++ codes " appends\n"
 
 -- of one that is refused for this alone
 abbrev pub plain_line : Refused → List ℕ
@@ -71,21 +75,21 @@ refused_line refused = plain_line refused
 
 -- Lines by the answer of a step
 
--- the URL of a group at the source
-abbrev pub source_url : List ℕ → List ℕ → List ℕ
-source_url source group = codes "http://" ++ source ++ group
+-- the URL of a group at the source, with a query after it; nothing where the source has no address
+abbrev pub source_url : List ℕ → List ℕ → List ℕ → List ℕ
+source_url source group query = if length source == 0 then [] else codes ", http://" ++ source ++ group ++ query
 
 -- to a publish
 abbrev pub publish_line : Answer → List ℕ → List ℕ → List ℕ
-publish_line answers.NotSource source group = codes "this node is not the source: publish at the source, " ++ source_url source group ++ codes "\n"
+publish_line answers.NotSource source group = codes "this node is not the source: publish at the source" ++ source_url source group [] ++ codes "\n"
 publish_line answers.Sealed source group = codes "the group is sealed, and takes no more: publish another group\n"
-publish_line answers.Groups source group = codes "64 groups are held: publish files into a folder\n"
+publish_line answers.Groups source group = codes "64 groups are held, the most: publish into a group that is held\n"
 publish_line answers.TooLong source group = codes "the group would be too long: at most 1099511627776 bytes fit\n"
 publish_line answer source group = []
 
 -- to a seal
 abbrev pub seal_line : Answer → List ℕ → List ℕ → List ℕ
-seal_line answers.NotSource source group = codes "this node is not the source: seal at the source, " ++ source_url source group ++ codes "?seal\n"
+seal_line answers.NotSource source group = codes "this node is not the source: seal at the source" ++ source_url source group (codes "?seal") ++ codes "\n"
 seal_line answers.NoGroup source group = codes "there is no such group: publish it first\n"
 seal_line answer source group = []
 
@@ -93,6 +97,10 @@ seal_line answer source group = []
 abbrev pub no_group_line : List ℕ
 no_group_line = codes "there is no such group here: look at /-/status for the names of groups\n"
 
+-- to a client that follows a group, where the node that has more of it has no address
+abbrev pub nowhere_line : List ℕ
+nowhere_line = codes "the node that has more of this group has no address: ask again later, or ask another node\n"
+
 -- to a client whose start is past the end of a sealed group of this length
 abbrev pub past_line : ℕ → List ℕ
-past_line length = codes "the group has " ++ decimal length ++ codes " bytes, and is sealed: start=" ++ decimal length ++ codes " is the last start\n"
+past_line length = codes "the group has " ++ bytes_text length ++ codes ", and is sealed: start=" ++ decimal length ++ codes " is the last start\n"

@@ -1,5 +1,5 @@
 -- Worked examples.
-use Rattle.std.specs.Prelude.{◌≡◌, ℕ, ◌+◌, true, false, Bool, Option, Some, None, Result, Ok, Err, List, [], ◌∷◌, ◌++◌, length, codes}
+use Rattle.std.specs.Prelude.{◌≡◌, ℕ, ◌+◌, true, false, Bool, Option, Some, None, option_map, Result, Ok, Err, List, [], ◌∷◌, ◌++◌, length, codes}
 use Rattle.oc_base.specs.declared.group.Group.{Group}
 use Rattle.oc_link.specs.declared.event.Coming.TheVariants as comings
 use Rattle.oc_http.specs.declared.framing.Persistence.{Persistence}
@@ -64,7 +64,7 @@ published count last = verdicts.Ask (record { count = count; asked = record { op
 
 -- in a network with this key, where it has one
 abbrev keyed : Option (List ℕ) → NodeTerms
-keyed key = terms_of 1 3 [] key
+keyed key = terms_of 1 3 [] (option_map (λ k. record { key = k; accept = codes "old" ∷ [] }) key)
 
 -- to node 1 from node 2: a rejoin of ask 7, whose bytes are `rejoin_bytes`
 abbrev to_this_node : Message
@@ -222,9 +222,9 @@ gives more content connection = record {
 abbrev from_to : ℕ → ℕ → Bool → Option GroupRange
 from_to start count chunked = Some (record { start = start; count = count; chunked = chunked })
 
--- two nodes
-abbrev addresses : List (List ℕ)
-addresses = codes "h:1" ∷ codes "h:2" ∷ []
+-- two nodes with an address, and one without
+abbrev addresses : List (Option (List ℕ))
+addresses = Some (codes "h:1") ∷ Some (codes "h:2") ∷ None ∷ []
 
 abbrev missing : Response
 missing = record { text = says (codes "HTTP/1.1 404 Not Found") (plain_text ∷ []) (codes "there is no such group here: look at /-/status for the names of groups\n"); content = None; connection = Close }
@@ -262,6 +262,10 @@ pub record AreShown : Type 0 where
   pub not_here : shows (client 2 Once) hints.Here false answers.Ok holds_none ≡ missing
   pub sent : shows (client 2 Once) hints.Plain false (answers.Redirect 2) (holds 5 false)
       ≡ record { text = lines (codes "HTTP/1.1 302 Found" ∷ codes "Location: http://h:2/a?start=2&known" ∷ codes "Content-Length: 0" ∷ closes ∷ []); content = None; connection = Close }
+  pub nowhere : shows (client 2 Once) hints.Plain false (answers.Redirect 3) (holds 5 false) ≡ gives (codes "Content-Length: 3" ∷ closes ∷ []) (from_to 2 3 false) Close
+  pub nowhere_to_a_follower : shows (client 2 Follow) hints.Plain false (answers.Redirect 3) (holds 5 false)
+      ≡ record { text = says (codes "HTTP/1.1 503 Service Unavailable") (plain_text ∷ []) (codes "the node that has more of this group has no address: ask again later, or ask another node\n"); content = None; connection = Close }
+  pub nowhere_and_not_here : shows (client 2 Once) hints.Plain false (answers.Redirect 3) holds_none ≡ missing
   pub sent_sealed : location_is hints.Plain (holds 5 true) 2 Once (codes "http://h:2/a?start=2&of=5")
   pub sent_sealed_here : location_is (hints.Of 9) (holds 5 true) 0 Follow (codes "http://h:2/a?of=5&follow")
   pub sent_told : location_is (hints.Of 9) (holds 5 false) 2 HeadAlone (codes "http://h:2/a?start=2&of=9")

@@ -1,5 +1,5 @@
 -- What the replies of the routes are made of.
-use Rattle.std.specs.Prelude.{ℕ, ◌-◌, Bool, true, false, Some, None, List, [], slice_index_or}
+use Rattle.std.specs.Prelude.{ℕ, ◌-◌, Bool, true, false, Option, Some, None, unwrap_or, List, [], slice_index_or}
 use Rattle.oc_http.specs.Writing.{response_text}
 use Rattle.oc_http.specs.declared.content_type.ContentType.{ContentType}
 use Rattle.oc_http.specs.declared.content_type.ContentType.TheVariants.{Octets}
@@ -38,10 +38,10 @@ typed_as type body = record (bare 200) { content_type = Some type; body = body }
 abbrev pub typed : List ℕ → Reply
 typed body = typed_as Octets body
 
--- the address of a node by its id
-abbrev pub address_of : List (List ℕ) → ℕ → List ℕ
-address_of addresses node = slice_index_or addresses (node - 1) []
+-- the address of a node by its id; empty where it has none
+abbrev pub address_of : List (Option (List ℕ)) → ℕ → List ℕ
+address_of addresses node = unwrap_or (slice_index_or addresses (node - 1) None) []
 
 -- the address of the source
-abbrev pub source_in : List (List ℕ) → List ℕ
+abbrev pub source_in : List (Option (List ℕ)) → List ℕ
 source_in addresses = address_of addresses 1

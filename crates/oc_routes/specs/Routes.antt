@@ -186,7 +186,7 @@ Gives (Err faults.Memory) said = Unit {0}
 -- What a request is answered
 
 -- to what was asked
-abbrev pub response_to : Operation → Hint → Bool → Answer → Option Message → Holding → List (List ℕ) → Option (List ℕ) → List ℕ → Response
+abbrev pub response_to : Operation → Hint → Bool → Answer → Option Message → Holding → List (Option (List ℕ)) → Option (List ℕ) → List ℕ → Response
 response_to operations.Message hint last answer back h addresses key report = message_response key back
 response_to (operations.Publish group at) hint last answer back h addresses key report = publish_response answer (source_in addresses) group
 response_to (operations.Seal group at) hint last answer back h addresses key report = seal_response answer (source_in addresses) group
@@ -198,5 +198,5 @@ response_to (operations.Report what manner) hint last answer back h addresses ke
 -- What a request is answered for this answer of its step, with this message that goes back to the sender of a message, by
 -- what the node holds of the group, the addresses and the key of the network, and what the node tells of itself; `last` says
 -- that the request is the last of its connection whatever it asks.
-abbrev pub response_for : Asked → Bool → Answer → Option Message → Holding → List (List ℕ) → Option (List ℕ) → List ℕ → Response
+abbrev pub response_for : Asked → Bool → Answer → Option Message → Holding → List (Option (List ℕ)) → Option (List ℕ) → List ℕ → Response
 response_for asked last answer back h addresses key report = response_to asked.operation asked.hint last answer back h addresses key report

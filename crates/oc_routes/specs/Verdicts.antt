@@ -11,6 +11,7 @@ use Rattle.oc_http.specs.declared.head.Head.{Head}
 use Rattle.oc_http.specs.declared.head.Method.{Method}
 use Rattle.oc_http.specs.declared.head.Method.TheVariants as methods
 use Rattle.oc_model.specs.declared.input.Input.{Input}
+use Rattle.oc_policy.specs.Keys.{Keyring}
 use Rattle.oc_policy.specs.declared.rule.Rule.{Rule}
 use Rattle.oc_routes.specs.Connections.{awaits_continue, is_last}
 use Rattle.oc_routes.specs.Routes.{input_asked}
@@ -29,15 +30,15 @@ use Rattle.oc_routes.specs.declared.verdict.Request.{Request}
 use Rattle.oc_routes.specs.declared.verdict.Verdict.{Verdict}
 use Rattle.oc_routes.specs.declared.verdict.Verdict.TheVariants.{Wait, Leave, Permit, Refuse, Ask}
 
--- by what requests are read: the node's id, among how many, its access rules, and the key of its network, where it has one
+-- by what requests are read: the node's id, among how many, its access rules, and the keys of its network, where it has some
 pub record NodeTerms : Type 0 where
   pub me : ℕ
   pub nodes : ℕ
   pub rules : List Rule
-  pub key : Option (List ℕ)
+  pub keys : Option Keyring
 
-abbrev pub terms_of : ℕ → ℕ → List Rule → Option (List ℕ) → NodeTerms
-terms_of me nodes rules key = record { me = me; nodes = nodes; rules = rules; key = key }
+abbrev pub terms_of : ℕ → ℕ → List Rule → Option Keyring → NodeTerms
+terms_of me nodes rules keys = record { me = me; nodes = nodes; rules = rules; keys = keys }
 
 -- the request of this number on the connection c
 abbrev pub arrival : ℕ → ℕ → Bool → Coming → Arrival
@@ -79,7 +80,7 @@ answered head request (Err why) = refuse (is_head head.method) why
 
 abbrev pub whole : NodeTerms → Head → Request → List ℕ → Verdict
 whole t head request body =
-    if is_forged t.key request.asked.operation head.mac body then refuse (is_head head.method) refusals.Mac
+    if is_forged t.keys request.asked.operation head.mac body then refuse (is_head head.method) refusals.Mac
     else answered head request (input_asked t.nodes t.me request.asked.operation body)
 
 -- a head that asks this, with what came after it of the bytes that came

@@ -28,7 +28,7 @@ pub fn judge(
     bytes: &[u8],
 ) -> Result<Verdict, Memory>
     requires { length terms.now.rules.now ≤ MOST_RULES }
-    ensures verdict { IfOk result (IsVerdict (terms_of terms.now.me terms.now.nodes terms.now.rules.now (option_map (λ k. k.now) terms.now.key)) arrival bytes.now) }
+    ensures verdict { IfOk result (IsVerdict (terms_of terms.now.me terms.now.nodes terms.now.rules.now (option_map (λ k. k.now) terms.now.keys)) arrival bytes.now) }
     ensures lawful { IfOk result (IsLawfulVerdict terms.now.nodes terms.now.me) }
 {
     let mut source = Rest::of(bytes);
@@ -94,7 +94,7 @@ fn after_head(
     requires rules { length terms.now.rules.now ≤ MOST_RULES }
     requires body { head.now.length ≤ MOST_BODY }
     ensures verdict { IfOk result (λ verdict. verdict
-        ≡ after_head (terms_of terms.now.me terms.now.nodes terms.now.rules.now (option_map (λ k. k.now) terms.now.key)) arrival came head.now rest.now) }
+        ≡ after_head (terms_of terms.now.me terms.now.nodes terms.now.rules.now (option_map (λ k. k.now) terms.now.keys)) arrival came head.now rest.now) }
     ensures lawful { IfOk result (IsLawfulVerdict terms.now.nodes terms.now.me) }
 {
     let said = match route_with_hint(head, terms.rules) {
@@ -108,7 +108,7 @@ fn after_head(
         return Ok(unfinished(arrival.coming, false));
     }
     let body = &rest[..head.length as usize];
-    if is_forged(terms.key, &said.operation, head.mac.as_ref(), body) {
+    if is_forged(terms.keys, &said.operation, head.mac.as_ref(), body) {
         return Ok(refuse(is_head(head.method), Refused::Mac));
     }
     let body = copied(alloc, body)?;

@@ -16,7 +16,7 @@ ghost use Rattle.oc_routes.specs.Examples.{AreAnswered, AreRouted};
 ghost use Rattle.oc_routes.specs.Group.{IsClientAnswer};
 ghost use Rattle.oc_routes.specs.Lines.{IsCounted, IsTellable};
 ghost use Rattle.oc_routes.specs.Publish.{IsPublishAnswer, publish_status};
-ghost use Rattle.oc_routes.specs.Reasons.{no_group_line, past_line, publish_line, refused_line, seal_line};
+ghost use Rattle.oc_routes.specs.Reasons.{no_group_line, nowhere_line, past_line, publish_line, refused_line, seal_line};
 ghost use Rattle.oc_routes.specs.Refusals.{status_of};
 ghost use Rattle.oc_routes.specs.Routes.{asked};
 ghost use Rattle.oc_routes.specs.Seal.{IsSealAnswer, seal_status};
@@ -49,6 +49,7 @@ pub fn a_refusal_is_one_line()
     ensures seal { (answer : Answer) (source group : List ℕ) → IsSealAnswer answer → seal_status answer ≢ 200
         → IsTellable source → IsGroupName group → IsPlainLine (seal_line answer source group) }
     ensures absent { IsPlainLine no_group_line }
+    ensures nowhere { IsPlainLine nowhere_line }
     ensures past { (length : ℕ) → length < 2 ^ 64 → IsPlainLine (past_line length) }
 {}
 

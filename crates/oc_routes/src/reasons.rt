@@ -4,7 +4,7 @@
 
 ghost use Rattle.std.specs.Prelude.{◌≡◌, ◌++◌, IfOk, OnOk};
 ghost use Rattle.oc_http.specs.Writing.{HasPhrase};
-ghost use Rattle.oc_routes.specs.Reasons.{at_line, bare, coding_line, denied_line, length_line, no_group_line, past_line, plain_line, publish_line, refused_line, reply_text, seal_line, source_url, telling};
+ghost use Rattle.oc_routes.specs.Reasons.{at_line, bare, bytes_text, coding_line, denied_line, length_line, no_group_line, nowhere_line, past_line, plain_line, publish_line, refused_line, reply_text, seal_line, source_url, telling};
 
 use crate::Refused;
 use oc_base::{Bytes, GroupName, Memory, put, put_with_number};
@@ -137,9 +137,21 @@ fn put_denied(line: &mut Vec<u8>, rule: u32, needs_token: bool) -> Result<(), Me
 fn put_at(line: &mut Vec<u8>, length: u64) -> Result<(), Memory>
     ensures { OnOk result (line.new.items ≡ line.old.items ++ at_line length) }
 {
-    put_with_number(line, b"the group has ", length)?;
-    put_with_number(line, b" bytes: at=", length)?;
+    put(line, b"the group has ")?;
+    put_bytes(line, length)?;
+    put_with_number(line, b": at=", length)?;
     put(line, b" appends\n")
+}
+
+/// Puts a number of bytes.
+fn put_bytes(line: &mut Vec<u8>, count: u64) -> Result<(), Memory>
+    ensures { OnOk result (line.new.items ≡ line.old.items ++ bytes_text count) }
+{
+    if count == 1 {
+        return put(line, b"1 byte");
+    }
+    put_with_number(line, b"", count)?;
+    put(line, b" bytes")
 }
 
 /// The line of a publish by the answer of its step.
@@ -156,9 +168,9 @@ pub(crate) fn publish_line(
         Answer::NotSource => {
             put(
                 &mut line,
-                b"this node is not the source: publish at the source, ",
+                b"this node is not the source: publish at the source",
             )?;
-            put_source_url(&mut line, source, group)?;
+            put_source_url(&mut line, source, group, b"")?;
             put(&mut line, b"\n")?;
         }
         Answer::Sealed => put(
@@ -167,7 +179,7 @@ pub(crate) fn publish_line(
         )?,
         Answer::Groups => put(
             &mut line,
-            b"64 groups are held: publish files into a folder\n",
+            b"64 groups are held, the most: publish into a group that is held\n",
         )?,
         Answer::TooLong => put(
             &mut line,
@@ -192,10 +204,10 @@ pub(crate) fn seal_line(
         Answer::NotSource => {
             put(
                 &mut line,
-                b"this node is not the source: seal at the source, ",
+                b"this node is not the source: seal at the source",
             )?;
-            put_source_url(&mut line, source, group)?;
-            put(&mut line, b"?seal\n")?;
+            put_source_url(&mut line, source, group, b"?seal")?;
+            put(&mut line, b"\n")?;
         }
         Answer::NoGroup => put(&mut line, b"there is no such group: publish it first\n")?,
         _ => {}
@@ -203,13 +215,22 @@ pub(crate) fn seal_line(
     Ok(line)
 }
 
-/// Puts the URL of a group at the source.
-fn put_source_url(line: &mut Vec<u8>, source: &str, group: &GroupName) -> Result<(), Memory>
-    ensures { OnOk result (line.new.items ≡ line.old.items ++ source_url source.now group.now) }
+/// Puts the URL of a group at the source, with a query after it; nothing where the source has no address.
+fn put_source_url(
+    line: &mut Vec<u8>,
+    source: &str,
+    group: &GroupName,
+    query: &[u8],
+) -> Result<(), Memory>
+    ensures { OnOk result (line.new.items ≡ line.old.items ++ source_url source.now group.now query.now) }
 {
-    put(line, b"http://")?;
+    if source.is_empty() {
+        return Ok(());
+    }
+    put(line, b", http://")?;
     put(line, source.as_bytes())?;
-    put(line, group.bytes())
+    put(line, group.bytes())?;
+    put(line, query)
 }
 
 /// The line to a client that asks for a group which is not here.
@@ -224,13 +245,26 @@ pub(crate) fn no_group_line(alloc: Global) -> Result<Vec<u8>, Memory>
     Ok(line)
 }
 
+/// The line to a client that follows a group, where the node that has more of it has no address.
+pub(crate) fn nowhere_line(alloc: Global) -> Result<Vec<u8>, Memory>
+    ensures { IfOk result (λ line. line.items ≡ nowhere_line) }
+{
+    let mut line = Vec::new(alloc);
+    put(
+        &mut line,
+        b"the node that has more of this group has no address: ask again later, or ask another node\n",
+    )?;
+    Ok(line)
+}
+
 /// The line to a client whose start is past the end of a sealed group of this length.
 pub(crate) fn past_line(alloc: Global, length: u64) -> Result<Vec<u8>, Memory>
     ensures { IfOk result (λ line. line.items ≡ past_line length) }
 {
     let mut line = Vec::new(alloc);
-    put_with_number(&mut line, b"the group has ", length)?;
-    put_with_number(&mut line, b" bytes, and is sealed: start=", length)?;
+    put(&mut line, b"the group has ")?;
+    put_bytes(&mut line, length)?;
+    put_with_number(&mut line, b", and is sealed: start=", length)?;
     put(&mut line, b" is the last start\n")?;
     Ok(line)
 }

@@ -7,6 +7,7 @@ ghost use Rattle.oc_base.specs.declared.shelf.Shelf.{Shelf};
 ghost use Rattle.oc_link.specs.declared.event.Arrival.{Arrival};
 ghost use Rattle.oc_link.specs.declared.event.Coming.{Coming};
 ghost use Rattle.oc_link.specs.declared.event.Coming.TheVariants.{Open};
+ghost use Rattle.oc_policy.specs.Keys.{Keyring};
 ghost use Rattle.oc_routes.specs.Conditions.{unmet_at};
 ghost use Rattle.oc_routes.specs.Contents.{IsThere, begun, behind, coded, owed, owed_of, part_of, piece_of, piece_text};
 ghost use Rattle.oc_routes.specs.ReplyExamples.{AreConditions, AreHinted, AreJudged, ArePieces, AreShown, AreWaiting};
@@ -45,12 +46,12 @@ pub fn a_condition_says_the_length()
         → (length (bytes_of group groups) ≡ other) × (other ≢ at) }
 {}
 
-/// In a network with a key a body is read as a message only where its MAC under the key is in its head: one that is
+/// In a network with keys a body is read as a message only where its MAC under one of them is in its head: one that is
 /// taken, and one that is refused since it is no message.
 pub fn a_message_has_its_mac()
-    ensures taken { (t : NodeTerms) (a : Arrival) (key bytes : List ℕ) (request : Request) → t.key ≡ Some key → request.asked.operation ≡ MessageAsked
-        → IsVerdict t a bytes (Ask request) → HaveMac key bytes }
-    ensures read { (t : NodeTerms) (a : Arrival) (key bytes : List ℕ) (head_alone : Bool) → t.key ≡ Some key → IsVerdict t a bytes (refuse head_alone NoMessage) → HaveMac key bytes }
+    ensures taken { (t : NodeTerms) (a : Arrival) (ring : Keyring) (bytes : List ℕ) (request : Request) → t.keys ≡ Some ring → request.asked.operation ≡ MessageAsked
+        → IsVerdict t a bytes (Ask request) → HaveMac ring bytes }
+    ensures read { (t : NodeTerms) (a : Arrival) (ring : Keyring) (bytes : List ℕ) (head_alone : Bool) → t.keys ≡ Some ring → IsVerdict t a bytes (refuse head_alone NoMessage) → HaveMac ring bytes }
 {}
 
 /// The pieces of a content are its text: what is owed before the first is the content as it is sent whole, what is

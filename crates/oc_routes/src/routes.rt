@@ -388,7 +388,7 @@ pub fn respond(
     requires back { ForSome (option_map (λ m. m.now) answered.now.back) (λ m. HasSpelling m.body) }
     ensures { IfOk result (λ response. response
         ≡ response_for asked last answered.now.answer (option_map (λ m. m.now) answered.now.back) answered.now.holding
-        (map string_bytes network.now.addresses.now) (option_map (λ k. k.now) network.now.key) answered.now.report.now) }
+        (map (option_map string_bytes) network.now.addresses.now) (option_map (λ k. k.now) network.now.key) answered.now.report.now) }
 {
     match &asked.operation {
         Operation::Message => to_message(alloc, answered.back, network.key),

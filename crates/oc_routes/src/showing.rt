@@ -1,13 +1,13 @@
 //! What a client is answered by what it tells.
 
-ghost use Rattle.std.specs.Prelude.{◌≡◌, ◌++◌, IfOk, OnOk, map, string_bytes};
-ghost use Rattle.oc_routes.specs.Group.{group_response, redirection, served_or_past};
+ghost use Rattle.std.specs.Prelude.{◌≡◌, ◌++◌, IfOk, OnOk, map, option_map, string_bytes};
+ghost use Rattle.oc_routes.specs.Group.{given_response, group_response, here_response, redirection, served_or_past};
 ghost use Rattle.oc_routes.specs.Responses.{whole};
 ghost use Rattle.oc_routes.specs.Shown.{here_answer, known_shown, location_of, of_shown, follow_text, shown, start_text, told_text};
 
 use crate::hint::Hint;
 use crate::holding::Holding;
-use crate::routes::group::{is_past, no_group, past, sent_to, served};
+use crate::routes::group::{is_past, no_group, nowhere, past, sent_to, served};
 use crate::{Answered, Manner, Response, address_of};
 use oc_base::{GroupName, Memory, put, put_with_number};
 use oc_http::put_path;
@@ -37,16 +37,48 @@ pub(crate) fn to_client(
     alloc: Global,
     client: &Client,
     answered: &Answered<'_>,
-    addresses: &[String],
+    addresses: &[Option<String>],
 ) -> Result<Response, Memory>
     ensures { IfOk result (λ response. response ≡ group_response client.now.group client.now.start client.now.manner client.now.hint client.now.last
-        answered.now.answer answered.now.holding (map string_bytes addresses.now)) }
+        answered.now.answer answered.now.holding (map (option_map string_bytes) addresses.now)) }
 {
     let holding = answered.holding;
-    let Shown { answer, sealed } = as_shown(client.hint, answered.answer, holding, client.start);
-    match answer {
-        Answer::Redirect(node) => sent_on(alloc, client, holding, address_of(addresses, node)),
-        Answer::Serve(count) => served_or_past(alloc, client, holding, sealed, count),
+    let shown = as_shown(client.hint, answered.answer, holding, client.start);
+    match shown.answer {
+        Answer::Redirect(node) => {
+            let address = address_of(addresses, node);
+            if address.is_empty() {
+                return here(alloc, client, holding);
+            }
+            sent_on(alloc, client, holding, address)
+        }
+        _ => given(alloc, client, shown, holding),
+    }
+}
+
+/// What a client is given of what is here, where the node to which it would be sent has no address; one that follows,
+/// which would ask without end, is told so.
+fn here(alloc: Global, client: &Client, holding: Holding) -> Result<Response, Memory>
+    ensures { IfOk result (λ response. response ≡ here_response client.now.start client.now.manner client.now.last holding) }
+{
+    match client.manner {
+        Manner::Follow => nowhere(alloc, client.manner),
+        Manner::Once | Manner::HeadAlone => {
+            let shown = Shown {
+                answer: here_answer(holding, client.start),
+                sealed: holding.sealed,
+            };
+            given(alloc, client, shown, holding)
+        }
+    }
+}
+
+/// What a client is given that is not sent elsewhere.
+fn given(alloc: Global, client: &Client, shown: Shown, holding: Holding) -> Result<Response, Memory>
+    ensures { IfOk result (λ response. response ≡ given_response client.now.start client.now.manner shown.answer shown.sealed client.now.last holding) }
+{
+    match shown.answer {
+        Answer::Serve(count) => served_or_past(alloc, client, holding, shown.sealed, count),
         _ => no_group(alloc, client.manner),
     }
 }

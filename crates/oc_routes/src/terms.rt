@@ -1,5 +1,5 @@
 use oc_base::NodeId;
-use oc_policy::{Key, Rule};
+use oc_policy::{Keyring, Rule};
 
 /// By what a node reads requests.
 #[derive(Clone, Copy, Drop)]
@@ -10,6 +10,6 @@ pub struct Terms<'a> {
     pub nodes: u32,
     /// Its access rules.
     pub rules: &'a [Rule],
-    /// The key under which messages have a MAC, where the network has one.
-    pub key: Option<&'a Key>,
+    /// The keys under one of which messages have a MAC, where the network has some.
+    pub keys: Option<&'a Keyring>,
 }

@@ -11,8 +11,7 @@ use Rattle.oc_io.specs.DiskView.{DiskView}
 use Rattle.oc_keep.specs.KeptView.{node_of}
 use Rattle.oc_model.specs.declared.message.Message.{Message}
 use Rattle.oc_routes.specs.Responses.{address_of}
-use Rattle.oc_wire.specs.Macs.{request_of}
-use Rattle.oc_deeds.specs.Deeds.{Dials, Probes}
+use Rattle.oc_deeds.specs.Deeds.{Dials, Probes, dial_text}
 use Rattle.oc_deeds.specs.Dials.{brings, dialling}
 use Rattle.oc_server.specs.Scenes.{Did, IsLawful}
 use Rattle.oc_deeds.specs.Lawful.{IsLawfulDial}
@@ -24,13 +23,14 @@ use Rattle.oc_deeds.proofs.Lawful.{dials_with}
 use Rattle.oc_server.proofs.Lawful.{lawful_of}
 use Rattle.oc_server.proofs.Looking.{looks_none}
 use Rattle.oc_deeds.proofs.Messages.{one_sendable, receiver_of_sendable, without_place}
+use Rattle.oc_config.specs.Settings.{key_of}
 use Rattle.oc_server.proofs.Steps.{did_step}
 
 module _ {D L K : Type 0} (view : D → DiskView) (takes fails : K → List ℕ → K → Type 0) (faults : K → ℕ) (story : L → Option (List Call)) (counts : L → LinkCounts) where
   -- a message was taken out of the outbox and dialled
   pub dialled : (takes_nothing : (k : K) → takes k [] k) (place : ℕ) (m : Message) (d : ℕ) (old : Server D L K) (outbox : List Message) (ds : List Dialling) (link : L) (address text : List ℕ)
       → old.kept.closed ≡ false → slice_get old.outbox place ≡ Some m → outbox ≡ remove old.outbox place → ds ≡ old.dials ++ dialling d (brings m) ∷ []
-      → address ≡ address_of old.config.addresses m.to → text ≡ request_of old.config.key (address_of old.config.addresses m.to) m → AddsAll (acts.Dial d address text ∷ []) (story old.link) (story link) → counts link ≡ counts old.link
+      → address ≡ address_of old.config.addresses m.to → text ≡ dial_text (key_of old.config.keys) (address_of old.config.addresses m.to) m → AddsAll (acts.Dial d address text ∷ []) (story old.link) (story link) → counts link ≡ counts old.link
       → Did view takes faults story counts (Dials place m d ∷ []) old (record old { outbox = outbox; dials = ds; link = link })
   dialled takes_nothing place m d old outbox ds link address text is_open there rest begun at said made counted =
       did_step view takes fails faults story counts (Dials place m d) old (record old { outbox = outbox; dials = ds; link = link }) refl refl refl (takes_nothing old.sink) (omega arith) counted (looks_none view old.kept is_open)

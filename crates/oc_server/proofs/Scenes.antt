@@ -1,7 +1,7 @@
 -- Scenes after scenes.
 use Rattle.std.proofs.Common.{◌≡◌, ◌≤◌, ℕ, false, Option, List, [], ◌++◌, length, refl, sym, ap, subst, ◌∙◌, arith}
 use Rattle.std.proofs.lemmas.List.{append-nil}
-use Rattle.oc_config.specs.Settings.{Settings}
+use Rattle.oc_config.specs.Settings.{Settings, key_of}
 use Rattle.oc_link.specs.Told.{AddsAll}
 use Rattle.oc_link.specs.declared.call.Call.{Call}
 use Rattle.oc_link.specs.declared.counts.LinkCounts.{LinkCounts}
@@ -73,9 +73,9 @@ module _ {D L K : Type 0} (view : D → DiskView) (takes fails : K → List ℕ 
   -- which node it is, at which addresses, and what it writes
   pub setting_stays : (a b : Server D L K) → IsSameNode a.kept.node.control b.kept.node.control → b.config ≡ a.config → b.log ≡ a.log → setting b ≡ setting a
   setting_stays a b same config log =
-      ap (λ (me : ℕ). record { me = me; addresses = b.config.addresses; key = b.config.key; log = b.log }) same.me
-      ∙ ap (λ (c : Settings). record { me = a.kept.node.control.me; addresses = c.addresses; key = c.key; log = b.log }) config
-      ∙ ap (λ (x : Log). record { me = a.kept.node.control.me; addresses = a.config.addresses; key = a.config.key; log = x }) log
+      ap (λ (me : ℕ). record { me = me; addresses = b.config.addresses; key = key_of b.config.keys; log = b.log }) same.me
+      ∙ ap (λ (c : Settings). record { me = a.kept.node.control.me; addresses = c.addresses; key = key_of c.keys; log = b.log }) config
+      ∙ ap (λ (x : Log). record { me = a.kept.node.control.me; addresses = a.config.addresses; key = key_of a.config.keys; log = x }) log
 
   -- the lines after lines, told of the same node
   text_then : (takes_then : (a b c : K) (x y : List ℕ) → takes a x b → takes b y c → takes a (x ++ y) c) (s other : Setting) (ds es : List Deed) (a b c : K)

@@ -129,9 +129,9 @@ module _ {D L K : Type 0} (view : D → DiskView) (takes fails : K → List ℕ 
   -- by what requests are read
   pub reads_same : (ds : List Deed) (a b : Server D L K) → Did view takes faults story counts ds a b → reads_by b ≡ reads_by a
   reads_same ds a b did =
-      ap (λ (me : ℕ). terms_of me b.kept.node.control.nodes b.config.rules b.config.key) did.same.me
-      ∙ ap (λ (h : Header). terms_of a.kept.node.control.me h.nodes b.config.rules b.config.key) did.same.header
-      ∙ ap (λ (c : Settings). terms_of a.kept.node.control.me a.kept.node.control.nodes c.rules c.key) did.config
+      ap (λ (me : ℕ). terms_of me b.kept.node.control.nodes b.config.rules b.config.keys) did.same.me
+      ∙ ap (λ (h : Header). terms_of a.kept.node.control.me h.nodes b.config.rules b.config.keys) did.same.header
+      ∙ ap (λ (c : Settings). terms_of a.kept.node.control.me a.kept.node.control.nodes c.rules c.keys) did.config
 
   -- Work that was due
 

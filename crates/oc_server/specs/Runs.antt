@@ -27,7 +27,7 @@ use Rattle.oc_server.specs.declared.turns.Turns.{Turns}
 
 -- by what a server reads requests
 abbrev pub reads_by : {D L K : Type 0} → Server D L K → NodeTerms
-reads_by s = terms_of s.kept.node.control.me s.kept.node.control.nodes s.config.rules s.config.key
+reads_by s = terms_of s.kept.node.control.me s.kept.node.control.nodes s.config.rules s.config.keys
 
 -- the place of the work that is due by itself when a turn begins
 abbrev pub due_in : {D L K : Type 0} → Server D L K → ℕ → Option ℕ

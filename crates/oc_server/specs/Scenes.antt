@@ -30,6 +30,7 @@ use Rattle.oc_deeds.specs.Sending.{AreSendable}
 use Rattle.oc_deeds.specs.Within.{IsWithin}
 use Rattle.oc_deeds.specs.declared.ends.TurnEnd.{TurnEnd}
 use Rattle.oc_deeds.specs.declared.ends.TurnEnd.TheVariants as ends
+use Rattle.oc_config.specs.Settings.{key_of}
 use Rattle.oc_server.specs.declared.server.Server.{Server}
 
 -- What a server is seen as
@@ -38,7 +39,7 @@ abbrev pub running : {D L K : Type 0} → Server D L K → Running
 running s = record { node = node_of s.kept; outbox = s.outbox; works = s.works; dials = s.dials }
 
 abbrev pub setting : {D L K : Type 0} → Server D L K → Setting
-setting s = record { me = s.kept.node.control.me; addresses = s.config.addresses; key = s.config.key; log = s.log }
+setting s = record { me = s.kept.node.control.me; addresses = s.config.addresses; key = key_of s.config.keys; log = s.log }
 
 -- What holds between any two calls
 

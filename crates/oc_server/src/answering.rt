@@ -12,6 +12,7 @@ ghost use Rattle.oc_routes.specs.Lawful.{IsAsked};
 ghost use Rattle.oc_wire.specs.Spelling.{HasSpelling};
 ghost use Rattle.oc_deeds.specs.Asks.{answer_now, has_to_wait, holding_in, response_now};
 ghost use Rattle.oc_server.specs.Looks.{LooksOnly, LookStops, end_of_ready};
+ghost use Rattle.oc_config.specs.Settings.{key_of};
 ghost use Rattle.oc_server.specs.Scenes.{running, setting};
 
 use crate::server::Server;
@@ -61,7 +62,7 @@ fn response_to(
     requires asks { IsAsked pending.now.asked.operation }
     requires back { IfSome accepted.now.back (λ m. HasSpelling m.body) }
     ensures { IfOk result (λ response. response ≡ response_for pending.now.asked pending.now.last accepted.now.answer accepted.now.back
-        (holding_in pending.now.asked.operation seen.now.shelf.now) config.now.addresses config.now.key
+        (holding_in pending.now.asked.operation seen.now.shelf.now) config.now.addresses (key_of config.now.keys)
         (report_of pending.now.asked.operation seen.now.node.now.control seen.now.shelf.now seen.now.messages)) }
 {
     let report = report_of(alloc, &pending.asked.operation, seen)?;
@@ -73,7 +74,7 @@ fn response_to(
     };
     let network = Directory {
         addresses: &config.addresses,
-        key: config.key.as_ref(),
+        key: config.key(),
     };
     respond(alloc, pending.asked, pending.last, &answered, &network)
 }

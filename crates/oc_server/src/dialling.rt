@@ -1,13 +1,14 @@
 //! Dials that begin.
 
-ghost use Rattle.std.specs.Prelude.{◌≡◌, ◌<◌, ◌∷◌, ◌++◌, [], OnErr, OnOk, IfOk};
+ghost use Rattle.std.specs.Prelude.{◌≡◌, ◌<◌, ◌∷◌, ◌++◌, [], OnErr, OnOk, IfOk, length};
 ghost use Rattle.oc_link.specs.Told.{AddsAll};
 ghost use Rattle.oc_link.specs.declared.call.Call.TheVariants as acts;
 ghost use Rattle.oc_http.specs.Writing.{IsHost};
 ghost use Rattle.oc_model.specs.declared.message.Message.{Message};
 ghost use Rattle.oc_routes.specs.Responses.{address_of};
-ghost use Rattle.oc_wire.specs.Macs.{request_of};
 ghost use Rattle.oc_wire.specs.Spelling.{HasSpelling};
+ghost use Rattle.oc_config.specs.Settings.{key_of};
+ghost use Rattle.oc_deeds.specs.Deeds.{dial_text};
 ghost use Rattle.oc_deeds.specs.Dials.{brings, dialling};
 
 use oc_base::{Memory, NodeId};
@@ -18,18 +19,21 @@ use oc_model::Message;
 use oc_wire::to_http;
 use std::alloc::Global;
 
-/// The request that brings a message to its receiver.
+/// The text of a dial: the request that brings a message to its receiver, and nothing where that has no address.
 pub(crate) fn request_to(
     alloc: Global,
     config: &Config,
     message: &Message,
 ) -> Result<Vec<u8>, Memory>
     requires body { HasSpelling message.now.body }
-    requires host { IsHost (address_of config.now.addresses message.now.to) }
-    ensures { IfOk result (λ text. text.items ≡ request_of config.now.key (address_of config.now.addresses message.now.to) message.now) }
+    requires host { 0 < length (address_of config.now.addresses message.now.to) → IsHost (address_of config.now.addresses message.now.to) }
+    ensures { IfOk result (λ text. text.items ≡ dial_text (key_of config.now.keys) (address_of config.now.addresses message.now.to) message.now) }
 {
     let address = address_of(config, message.to);
-    to_http(alloc, message, address, config.key.as_ref())
+    if address.is_empty() {
+        return Ok(Vec::new(alloc));
+    }
+    to_http(alloc, message, address, config.key())
 }
 
 /// Begins the dial of a message to this address, with this request.

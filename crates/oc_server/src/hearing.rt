@@ -104,7 +104,7 @@ fn judged<D: Disk>(
     bytes: &[u8],
 ) -> Result<Came, Memory>
     requires { length config.now.rules ≤ MAX_RULES }
-    ensures means { IfOk result (Means (terms_of kept.now.node.control.me kept.now.node.control.nodes config.now.rules config.now.key) bytes.now None (events.Request arrival)) }
+    ensures means { IfOk result (Means (terms_of kept.now.node.control.me kept.now.node.control.nodes config.now.rules config.now.keys) bytes.now None (events.Request arrival)) }
     ensures lawful { IfOk result (IsLawfulCame kept.now.node.control.nodes kept.now.node.control.me) }
 {
     let connection = arrival.connection;
@@ -112,7 +112,7 @@ fn judged<D: Disk>(
         me: kept.node().id(),
         nodes: kept.node().nodes(),
         rules: &config.rules,
-        key: config.key.as_ref(),
+        keys: config.keys.as_ref(),
     };
     let verdict = judge(alloc, heads, &terms, arrival, bytes)?;
     Ok(Came::Request {
@@ -126,11 +126,11 @@ fn judged<D: Disk>(
 fn hearer_of<'a, D: Disk>(kept: &Kept<D>, config: &'a Config) -> Hearer<'a>
     ensures me { result.me ≡ kept.now.node.control.me }
     ensures nodes { result.nodes ≡ kept.now.node.control.nodes }
-    ensures key { option_map (λ k. k.now) result.key ≡ config.now.key }
+    ensures keys { option_map (λ k. k.now) result.keys ≡ config.now.keys }
 {
     Hearer {
         me: kept.node().id(),
         nodes: kept.node().nodes(),
-        key: config.key.as_ref(),
+        keys: config.keys.as_ref(),
     }
 }

@@ -194,7 +194,7 @@ body_fails t x came head rest said = by_permit (awaits_continue head && not x.pe
 
     by_length : (b : Bool) → FailsBy (has_failed x.coming) (if b then unfinished x.coming false else whole t head request body)
     by_length true = unfinished_fails x.coming false
-    by_length false = by_mac (is_forged t.key said.operation head.mac body)
+    by_length false = by_mac (is_forged t.keys said.operation head.mac body)
 
     by_permit : (b : Bool) → FailsBy (has_failed x.coming) (if b then verdicts.Permit else if nat_lt (length rest) head.length then unfinished x.coming false else whole t head request body)
     by_permit true = tt
@@ -309,8 +309,8 @@ mild_probe (Some peer) started s a = refl
 
 -- the reply on a dial
 back_borne : (t : NodeTerms) (event : LinkEvent) (errand : Errand) (reading : Result Reply HttpFault) (probing : Option Probing) (now median started : ℕ) (s : Setting) (a : Running)
-    → AreBorneOut event (happens probing (comes_back t.me t.nodes t.key errand reading) now median started s a)
-back_borne t event (errands.Message to fetch) reading probing now median started s a = borne_mild event (brought (input_of t.me t.nodes t.key to reading) s a) (mild_brought (input_of t.me t.nodes t.key to reading) s a)
+    → AreBorneOut event (happens probing (comes_back t.me t.nodes t.keys errand reading) now median started s a)
+back_borne t event (errands.Message to fetch) reading probing now median started s a = borne_mild event (brought (input_of t.me t.nodes t.keys to reading) s a) (mild_brought (input_of t.me t.nodes t.keys to reading) s a)
 back_borne t event (errands.Probe peer since) reading probing now median started s a = borne_mild event (measures probing peer (fault_of reading) median s a) (mild_measures probing peer (fault_of reading) median s a)
 
 nothing_borne : (event : LinkEvent) (probing : Option Probing) (now median started : ℕ) (s : Setting) (a : Running) → AreBorneOut event (happens probing comes.Nothing now median started s a)

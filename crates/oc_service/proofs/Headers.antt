@@ -22,7 +22,7 @@ lawful_header s c areas same bytes = record {
   within = c.within;
   chunk = c.chunk.0;
   fits = omega (arith, c.chunk.1);
-  areas = ap length same ∙ c.areas;
+  areas = ap length same ∙ c.places.areas;
   bytes = bytes;
 }
 

@@ -35,7 +35,7 @@ module _ {D L K : Type 0} (view : D → DiskView) (c : Settings) (me : ℕ) (pro
     (node : IsNodeOf view (header_of_settings c) me (disks_in site.files) turns.server.kept)
     (safely : LoadsSafely view (header_of_settings c) me (disks_in site.files) (disks_of turns.server.kept))
     (outbox : turns.server.outbox ≡ []) (works : turns.server.works ≡ []) (dials : turns.server.dials ≡ [])
-    (probing : turns.probing ≡ probing_at_first probes me (length c.addresses)) (made : IfSome turns.probing (IsMadeFor (length c.addresses)))
+    (probing : turns.probing ≡ probing_at_first probes me c.addresses) (made : IfSome turns.probing (IsMadeFor (length c.addresses)))
     (config : turns.server.config ≡ c) where
   abbrev nodes : ℕ
   nodes = turns.server.kept.node.control.nodes
@@ -72,4 +72,4 @@ loaded_machine view c task site turns loaded honest =
     ∙ ap (λ (ds : List Dialling). record { running = record { node = node_of turns.server.kept; outbox = []; works = []; dials = ds }; pace = turns.pace; probing = turns.probing }) loaded.dials
     ∙ ap (λ (p : Pace). record { running = record { node = node_of turns.server.kept; outbox = []; works = []; dials = [] }; pace = p; probing = turns.probing }) loaded.pace
     ∙ ap (λ (p : Option Probing). at_first (is_record task.log) (most_interval task.probes task.me) p (node_of turns.server.kept)) loaded.probing
-    ∙ ap (λ (n : Node). at_first (is_record task.log) (most_interval task.probes task.me) (probing_at_first task.probes task.me (length c.addresses)) n) (loaded.node.node honest)
+    ∙ ap (λ (n : Node). at_first (is_record task.log) (most_interval task.probes task.me) (probing_at_first task.probes task.me c.addresses) n) (loaded.node.node honest)

@@ -31,9 +31,9 @@ machine_of running pace probing = record { running = running; pace = pace; probi
 -- the terms for reading requests are kept
 pub reads_stay : {D L K : Type 0} (a b : Server D L K) → IsSameNode a.kept.node.control b.kept.node.control → b.config ≡ a.config → reads_by b ≡ reads_by a
 reads_stay a b same config =
-    ap (λ (me : ℕ). terms_of me b.kept.node.control.nodes b.config.rules b.config.key) same.me
-    ∙ ap (λ (h : Header). terms_of a.kept.node.control.me h.nodes b.config.rules b.config.key) same.header
-    ∙ ap (λ (c : Settings). terms_of a.kept.node.control.me a.kept.node.control.nodes c.rules c.key) config
+    ap (λ (me : ℕ). terms_of me b.kept.node.control.nodes b.config.rules b.config.keys) same.me
+    ∙ ap (λ (h : Header). terms_of a.kept.node.control.me h.nodes b.config.rules b.config.keys) same.header
+    ∙ ap (λ (c : Settings). terms_of a.kept.node.control.me a.kept.node.control.nodes c.rules c.keys) config
 
 module _ {D L K : Type 0} (view : D → DiskView) (takes fails : K → List ℕ → K → Type 0) (faults : K → ℕ) (story : L → Option (List Call)) (counts : L → LinkCounts)
     (takes_nothing : (k : K) → takes k [] k) (takes_then : (a b c : K) (x y : List ℕ) → takes a x b → takes b y c → takes a (x ++ y) c) where

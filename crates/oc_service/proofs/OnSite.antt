@@ -3,7 +3,7 @@
 use Rattle.std.proofs.Common.{◌≡◌, ◌⊎◌, ◌∙◌, ℕ, ◌+◌, ◌<◌, false, Option, List, [], ◌∷◌, ◌++◌, length, inl, inr, refl, sym, ap, ap₂, subst}
 use Rattle.std.specs.List.{AllByRecursion}
 use Rattle.oc_content.specs.ContentFile.{groups_in}
-use Rattle.oc_config.specs.Settings.{Settings}
+use Rattle.oc_config.specs.Settings.{Settings, key_of}
 use Rattle.oc_link.specs.Told.{AddsAll}
 use Rattle.oc_link.specs.declared.call.Call.{Call}
 use Rattle.oc_link.specs.declared.call.Call.TheVariants as acts
@@ -90,13 +90,13 @@ module _ {D L K : Type 0} (view : D → DiskView) (takes fails : K → List ℕ 
 
   setting_is : setting first.server ≡ setting_of c task
   setting_is =
-      ap (λ (x : ℕ). record { me = x; addresses = c.addresses; key = c.key; log = first.server.log }) loaded.id
-      ∙ ap (λ (x : Log). record { me = me; addresses = c.addresses; key = c.key; log = x }) log
+      ap (λ (x : ℕ). record { me = x; addresses = c.addresses; key = key_of c.keys; log = first.server.log }) loaded.id
+      ∙ ap (λ (x : Log). record { me = me; addresses = c.addresses; key = key_of c.keys; log = x }) log
 
   terms_is : reads_by first.server ≡ terms_in c me
   terms_is =
-      ap (λ (x : ℕ). terms_of x first.server.kept.node.control.nodes c.rules c.key) loaded.id
-      ∙ ap (λ (x : Header). terms_of me x.nodes c.rules c.key) loaded.header
+      ap (λ (x : ℕ). terms_of x first.server.kept.node.control.nodes c.rules c.keys) loaded.id
+      ∙ ap (λ (x : Header). terms_of me x.nodes c.rules c.keys) loaded.header
 
   -- a statement about every crash under the node's own name is one under that of the files
   named : (P : Header → ℕ → Type 0) → P (header_of first.server.kept.node.control) first.server.kept.node.control.me → P h me

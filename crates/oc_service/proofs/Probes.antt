@@ -1,33 +1,48 @@
--- The state of probing, as it is made for a number of nodes.
-use Rattle.std.proofs.Common.{◌≡◌, ℕ, zero, suc, ◌+◌, ◌-◌, ◌≤◌, List, [], length, replicate, ap₂, sym, subst, arith}
-use Rattle.std.proofs.lemmas.List.{length-replicate}
+-- The state of probing, as it is made for the addresses of nodes.
+use Rattle.std.proofs.Common.{◌≡◌, ℕ, ◌+◌, ◌≤◌, Bool, true, false, Option, Some, None, List, [], ◌∷◌, length, map, replicate, refl, ap, ap₂, ◌∙◌, sym, subst, arith, if◌then◌else◌}
+use Rattle.std.specs.Prelude.{◌==◌, option_map}
+use Rattle.std.proofs.lemmas.List.{length-map, length-replicate}
 use Rattle.std.specs.List.{AllByRecursion}
 use Rattle.oc_base.specs.Lawful.{IsNode}
-use Rattle.oc_base.proofs.Each.{all_append}
-use Rattle.oc_probe.specs.Turns.{RotationView, ids, others}
+use Rattle.oc_probe.specs.Turns.{RotationView, peers_from, peers_of}
 use Rattle.oc_probe.specs.declared.probing.Probing.{Probing}
 use Rattle.oc_deeds.specs.Lawful.{IsMadeFor}
 use Rattle.oc_service.specs.OnSite.{probing_of}
 
--- ids from one on that are within the nodes
-all_ids : (nodes first n : ℕ) → 1 ≤ first → first + n ≤ nodes + 1 → AllByRecursion (IsNode nodes) (ids first n)
-all_ids nodes first zero some within = tt
-all_ids nodes first (suc n) some within = ((some, omega (arith, within)), all_ids nodes (first + 1) n (omega arith) (omega (arith, within)))
+-- each peer of some places is a node
+all_peers : {A : Type 0} (me nodes id : ℕ) (places : List (Option A)) → 1 ≤ id → id + length places ≤ nodes + 1 → AllByRecursion (IsNode nodes) (peers_from me id places)
+all_peers me nodes id [] some within = tt
+all_peers me nodes id (None ∷ places) some within = all_peers me nodes (id + 1) places (omega (arith, some)) (omega (arith, within))
+all_peers me nodes id (Some x ∷ places) some within = by_test (id == me) where
+  rest : AllByRecursion (IsNode nodes) (peers_from me (id + 1) places)
+  rest = all_peers me nodes (id + 1) places (omega (arith, some)) (omega (arith, within))
 
-all_others : (me nodes : ℕ) → IsNode nodes me → AllByRecursion (IsNode nodes) (others me nodes)
-all_others me nodes is =
-    all_append (IsNode nodes) (ids 1 (me - 1)) (ids (me + 1) (nodes - me))
-    (all_ids nodes 1 (me - 1) (omega arith) (omega (arith, is.0, is.1))) (all_ids nodes (me + 1) (nodes - me) (omega arith) (omega (arith, is.0, is.1)))
+  by_test : (b : Bool) → AllByRecursion (IsNode nodes) (if b then peers_from me (id + 1) places else id ∷ peers_from me (id + 1) places)
+  by_test true = rest
+  by_test false = ((some, omega (arith, within)), rest)
 
-pub made_for : (me nodes : ℕ) (p : Probing) → IsNode nodes me → p.gauge ≡ replicate nodes [] → p.rotation ≡ record { me = me; nodes = nodes; coming = others me nodes } → IsMadeFor nodes p
-made_for me nodes p is gauge rotation = record {
-  rates = subst (λ (g : List (List ℕ)). length g ≡ nodes) (sym gauge) (length-replicate nodes []);
-  peers = subst (λ (r : RotationView). AllByRecursion (IsNode nodes) r.coming) (sym rotation) (all_others me nodes is);
+-- what is there of a list is there of what is read of it
+same_peers : {A B : Type 0} (f : A → B) (me id : ℕ) (places : List (Option A)) → peers_from me id (map (option_map f) places) ≡ peers_from me id places
+same_peers f me id [] = refl
+same_peers f me id (None ∷ places) = same_peers f me (id + 1) places
+same_peers f me id (Some x ∷ places) = ap (λ (ids : List ℕ). if id == me then ids else id ∷ ids) (same_peers f me (id + 1) places)
+
+made_of : {A : Type 0} (me : ℕ) (places : List (Option A)) (p : Probing) → p.gauge ≡ replicate (length places) [] → p.rotation ≡ record { coming = peers_of me places } → IsMadeFor (length places) p
+made_of me places p gauge rotation = record {
+  rates = subst (λ (g : List (List ℕ)). length g ≡ length places) (sym gauge) (length-replicate (length places) []);
+  peers = subst (λ (r : RotationView). AllByRecursion (IsNode (length places)) r.coming) (sym rotation) (all_peers me (length places) 1 places (omega arith) (omega arith));
 }
+
+pub made_for : {A : Type 0} (f : A → List ℕ) (me : ℕ) (places : List (Option A)) (p : Probing) → p.gauge ≡ replicate (length places) [] → p.rotation ≡ record { coming = peers_of me places }
+    → IsMadeFor (length (map (option_map f) places)) p
+made_for f me places p gauge rotation = subst (λ (n : ℕ). IsMadeFor n p) (sym (length-map places (option_map f))) (made_of me places p gauge rotation)
 
 abbrev probing_from : List (List ℕ) → RotationView → Probing
 probing_from gauge rotation = record { gauge = gauge; rotation = rotation }
 
 -- and a node begins with it
-pub first_is : (me nodes : ℕ) (p : Probing) → p.gauge ≡ replicate nodes [] → p.rotation ≡ record { me = me; nodes = nodes; coming = others me nodes } → p ≡ probing_of me nodes
-first_is me nodes p gauge rotation = ap₂ probing_from gauge rotation
+pub first_is : {A : Type 0} (f : A → List ℕ) (me : ℕ) (places : List (Option A)) (p : Probing) → p.gauge ≡ replicate (length places) [] → p.rotation ≡ record { coming = peers_of me places }
+    → p ≡ probing_of me (map (option_map f) places)
+first_is f me places p gauge rotation =
+    ap₂ probing_from (gauge ∙ ap (λ (n : ℕ). replicate n []) (sym (length-map places (option_map f))))
+    (rotation ∙ ap (λ (ids : List ℕ). record { coming = ids }) (sym (same_peers f me 1 places)))

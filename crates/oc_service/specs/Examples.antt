@@ -23,7 +23,7 @@ use Rattle.oc_service.specs.Failures.{AreBorneOut}
 
 -- node 1 of 2, new, whose tick is not due
 abbrev example : Setting
-example = record { me = 1; addresses = codes "a:1" ∷ codes "b:2" ∷ []; key = None; log = Inputs }
+example = record { me = 1; addresses = Some (codes "a:1") ∷ Some (codes "b:2") ∷ []; key = None; log = Inputs }
 
 abbrev idle : Running
 idle = record { node = new_node (record { nodes = 2; chain = 1; chunk = 4096; areas = 0 ∷ 0 ∷ [] }) 1; outbox = []; works = []; dials = [] }

@@ -25,7 +25,7 @@ pub record IsEquipped (c : Settings) (probes : Bool) (me : ℕ) (areas : List �
   pub same : areas ≡ c.areas
   pub bytes : AllByRecursion (λ a. a ≤ MAX_AREA) areas
   pub empty : outbox ≡ []
-  pub first : probing ≡ probing_at_first probes me (length c.addresses)
+  pub first : probing ≡ probing_at_first probes me c.addresses
   pub made : IfSome probing (IsMadeFor (length c.addresses))
 
 -- The node recovered from the files, ready to turn, with no message to send and no request under
@@ -38,7 +38,7 @@ pub record IsLoaded {D L K : Type 0} (view : D → DiskView) (c : Settings) (tas
   pub works : turns.server.works ≡ []
   pub dials : turns.server.dials ≡ []
   pub pace : turns.pace ≡ first_pace (is_record task.log) (most_interval task.probes task.me)
-  pub probing : turns.probing ≡ probing_at_first task.probes task.me (length c.addresses)
+  pub probing : turns.probing ≡ probing_at_first task.probes task.me c.addresses
   pub config : turns.server.config ≡ c
   pub log : turns.server.log ≡ task.log
   pub link : turns.server.link ≡ site.link

@@ -2,7 +2,7 @@
 use Rattle.std.specs.Prelude.{◌≡◌, ◌⊎◌, ℕ, ◌+◌, ◌<◌, Bool, true, false, Option, Some, None, List, [], ◌∷◌, ◌++◌, length, replicate, take}
 use Rattle.std.specs.List.{AllByRecursion}
 use Rattle.std.specs.Option.{option_map}
-use Rattle.oc_config.specs.Settings.{Settings}
+use Rattle.oc_config.specs.Settings.{Settings, key_of}
 use Rattle.oc_link.specs.Calls.{IsFront}
 use Rattle.oc_link.specs.Counts.{CountsFailure}
 use Rattle.oc_link.specs.Told.{AddsAll}
@@ -21,7 +21,7 @@ use Rattle.oc_keep.specs.declared.errors.KeepLoad.{KeepLoad}
 use Rattle.oc_model.specs.declared.input.Input.{Input}
 use Rattle.oc_model.specs.Node.{Header, Node}
 use Rattle.oc_model.specs.Step.{step}
-use Rattle.oc_probe.specs.Turns.{others}
+use Rattle.oc_probe.specs.Turns.{peers_of}
 use Rattle.oc_probe.specs.declared.probing.Probing.{Probing}
 use Rattle.oc_routes.specs.Responses.{address_of}
 use Rattle.oc_routes.specs.Verdicts.{NodeTerms, terms_of}
@@ -55,23 +55,23 @@ header_of_settings c = header (length c.addresses) c.chain c.chunk c.areas
 -- the number of the node, the addresses of all nodes, the key of the network, and the form of the
 -- log
 abbrev pub setting_of : Settings → Task → Setting
-setting_of c task = record { me = task.me; addresses = c.addresses; key = c.key; log = task.log }
+setting_of c task = record { me = task.me; addresses = c.addresses; key = key_of c.keys; log = task.log }
 
 -- the terms by which the node reads requests
 abbrev pub terms_in : Settings → ℕ → NodeTerms
-terms_in c me = terms_of me (length c.addresses) c.rules c.key
+terms_in c me = terms_of me (length c.addresses) c.rules c.keys
 
--- the state of probing at first: no rates of peers, and all other nodes in turn
-abbrev pub probing_of : ℕ → ℕ → Probing
-probing_of me nodes = record { gauge = replicate nodes []; rotation = record { me = me; nodes = nodes; coming = others me nodes } }
+-- the state of probing at first: no rates of peers, and all other nodes that have an address in turn
+abbrev pub probing_of : ℕ → List (Option (List ℕ)) → Probing
+probing_of me addresses = record { gauge = replicate (length addresses) []; rotation = record { coming = peers_of me addresses } }
 
-abbrev pub probing_at_first : Bool → ℕ → ℕ → Option Probing
-probing_at_first true me nodes = Some (probing_of me nodes)
-probing_at_first false me nodes = None
+abbrev pub probing_at_first : Bool → ℕ → List (Option (List ℕ)) → Option Probing
+probing_at_first true me addresses = Some (probing_of me addresses)
+probing_at_first false me addresses = None
 
 -- the machine of the node recovered from its files
 abbrev pub machine_on : {D : Type 0} → (D → DiskView) → Settings → Task → Disks D → Machine
-machine_on view c task d = at_first (is_record task.log) (most_interval task.probes task.me) (probing_at_first task.probes task.me (length c.addresses)) (first_node view (header_of_settings c) task.me d)
+machine_on view c task d = at_first (is_record task.log) (most_interval task.probes task.me) (probing_at_first task.probes task.me c.addresses) (first_node view (header_of_settings c) task.me d)
 
 -- Its link
 

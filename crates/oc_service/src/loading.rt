@@ -100,7 +100,7 @@ fn equip(alloc: Global, config: &Config, me: NodeId, probes: bool) -> Result<Equ
         areas: copy_areas(alloc, &config.areas)?,
         outbox: Outbox::new(alloc)?,
         heads: HeadReader::new(alloc)?,
-        probing: first_probing(alloc, me, nodes_of(config), probes)?,
+        probing: first_probing(alloc, me, &config.addresses, probes)?,
     })
 }
 

@@ -13,3 +13,4 @@ pub mod Sizes
 pub mod Puts
 pub mod Lifts
 mod Rows
+pub mod UnderKeys

@@ -1,9 +1,11 @@
-ghost use Rattle.std.specs.List.{AllByRecursion};
-ghost use Rattle.std.specs.Prelude.{◌≡◌, ℕ, ◌<◌, ◌≤◌, ◌^◌, Result, List, [], ◌∷◌};
+ghost use Rattle.std.specs.List.{AllByRecursion, Contains};
+ghost use Rattle.std.specs.Prelude.{◌≡◌, ℕ, ◌<◌, ◌≤◌, ◌^◌, true, Option, Some, Result, List, [], ◌∷◌};
 ghost use Rattle.oc_base.specs.Codes.{AreDistinct};
 ghost use Rattle.oc_base.specs.declared.limits.TheConstants.{MAX_NODES};
 ghost use Rattle.oc_model.specs.Lawful.{IsMessage};
 ghost use Rattle.oc_model.specs.declared.message.Message.{Message};
+ghost use Rattle.oc_policy.specs.Keys.{Keyring, keys_in};
+ghost use Rattle.oc_wire.specs.Macs.{HasMac, is_authentic, mac_for};
 ghost use Rattle.oc_wire.specs.Examples.{first_ask, first_ask_message, chain_no, chain_no_message, stranger, strange_kind, trailing};
 ghost use Rattle.oc_wire.specs.Messages.{Spells};
 ghost use Rattle.oc_wire.specs.MessageReading.{decoded};
@@ -53,6 +55,15 @@ pub fn requests_have_one_answer()
 {
     a_request_has_one_answer();
 }
+
+/// Where the nodes have keys, what is taken for a message of theirs has its MAC under one of these; and what has it under
+/// one of these, as each message has that goes out under it, is taken for theirs.
+pub fn messages_have_macs_under_a_key()
+    ensures believed { (ring : Keyring) (said : Option (List ℕ)) (body : List ℕ) → is_authentic (Some ring) said body ≡ true
+        → HasMac ring said body }
+    ensures sent { (ring : Keyring) (key body : List ℕ) → Contains (keys_in ring) key
+        → is_authentic (Some ring) (mac_for (Some key) body) body ≡ true }
+{}
 
 /// Worked examples of reading come out as they should. They are computed.
 pub fn examples_are_read()

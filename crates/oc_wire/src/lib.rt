@@ -10,8 +10,9 @@
 //! the first fault; what [`encode`] writes is that spelling; no two messages have one spelling, which rests
 //! on no two kinds, and no two refusals, having one code. [`from_http`] gives the message that a POST to
 //! `/!overcast` brings, or the first fault; it reads what [`to_http`] wrote as the same message, and there
-//! is one answer to the bytes of a request. Where the nodes have a key, [`mac_for`] is what the head of a message says
-//! of its body, and [`is_authentic`] whether that is what a head said.
+//! is one answer to the bytes of a request. Where the nodes have keys, [`mac_for`] is what the head of a message says
+//! of its body, under the first of them, and [`is_authentic`] whether a head said that of any: so what is under none of
+//! them is believed by nobody ([`messages_have_macs_under_a_key`]).
 #![tactic(auto)]
 
 mod children;
@@ -35,10 +36,10 @@ pub use fault::WireFault;
 pub use http::{from_http, to_http};
 pub use http_fault::HttpWireFault;
 pub use law::{
-    codes_are_distinct, examples_are_read, least_lengths_are_exact,
+    codes_are_distinct, examples_are_read, least_lengths_are_exact, messages_have_macs_under_a_key,
     no_two_messages_have_one_spelling, requests_have_one_answer, spellings_are_read,
 };
 pub use macs::{is_authentic, mac_for};
 pub use oc_model::{Body, Message};
-pub use oc_policy::Key;
+pub use oc_policy::{Key, Keyring};
 pub use refusals::REFUSALS;

@@ -1,6 +1,7 @@
 //! The texts that a node and a client read and write, the meaning of requests, and their replies.
 
 mod asking;
+mod changes;
 mod chunked;
 mod configurations;
 mod judged;
@@ -20,8 +21,9 @@ use std::io;
 use test_tools::{Cases, Fault};
 
 /// The tables, in their order.
-const TABLES: [&str; 11] = [
+const TABLES: [&str; 12] = [
     "configurations",
+    "changes",
     "verdicts",
     "chunked",
     "measure_lines",
@@ -41,6 +43,7 @@ impl Cases for ServiceTables {
     fn put_words(alloc: Global, table: &str, given: &str, said: &mut String) -> Result<(), Fault> {
         match table {
             "configurations" => configurations::put_words(alloc, given, said),
+            "changes" => changes::put_words(alloc, given, said),
             "verdicts" => verdicts::put_words(alloc, given, said),
             "chunked" => chunked::put_words(alloc, given, said),
             "measure_lines" => measure_lines::put_words(alloc, given, said),

@@ -3,12 +3,12 @@
 ghost use Rattle.std.specs.Prelude.{◌≡◌, [], IfOk, Some};
 ghost use Rattle.oc_http.specs.Writing.{head_text};
 ghost use Rattle.oc_routes.specs.Group.{framing_for, is_chunked, is_past, past_reply, redirection, served};
-ghost use Rattle.oc_routes.specs.Reasons.{no_group_line, telling};
+ghost use Rattle.oc_routes.specs.Reasons.{no_group_line, nowhere_line, telling};
 ghost use Rattle.oc_routes.specs.Responses.{typed, whole, whole_for};
 
 use crate::holding::Holding;
 use crate::manner::{Manner, connection_for};
-use crate::reasons::{bare, no_group_line, past_line, telling};
+use crate::reasons::{bare, no_group_line, nowhere_line, past_line, telling};
 use crate::response::{GroupRange, Response};
 use crate::responses::{typed_head, whole, whole_for};
 use oc_base::{Memory, Text};
@@ -29,6 +29,14 @@ pub(crate) fn no_group(alloc: Global, manner: Manner) -> Result<Response, Memory
     ensures { IfOk result (λ response. response ≡ whole_for manner (telling 404 no_group_line)) }
 {
     let reply = telling(404, no_group_line(alloc)?);
+    whole_for(alloc, manner, &reply)
+}
+
+/// Tells a client that follows a group that the node which has more of it has no address.
+pub(crate) fn nowhere(alloc: Global, manner: Manner) -> Result<Response, Memory>
+    ensures { IfOk result (λ response. response ≡ whole_for manner (telling 503 nowhere_line)) }
+{
+    let reply = telling(503, nowhere_line(alloc)?);
     whole_for(alloc, manner, &reply)
 }
 

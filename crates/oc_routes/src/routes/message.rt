@@ -20,22 +20,22 @@ use crate::routes::Operation;
 use oc_base::{Memory, NodeId, Text};
 use oc_http::{Persistence, Reply, write_response_head};
 use oc_model::{Input, Message};
-use oc_policy::Key;
+use oc_policy::{Key, Keyring};
 use oc_wire::{WireFault, decode, encode, is_authentic, length_with_chunk, mac_for, put_message};
 use std::alloc::Global;
 
-/// Whether it is asked to take a message whose body does not come with its MAC, where there is a key. `mac` is what the
+/// Whether it is asked to take a message whose body does not come with its MAC, where there are keys. `mac` is what the
 /// head says.
 pub(crate) fn is_forged(
-    key: Option<&Key>,
+    keys: Option<&Keyring>,
     operation: &Operation,
     mac: Option<&Text>,
     body: &[u8],
 ) -> bool
-    ensures { result ≡ is_forged (option_map (λ k. k.now) key.entry) operation.now (option_map (λ t. t.now) mac.entry) body.now }
+    ensures { result ≡ is_forged (option_map (λ k. k.now) keys.entry) operation.now (option_map (λ t. t.now) mac.entry) body.now }
 {
     match operation {
-        Operation::Message => !is_authentic(key, mac, body),
+        Operation::Message => !is_authentic(keys, mac, body),
         _ => false,
     }
 }

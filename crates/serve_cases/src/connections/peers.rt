@@ -1,8 +1,8 @@
 //! The medians of a gauge, and the peers of a rotation.
 
-ghost use Rattle.std.specs.Prelude.{◌≡◌, length};
+ghost use Rattle.std.specs.Prelude.{◌≡◌, ◌≤◌, IfOk, length, vec_len};
 
-use oc_base::NodeId;
+use oc_base::{MAX_NODES, NodeId};
 use oc_probe::{Gauge, Rotation};
 use std::alloc::Global;
 use test_tools::{Fault, RowFields, RowStep};
@@ -22,15 +22,15 @@ pub fn put_words(alloc: Global, given: &str, said: &mut String) -> Result<(), Fa
     let mut rates = Rates {
         gauge: Gauge::new(alloc, PEERS)?,
     };
-    play(&mut rates, given, said)
+    play(alloc, &mut rates, given, said)
 }
 
-fn play(rates: &mut Rates, steps: &str, said: &mut String) -> Result<(), Fault> {
+fn play(alloc: Global, rates: &mut Rates, steps: &str, said: &mut String) -> Result<(), Fault> {
     for field in steps.split_ascii_whitespace() {
         let step = RowStep::of(field);
         match step.word {
             "put" => put(rates, step.fields, said)?,
-            "turns" => turn(step.fields, said)?,
+            "turns" => turn(alloc, step.fields, said)?,
             _ => return Err(Fault::Field),
         }
     }
@@ -48,16 +48,46 @@ fn put(rates: &mut Rates, mut fields: RowFields<'_>, said: &mut String) -> Resul
     Ok(write!(said, "{median} ")?)
 }
 
-/// Appends the first peers of a node.
-fn turn(mut fields: RowFields<'_>, said: &mut String) -> Result<(), Fault> {
+/// Appends the first peers of a node: its id, the number of nodes and of peers, then the ids that have no place.
+fn turn(alloc: Global, mut fields: RowFields<'_>, said: &mut String) -> Result<(), Fault> {
     let me = fields.node()?;
     let nodes = fields.small()?;
     let count = fields.byte()?;
-    if me.0 < 1 || me.0 > nodes {
+    if nodes > MAX_NODES {
         return Err(Fault::Field);
     }
-    let mut rotation = Rotation::new(me, nodes);
+    let places = places_of(alloc, nodes, fields)?;
+    let mut rotation = Rotation::new(alloc, me, &places)?;
     put_turns(&mut rotation, count, said)
+}
+
+/// The places of this many nodes, of which those with these ids hold nothing.
+fn places_of(alloc: Global, nodes: u32, absent: RowFields<'_>) -> Result<Vec<Option<bool>>, Fault>
+    requires { nodes ≤ MAX_NODES }
+    ensures { IfOk result (λ places. vec_len places ≤ MAX_NODES) }
+{
+    let mut places = Vec::new(alloc);
+    for place in 0..nodes {
+        places.push(if is_among(absent, place + 1)? {
+            None
+        } else {
+            Some(true)
+        })?;
+    }
+    Ok(places)
+}
+
+/// Whether a number is one of these fields.
+fn is_among(mut fields: RowFields<'_>, number: u32) -> Result<bool, Fault> {
+    for _ in 0..100u8 {
+        if fields.is_empty() {
+            break;
+        }
+        if fields.small()? == number {
+            return Ok(true);
+        }
+    }
+    Ok(false)
 }
 
 /// Appends the next peers of a rotation.

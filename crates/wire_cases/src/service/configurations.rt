@@ -21,19 +21,16 @@ fn put_read(alloc: Global, text: &[u8], said: &mut String) -> Result<(), Fault> 
     }
 }
 
-/// Puts what a configuration says: the chain, the chunk where it is not the first one, `key` where it has one, the address and the area of
-/// each node, the measures and the rules.
+/// Puts what a configuration says: the chain, the chunk where it is not the first one, `key` where it has keys, and how
+/// many are accepted besides, what is said of each node, the measures and the rules.
 fn put_config(said: &mut String, config: &Config) -> Result<(), Fault> {
     let chain = config.chain;
     write!(said, "{chain}")?;
     put_chunk(said, config.chunk())?;
-    if config.key.is_some() {
-        said.push_str(" key")?;
-    }
+    put_keys(said, config)?;
     said.push_str(" |")?;
-    let listens = config.listens.iter();
-    for ((address, listen), area) in config.addresses.iter().zip(listens).zip(&config.areas) {
-        put_node(said, address.as_str(), listen.as_str(), *area)?;
+    for place in 0..config.addresses.len() {
+        put_node(said, config, place)?;
     }
     said.push_str(" |")?;
     for measure in &config.measures {
@@ -52,11 +49,42 @@ fn put_chunk(said: &mut String, chunk: u32) -> Result<(), Fault> {
     Ok(())
 }
 
-/// Puts the address of a node, where it listens if that is elsewhere, and its area.
-fn put_node(said: &mut String, address: &str, listen: &str, area: u8) -> Result<(), Fault> {
+/// Puts that there is a key, and how many others are accepted, where there are some.
+fn put_keys(said: &mut String, config: &Config) -> Result<(), Fault> {
+    if let Some(keys) = &config.keys {
+        said.push_str(" key")?;
+        if !keys.accept.is_empty() {
+            let count = keys.accept.len();
+            write!(said, "+{count}")?;
+        }
+    }
+    Ok(())
+}
+
+/// Puts the address of a node, or `-`, where it listens if that is elsewhere, its area, its name, if it has one, and
+/// whether it is retired.
+fn put_node(said: &mut String, config: &Config, place: usize) -> Result<(), Fault> {
+    let address = text_at(&config.addresses, place);
+    let listen = text_at(&config.listens, place);
     write!(said, " {address}")?;
     if listen != address {
         write!(said, "@{listen}")?;
     }
-    Ok(write!(said, "/{area}")?)
+    let area = config.areas.get(place).ok_or(Fault::Unready)?;
+    write!(said, "/{area}")?;
+    if let Some(Some(name)) = config.names.get(place) {
+        write!(said, "({name})")?;
+    }
+    if let Some(true) = config.retired.get(place) {
+        said.push_str(" retired")?;
+    }
+    Ok(())
+}
+
+/// What is said at a place, or `-`.
+fn text_at(texts: &[Option<String>], place: usize) -> &str {
+    match texts.get(place) {
+        Some(Some(text)) => text.as_str(),
+        _ => "-",
+    }
 }

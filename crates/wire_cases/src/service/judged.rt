@@ -4,7 +4,7 @@ use crate::service::requests::put_refusal;
 use oc_base::NodeId;
 use oc_http::HeadReader;
 use oc_link::{Arrival, Coming, ConnectionId};
-use oc_policy::Key;
+use oc_policy::{Key, Keyring};
 use oc_routes::{Hint, Operation, Report, Request, Terms, Verdict, judge};
 use std::alloc::Global;
 use test_tools::{Fault, RowFields, spelled_in};
@@ -17,12 +17,12 @@ pub fn put_words(alloc: Global, given: &str, said: &mut String) -> Result<(), Fa
     let (came, rest) = given.split_once(' ').unwrap_or((given, ""));
     let (key, text) = rest.split_once(' ').unwrap_or((rest, ""));
     let arrival = arrival_in(RowFields::of(came, ','))?;
-    let key = key_in(key)?;
+    let keys = keyring_in(alloc, key)?;
     let terms = Terms {
         me: NodeId(1),
         nodes: NODES,
         rules: &[],
-        key: key.as_ref(),
+        keys: keys.as_ref(),
     };
     let bytes = spelled_in(alloc, text)?;
     let mut heads = HeadReader::new(alloc)?;
@@ -47,13 +47,16 @@ fn arrival_in(mut fields: RowFields<'_>) -> Result<Arrival, Fault> {
     })
 }
 
-/// The key of the network; none for `-`.
-fn key_in(text: &str) -> Result<Option<Key>, Fault> {
+/// The keys of the network, of which there is one; none for `-`.
+fn keyring_in(alloc: Global, text: &str) -> Result<Option<Keyring>, Fault> {
     if text == "-" {
         return Ok(None);
     }
     match Key::parse(text.as_bytes()) {
-        Some(key) => Ok(Some(key)),
+        Some(key) => Ok(Some(Keyring {
+            key,
+            accept: Vec::new(alloc),
+        })),
         None => Err(Fault::Field),
     }
 }

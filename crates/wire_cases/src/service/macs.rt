@@ -1,7 +1,7 @@
-//! MACs of texts, and texts that are node keys.
+//! MACs of texts, texts that are node keys, and who believes a MAC.
 
 use crate::service::texts::bytes_in;
-use oc_policy::{Key, hmac_sha256, is_mac_of, mac_of};
+use oc_policy::{Key, Keyring, MAX_ACCEPTED, hmac_sha256, is_mac_in, is_mac_of, mac_of};
 use std::alloc::Global;
 use test_tools::{Fault, RowFields, put_hex, put_shown};
 
@@ -13,6 +13,7 @@ pub fn put_words(alloc: Global, given: &str, said: &mut String) -> Result<(), Fa
     match kind {
         "hmac" => put_hex(said, &hmac_sha256(&key, &bytes_in(alloc, fields.list())?)),
         "mac" => put_mac(said, &key, &bytes_in(alloc, fields.list())?),
+        "ring" => put_believed(alloc, said, &key, fields),
         "key" => put_shown(said, &Key::parse(&key)),
         _ => Err(Fault::Field),
     }
@@ -31,4 +32,35 @@ fn put_mac(said: &mut String, key: &[u8], text: &[u8]) -> Result<(), Fault> {
         said.push_str(" accepted")?;
     }
     Ok(())
+}
+
+/// Puts whether the MAC of a text under the key that these bytes spell is believed by a node whose key comes next, and
+/// which accepts those that come last.
+fn put_believed(
+    alloc: Global,
+    said: &mut String,
+    sender: &[u8],
+    mut fields: RowFields<'_>,
+) -> Result<(), Fault> {
+    let sender = key_in(sender)?;
+    let text = bytes_in(alloc, fields.list())?;
+    let key = key_in(&bytes_in(alloc, fields.list())?)?;
+    let mut accept = Vec::new(alloc);
+    for _ in 0..MAX_ACCEPTED {
+        if fields.is_empty() {
+            break;
+        }
+        accept.push(key_in(&bytes_in(alloc, fields.list())?)?)?;
+    }
+    let ring = Keyring { key, accept };
+    if is_mac_in(&ring, &text, mac_of(&sender, &text).digits()) {
+        Ok(said.push_str("believed")?)
+    } else {
+        Ok(said.push_str("refused")?)
+    }
+}
+
+/// The key that these bytes spell.
+fn key_in(bytes: &[u8]) -> Result<Key, Fault> {
+    Key::parse(bytes).ok_or(Fault::Field)
 }

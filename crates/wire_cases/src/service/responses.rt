@@ -137,11 +137,12 @@ fn respond_with(
     Ok(respond(alloc, asked, last, &answered, &network)?)
 }
 
-fn addresses(alloc: Global) -> Result<Vec<String>, Fault> {
+fn addresses(alloc: Global) -> Result<Vec<Option<String>>, Fault> {
     let mut addresses = Vec::new(alloc);
-    addresses.push(format!(in alloc; "127.0.0.1:7001")?)?;
-    addresses.push(format!(in alloc; "127.0.0.1:7002")?)?;
-    addresses.push(format!(in alloc; "node.example:80")?)?;
+    addresses.push(Some(format!(in alloc; "127.0.0.1:7001")?))?;
+    addresses.push(Some(format!(in alloc; "127.0.0.1:7002")?))?;
+    addresses.push(Some(format!(in alloc; "node.example:80")?))?;
+    addresses.push(None)?;
     Ok(addresses)
 }
 

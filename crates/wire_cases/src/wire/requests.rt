@@ -4,7 +4,7 @@ ghost use Rattle.oc_wire.specs.Spelling.{HasSpelling};
 
 use crate::wire::words::{put, put_message, put_text, put_wire_fault};
 use oc_base::Text;
-use oc_wire::{HttpWireFault, Key, Message, decode, from_http, is_authentic, to_http};
+use oc_wire::{HttpWireFault, Key, Keyring, Message, decode, from_http, is_authentic, to_http};
 use std::alloc::Global;
 use test_tools::{Fault, RowFields, spelled_in};
 
@@ -28,13 +28,28 @@ fn put_under(alloc: Global, mut fields: RowFields<'_>, said: &mut String) -> Res
     }
 }
 
-/// Appends whether the fields of a head about its body are authentic under a key, or without one.
+/// Appends whether the fields of a head about its body are authentic under one of some keys, or without any.
 fn put_authentic(alloc: Global, mut fields: RowFields<'_>, said: &mut String) -> Result<(), Fault> {
-    let key = Key::parse(fields.text().as_bytes());
+    let keys = keyring_in(alloc, RowFields::of(fields.text(), '+'))?;
     let told = said_in(alloc, fields.text())?;
     let body = fields.bytes(alloc)?;
-    let is = is_authentic(key.as_ref(), told.as_ref(), &body);
+    let is = is_authentic(keys.as_ref(), told.as_ref(), &body);
     put(said, if is { "yes" } else { "no" })
+}
+
+/// The keys of a network, of which the first is that of what goes out; none where it is no key.
+fn keyring_in(alloc: Global, mut fields: RowFields<'_>) -> Result<Option<Keyring>, Fault> {
+    let Some(key) = Key::parse(fields.text().as_bytes()) else {
+        return Ok(None);
+    };
+    let mut accept = Vec::new(alloc);
+    for _ in 0..100u8 {
+        if fields.is_empty() {
+            break;
+        }
+        accept.push(Key::parse(fields.text().as_bytes()).ok_or(Fault::Field)?)?;
+    }
+    Ok(Some(Keyring { key, accept }))
 }
 
 /// A field of a head; `none` for no field.

@@ -2,4 +2,4 @@ use Rattle.oc_config.proofs.Settled.{settled_say}
 use Rattle.oc_config.proofs.law.each_node_has_its_table.Goals as goal
 
 pub returns : goal.returns
-returns c members s tables e there = settled_say members s tables e there
+returns c = settled_say

@@ -25,4 +25,4 @@ returns-clause-waiting c = record { held = refl; not_held = refl; gives = refl; 
 
 pub returns-clause-shown : goal.returns-clause-shown
 unfolding digits
-returns-clause-shown c = record { plain = refl; told = refl; told_to_a_follower = refl; told_and_sealed = refl; told_and_not_held = refl; told_before = refl; known = refl; known_to_a_follower = refl; unknown = refl; here = refl; not_here = refl; sent = refl; sent_sealed = refl; sent_sealed_here = refl; sent_told = refl; sent_known = refl; past_told = refl; past_here = refl; sent_following = refl; reported = refl; message = refl; nothing_back = refl; published = refl }
+returns-clause-shown c = record { plain = refl; told = refl; told_to_a_follower = refl; told_and_sealed = refl; told_and_not_held = refl; told_before = refl; known = refl; known_to_a_follower = refl; unknown = refl; here = refl; not_here = refl; sent = refl; nowhere = refl; nowhere_to_a_follower = refl; nowhere_and_not_here = refl; sent_sealed = refl; sent_sealed_here = refl; sent_told = refl; sent_known = refl; past_told = refl; past_here = refl; sent_following = refl; reported = refl; message = refl; nothing_back = refl; published = refl }

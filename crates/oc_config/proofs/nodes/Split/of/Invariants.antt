@@ -3,4 +3,4 @@ use Rattle.oc_config.proofs.nodes.Split.of.Given as goal
 
 -- what was taken so far was put
 abbrev pub invariant-loop-place : goal.invariant-loop-place
-invariant-loop-place l = AreOf l.split.addresses.items l.split.listens.items l.split.areas.items l.yielded
+invariant-loop-place l = AreOf l.split.retired.items l.split.addresses.items l.split.listens.items l.split.areas.items l.split.names.items l.yielded

@@ -2,7 +2,7 @@ use Rattle.std.proofs.Common.{refl, sym, ap, ◌∙◌, Option}
 use Rattle.std.proofs.lemmas.Result.{err_from_is_err_and}
 use Rattle.oc_server.proofs.Dialled.{dialled}
 use Rattle.oc_deeds.proofs.Lawful.{none_there}
-use Rattle.oc_deeds.proofs.Messages.{one_sendable, receiver_of_sendable, text_of_sendable}
+use Rattle.oc_deeds.proofs.Messages.{one_sendable, text_of_sendable}
 use Rattle.oc_server.proofs.Parts.{does_one}
 use Rattle.oc_server.proofs.Stopping.{memory_stops}
 use Rattle.oc_server.specs.Scenes.{setting, running}
@@ -43,4 +43,4 @@ pub request_to-requires-clause-host : goal.request_to-requires-clause-host
 request_to-requires-clause-host g c =
     let s = c.args.self.now in
     let nodes = s.kept.node.control.nodes in
-    c.requires.serving.placed.hosts c.in-Some.message.to (receiver_of_sendable nodes c.in-Some.message (one_sendable nodes s.outbox c.args.index c.in-Some.message (sym c.take.ensures.message ∙ c.in-Some.is) c.requires.serving.lawful.sendable))
+    c.requires.serving.placed.hosts c.in-Some.message.to

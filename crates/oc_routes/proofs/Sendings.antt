@@ -1,9 +1,9 @@
 -- The replies to clients that are sent on, and to those who publish and seal.
-use Rattle.std.proofs.Common.{◌≡◌, ℕ, Bool, Option, Result, Ok, Err, IfOk, List, sym, ap, ◌∙◌}
+use Rattle.std.proofs.Common.{◌≡◌, ℕ, ◌==◌, Bool, true, false, if◌then◌else◌, Option, Result, Ok, Err, IfOk, List, length, sym, ap, ◌∙◌}
 use Rattle.oc_model.specs.declared.answer.Answer.{Answer}
 use Rattle.oc_model.specs.declared.answer.Answer.TheVariants.{Redirect}
 use Rattle.oc_model.specs.declared.message.Message.{Message}
-use Rattle.oc_routes.specs.Group.{client_response, group_response, redirection, shown_response}
+use Rattle.oc_routes.specs.Group.{client_response, group_response, here_response, redirection, shown_response}
 use Rattle.oc_routes.specs.Publish.{publish_response}
 use Rattle.oc_routes.specs.Responses.{address_of, source_in, whole}
 use Rattle.oc_routes.specs.Routes.{response_to}
@@ -24,16 +24,33 @@ sent_told (Ok x) address group start manner hint h told location tells at is =
     is ∙ ap (λ (l : List ℕ). whole (redirection l)) (at ∙ ap (λ (t : List ℕ). location_of address group start t manner) tells)
 sent_told (Err e) address group start manner hint h told location tells at is = tt
 
--- a client that is shown a redirection
+-- a client that is shown a redirection to a node, by whether the node has an address
+abbrev chosen : Bool → Response → Response → Response
+chosen nowhere here there = if nowhere then here else there
+
+-- who is sent on
 pub redirected : {M : Type 0} (r : Result Response M) (group : List ℕ) (start : ℕ) (manner : Manner) (hint : Hint) (last : Bool) (answer : Answer) (h : Holding) (addresses : List (Option (List ℕ))) (s : Shown) (node : ℕ) (address : List ℕ)
-    → s ≡ shown hint answer h start → s.answer ≡ Redirect node → address ≡ address_of addresses node
+    → s ≡ shown hint answer h start → s.answer ≡ Redirect node → address ≡ address_of addresses node → (length address == 0) ≡ false
     → IfOk r (λ (x : Response). x ≡ whole (redirection (location_of address group start (told_text hint h) manner))) → IfOk r (λ (x : Response). x ≡ group_response group start manner hint last answer h addresses)
-redirected (Ok x) group start manner hint last answer h addresses s node address shows sends at is =
+redirected (Ok x) group start manner hint last answer h addresses s node address shows sends at has is =
     is
-    ∙ ap (λ (a : List ℕ). whole (redirection (location_of a group start (told_text hint h) manner))) at
+    ∙ sym (ap (λ (b : Bool). chosen b (here_response start manner last h) (whole (redirection (location_of address group start (told_text hint h) manner)))) has)
+    ∙ ap (λ (a : List ℕ). chosen (length a == 0) (here_response start manner last h) (whole (redirection (location_of a group start (told_text hint h) manner)))) at
     ∙ sym (ap (λ (a : Answer). client_response group start manner (told_text hint h) a s.sealed last h addresses) sends)
     ∙ ap (λ (t : Shown). shown_response group start manner (told_text hint h) t last h addresses) shows
-redirected (Err e) group start manner hint last answer h addresses s node address shows sends at is = tt
+redirected (Err e) group start manner hint last answer h addresses s node address shows sends at has is = tt
+
+-- who would be sent to a node without an address
+pub kept_here : {M : Type 0} (r : Result Response M) (group : List ℕ) (start : ℕ) (manner : Manner) (hint : Hint) (last : Bool) (answer : Answer) (h : Holding) (addresses : List (Option (List ℕ))) (s : Shown) (node : ℕ) (address : List ℕ)
+    → s ≡ shown hint answer h start → s.answer ≡ Redirect node → address ≡ address_of addresses node → (length address == 0) ≡ true
+    → IfOk r (λ (x : Response). x ≡ here_response start manner last h) → IfOk r (λ (x : Response). x ≡ group_response group start manner hint last answer h addresses)
+kept_here (Ok x) group start manner hint last answer h addresses s node address shows sends at none is =
+    is
+    ∙ sym (ap (λ (b : Bool). chosen b (here_response start manner last h) (whole (redirection (location_of address group start (told_text hint h) manner)))) none)
+    ∙ ap (λ (a : List ℕ). chosen (length a == 0) (here_response start manner last h) (whole (redirection (location_of a group start (told_text hint h) manner)))) at
+    ∙ sym (ap (λ (a : Answer). client_response group start manner (told_text hint h) a s.sealed last h addresses) sends)
+    ∙ ap (λ (t : Shown). shown_response group start manner (told_text hint h) t last h addresses) shows
+kept_here (Err e) group start manner hint last answer h addresses s node address shows sends at none is = tt
 
 pub published : {M : Type 0} (r : Result Response M) (operation : Operation) (hint : Hint) (last : Bool) (answer : Answer) (back : Option Message) (h : Holding) (addresses : List (Option (List ℕ))) (key : Option (List ℕ)) (report source group : List ℕ) (at : Option ℕ)
     → operation ≡ Publish group at → source ≡ source_in addresses

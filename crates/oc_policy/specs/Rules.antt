@@ -21,7 +21,7 @@ abbrev pub is_absent_or : {A : Type 0} → (A → A → Bool) → Option A → A
 is_absent_or same None x = true
 is_absent_or same (Some part) x = same part x
 
--- whether a prefix speaks of a group; only `/` speaks of what is no group, as the pages of a node
+-- whether a prefix speaks of a group, or of a page of a node by its name; only `/` speaks of what has no name
 abbrev pub speaks_of : List ℕ → Option (List ℕ) → Bool
 speaks_of prefix None = bytes_eq prefix (codes "/")
 speaks_of prefix (Some group) = is_within prefix group

@@ -15,9 +15,10 @@ pub enum Decision {
 /// The greatest number of rules in a list.
 pub const MAX_RULES: usize = 256;
 
-/// What the first rule that matches says; a request that no rule matches is allowed. `group` is `None` for what is no
-/// group, as the pages of a node, of which only rules for `/` speak. `shown` is the value of the request's
-/// Authorization field, `None` where it has none, or more than one. Takes no memory.
+/// What the first rule that matches says; a request that no rule matches is allowed. `group` is the group that is asked
+/// for, or a page of a node by its name, such as `/-/status`; only rules for `/` speak of what has no name, `None`.
+/// `shown` is the value of the request's Authorization field, `None` where it has none, or more than one. Takes no
+/// memory.
 pub fn decide<'a>(
     rules: &'a [Rule],
     action: Action,

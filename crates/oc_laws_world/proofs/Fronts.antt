@@ -72,7 +72,7 @@ drop_of_front (suc n) [] ys f = refl
 drop_of_front (suc n) (x ∷ xs) [] f = absurd cc
 drop_of_front (suc n) (x ∷ xs) (y ∷ ys) f = drop_of_front n xs ys cc
 
--- one list and then a prefix is a prefix of the two lists in a row
+-- a prefix stays one where the same list comes before both
 append_front : (xs ys zs : List ℕ) → IsFront ys zs → IsFront (xs ++ ys) (xs ++ zs)
 append_front [] ys zs f = f
 append_front (x ∷ xs) ys zs f = ap (λ ws. x ∷ ws) (append_front xs ys zs f)

@@ -25,7 +25,7 @@ sound_whole w sound x g k h e =
     let full = held.sealed e in
     (held.whole, held.found, full.0, full.1)
 
--- a message that is true of its sender is acknowledged by it
+-- a message that is true of its sender is acknowledged
 acknowledged : (w : World) (x : ℕ) (b : Body) → IsTrueOfSender (node w x).groups b → IsAcknowledged w x b
 acknowledged w x (Fetch have) h = h
 acknowledged w x b h = tt

@@ -257,7 +257,7 @@ places_all h m w0 (x ∷ xs) most w can =
         filter_fewer (λ y. not (is_placed v m y)) (λ y. not (is_placed w m y)) xs (λ y loose. still_loose y first.one loose),
       );
     } where
-      -- the acts of the first turn, where the first node is in place or not
+      -- the turn of x takes at most 51 acts, and none if x is in place
       counted : (b : Bool) → is_placed w m x ≡ b → PlacesOne w m x → length (places m x w).acts + 51 * length (filter (λ y. not (is_placed w m y)) xs) ≤ 51 * length (if not b then x ∷ filter (λ y. not (is_placed w m y)) xs else filter (λ y. not (is_placed w m y)) xs)
       counted true e one = let none : length (places m x w).acts ≡ 0 = one.none ((placed_tested w m x).0 e) in omega (arith, none)
       counted false e one = omega (arith, one.few)

@@ -5,7 +5,7 @@ use Rattle.oc_model.specs.Adopting.{is_number}
 use Rattle.oc_model.specs.Numbers.{at}
 use Rattle.oc_calm.specs.Longest.{greatest_length, has_found, longest_first}
 
--- In a loop
+-- The loop
 
 -- one more length was looked at
 pub greatest_more : (ls : List (Option ℕ)) (i g h all : ℕ) → i < length ls → h ≡ max g (unwrap_or (get_or ls i None) 0) → max g (greatest_length (drop i ls)) ≡ all

@@ -88,7 +88,7 @@ pub places_are : (m : ℕ) (w : World) (xs : List ℕ) → xs ≡ joiners m w �
 unfolding places_run place_run joiners
 places_are m w xs e = ap (λ (ys : List ℕ). for_each ys (place_run m) w) (sym e)
 
--- All of heal
+-- The whole of heal
 
 -- the first two steps of heal
 abbrev pub heal_two : ℕ → World → Run

@@ -36,7 +36,7 @@ pub leader_first : (w : World) (xs : List ℕ) → IsRoll w xs → first_of (fil
 unfolding leader_of
 leader_first w xs roll = ap (λ (ys : List ℕ). first_of (filter (λ x. is_member (node w x).control) ys)) roll.up
 
--- All of a list
+-- All nodes of a list
 
 -- the next remaining item passes, or the result is false
 pub all_later : (f : ℕ → Bool) (xs : List ℕ) (i x : ℕ) (all : Bool) → i < length xs → x ≡ get_or xs i x → f x ≡ true → list_all f (drop i xs) ≡ all → list_all f (drop (i + 1) xs) ≡ all

@@ -88,7 +88,7 @@ middle_timely w all = timely_front (first_three w) check_ins_run (timely_front (
 pub first_timely : (w : World) → AreTimely (five_run w).acts → AreTimely (ticks_run 0 w).acts
 first_timely w all = timely_front (ticks_run 0 w) check_ins_run (timely_front (first_two w) (ticks_run 15) (middle_timely w all))
 
--- Who is up
+-- Nodes that are up
 
 -- the next node is up, so it is added
 pub roll_takes : (test : ℕ → Bool) (k end : ℕ) (out all : List ℕ) → k < end → test k ≡ true → out ++ filter test (range_with_len k (end - k)) ≡ all

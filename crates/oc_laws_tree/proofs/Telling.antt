@@ -111,7 +111,7 @@ module _ (h : Header) (w0 : World) where
         others = λ y not_child not_parent. ap (λ (k : Control). k.kept.log) (checked.others y not_child not_parent);
       }
 
-  -- All that waits at a node
+  -- All waiting facts of a node
 
   -- x has told all that waited
   pub record TellsAll (x p : ℕ) (ws : List Cert) (w : World) (r : Run) : Type 0 where

@@ -44,7 +44,7 @@ past_of e k (Some s) above =
     (or_cases (nat_lt s.epoch e) (e == s.epoch && nat_lt 0 s.depth) above) in
     or_left (nat_lt s.epoch (e + 1)) (e + 1 == s.epoch && nat_lt k s.depth) (lt-ltb s.epoch (e + 1) (omega (arith, low)))
 
--- By way of the root
+-- A join by way of the root
 
 module _ (h : Header) (m : ℕ) (w : World) (x p most : ℕ) (can : CanPut h m w x p most) (apart : p ≡ m → ⊥) where
   -- x asks the root in vain, since the root has a member before x as a child

@@ -20,7 +20,7 @@ Rises old (Some b) = IsAtLeast b (rank_or_last old)
 abbrev rank_by : ℕ → ℕ → Rank
 rank_by e d = record { epoch = e; depth = d }
 
--- At least as good ranks
+-- Ranks that are at least as good
 
 pub at_least_then : (a b c : Rank) → IsAtLeast a b → IsAtLeast b c → IsAtLeast a c
 at_least_then a b c (inl e) k = subst (λ r. IsAtLeast r c) (sym e) k

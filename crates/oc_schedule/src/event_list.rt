@@ -34,14 +34,14 @@ impl EventList {
         }
     }
 
-    /// How many there are.
+    /// The number of events.
     pub fn len(&self) -> usize
         ensures { result ≡ length self.now }
     {
         self.kept.len()
     }
 
-    /// Whether there are none.
+    /// Whether there are no events.
     pub fn is_empty(&self) -> bool
         ensures { result ≡ (length self.now == 0) }
     {
@@ -56,7 +56,7 @@ impl EventList {
         self.kept[place].event()
     }
 
-    /// Puts one at the end.
+    /// Puts an event at the end.
     pub fn push(&mut self, event: KeptEvent) -> Result<(), AllocError>
         ensures { OnOk result (self.new ≡ self.old ++ event_of event ∷ []) }
     {

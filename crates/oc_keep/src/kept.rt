@@ -158,7 +158,7 @@ impl<D: Disk> Kept<D> {
         Ok(self.commit(ready)?)
     }
 
-    /// Makes an input ready: takes all memory for its step, reads what the step sends, and changes
+    /// Makes an input ready: takes all memory for its step, reads the bytes that the step sends, and changes
     /// nothing. After `Disk` the node is closed.
     pub fn ready(&mut self, input: &Input) -> Result<Ready, ReadyError>
         requires { IsInput self.old.node.control.nodes self.old.node.control.me input.now }

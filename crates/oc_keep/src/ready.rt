@@ -9,7 +9,7 @@ use oc_store::Frame;
 use std::alloc::Global;
 use std::marker::Model;
 
-/// What a step writes: one frame of one file at most.
+/// The write of a step: at most one frame of one file.
 #[derive(Drop)]
 pub enum Write {
     Nothing,

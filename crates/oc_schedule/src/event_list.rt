@@ -6,7 +6,7 @@ use crate::kept_event::KeptEvent;
 use std::alloc::{AllocError, Global};
 use std::marker::Model;
 
-/// The events of a schedule, in their order. Contracts see the list of them.
+/// The events of a schedule, in their order. Contracts see them as a list.
 ///
 /// Starts, crashes, ticks and deliveries take 16 bytes each.
 #[derive(Debug, Drop)]

@@ -70,7 +70,7 @@ from_is : (c : List Rule) (stop : Option (Text × List Text)) (w : Walk) (word :
 from_is c (Some p) w word is = refl
 from_is c None w word is = ap (λ met. after_step c word w met.0 met.1) (met_is c w.is_trailing w.waiting w.position word w.held is)
 
--- and its faults
+-- the faults of the walk at a plain word
 abbrev plain_fault : Shape → Bool → Walk → Text → Kinds
 plain_fault s true w word = []
 plain_fault s false w word =
@@ -121,7 +121,7 @@ abbrev token_fault : Shape → Walk → Token → Kinds
 token_fault s w (free word) = plain_fault s (is_some w.stopped) w word
 token_fault s w (fixed word) = turn_fault s [] w word
 
--- the walk after all of them, and their faults
+-- the walk after all tokens, and their faults
 abbrev pub walk_tokens : List Rule → Walk → List Token → Walk
 walk_tokens c w [] = w
 walk_tokens c w (t ∷ ts) = walk_tokens c (step_token c w t) ts
@@ -156,7 +156,7 @@ faults_are s w (t ∷ ts) is =
 abbrev pub rows_of_tokens : Shape → List Token → List Row
 rows_of_tokens s ts = finished s.rules (walk_tokens s.rules (walk_from nothing_held) ts).held
 
--- its faults
+-- the faults of the tokens
 abbrev pub fault_of_tokens : Shape → List Token → Kinds
 fault_of_tokens s ts =
     let end = (walk_tokens s.rules (walk_from nothing_held) ts).held in

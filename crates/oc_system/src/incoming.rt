@@ -124,9 +124,9 @@ impl Incoming {
     }
 
     /// Whether the request can be looked at: it is whole, or its head asks for the permission to
-    /// send the body, or names a transfer coding, by which a reader refuses it, or it is longer
+    /// send the body, or names a transfer coding, for which a reader refuses the request, or it is longer
     /// than a request may be, or no head can begin with its bytes. A request that was left can be
-    /// looked at only after more of it came.
+    /// looked at only after more bytes of it came.
     pub(crate) fn is_ripe(&self, permitted: bool) -> bool
         ensures left { self.now.was_left ≡ true → result ≡ false }
     {

@@ -23,7 +23,7 @@ pub record AreSizes (n : Sizes) : Type 0 where
   pub sends : 1 ≤ n.chunk
   pub fits : n.chunk ≤ MAX_CHUNK_BYTES
 
--- in a network of these sizes, with areas of 0
+-- the header of a network of these sizes, with areas of 0
 abbrev pub header_without_areas : Sizes → Header
 header_without_areas n = header n.nodes n.chain n.chunk (replicate n.nodes 0)
 

@@ -13,7 +13,7 @@ abbrev pub get_lines : List ℕ → List ℕ → List ℕ → Option (List ℕ) 
 get_lines path query host token last =
     codes "GET " ++ path ++ query ++ codes " HTTP/1.1\r\nHost: " ++ host ++ codes "\r\n" ++ authorization_line token ++ last
 
--- after the reply the connection is closed
+-- the lines of a request whose connection is closed after the reply
 abbrev pub close_lines : List ℕ
 close_lines = codes "Connection: close\r\n\r\n"
 

@@ -32,7 +32,7 @@ joined (piece ∷ pieces) = piece ++ joined pieces
 abbrev pub IsPart : Bool → List ℕ → Type 0
 IsPart live piece = (least_piece live ≤ length piece) × (length piece ≤ PUT_PIECE_BYTES)
 
--- the last may be shorter; none is empty
+-- pieces of which the last may be shorter; none is empty
 abbrev pub AreSome : Bool → List (List ℕ) → Type 0
 AreSome live [] = ⊤
 AreSome live (piece ∷ []) = (0 < length piece) × (length piece ≤ PUT_PIECE_BYTES)

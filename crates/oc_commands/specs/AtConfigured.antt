@@ -31,7 +31,7 @@ abbrev pub UnlessChecked : ConfiguredEnd → Type 0 → Type 0
 UnlessChecked (Checked end) so = ⊤
 UnlessChecked end so = so
 
--- ---- which status has to come
+-- The status that has to come
 
 -- the status is 3 for a configuration without a node of this id; otherwise, over the files of a
 -- node, it is 0

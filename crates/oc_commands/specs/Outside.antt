@@ -130,7 +130,7 @@ pub record Outside : Type 1 where
   pub token : Input
   pub node : OnNode
 
--- ---- at a source, a sink, a stage, three disks and links, from the old value to the new one
+-- The outside over a source, a sink, a stage, three disks and links, from the old value to the new one
 
 module _ {S : Type 0} (gives fails : S → List ℕ → S → Type 0) (ended : S → Type 0) (faults : S → ℕ) where
   abbrev pub at_source : S → S → Input

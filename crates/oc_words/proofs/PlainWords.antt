@@ -33,7 +33,7 @@ use Rattle.oc_words.specs.declared.request.Service.{Service}
 use Rattle.oc_words.specs.declared.request.TheConstants.{ENDLESS, MAX_EVENTS, MAX_FOLLOWED}
 use Rattle.oc_words.proofs.Tokens.{Token, free, fixed, texts, AreFree, rows_of_tokens, fault_of_tokens, level_is, rows_are}
 
--- ---- the words of a row
+-- The words of a row
 
 -- a subcommand, built
 abbrev built_of : Shape → Shape
@@ -287,7 +287,7 @@ pub asked_by_rules : asked (codes "rules" ∷ []) ≡ Some (Rules None)
 unfolding asked verdict_of command clap_on_literals
 asked_by_rules = refl
 
--- ---- plain words ask for something
+-- Plain words ask for something
 
 and_false : (b : Bool) → (b && false) ≡ false
 and_false true = refl

@@ -50,7 +50,7 @@ pure_option : {X : Type 0} (f : X → Kinds) → ((x : X) → IsPure (f x)) → 
 pure_option f each None = pure_none
 pure_option f each (Some x) = each x
 
--- ---- one use of an argument
+-- One use of an argument
 
 -- a value that its parser refuses
 pure_value : (i : Bool) (p : ValueParser) (t : Text) → IsPure (value_kinds i p t)
@@ -109,7 +109,7 @@ pure_use again a values rows =
     pure_or_else _ _ (pure_range (unwrap_or_range a.range).start_inclusive (most_values a) (length values))
     (pure_action (action_of a) again a (values_or_missing a values) rows)
 
--- ---- a word
+-- A word
 
 module _ (c : List Rule) (again : Bool) where
   -- the use that was begun before
@@ -177,7 +177,7 @@ pure_other s (Some name) word h (inr none) = cc
 pure_other s (Some name) word h (inl off) =
     pure_help (bytes_eq name (codes "help")) s.disable_help_subcommand off
 
--- ---- the walk
+-- The walk
 
 -- no word is met as the subcommand `help`
 abbrev HasNoHelp : Shape → Names → Type 0
@@ -231,7 +231,7 @@ module _ (s : Shape) (names : Names) (quiet : HasNoHelp s names) where
   pure_walk w (word ∷ rest) =
       pure_or_else _ _ (pure_turn w word) (pure_walk (walked s.rules names w word) rest)
 
--- ---- after the walk
+-- The end of the walk
 
 -- the default of an argument
 pure_default : (rows : List Row) (a : Rule) → IsPure (default_fault rows a)

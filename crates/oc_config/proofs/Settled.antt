@@ -44,7 +44,7 @@ places_of text common s tables e =
       };
     }
 
--- what each table says, settings say
+-- the node of each table is in the settings
 pub settled_say : (text : Section) (s : Settings) (common : Common) (tables : List Section) → settings_in text ≡ Ok s → common_in text ≡ Ok common → node_tables_in text ≡ Ok tables
     → AllByRecursion (IsSaid s (greatest_of common tables)) tables
 settled_say text s common tables e said there =

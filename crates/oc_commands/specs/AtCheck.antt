@@ -1,7 +1,7 @@
 -- The effect of `check` at each of its ends.
 use Rattle.std.specs.Prelude.{ℕ, List, [], length}
 use Rattle.oc_base.specs.declared.limits.TheConstants.{USUAL_CHUNK_BYTES}
-use Rattle.oc_commands.specs.Checks.{header_without_areas}
+use Rattle.oc_schedule.specs.Lines.{header_without_areas}
 use Rattle.oc_config.specs.Settings.{Settings}
 use Rattle.oc_model.specs.declared.header.Sizes.{Sizes}
 use Rattle.oc_replay.specs.Pieces.{SomeFront}

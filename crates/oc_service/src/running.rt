@@ -106,7 +106,7 @@ pub fn run_node<D: Disk, L: Link, K: Sink>(
     }
 }
 
-/// Begins the run, and makes `most` turns; a law states what connections are given.
+/// Begins the run, and makes `most` turns; a law states the bytes that connections are given.
 fn run<D: Disk, L: Link, K: Sink>(turns: &mut Turns<D, L, K>, most: u64) -> TurnEnd
     requires ready { IsReady turns.old }
     requires measures { All (IsMeasure turns.old.server.kept.node.control.nodes) turns.old.server.config.measures }

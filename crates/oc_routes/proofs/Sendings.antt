@@ -17,7 +17,7 @@ use Rattle.oc_routes.specs.declared.routes.Operation.{Operation}
 use Rattle.oc_routes.specs.declared.routes.Operation.TheVariants.{Publish, Seal}
 use Rattle.oc_routes.specs.declared.showing.Shown.{Shown}
 
--- by whether the node has an address
+-- the reply by whether the node has an address
 abbrev chosen : Bool → Response → Response → Response
 chosen nowhere here there = if nowhere then here else there
 
@@ -27,7 +27,7 @@ kept_here (Ok x) address group start manner told last h none is =
     is ∙ sym (ap (λ (b : Bool). chosen b (here_response start manner last h) (whole (redirection (location_of address group start told manner)))) none)
 kept_here (Err e) address group start manner told last h none is = tt
 
--- by the Location that was made
+-- the redirection with the Location that was made
 pub sent_told : {M : Type 0} (r : Result Response M) (address group : List ℕ) (start : ℕ) (manner : Manner) (hint : Hint) (last : Bool) (h : Holding) (told location : List ℕ) → (length address == 0) ≡ false
     → told ≡ told_text hint h → location ≡ location_of address group start told manner
     → IfOk r (λ (x : Response). x ≡ whole (redirection location)) → IfOk r (λ (x : Response). x ≡ sent_response group start manner (told_text hint h) address last h)

@@ -1,4 +1,4 @@
-"""A browser without a window for `checks/page`: chromium, spoken to over a pipe of its own protocol."""
+"""A browser without a window for `checks/page`: chromium, controlled over a pipe by its own protocol."""
 
 import base64
 import json
@@ -14,7 +14,7 @@ NAMES = ("chromium", "chromium-browser", "google-chrome")
 
 
 def need_browser():
-    """The path of the browser; the script is left out where there is none."""
+    """The path of the browser; the script is left out if there is none."""
     found = next((path for path in map(shutil.which, NAMES) if path), None)
     if not found:
         leave_out("no chromium on this machine; on Debian install it by: apt-get install chromium")
@@ -22,7 +22,7 @@ def need_browser():
 
 
 class Browser:
-    """One page of a browser, and what happened on it."""
+    """One page of a browser, and the events on it."""
 
     def __enter__(self):
         path = need_browser()
@@ -31,7 +31,7 @@ class Browser:
         self.come, theirs_out = os.pipe()
 
         def places():
-            # The browser reads what it is told from 3 and answers at 4.
+            # The browser reads commands from descriptor 3 and answers on descriptor 4.
             os.dup2(theirs_in, 103)
             os.dup2(theirs_out, 104)
             os.dup2(103, 3)
@@ -58,7 +58,7 @@ class Browser:
         self.folder.cleanup()
 
     def call(self, method, **words):
-        """What a call of the protocol gives."""
+        """The result of a call of the protocol."""
         self.count += 1
         told = {"id": self.count, "method": method, "params": words}
         if self.session:
@@ -83,7 +83,7 @@ class Browser:
         return told["result"].get("value")
 
     def open(self, url, width, dark=False, media=""):
-        """Opens an address in a window of this width, as a telephone where it is narrow."""
+        """Opens an address in a window of this width, as a telephone if it is narrow."""
         self.events.clear()
         self.call("Emulation.setDeviceMetricsOverride", width=width, height=900, deviceScaleFactor=1, mobile=width < 600)
         self.call("Emulation.setEmulatedMedia", media=media,
@@ -97,7 +97,7 @@ class Browser:
             time.sleep(0.1)
 
     def faults(self):
-        """What went wrong in the scripts of the page."""
+        """The errors in the scripts of the page."""
         return [it["params"]["exceptionDetails"] for it in self.events if it.get("method") == "Runtime.exceptionThrown"]
 
     def asked(self):

@@ -1,4 +1,4 @@
-"""Running nodes of `overcast` for the checks beside this file and for `bench/node`."""
+"""Running nodes of `overcast` for the checks in this folder and for `bench/node`."""
 
 import http.client
 import json
@@ -18,24 +18,24 @@ TOP = os.path.dirname(os.path.dirname(os.path.abspath(__file__)))
 PROGRAM = os.environ.get("OVERCAST", os.path.join(TOP, "crates", "overcast", "out", "overcast"))
 # The status of a script that cannot run on this machine; `checks/all` counts it as left out.
 LEFT_OUT = 77
-# The ports of nodes begin here, past those of the examples.
+# The first port of nodes, above those of the examples.
 FIRST_PORT = 10_000
 
 
 def need_program():
-    """Ends with a line that says how to build the program, where it is not built."""
+    """Ends with a line on how to build the program, if it is not built."""
     if not os.access(PROGRAM, os.X_OK):
         sys.exit("the program is not built; build it by: ./overcast --build")
 
 
 def leave_out(why):
-    """Ends the script with a line that says why it cannot run here."""
+    """Ends the script with a line on why it cannot run here."""
     print(f"left out: {why}", flush=True)
     sys.exit(LEFT_OUT)
 
 
 def need_tools(*names):
-    """Leaves the script out where one of these tools is missing."""
+    """Leaves the script out if one of these tools is missing."""
     missing = [it for it in names if shutil.which(it) is None]
     if missing:
         leave_out(f"{' and '.join(missing)} {'is' if len(missing) == 1 else 'are'} not installed")
@@ -48,7 +48,7 @@ def processor(pid):
     return (int(fields[11]) + int(fields[12])) / os.sysconf("SC_CLK_TCK")
 
 
-# A name of the system for each port that was given out: the system frees it when the script ends, whatever its end.
+# A socket name for each port that was given out: the system frees it when the script ends, whatever its end.
 claims = []
 
 
@@ -72,8 +72,8 @@ def is_free(port):
 
 
 def free_ports(count):
-    """Ports of 127.0.0.1 on which nobody listens, and which no script beside this one is given. They are none of those that
-    the system gives to whoever connects, so the port of a node that is away for a while stays free."""
+    """Ports of 127.0.0.1 at which nobody listens, and which no other running script gets. They lie outside the range that
+    the system uses for outgoing connections, so the port of a node that is away for a while stays free."""
     with open("/proc/sys/net/ipv4/ip_local_port_range") as it:
         end = max(int(it.read().split()[0]), FIRST_PORT + 1_000)
     ports = []
@@ -130,8 +130,8 @@ class Network:
         return path
 
     def start(self, node, *words, head="", files=None, under=()):
-        """Starts a node with further words, with these lines at the head of its configuration, with at most this many open
-        files, and as what the command `under` runs; comes back once it listens."""
+        """Starts a node with further arguments, these lines at the top of its configuration, this limit on open files, and under
+        the command `under`; returns once it listens."""
         home = self.home(node)
         with open(os.path.join(home, "network.toml"), "w") as it:
             it.write(head + self.configuration)
@@ -159,7 +159,7 @@ class Network:
         it.wait()
 
     def lines(self, node):
-        """What a node has written."""
+        """The output of a node so far."""
         with open(os.path.join(self.home(node), "lines")) as it:
             return it.read().splitlines()
 
@@ -171,7 +171,7 @@ class Network:
         return f"http://{self.hosts[node - 1]}:{self.ports[node - 1]}{path}"
 
     def ask(self, node, method, path, body=None, timeout=10, fields=None):
-        """The status, the fields and the body that a node answers."""
+        """The status, the fields and the body of a node's reply."""
         it = http.client.HTTPConnection(*self.address(node), timeout=timeout)
         try:
             it.request(method, path, body=body, headers=fields or {})
@@ -181,23 +181,23 @@ class Network:
             it.close()
 
     def status(self, node):
-        """What a node tells of itself."""
+        """The status report of a node."""
         status, _, body = self.ask(node, "GET", "/!status")
         assert status == 200, (node, status)
         return json.loads(body)
 
     def asks(self):
-        """How often each running node has asked another to be its parent, since it first started."""
+        """For each running node, the number of times it has asked another to be its parent since its first start."""
         return {node: self.status(node)["seq"] for node in self.nodes}
 
     def parents(self):
-        """The parent of each running node, 0 of one that acts as root, and None of one that is not in the tree."""
+        """The parent of each running node, 0 for one that acts as root, and None for one that is not in the tree."""
         told = {node: self.status(node) for node in self.nodes}
         return {node: it["parent"] if it["mode"] == "joined" else 0 if it["mode"] == "acting" else None for node, it in told.items()}
 
     def disturbed(self):
-        """What makes running nodes ask that have a place: dials that failed, and the answer that a lease is not known; and how
-        far apart their ticks were. On a machine that has no time for the nodes there are some."""
+        """The reasons why running nodes with a place ask again: failed dials, and replies that a lease is not known; and the
+        intervals of their ticks. On an overloaded machine there are some."""
         found = []
         for node in sorted(self.nodes):
             lines = self.lines(node)
@@ -216,12 +216,12 @@ class Network:
         return it.stdout.splitlines()
 
     def has_joined(self, node):
-        """Whether the last `yes` came to a node: it takes what its parent has from then on."""
+        """Whether the last `yes` has reached a node, which from then on takes its parent's content."""
         return any(re.match(rf"recv {node} [0-9a-f]{{16}}04|is joined ", line) for line in self.lines(node))
 
     @staticmethod
     def wait_for(holds, what, seconds=60, step=0.02):
-        """Waits until something holds, and looks for it after each step, in seconds."""
+        """Waits until a condition holds, and tests it every `step` seconds."""
         end = time.monotonic() + seconds
         while not holds():
             if time.monotonic() > end:
@@ -230,5 +230,5 @@ class Network:
 
 
 def run(*words, home=None, **more):
-    """What a command of the program gives."""
+    """The result of a command of the program."""
     return subprocess.run([PROGRAM, *words], cwd=home, capture_output=True, **more)

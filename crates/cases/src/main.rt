@@ -1,9 +1,10 @@
-//! Plays tables of worked cases, and prints a line for each case: its name and `ok`, or what came in place of what
-//! has to come.
+//! Plays tables of worked cases, and prints a line for each case: its name and `ok`, or the words
+//! that came instead of the expected ones.
 //!
-//! First come the cases of the parts: each library plays the tables of a folder of its own in `data`. Then come runs of
-//! the program itself, which it is with any words: it starts itself, row by row, as processes on real files and sockets.
-//! A table is a file in `data`, whose first lines say how its rows are written.
+//! First come the cases of the parts: each library plays the tables of a folder of its own in
+//! `data`. Then come runs of the program itself, which this one is with any words: it starts
+//! itself, row by row, as processes on real files and sockets. A table is a file in `data`, and its
+//! first lines explain its rows.
 #![tactic(auto)]
 
 use oc_program::{given_words, run_words};

@@ -1,7 +1,9 @@
-//! Plays a schedule from the standard input, with no words: status 0 where its whole report was written, else 1.
+//! Replays a schedule from the standard input, without words: the status is 0 if its whole report
+//! was written, otherwise 1.
 //!
-//! The script `overcast` runs this where nothing is built yet. It reaches half of what the program reaches, so a first
-//! replay with no proof takes half the time; what it doesn't finish is asked of the program itself.
+//! The script `overcast` runs this before the program is built. It reaches half of the program's
+//! code, so a first replay without proofs takes half the time; a replay that does not finish is
+//! passed to the program itself.
 #![tactic(auto)]
 
 use oc_io::{ReaderSource, WriterSink};

@@ -1,4 +1,4 @@
--- What holds of each item of a list, and of one more.
+-- The properties of each item of a list, and of one more.
 use Rattle.std.proofs.Common.{ℕ, List, [], ◌∷◌, ◌++◌}
 use Rattle.std.specs.List.{AllByRecursion}
 use Rattle.oc_model.specs.declared.input.Input.{Input}

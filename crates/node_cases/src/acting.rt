@@ -1,16 +1,16 @@
-//! The steps of a row, one after another.
+//! The steps of a row, played one after another.
 
 use std::alloc::Global;
 use std::str::SplitAsciiWhitespace;
 use test_tools::{Fault, RowStep};
 
-/// What the steps of a row act on.
+/// The state on which the steps of a row act.
 pub trait Acts {
-    /// Does a step, and puts what it says.
+    /// Performs a step, and appends its result.
     fn act(&mut self, alloc: Global, step: RowStep<'_>, said: &mut String) -> Result<(), Fault>;
 }
 
-/// Does the steps, and puts what each says.
+/// Performs the steps, and appends their results.
 pub fn act_all<T: Acts>(
     alloc: Global,
     subject: &mut T,

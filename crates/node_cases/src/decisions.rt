@@ -1,4 +1,4 @@
-//! What a node decides and remembers.
+//! The decisions and the memory of a node.
 
 mod adoptions;
 mod leases;

@@ -1,4 +1,4 @@
-//! What a node stores on disks.
+//! The storage of a node on disks.
 
 mod contents;
 mod journals;

@@ -33,7 +33,7 @@ split_whole p xs h =
     let no = none_from_cond (ltb (position_or_len p xs) (length xs)) (position_or_len p xs) h in
     split_past_end p xs (grind (arith, nat_tests))
 
--- after the first part come the parts of what follows the separator
+-- the parts after the first one are those of the bytes after the separator
 pub split_at_first : (p : ℕ → Bool) (xs : List ℕ) (i : ℕ) → position p xs ≡ Some i → slice_split p xs ≡ take i xs ∷ slice_split p (take (length xs - (i + 1)) (drop (i + 1) xs))
 split_at_first p xs i h =
     let found = some_from_cond (ltb (position_or_len p xs) (length xs)) (position_or_len p xs) i h in

@@ -26,7 +26,7 @@ distinct_by_test (row ∷ rows) h =
     let b = and_parts _ _ h in
     AllPairs-cons (λ a b. a.code ≢ b.code) row rows (all_other row rows b.0) (distinct_by_test rows b.1)
 
--- and only where it is so
+-- distinct rows pass the test
 pub test_by_distinct : (rows : List CodeRow) → AreDistinct rows → are_distinct rows ≡ true
 test_by_distinct [] h = refl
 test_by_distinct (row ∷ rows) h =

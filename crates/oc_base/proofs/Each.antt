@@ -1,18 +1,18 @@
--- What holds of each element of a list.
+-- Properties of each item of a list.
 use Rattle.std.proofs.Common.{ℕ, zero, suc, ◌<◌, List, [], ◌∷◌, ◌++◌, length, get_or, arith}
 use Rattle.std.specs.List.{AllByRecursion}
 
--- what follows at each element holds of each
+-- a weaker property holds of each item too
 pub all_weaker : {X : Type 0} (P Q : X → Type 0) → ((x : X) → P x → Q x) → (xs : List X) → AllByRecursion P xs → AllByRecursion Q xs
 all_weaker P Q f [] all = tt
 all_weaker P Q f (x ∷ xs) all = (f x all.0, all_weaker P Q f xs all.1)
 
--- what holds of the elements of two lists holds of those of both in a row
+-- a property of the items of two lists holds of the items of both in a row
 pub all_append : {X : Type 0} (P : X → Type 0) (xs ys : List X) → AllByRecursion P xs → AllByRecursion P ys → AllByRecursion P (xs ++ ys)
 all_append P [] ys ps qs = qs
 all_append P (x ∷ xs) ys ps qs = (ps.0, all_append P xs ys ps.1 qs)
 
--- what holds of each holds at each index
+-- a property of each item holds at each index
 pub all_at : {X : Type 0} (P : X → Type 0) (xs : List X) → AllByRecursion P xs → (k : ℕ) (d : X) → k < length xs → P (get_or xs k d)
 all_at P [] all k d h = absurd (omega (arith, h))
 all_at P (x ∷ xs) all zero d h = all.0

@@ -40,7 +40,7 @@ none_written count blank xs none =
     let whole : count - 0 ≡ count = omega arith in
     ap (filled_up count blank) none ∙ ap (λ n. replicate n blank) whole
 
--- a slot among those that are written has what was put there
+-- a slot among the written ones has the value that was put there
 pub value_written : {X : Type 0} (count slot : ℕ) (blank other : X) (xs : List X) → slot < length xs → get_or (filled_up count blank xs) slot other ≡ get_or xs slot other
 value_written count slot blank other xs within = get_or_append_left xs (replicate (count - length xs) blank) other slot within
 
@@ -50,6 +50,6 @@ value_blank count slot blank other xs after within =
     get_or-append_right xs (replicate (count - length xs) blank) (length xs) slot other refl after
     ∙ get_or-replicate (count - length xs) (slot - length xs) blank other (omega (arith, after, within))
 
--- and past the last there is none
+-- no value is past the last slot
 pub value_past : {X : Type 0} (count slot : ℕ) (blank other : X) (xs : List X) → length xs ≤ count → count ≤ slot → get_or (filled_up count blank xs) slot other ≡ other
 value_past count slot blank other xs few past = get_or_past (filled_up count blank xs) slot other (rw (filled_length count blank xs few) past)

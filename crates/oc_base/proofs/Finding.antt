@@ -8,7 +8,7 @@ use Rattle.oc_base.specs.Named.{AreAbove, AreAscending, IsFoundAt, IsFreeAt}
 use Rattle.oc_base.proofs.Each.{all_append}
 use Rattle.oc_base.proofs.NameOrder.{names_tied, names_rise}
 
--- what is above a name is above a lesser one
+-- items above a name are above a lesser name
 pub above_lower : {A : Type 0} (name : A → List ℕ) (a b : List ℕ) (xs : List A) → slice_cmp nat_cmp a b ≡ Less → AreAbove name b xs → AreAbove name a xs
 above_lower name a b [] h all = tt
 above_lower name a b (x ∷ xs) h all = (names_rise a b (name x) h all.0, above_lower name a b xs h all.1)

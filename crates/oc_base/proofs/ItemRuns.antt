@@ -6,7 +6,7 @@ use Rattle.oc_base.specs.declared.field_fault.FieldFault.TheVariants as faults
 use Rattle.oc_base.specs.Steps.{◌>>=◌}
 use Rattle.oc_base.specs.Reading.{Reading, items_at, Gives}
 
--- what was read before, and what is still read
+-- the items read before, and after them those that are still read
 abbrev pub with_front : {A : Type 0} → List A → Reading (List A) → Reading (List A)
 with_front front read = read >>= λ x. Ok (front ++ x.0, x.1)
 
@@ -43,7 +43,7 @@ is_done {A = A} read kept before front count i next total le so_far =
     let one : with_front front (items_at read kept before (count - i) next) ≡ Ok (front, next) = rw k (ap (λ (xs : List A). Ok (xs, next)) (append-nil front)) in
     sym so_far ∙ one
 
--- an answer that is what reading gives
+-- an answer that equals the read
 pub gives : {A : Type 0} (answer read : Reading A) → read ≡ answer → Gives answer read
 gives (Ok x) read e = e
 gives (Err faults.Short) read e = e

@@ -25,7 +25,7 @@ part_more : (line : List ℕ) (parts : List (List ℕ)) → 0 < length parts →
 part_more line [] some = absurd (omega arith)
 part_more line (part ∷ parts) some = refl
 
--- after a first LF come the lines of what follows it
+-- the lines after a first LF are those of the bytes after it
 pub lines_more : (bytes line rest : List ℕ) → slice_split (λ b. b == 10) bytes ≡ line ∷ slice_split (λ b. b == 10) rest → lines bytes ≡ strip_carriage_return line ∷ lines rest
 lines_more bytes line rest h =
     ap lines_of_parts h ∙ part_more line (slice_split (λ b. b == 10) rest) (omega (arith, length-slice_split (λ b. b == 10) rest))

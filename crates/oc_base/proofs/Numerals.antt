@@ -1,4 +1,4 @@
--- What std's `parse` says of digits.
+-- The contract of std's `parse`, for digits.
 use Rattle.std.proofs.Common.{◌≡◌, ℕ, ◌<◌, ◌^◌, true, List, length, Result, Ok, Err, rules}
 use Rattle.std.specs.Char.{is_ascii_digit}
 use Rattle.std.specs.List.{list_all}

@@ -42,7 +42,7 @@ bind_assoc (Err fault) f g = refl
 pub two_are : {A B Y : Type 0} (r : ℕ → Reading A) (s : ℕ → Reading B) (make : A → B → Y) (at : ℕ) → two_fields r s make at ≡ one_field (pair_at r s) (λ x. make x.0 x.1) at
 two_are r s make at = sym (simp bind_assoc)
 
--- and so with three fields
+-- the same with three fields
 pub three_are : {A B C Y : Type 0} (r : ℕ → Reading A) (s : ℕ → Reading B) (t : ℕ → Reading C) (make : A → B → C → Y) (at : ℕ) → three_fields r s t make at ≡ one_field (pair_at (pair_at r s) t) (λ x. make x.0.0 x.0.1 x.1) at
 three_are r s t make at = sym (simp bind_assoc)
 
@@ -50,12 +50,12 @@ three_are r s t make at = sym (simp bind_assoc)
 pub four_are : {A B C D Y : Type 0} (r : ℕ → Reading A) (s : ℕ → Reading B) (t : ℕ → Reading C) (u : ℕ → Reading D) (make : A → B → C → D → Y) (at : ℕ) → four_fields r s t u make at ≡ one_field (pair_at (pair_at (pair_at r s) t) u) (λ x. make x.0.0.0 x.0.0.1 x.0.1 x.1) at
 four_are r s t u make at = sym (simp bind_assoc)
 
--- and with six
+-- the same with six fields
 pub six_are : {A B C D E G Y : Type 0} (r : ℕ → Reading A) (s : ℕ → Reading B) (t : ℕ → Reading C) (u : ℕ → Reading D) (v : ℕ → Reading E) (w : ℕ → Reading G) (make : A → B → C → D → E → G → Y) (at : ℕ)
     → six_fields r s t u v w make at ≡ one_field (pair_at (pair_at (pair_at (pair_at (pair_at r s) t) u) v) w) (λ x. make x.0.0.0.0.0 x.0.0.0.0.1 x.0.0.0.1 x.0.0.1 x.0.1 x.1) at
 six_are r s t u v w make at = sym (simp bind_assoc)
 
--- what was made has what was read
+-- a value that was made has the fields that were read
 pub made_takes : {A Y : Type 0} {nodes : ℕ} {bytes : List ℕ} {read : ℕ → Reading A} {text : A → List ℕ} {P : A → Type 0} → Reads nodes bytes read text P → (make : A → Y) (Q : Y → ℕ → Type 0) → IsBytes bytes → (at : ℕ) (y : Y) (next : ℕ)
     → ((x : A) (next : ℕ) → P x → Takes bytes at (text x) next → Q (make x) next) → one_field read make at ≡ Ok (y, next) → Q y next
 made_takes {A = A} {Y = Y} {read = read} r make Q fits at y next has e =
@@ -64,7 +64,7 @@ made_takes {A = A} {Y = Y} {read = read} r make Q fits at y next has e =
     let made : Y × ℕ = (make a.0.0, a.0.1) in
     subst (λ (z : Y × ℕ). Q z.0 z.1) (ok_is made (y, next) a.2) (has a.0.0 a.0.1 t.0 t.1)
 
--- what is there is read and made
+-- fields that are there are read, and the value is made
 pub made_again : {A Y : Type 0} {nodes : ℕ} {bytes : List ℕ} {read : ℕ → Reading A} {text : A → List ℕ} {P : A → Type 0} → Reads nodes bytes read text P → (make : A → Y) → nodes < 2 ^ 32 → (at : ℕ) (x : A) (next : ℕ)
     → P x → Takes bytes at (text x) next → one_field read make at ≡ Ok (make x, next)
 made_again r make few at x next h t = rw (r.again few at x next h t) refl

@@ -35,7 +35,7 @@ IsAt bytes at text = (rest : List ℕ) × (drop at bytes ≡ text ++ rest)
 pub first_at : (bytes : List ℕ) (at : ℕ) (a b : List ℕ) → IsAt bytes at (a ++ b) → IsAt bytes at a
 first_at bytes at a b s = (b ++ s.0, s.1 ∙ append_assoc a b s.0)
 
--- and what follows the prefix follows it there
+-- the bytes after the prefix are there too
 pub second_at : (bytes : List ℕ) (at : ℕ) (a b : List ℕ) → IsAt bytes at (a ++ b) → IsAt bytes (at + length a) b
 second_at bytes at a b s =
     (s.0, sym (drop-drop (length a) at bytes) ∙ ap (drop (length a)) (s.1 ∙ append_assoc a b s.0) ∙ drop_at a (b ++ s.0) (length a) refl)
@@ -62,7 +62,7 @@ takes_both bytes at a mid b next s t = record {
 pub takes_first : (bytes : List ℕ) (at : ℕ) (a b : List ℕ) (next : ℕ) → Takes bytes at (a ++ b) next → Takes bytes at a (at + length a)
 takes_first bytes at a b next t = record { there = first_at bytes at a b t.there; moved = refl }
 
--- and the second of two texts one after the other
+-- the second of two texts one after the other
 pub takes_second : (bytes : List ℕ) (at : ℕ) (a b : List ℕ) (next : ℕ) → Takes bytes at (a ++ b) next → Takes bytes (at + length a) b next
 takes_second bytes at a b next t = record { there = second_at bytes at a b t.there; moved = omega (arith, t.moved, length-append a b) }
 
@@ -75,7 +75,7 @@ pub bind_ok : {A B F : Type 0} (r : Result A F) (f : A → Result B F) (y : B) �
 bind_ok (Ok x) f y e = (x, refl, e)
 bind_ok (Err fault) f y e = absurd cc
 
--- what a test gives is what one of its branches gives
+-- the result of a test has a property that both branches have
 pub tested : {A F : Type 0} (b : Bool) (x z : Result A F) (y : A) (Q : Type 0) → cond b x z ≡ Ok y → (b ≡ true → x ≡ Ok y → Q) → (z ≡ Ok y → Q) → Q
 tested true x z y Q e f g = f refl e
 tested false x z y Q e f g = g e

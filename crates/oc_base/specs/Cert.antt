@@ -1,7 +1,7 @@
 use Rattle.std.specs.Prelude.{◌≡◌, ◌<◌, ◌⊎◌, true, false}
 use Rattle.oc_base.specs.declared.cert.Cert.{Cert}
 
--- which of two words on one subject is later: the greater ask number; at one number death; and at one state the greater own number
+-- whether a certificate is a later word on its subject: by the ask number, then by death, then by the own number
 abbrev pub Outranks : Cert → Cert → Type 0
 Outranks k f =
     (f.seq < k.seq)

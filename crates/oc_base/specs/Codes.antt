@@ -3,11 +3,11 @@ use Rattle.std.specs.Prelude.{ℕ, ◌≢◌, ◌==◌, Bool, true, not, ◌&&�
 use Rattle.std.specs.List.{AllPairs, list_all, position}
 use Rattle.oc_base.specs.declared.code_row.CodeRow.{CodeRow}
 
--- the place of the first row with this code
+-- the index of the first row with this code
 abbrev pub row_of : ℕ → List CodeRow → Option ℕ
 row_of code rows = position (λ row. row.code == code) rows
 
--- no two rows have one code
+-- no two rows have the same code
 abbrev pub AreDistinct : List CodeRow → Type 0
 AreDistinct rows = AllPairs (λ a b. a.code ≢ b.code) rows
 

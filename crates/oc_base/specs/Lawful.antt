@@ -8,7 +8,7 @@ use Rattle.oc_base.specs.declared.rank.Rank.{Rank}
 use Rattle.oc_base.specs.declared.refusal.Refusal.{Refusal}
 use Rattle.oc_base.specs.declared.refusal.Refusal.TheVariants as refusals
 
--- the id of one of `nodes` nodes
+-- the id of a node, in a network of `nodes` nodes
 abbrev pub IsNode : ℕ → ℕ → Type 0
 IsNode nodes x = (1 ≤ x) × (x ≤ nodes)
 
@@ -16,12 +16,12 @@ IsNode nodes x = (1 ≤ x) × (x ≤ nodes)
 abbrev pub AreNodes : ℕ → List ℕ → Type 0
 AreNodes nodes xs = AllByRecursion (IsNode nodes) xs
 
--- no id, or that of a node
+-- no id, or the id of a node
 abbrev pub IsNodeOrNone : ℕ → Option ℕ → Type 0
 IsNodeOrNone nodes None = Unit {0}
 IsNodeOrNone nodes (Some x) = IsNode nodes x
 
--- bytes per second
+-- a rate in bytes per second, at most 2^40
 abbrev pub IsRate : ℕ → Type 0
 IsRate r = r ≤ MAX_RATE
 
@@ -42,7 +42,7 @@ abbrev pub IsRankOrNone : Option Rank → Type 0
 IsRankOrNone None = Unit {0}
 IsRankOrNone (Some r) = IsRank r
 
--- a certificate of nodes, of an ask that was counted
+-- a certificate about nodes of this network, of an ask with a number above 0
 pub record IsCert (nodes : ℕ) (c : Cert) : Type 0 where
   pub subject : IsNode nodes c.subject
   pub seq : IsCount c.seq
@@ -50,20 +50,20 @@ pub record IsCert (nodes : ℕ) (c : Cert) : Type 0 where
   pub number : IsLong c.number
   pub clients : IsLong c.clients
 
--- such certificates
+-- certificates that are all of this kind
 abbrev pub AreCerts : ℕ → List Cert → Type 0
 AreCerts nodes cs = AllByRecursion (IsCert nodes) cs
 
--- ids of nodes, of which a node may keep as many as ancestors
+-- ids of nodes, at most as many as a node keeps as ancestors
 abbrev pub AreAncestors : ℕ → List ℕ → Type 0
 AreAncestors nodes xs = AreNodes nodes xs × (length xs ≤ MAX_ANCESTORS)
 
--- a refusal that names a node at most
+-- a refusal; `Chain` names a node
 abbrev pub IsRefusal : ℕ → Refusal → Type 0
 IsRefusal nodes (refusals.Chain k) = IsNode nodes k
 IsRefusal nodes why = Unit {0}
 
--- children with their rates, each of a greater id than those before
+-- children with their rates, ascending by id
 abbrev pub AreChildren : ℕ → List Child → Type 0
 AreChildren nodes [] = Unit {0}
 AreChildren nodes (c ∷ cs) = IsNode nodes c.id × IsRate c.rate × AllByRecursion (λ d. c.id < d.id) cs × AreChildren nodes cs

@@ -1,4 +1,4 @@
--- Lists of what has a name, ascending by name, and the index of a name in one.
+-- Lists of items with names, ascending by name, and the index of a name in such a list.
 use Rattle.std.specs.Prelude.{◌≡◌, ℕ, zero, suc, ◌<◌, Bool, true, false, List, [], ◌∷◌}
 use Rattle.std.specs.List.{AllByRecursion}
 use Rattle.std.specs.declared.cmp.Ordering.TheVariants.{Less, Greater}
@@ -7,11 +7,11 @@ use Rattle.std.specs.Cmp.Lexicographic.{slice_cmp}
 use Rattle.oc_base.specs.declared.named.Lookup.{Lookup}
 use Rattle.oc_base.specs.declared.named.Lookup.TheVariants.{Found, Free}
 
--- whether two names are one
+-- whether two names are equal
 abbrev pub same_name : List ℕ → List ℕ → Bool
 same_name a b = is_eq (slice_cmp nat_cmp a b)
 
--- all these have greater names
+-- all items have names greater than this one
 abbrev pub AreAbove : {A : Type 0} → (A → List ℕ) → List ℕ → List A → Type 0
 AreAbove name g xs = AllByRecursion (λ x. slice_cmp nat_cmp g (name x) ≡ Less) xs
 
@@ -20,19 +20,19 @@ abbrev pub AreAscending : {A : Type 0} → (A → List ℕ) → List A → Type 
 AreAscending name [] = Unit {0}
 AreAscending name (x ∷ xs) = AreAbove name (name x) xs × AreAscending name xs
 
--- the name is at index i, after lesser ones
+-- the name is at index i, after smaller names
 abbrev pub IsFoundAt : {A : Type 0} → (A → List ℕ) → List A → List ℕ → ℕ → Type 0
 IsFoundAt name [] g i = ⊥
 IsFoundAt name (x ∷ xs) g zero = name x ≡ g
 IsFoundAt name (x ∷ xs) g (suc i) = (slice_cmp nat_cmp g (name x) ≡ Greater) × IsFoundAt name xs g i
 
--- the name is absent and would be at index i, after the lesser ones and before the greater
+-- the name is absent and would be at index i, after the smaller names and before the greater ones
 abbrev pub IsFreeAt : {A : Type 0} → (A → List ℕ) → List A → List ℕ → ℕ → Type 0
 IsFreeAt name xs g zero = AreAbove name g xs
 IsFreeAt name [] g (suc i) = ⊥
 IsFreeAt name (x ∷ xs) g (suc i) = (slice_cmp nat_cmp g (name x) ≡ Greater) × IsFreeAt name xs g i
 
--- where the name is or would be
+-- the result of a search for the name
 abbrev pub LooksUp : {A : Type 0} → (A → List ℕ) → List A → List ℕ → Lookup → Type 0
 LooksUp name xs g (Found i) = IsFoundAt name xs g i
 LooksUp name xs g (Free i) = IsFreeAt name xs g i

@@ -11,35 +11,35 @@ is_name_byte b =
     || b == 47 || b == 46 || b == 95 || b == 126 || b == 45
     || b == 43 || b == 58 || b == 61 || b == 64 || b == 44 || b == 40 || b == 41
 
--- what comes between two slashes: neither nothing, nor one dot, nor two
+-- a segment between two slashes: not empty, not one dot, and not two dots
 abbrev pub is_segment : List ℕ → Bool
 is_segment [] = false
 is_segment (a ∷ []) = not (a == 46)
 is_segment (a ∷ b ∷ []) = not (a == 46 && b == 46)
 is_segment (a ∷ b ∷ c ∷ rest) = true
 
--- a slash, and segments with a slash between each two
+-- a path: a slash, and segments with a slash between each two of them
 abbrev pub is_path : List ℕ → Bool
 is_path [] = false
 is_path (b ∷ rest) = b == 47 && list_all is_segment (slice_split (λ x. x == 47) rest)
 
--- the fault of a name of a right length: its first byte that no name has, or its form
+-- the fault of a name of a valid length: its first byte that no name has, or else its form
 abbrev pub fault_at : Option ℕ → Bool → Option NameFault
 fault_at (Some i) formed = Some (Byte i)
 fault_at None formed = if formed then None else Some Form
 
--- why these bytes are no group name, if they are none: the length first, then the first byte, then the form
+-- the reason why these bytes are no group name, if any: the length first, then the first invalid byte, then the form
 abbrev pub name_fault : List ℕ → Option NameFault
 name_fault bytes =
     if nat_lt (length bytes) MIN_NAME_BYTES || nat_lt MAX_NAME_BYTES (length bytes) then Some Length
     else fault_at (position (λ b. not (is_name_byte b)) bytes) (is_path bytes)
 
--- the bytes where there is no fault, and else the fault
+-- the fault, or the bytes where there is none
 abbrev pub name_or : List ℕ → Option NameFault → Result (List ℕ) NameFault
 name_or bytes None = Ok bytes
 name_or bytes (Some fault) = Err fault
 
--- what parsing gives: these very bytes, or the first fault
+-- the result of parsing: the bytes themselves, or the first fault
 abbrev pub parsed_name : List ℕ → Result (List ℕ) NameFault
 parsed_name bytes = name_or bytes (name_fault bytes)
 

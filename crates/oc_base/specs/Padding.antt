@@ -6,6 +6,6 @@ use Rattle.std.proofs.Common.{arith, sym, ap, ◌∙◌, length-take}
 pub length_of_front : (n : ℕ) (xs : List ℕ) → n ≤ MAX_NAME_BYTES → length xs ≡ MAX_NAME_BYTES → length (take n xs) ≡ n
 length_of_front n xs few long = grind (arith, length-take)
 
--- a name that is filled up again is what it was
+-- a name that is cut to its length and filled up again does not change
 pub padded_again : (n : ℕ) (xs : List ℕ) → n ≤ MAX_NAME_BYTES → length xs ≡ MAX_NAME_BYTES → xs ≡ take n xs ++ replicate (MAX_NAME_BYTES - n) 0 → take n xs ++ replicate (MAX_NAME_BYTES - length (take n xs)) 0 ≡ xs
 padded_again n xs few long zeros = ap (λ (k : ℕ). take n xs ++ replicate (MAX_NAME_BYTES - k) 0) (length_of_front n xs few long) ∙ sym zeros

@@ -1,4 +1,4 @@
--- What bytes stand for as fields of a binary format, with the first fault from the left.
+-- The values of bytes that are read as fields of a binary format, with the first fault from the left.
 use Rattle.std.specs.Prelude.{◌≡◌, ℕ, zero, suc, ◌+◌, ◌-◌, ◌^◌, Bool, ◌||◌, ◌==◌, nat_lt, if◌then◌else◌, Result, Ok, Err, List, [], ◌∷◌, length, take, drop}
 use Rattle.std.specs.Int.{Width, w8, w16, w32, w64}
 use Rattle.oc_base.specs.declared.cert.Cert.{Cert}
@@ -10,12 +10,12 @@ use Rattle.oc_base.specs.declared.rank.Rank.{Rank}
 use Rattle.oc_base.specs.Fields.{number_at}
 use Rattle.oc_base.specs.Steps.{◌>>=◌}
 
--- a field that is cut off
+-- the value, or `Short` as the fault of a field that is cut off
 abbrev pub or_short : {A : Type 0} → Result A Short → Result A FieldFault
 or_short (Ok x) = Ok x
 or_short (Err short) = Err faults.Short
 
--- what is read at an index: a value and the next index, or a fault
+-- a read of a field at an index: a value and the next index, or a fault
 abbrev pub Reading : Type 0 → Type 0
 Reading A = Result (A × ℕ) FieldFault
 
@@ -39,11 +39,11 @@ long_at bytes at = or_short (number_at w64 bytes at)
 abbrev pub count_at : List ℕ → ℕ → Reading ℕ
 count_at bytes at = within_at w64 1 (2 ^ 64 - 1) bytes at
 
--- the id of one of the nodes, whose ids are 1 to their number
+-- the id of a node, in a network of this many nodes
 abbrev pub id_at : ℕ → List ℕ → ℕ → Reading ℕ
 id_at nodes bytes at = within_at w32 1 nodes bytes at
 
--- a rate
+-- a rate in bytes per second
 abbrev pub rate_at : List ℕ → ℕ → Reading ℕ
 rate_at bytes at = within_at w64 0 MAX_RATE bytes at
 
@@ -53,11 +53,11 @@ flag_at bytes at = do
   byte ← within_at w8 0 1 bytes at
   Ok (byte.0 == 1, byte.1)
 
--- this count of bytes
+-- this number of bytes
 unfoldable pub text_at : List ℕ → ℕ → ℕ → Reading (List ℕ)
 text_at bytes count at = if nat_lt (length bytes) (at + count) then Err faults.Short else Ok (take count (drop at bytes), at + count)
 
--- Fields one after the other, and what is made of them
+-- Fields one after another, and the value that is made of them
 
 -- one field
 abbrev pub one_field : {A Y : Type 0} → (ℕ → Reading A) → (A → Y) → ℕ → Reading Y
@@ -113,7 +113,7 @@ cert_at nodes bytes at =
 
 -- Lists
 
--- a count of items one after the other; the range of an item may depend on the item before it, of which kept is what matters
+-- this number of items, one after another; the range of an item may depend on a part of the item before it, its state
 unfoldable pub items_at : {A S : Type 0} → (S → ℕ → Reading A) → (A → S) → S → ℕ → ℕ → Reading (List A)
 items_at read kept before zero at = Ok ([], at)
 items_at read kept before (suc count) at = do
@@ -121,11 +121,11 @@ items_at read kept before (suc count) at = do
   rest ← items_at read kept (kept first.0) count first.1
   Ok (first.0 ∷ rest.0, rest.1)
 
--- a count of items that don't depend on one another
+-- this number of items that do not depend on each other
 abbrev pub each_at : {A : Type 0} → (ℕ → Reading A) → ℕ → ℕ → Reading (List A)
 each_at read count at = items_at (λ (before : Unit {0}). read) (λ item. tt) tt count at
 
--- a list after its length
+-- a list with its length in front
 abbrev pub list_at : {A : Type 0} → (ℕ → Reading ℕ) → (ℕ → ℕ → Reading (List A)) → ℕ → Reading (List A)
 list_at size items at = do
   count ← size at
@@ -135,7 +135,7 @@ list_at size items at = do
 unfoldable pub ancestors_at : ℕ → List ℕ → ℕ → Reading (List ℕ)
 ancestors_at nodes bytes at = list_at (within_at w16 0 MAX_ANCESTORS bytes) (each_at (id_at nodes bytes)) at
 
--- what a call answered is what reading gives, unless memory ran out
+-- a call answers the same as this read, except that memory may run out
 abbrev pub Gives : {A : Type 0} → Reading A → Reading A → Type 0
 Gives (Err faults.Memory) read = Unit {0}
 Gives answer read = read ≡ answer

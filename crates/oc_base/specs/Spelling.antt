@@ -1,4 +1,4 @@
--- How the fields of binary formats are spelled. Numbers are big-endian.
+-- The bytes of the fields of binary formats. Numbers are big-endian.
 use Rattle.std.specs.Prelude.{ℕ, Bool, if◌then◌else◌, List, [], ◌∷◌, ◌++◌, length}
 use Rattle.std.specs.List.{flat_map}
 use Rattle.std.specs.Int.{w16, w32, w64, to_be_bytes}
@@ -25,7 +25,7 @@ flag b = (if b then 1 else 0) ∷ []
 abbrev pub rank_bytes : Rank → List ℕ
 rank_bytes rank = eight rank.epoch ++ four rank.depth
 
--- subject, ask number, parent, and whether it is dead
+-- subject, ask number and parent, and whether the lease is dead
 abbrev pub lease_bytes : ℕ → ℕ → ℕ → Bool → List ℕ
 lease_bytes subject seq parent dead = four subject ++ eight seq ++ four parent ++ flag dead
 
@@ -33,6 +33,6 @@ lease_bytes subject seq parent dead = four subject ++ eight seq ++ four parent +
 abbrev pub cert_bytes : Cert → List ℕ
 cert_bytes cert = lease_bytes cert.subject cert.seq cert.parent cert.dead ++ eight cert.number ++ eight cert.clients
 
--- the count of ids, and each of them
+-- the number of ids in two bytes, and each id
 abbrev pub ids_bytes : List ℕ → List ℕ
 ids_bytes ids = two (length ids) ++ flat_map four ids

@@ -2,7 +2,7 @@ use Rattle.std.specs.Prelude.{ℕ, List, codes}
 use Rattle.oc_base.specs.declared.why.Why.{Why}
 use Rattle.oc_base.specs.declared.why.Why.TheVariants.{Header, Word, Count, Number, Range, Group, Hex}
 
--- the word that names a cause
+-- the word for a cause in an error line
 abbrev pub why_text : Why → List ℕ
 why_text Header = codes "header"
 why_text Word = codes "word"

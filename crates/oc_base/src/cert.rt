@@ -3,8 +3,8 @@ ghost use Rattle.oc_base.specs.Cert.{Outranks};
 
 use crate::NodeId;
 
-/// A birth or death certificate: the subject's ask number `seq` went to the parent, the lease of that ask is
-/// alive or dead, and the subject had served `clients` clients at its own number `number`.
+/// A birth or death certificate: the ask `seq` of the subject went to the parent, the lease of that ask is alive or
+/// dead, and the subject had served `clients` clients at its own number `number`.
 #[derive(Clone, Copy, Debug, PartialEq, Eq)]
 pub struct Cert {
     pub subject: NodeId,
@@ -16,7 +16,7 @@ pub struct Cert {
 }
 
 impl Cert {
-    /// Whether this certificate is a later word on its subject than the other.
+    /// Whether this certificate is a later word on the same subject than the other one.
     pub fn outranks(&self, other: &Cert) -> bool
         requires { self.now.subject ≡ other.now.subject }
         ensures { IsTrue result ↔ Outranks self.now other.now }

@@ -2,22 +2,22 @@ ghost use Rattle.std.specs.Prelude.{◌≡◌, ◌↔◌, ◌==◌, not, IsTrue}
 ghost use Rattle.std.specs.List.{list_all};
 ghost use Rattle.oc_base.specs.Codes.{row_of, AreDistinct, are_distinct};
 
-/// A kind of a binary format: its code, and the least length of its fields in bytes.
+/// A kind in a binary format: its code, and the least length of its fields in bytes.
 #[derive(Clone, Copy, Debug, PartialEq, Eq)]
 pub struct CodeRow {
     pub code: u8,
-    /// In bytes.
+    /// The least length of the fields, in bytes.
     pub least: u32,
 }
 
-/// The place of the first row with this code.
+/// Finds the index of the first row with this code.
 pub fn row_of<const N: usize>(rows: &[CodeRow; N], code: u8) -> Option<usize>
     ensures { result ≡ row_of code rows.now }
 {
     rows.iter().position(|row| row.code == code)
 }
 
-/// Whether no two rows have one code.
+/// Whether no two rows have the same code.
 pub fn distinct<const N: usize>(rows: &[CodeRow; N]) -> bool
     ensures exact { IsTrue result ↔ AreDistinct rows.now }
     ensures computed { result ≡ are_distinct rows.now }

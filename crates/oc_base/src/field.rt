@@ -6,7 +6,7 @@ ghost use Rattle.oc_base.specs.Fields.{number_at};
 #[derive(Clone, Copy, Debug, PartialEq, Eq)]
 pub struct Short;
 
-/// The byte at a place, and the next place.
+/// Reads the byte at a place; answers it with the next place.
 pub fn take_u8(input: &[u8], at: usize) -> Result<(u8, usize), Short>
     ensures { result ≡ number_at w8 input.now at }
 {
@@ -14,7 +14,7 @@ pub fn take_u8(input: &[u8], at: usize) -> Result<(u8, usize), Short>
     Ok((field[0], next))
 }
 
-/// The big-endian number of two bytes at a place, and the next place.
+/// Reads the big-endian number of two bytes at a place; answers it with the next place.
 pub fn take_u16(input: &[u8], at: usize) -> Result<(u16, usize), Short>
     ensures { result ≡ number_at w16 input.now at }
 {
@@ -22,7 +22,7 @@ pub fn take_u16(input: &[u8], at: usize) -> Result<(u16, usize), Short>
     Ok((u16::from_be_bytes([field[0], field[1]]), next))
 }
 
-/// The big-endian number of four bytes at a place, and the next place.
+/// Reads the big-endian number of four bytes at a place; answers it with the next place.
 pub fn take_u32(input: &[u8], at: usize) -> Result<(u32, usize), Short>
     ensures { result ≡ number_at w32 input.now at }
 {
@@ -31,7 +31,7 @@ pub fn take_u32(input: &[u8], at: usize) -> Result<(u32, usize), Short>
     Ok((number, next))
 }
 
-/// The big-endian number of eight bytes at a place, and the next place.
+/// Reads the big-endian number of eight bytes at a place; answers it with the next place.
 pub fn take_u64(input: &[u8], at: usize) -> Result<(u64, usize), Short>
     ensures { result ≡ number_at w64 input.now at }
 {
@@ -42,7 +42,7 @@ pub fn take_u64(input: &[u8], at: usize) -> Result<(u64, usize), Short>
     Ok((number, next))
 }
 
-/// `count` bytes from a place on, and the next place.
+/// Reads `count` bytes from a place on; answers them with the next place.
 pub fn take_bytes(input: &[u8], at: usize, count: usize) -> Result<(&[u8], usize), Short>
     ensures bytes { IfOk result (λ field. field.0.now ≡ take count (drop at input.now)) }
     ensures next { IfOk result (λ field. field.1 ≡ at + count) }

@@ -4,7 +4,7 @@ ghost use Rattle.oc_base.specs.declared.field_fault.FieldFault.TheVariants.{Memo
 use crate::{Memory, Short};
 use std::alloc::{AllocError, AllocFailed};
 
-/// Why a field of a binary format is not read.
+/// Why a field of a binary format can't be read.
 #[derive(Clone, Copy, Debug, PartialEq, Eq)]
 pub enum FieldFault {
     /// Too few bytes are left for the field.

@@ -1,6 +1,6 @@
 use crate::{Bytes, GroupName};
 
-/// A group as a node holds it: its bytes from the first on, and whether it is sealed.
+/// A group at a node: its bytes from the first on, and whether it is sealed.
 #[derive(Clone, Debug, Drop)]
 pub struct Group {
     pub name: GroupName,

@@ -17,8 +17,8 @@ use std::marker::Model;
 
 /// The name of a group: the path of its URL. Names are ordered by their bytes.
 ///
-/// It is 2 to 200 bytes, each a letter, a digit or one of `/`, `.`, `_`, `~`, `-`, `+`, `:`, `=`, `@`, `,`,
-/// `(` and `)`. It begins with `/`, and no segment between slashes or after the last is empty, `.` or `..`.
+/// A name has 2 to 200 bytes, each a letter, a digit or one of `/`, `.`, `_`, `~`, `-`, `+`, `:`, `=`, `@`, `,`,
+/// `(` and `)`. The first byte is `/`, and no segment between slashes or after the last is empty, `.` or `..`.
 #[derive(Clone, Copy)]
 pub struct GroupName {
     bytes: [u8; MAX_NAME_BYTES],
@@ -57,7 +57,7 @@ pub enum NameFault {
 }
 
 impl GroupName {
-    /// Reads a name, and takes no memory. The faults come in the order of [`NameFault`].
+    /// Reads a name, without taking memory. Of several faults it answers the first, in the order of [`NameFault`].
     pub fn parse(bytes: &[u8]) -> Result<GroupName, NameFault>
         ensures { result ≡ parsed_name bytes.now }
     {
@@ -87,7 +87,7 @@ impl GroupName {
     }
 }
 
-/// The first fault, in the order of [`NameFault`].
+/// Finds the first fault, in the order of [`NameFault`].
 fn fault_in(bytes: &[u8]) -> Option<NameFault>
     ensures { result ≡ name_fault bytes.now }
 {
@@ -102,7 +102,7 @@ fn fault_in(bytes: &[u8]) -> Option<NameFault>
     }
 }
 
-/// The place of the first byte that no name has.
+/// Finds the index of the first byte that no name has.
 fn first_strange(bytes: &[u8]) -> Option<usize>
     ensures { result ≡ position (λ b. not (is_name_byte b)) bytes.now }
 {

@@ -1,19 +1,19 @@
-//! What every other crate names: node ids, ranks, certificates, group names, the small list types,
+//! The basic types that all crates share: node ids, ranks, certificates, group names, the small list types,
 //! the limits of the system, and [`Memory`], the answer when memory runs out.
 //!
-//! The definitions of the model speak of these types. A list type is a vector that contracts see as
-//! the list of its items, so a message, an event or a record that holds one *is* a value of the model.
-//! A [`NodeId`] is seen as its number, a [`GroupName`] as its bytes.
+//! The definitions of the model use these types. A list type is a vector that contracts see as the list
+//! of its items, so a message, an event or a record with such a list *is* a value of the model. Contracts
+//! see a [`NodeId`] as its number, and a [`GroupName`] as its bytes.
 //!
-//! * [`reading`] and [`writing`] have the fields that the binary formats are made of, [`words`] the lines
-//!   and words of the text formats, [`put`] and its kin the texts that are written.
+//! * [`reading`] and [`writing`] have the fields of the binary formats, [`words`] has the lines and words of
+//! the text formats, and [`put`] and the functions beside it write texts.
 //! * [`look_up`] finds a name in a list ascending by name.
-//! * [`Slots`] have a value for each node, and are made as fast for a thousand nodes as for ten.
+//! * [`Slots`] hold a value for each node, and are made as fast for a thousand nodes as for ten.
 //!
-//! The contracts used above: `GroupName::parse` accepts exactly the names with `IsGroupName`, and its
-//! refusals are `name_fault`; `of` and `items` of each list type are that list. What [`words`] reads
-//! of a line is `words` of it, and a number is `number_in`, with the first cause where it is refused.
-//! What is read of a binary field is what the function of its name in `specs/Reading` gives.
+//! The contracts that the crates above use: `GroupName::parse` accepts exactly the names with
+//! `IsGroupName`, and refuses others by `name_fault`; `of` and `items` of each list type are that list.
+//! [`words`] reads the words and numbers of a line as `words` and `number_in` define, with the first cause
+//! of a refusal. [`reading`] reads a binary field as the function of the same name in `specs/Reading`.
 #![tactic(auto)]
 
 mod cert;

@@ -1,4 +1,4 @@
-//! Each limit of the system, once. Definitions cite these names, and texts are printed from them.
+//! All limits of the system, each in one place. Definitions cite these names, and texts print their values.
 
 // The network
 
@@ -11,7 +11,7 @@ pub const MAX_CHAIN: u32 = 16;
 /// The greatest rank depth of a node that has a parent.
 pub const MAX_DEPTH: u32 = 1_000;
 
-/// The greatest number of ancestors that a node keeps.
+/// The greatest number of ancestors of a node.
 pub const MAX_ANCESTORS: usize = 1_000;
 
 /// The greatest number of certificates in a check-in.
@@ -57,10 +57,10 @@ pub const MAX_PUBLISH_BYTES: usize = 1_000_000;
 /// The greatest number of bytes of a chunk that goes from node to node, in any network.
 pub const MAX_CHUNK_BYTES: usize = 524_288;
 
-/// The greatest number of bytes of a chunk in a network for which a schedule names no number.
+/// The greatest number of bytes of a chunk, in a network whose schedule names no other number.
 pub const USUAL_CHUNK_BYTES: u32 = 4_096;
 
-/// The greatest byte at which a client's request begins: 2^40.
+/// The greatest offset, in bytes, from which a client can ask for a group: 2^40.
 pub const MAX_START: u64 = 1_099_511_627_776;
 
 // Files
@@ -71,11 +71,11 @@ pub const MAX_FRAME_BYTES: usize = 1_048_576;
 /// The greatest number of records of a frame.
 pub const MAX_FRAME_RECORDS: usize = 4_096;
 
-/// The greatest number of bytes of a journal, 2^48: room for the content of as many full groups as a
+/// The greatest number of bytes of a journal, 2^48: enough for the content of as many full groups as a
 /// node may hold.
 pub const MAX_JOURNAL_BYTES: u64 = 281_474_976_710_656;
 
-/// A control file whose frames end past this byte is due to be turned over.
+/// The size in bytes past which a node writes a snapshot to the other control file.
 pub const DUE_BYTES: u64 = 262_144;
 
 // Schedules
@@ -86,7 +86,7 @@ pub const MAX_SCHEDULE_LINES: u32 = 100_000;
 /// The greatest number of bytes of a schedule or a configuration.
 pub const MAX_SCHEDULE_BYTES: usize = 67_108_864;
 
-/// The greatest number of bytes that the publish lines of a schedule have together.
+/// The greatest number of bytes in all publish lines of a schedule together.
 pub const MAX_SCHEDULE_PUBLISHED: usize = 262_144;
 
 /// The greatest number of `settle` and `heal` lines of a schedule together.
@@ -103,5 +103,5 @@ pub const MAX_FIELDS: usize = 64;
 /// The greatest number of bytes of a request's body.
 pub const MAX_BODY_BYTES: u64 = 1_000_000;
 
-/// The greatest number of bytes of a reply's content whose length was not given: 2^40.
+/// The greatest number of bytes of the content of a reply without a given length: 2^40.
 pub const MAX_CONTENT_BYTES: u64 = 1_099_511_627_776;

@@ -4,7 +4,7 @@ use crate::{Cert, Child, Line, NodeId, Shelf};
 use std::alloc::AllocError;
 use std::marker::Model;
 
-/// Bytes, as those of a chunk. Contracts see it as the list of its items.
+/// Bytes, as in a chunk. Contracts see them as the list of the items.
 #[derive(Clone, Debug, Drop)]
 pub struct Bytes {
     items: Vec<u8>,
@@ -31,7 +31,7 @@ impl Bytes {
         self.items.as_slice()
     }
 
-    /// Puts more bytes at the end. If memory runs out, the bytes stay as they were.
+    /// Adds bytes at the end. If memory runs out, the bytes do not change.
     pub fn append(&mut self, more: &[u8]) -> Result<(), AllocError>
         ensures ok { OnOk result (self.new ≡ self.old ++ more.now) }
         ensures err { OnErr result (self.new ≡ self.old) }
@@ -40,7 +40,7 @@ impl Bytes {
     }
 }
 
-/// The bytes of a text, as of a part of an HTTP head. Contracts see it as the list of its items.
+/// The bytes of a text, as in a part of an HTTP head. Contracts see it as the list of its items.
 #[derive(Clone, Debug, Drop)]
 pub struct Text {
     items: Vec<u8>,
@@ -68,7 +68,7 @@ impl Text {
     }
 }
 
-/// Node ids. Contracts see it as the list of its items.
+/// A list of node ids. Contracts see it as the list of its items.
 #[derive(Clone, Debug, Drop)]
 pub struct IdList {
     items: Vec<NodeId>,
@@ -96,7 +96,7 @@ impl IdList {
     }
 }
 
-/// Certificates. Contracts see it as the list of its items.
+/// A list of certificates. Contracts see it as the list of its items.
 #[derive(Clone, Debug, Drop)]
 pub struct CertList {
     items: Vec<Cert>,
@@ -125,7 +125,7 @@ impl CertList {
     }
 }
 
-/// Lines of a listing. Contracts see it as the list of its items.
+/// The lines of a listing. Contracts see them as the list of the items.
 #[derive(Clone, Debug, Drop)]
 pub struct LineList {
     items: Vec<Line>,
@@ -154,7 +154,7 @@ impl LineList {
     }
 }
 
-/// What is held, group by group. Contracts see it as the list of its items.
+/// The lines of a shelf, one for each group. Contracts see them as the list of the items.
 #[derive(Clone, Debug, Drop)]
 pub struct ShelfList {
     items: Vec<Shelf>,
@@ -183,7 +183,7 @@ impl ShelfList {
     }
 }
 
-/// Children with their rates. Contracts see it as the list of its items.
+/// A list of children with their rates. Contracts see it as the list of its items.
 #[derive(Clone, Debug, Drop)]
 pub struct ChildList {
     items: Vec<Child>,

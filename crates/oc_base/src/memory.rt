@@ -4,7 +4,7 @@ use std::alloc::{AllocError, AllocFailed};
 use std::error::Error;
 use std::fmt;
 
-/// Out of memory: the one answer that every call that allocates may give.
+/// Out of memory: the answer of a call that could not allocate.
 #[derive(Clone, Copy, Debug, PartialEq, Eq)]
 pub struct Memory;
 

@@ -4,7 +4,7 @@ ghost use Rattle.oc_base.specs.Named.{AreAscending, LooksUp};
 use crate::{Group, GroupName, Shelf};
 use std::cmp::Ordering;
 
-/// What has the name of a group.
+/// An item with the name of a group.
 pub trait Named {
     /// The bytes of its name.
     ghost name_of: { Self → List ℕ };
@@ -34,7 +34,7 @@ impl Named for Shelf {
     }
 }
 
-/// Where a name is, or would be, in a list ascending by name.
+/// The result of a search for a name in a list ascending by name.
 #[derive(Clone, Copy, Debug, PartialEq, Eq)]
 pub enum Lookup {
     /// The name is at this index.
@@ -43,7 +43,7 @@ pub enum Lookup {
     Free(usize),
 }
 
-/// Looks a name up in a list ascending by name.
+/// Searches for a name in a list ascending by name, from the front.
 pub fn look_up<T: Named>(items: &[T], name: &GroupName) -> Lookup
     requires { AreAscending T.name_of items.now }
     ensures { LooksUp T.name_of items.now name.now result }

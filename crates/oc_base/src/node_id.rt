@@ -18,7 +18,7 @@ impl Model for NodeId {
 }
 
 impl NodeId {
-    /// The index of what is kept of this node in a list by number: that of node 1 is 0.
+    /// The index of this node in a list by number; node 1 has index 0.
     pub fn index(self) -> usize
         requires { 1 ≤ self }
         ensures index { result ≡ self - 1 }

@@ -2,7 +2,7 @@ ghost use Rattle.std.specs.Prelude.{◌≡◌, ◌<◌, ◌↔◌, IsTrue};
 ghost use Rattle.oc_base.specs.declared.limits.TheConstants.{MAX_DEPTH};
 ghost use Rattle.oc_base.specs.Rank.{Precedes, beneath_of};
 
-/// A durable pair that keeps parent links free of cycles: a parent's rank precedes its child's.
+/// A rank, which the node keeps across restarts: a parent's rank precedes its child's, so parent links form no cycle.
 #[derive(Clone, Copy, Debug, PartialEq, Eq, Hash)]
 pub struct Rank {
     pub epoch: u64,
@@ -10,14 +10,14 @@ pub struct Rank {
 }
 
 impl Rank {
-    /// Whether this rank comes before the other: a greater epoch, or the same and a smaller depth.
+    /// Whether this rank precedes the other: its epoch is greater, or the epochs are the same and its depth is smaller.
     pub fn precedes(self, other: Rank) -> bool
         ensures { IsTrue result ↔ Precedes self other }
     {
         self.epoch > other.epoch || (self.epoch == other.epoch && self.depth < other.depth)
     }
 
-    /// The rank of a child: the same epoch, one deeper.
+    /// The rank of a child: the same epoch, and a depth greater by one.
     pub fn beneath(self) -> Rank
         requires { self.depth < MAX_DEPTH }
         ensures { result ≡ beneath_of self }

@@ -1,4 +1,4 @@
-//! The fields of binary formats: each function reads a field at an index, and gives its value and the
+//! Readers of the fields of binary formats: each reads a field at an index, and answers its value with the
 //! next index, or the fault. Numbers are big-endian.
 
 ghost use Rattle.std.specs.Prelude.{◌≡◌};
@@ -9,14 +9,14 @@ use crate::limits::{MAX_ANCESTORS, MAX_DEPTH, MAX_RATE};
 use crate::{Cert, FieldFault, IdList, NodeId, Rank, take_u8, take_u16, take_u32, take_u64};
 use std::alloc::Global;
 
-/// Any byte.
+/// Reads any byte.
 pub fn byte_at(bytes: &[u8], at: usize) -> Result<(u8, usize), FieldFault>
     ensures { result ≡ byte_at bytes.now at }
 {
     Ok(take_u8(bytes, at)?)
 }
 
-/// A byte from `least` to `most`.
+/// Reads a byte from `least` to `most`.
 #[tactic(auto, unfolding(crate::specs::Reading::within_at))]
 pub fn u8_within_at(least: u8, most: u8, bytes: &[u8], at: usize) -> Result<(u8, usize), FieldFault>
     ensures { result ≡ within_at w8 least most bytes.now at }
@@ -28,7 +28,7 @@ pub fn u8_within_at(least: u8, most: u8, bytes: &[u8], at: usize) -> Result<(u8,
     Ok((number, next))
 }
 
-/// A number of two bytes from `least` to `most`.
+/// Reads a number of two bytes from `least` to `most`.
 #[tactic(auto, unfolding(crate::specs::Reading::within_at))]
 pub fn u16_within_at(
     least: u16,
@@ -45,7 +45,7 @@ pub fn u16_within_at(
     Ok((number, next))
 }
 
-/// A number of four bytes from `least` to `most`.
+/// Reads a number of four bytes from `least` to `most`.
 #[tactic(auto, unfolding(crate::specs::Reading::within_at))]
 pub fn u32_within_at(
     least: u32,
@@ -62,7 +62,7 @@ pub fn u32_within_at(
     Ok((number, next))
 }
 
-/// A number of eight bytes from `least` to `most`.
+/// Reads a number of eight bytes from `least` to `most`.
 #[tactic(auto, unfolding(crate::specs::Reading::within_at))]
 pub fn u64_within_at(
     least: u64,
@@ -79,21 +79,21 @@ pub fn u64_within_at(
     Ok((number, next))
 }
 
-/// Any number of eight bytes.
+/// Reads any number of eight bytes.
 pub fn long_at(bytes: &[u8], at: usize) -> Result<(u64, usize), FieldFault>
     ensures { result ≡ long_at bytes.now at }
 {
     Ok(take_u64(bytes, at)?)
 }
 
-/// A number of eight bytes that is not 0.
+/// Reads a number of eight bytes that is not 0.
 pub fn count_at(bytes: &[u8], at: usize) -> Result<(u64, usize), FieldFault>
     ensures { result ≡ count_at bytes.now at }
 {
     u64_within_at(1, u64::MAX, bytes, at)
 }
 
-/// The id of one of `nodes` nodes.
+/// Reads the id of one of `nodes` nodes.
 pub fn id_at(nodes: u32, bytes: &[u8], at: usize) -> Result<(NodeId, usize), FieldFault>
     ensures { result ≡ id_at nodes bytes.now at }
 {
@@ -101,14 +101,14 @@ pub fn id_at(nodes: u32, bytes: &[u8], at: usize) -> Result<(NodeId, usize), Fie
     Ok((NodeId(id), next))
 }
 
-/// A rate in bytes per second.
+/// Reads a rate in bytes per second.
 pub fn rate_at(bytes: &[u8], at: usize) -> Result<(u64, usize), FieldFault>
     ensures { result ≡ rate_at bytes.now at }
 {
     u64_within_at(0, MAX_RATE, bytes, at)
 }
 
-/// A byte that is 0 or 1.
+/// Reads a byte that is 0 or 1, as a flag.
 #[tactic(auto, unfolding(crate::specs::Reading::flag_at))]
 pub fn flag_at(bytes: &[u8], at: usize) -> Result<(bool, usize), FieldFault>
     ensures { result ≡ flag_at bytes.now at }
@@ -117,7 +117,7 @@ pub fn flag_at(bytes: &[u8], at: usize) -> Result<(bool, usize), FieldFault>
     Ok((byte == 1, next))
 }
 
-/// An epoch and a depth.
+/// Reads a rank: an epoch and a depth.
 #[tactic(auto, unfolding(crate::specs::Reading::rank_at))]
 pub fn rank_at(bytes: &[u8], at: usize) -> Result<(Rank, usize), FieldFault>
     ensures { result ≡ rank_at bytes.now at }
@@ -127,7 +127,7 @@ pub fn rank_at(bytes: &[u8], at: usize) -> Result<(Rank, usize), FieldFault>
     Ok((Rank { epoch, depth }, next))
 }
 
-/// A certificate of `nodes` nodes.
+/// Reads a certificate about nodes of a network of `nodes` nodes.
 #[tactic(auto, unfolding(crate::specs::Reading::cert_at))]
 pub fn cert_at(nodes: u32, bytes: &[u8], at: usize) -> Result<(Cert, usize), FieldFault>
     ensures { result ≡ cert_at nodes bytes.now at }
@@ -149,7 +149,7 @@ pub fn cert_at(nodes: u32, bytes: &[u8], at: usize) -> Result<(Cert, usize), Fie
     Ok((cert, next))
 }
 
-/// Ancestors of `nodes` nodes.
+/// Reads the ancestors of a node, in a network of `nodes` nodes.
 #[tactic(auto, unfolding(crate::specs::Reading::ancestors_at))]
 pub fn ancestors_at(
     alloc: Global,
@@ -163,7 +163,7 @@ pub fn ancestors_at(
     ids_at(alloc, nodes, count, bytes, next)
 }
 
-/// `count` ids.
+/// Reads `count` ids.
 fn ids_at(
     alloc: Global,
     nodes: u32,

@@ -3,16 +3,16 @@ ghost use Rattle.oc_base.specs.Shelves.{held_in_all};
 
 use crate::GroupName;
 
-/// What a node has of one group: how many bytes, and whether it is sealed.
+/// A line of a shelf: the group, the number of bytes held, and whether the group is sealed.
 #[derive(Clone, Copy, Debug, PartialEq, Eq)]
 pub struct Shelf {
     pub group: GroupName,
-    /// Bytes held.
+    /// The number of bytes held.
     pub held: u64,
     pub sealed: bool,
 }
 
-/// All that is held, in bytes.
+/// The sum of the lengths of all groups, in bytes.
 pub fn held_in_all(shelf: &[Shelf]) -> u64
     requires { held_in_all shelf.now < 2 ^ 64 }
     ensures { result ≡ held_in_all shelf.now }

@@ -4,12 +4,12 @@ use crate::Memory;
 use std::alloc::Global;
 use std::marker::Model;
 
-/// A value for each of a fixed number of slots, the same everywhere at first. None of them takes memory until
-/// [`Slots::reserve`] takes it for all, and what follows the last slot that was put is not written: so a thousand
-/// slots where nothing is put cost no more than ten. Slots are counted from 0.
+/// A fixed number of slots with a value each, the same in all at first. They take no memory until [`Slots::reserve`]
+/// takes the memory for all, and slots after the last one that was put are never written: so a thousand unused slots
+/// cost no more than ten. Slots are counted from 0.
 ///
-/// A contract sees the list of the values, how many of them are in use, the value of all others, and
-/// for how many there is memory.
+/// A contract sees the list of the values, the number of slots in use, the value of all others, and the number
+/// of slots for which there is memory.
 #[derive(Drop)]
 pub struct Slots<T> {
     count: usize,
@@ -34,7 +34,7 @@ impl<T> Model for Slots<T> {
 }
 
 impl<T: Copy> Slots<T> {
-    /// `count` slots, each with the value `blank`.
+    /// Makes `count` slots, each with the value `blank`.
     pub fn new(alloc: Global, count: usize, blank: T) -> Result<Slots<T>, Memory>
         ensures items { IfOk result (λ made. made.items ≡ replicate count blank) }
         ensures used { IfOk result (λ made. made.used ≡ 0) }
@@ -58,14 +58,14 @@ impl<T: Copy> Slots<T> {
         Ok(())
     }
 
-    /// How many slots there are.
+    /// The number of slots.
     pub fn len(&self) -> usize
         ensures { result ≡ length self.now.items }
     {
         self.count
     }
 
-    /// How many slots are in use: each after them has the blank value.
+    /// The number of slots in use, from the first on; all others have the blank value.
     pub fn used(&self) -> usize
         ensures used { result ≡ self.now.used }
         ensures within { result ≤ length self.now.items }
@@ -74,7 +74,7 @@ impl<T: Copy> Slots<T> {
         self.written.len()
     }
 
-    /// The values of the slots in use: each slot after them has the blank value.
+    /// The values of the slots in use; all others have the blank value.
     pub fn filled(&self) -> &[T]
         ensures used { length result.now ≡ self.now.used }
         ensures front { result.now ≡ take (length result.now) self.now.items }
@@ -96,7 +96,7 @@ impl<T: Copy> Slots<T> {
         }
     }
 
-    /// The value at a slot as it is kept, or `other` past the last slot.
+    /// The value at a slot, borrowed, or `other` past the last slot.
     pub fn lend_or<'a>(&'a self, slot: usize, other: &'a T) -> &'a T
         ensures { result.now ≡ get_or self.now.items slot other.now }
     {
@@ -109,7 +109,7 @@ impl<T: Copy> Slots<T> {
         }
     }
 
-    /// Puts a value at a slot. There is memory for all. Takes no memory.
+    /// Puts a value at a slot, for which there is memory already.
     pub fn put(&mut self, slot: usize, value: T)
         requires slot { slot < length self.old.items }
         requires room { length self.old.items ≤ self.old.room }
@@ -122,7 +122,7 @@ impl<T: Copy> Slots<T> {
         self.written[slot] = value;
     }
 
-    /// Puts one value at every slot. Takes no memory.
+    /// Puts the same value at every slot, without taking memory.
     pub fn fill(&mut self, value: T)
         ensures items { self.new.items ≡ replicate (length self.old.items) value }
         ensures used { self.new.used ≡ 0 }
@@ -134,7 +134,7 @@ impl<T: Copy> Slots<T> {
     }
 }
 
-/// Puts this value at the end until there are this many. There is room for them.
+/// Adds the blank value until the vector has this length, for which it has room.
 fn write_up_to<T: Copy>(written: &mut Vec<T>, end: usize, blank: T)
     requires { end ≤ vec_capacity written.old }
     ensures items { written.new.items ≡ written.old.items ++ replicate (end - length written.old.items) blank }

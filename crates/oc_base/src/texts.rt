@@ -1,11 +1,11 @@
-//! Texts put at the end of a buffer. If memory runs out, the buffer stays as it was.
+//! Writers of texts, each at the end of a buffer. If memory runs out, the buffer does not change.
 
 ghost use Rattle.std.specs.Prelude.{◌≡◌, ◌++◌, OnOk, OnErr, decimal};
 
 use crate::Memory;
 use itoa::Buffer;
 
-/// Puts a text, or the bytes of one.
+/// Writes a text.
 pub fn put(out: &mut Vec<u8>, text: &[u8]) -> Result<(), Memory>
     ensures ok { OnOk result (out.new.items ≡ out.old.items ++ text.now) }
     ensures err { OnErr result (out.new.items ≡ out.old.items) }
@@ -14,7 +14,7 @@ pub fn put(out: &mut Vec<u8>, text: &[u8]) -> Result<(), Memory>
     Ok(())
 }
 
-/// Puts a number in decimal, without leading zeros.
+/// Writes a number in decimal, without leading zeros.
 pub fn put_number(out: &mut Vec<u8>, number: u64) -> Result<(), Memory>
     ensures ok { OnOk result (out.new.items ≡ out.old.items ++ decimal number) }
     ensures err { OnErr result (out.new.items ≡ out.old.items) }
@@ -22,7 +22,7 @@ pub fn put_number(out: &mut Vec<u8>, number: u64) -> Result<(), Memory>
     put(out, Buffer::new().format(number).as_bytes())
 }
 
-/// Puts a text, and after it a number in decimal.
+/// Writes a text, and a number in decimal after it.
 pub fn put_with_number(out: &mut Vec<u8>, text: &[u8], number: u64) -> Result<(), Memory>
     ensures ok { OnOk result (out.new.items ≡ out.old.items ++ text.now ++ decimal number) }
     ensures err { OnErr result (out.new.items ≡ out.old.items) }

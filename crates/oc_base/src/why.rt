@@ -6,9 +6,9 @@ use std::fmt;
 /// Why a line of a text is refused.
 #[derive(Clone, Copy, Debug, PartialEq, Eq, Hash)]
 pub enum Why {
-    /// The first line is not the header in full.
+    /// The first line is not the full header.
     Header,
-    /// The word names nothing that may appear there.
+    /// The word is not one that may appear there.
     Word,
     /// The number of words is wrong.
     Count,
@@ -16,14 +16,14 @@ pub enum Why {
     Number,
     /// A number is out of its range.
     Range,
-    /// A field is no group name.
+    /// A field is not a group name.
     Group,
-    /// A field is no hexadecimal.
+    /// A field is not hexadecimal.
     Hex,
 }
 
 impl Why {
-    /// The word that names the cause in an error line.
+    /// The word for this cause in an error line.
     pub fn word(self) -> &'static str
         ensures { result.now ≡ why_text self }
     {

@@ -1,7 +1,7 @@
-//! The lines of a text, the words of a line, and what one word spells.
+//! Readers of texts: the lines of a text, the words of a line, and the value of a word.
 //!
-//! Words are separated by runs of spaces. A field is spelled as a number where it is decimal digits,
-//! the first of which is no zero unless it is the only one.
+//! Spaces separate words, one or more. A field is a number if it has only decimal digits, with no leading
+//! zero unless it is `0`.
 ghost use Rattle.std.specs.Prelude.{◌≡◌, ◌^◌, ◌<◌, ◌≤◌, ◌==◌, [], ◌∷◌, length, IsTrue, IfNone, IfSome, IfOk, IfErr, OnOk};
 ghost use Rattle.std.specs.Char.{is_ascii_digit};
 ghost use Rattle.std.specs.Option.{SomeIff};
@@ -15,7 +15,7 @@ ghost use Rattle.oc_base.specs.declared.why.Why.TheVariants.{Count};
 use crate::{NodeId, Why, cut};
 use std::str;
 
-/// The first line of bytes that are not empty, and what follows it.
+/// Cuts off the first line of bytes that are not empty; answers it and the rest.
 pub fn first_line(bytes: &[u8]) -> (&[u8], &[u8])
     requires { 0 < length bytes.now }
     ensures first { lines bytes.now ≡ result.0.now ∷ lines result.1.now }
@@ -37,7 +37,7 @@ fn without_return(line: &[u8]) -> &[u8]
     }
 }
 
-/// The first word of a line, and what follows it.
+/// Cuts off the first word of a line; answers it and the rest.
 pub fn first_word(line: &[u8]) -> Option<(&[u8], &[u8])>
     ensures none { IfNone result (words line.now ≡ []) }
     ensures first { IfSome result (λ found. words line.now ≡ found.0.now ∷ words found.1.now) }
@@ -53,14 +53,14 @@ pub fn first_word(line: &[u8]) -> Option<(&[u8], &[u8])>
     }
 }
 
-/// Whether a word is this text.
+/// Whether a word equals this text.
 pub fn is(word: &[u8], text: &str) -> bool
     ensures { result ≡ bytes_eq word.now text.now }
 {
     word == text.as_bytes()
 }
 
-/// The field, where there is one.
+/// Reads a line of exactly one field.
 pub fn one_field(line: &[u8]) -> Result<&[u8], Why>
     ensures { GivesFields (λ a. a.now) result (one (words line.now)) }
 {
@@ -69,7 +69,7 @@ pub fn one_field(line: &[u8]) -> Result<&[u8], Why>
     Ok(a)
 }
 
-/// The fields, where there are two.
+/// Reads a line of exactly two fields.
 pub fn two_fields(line: &[u8]) -> Result<(&[u8], &[u8]), Why>
     ensures { GivesFields (λ f. (f.0.now, f.1.now)) result (two (words line.now)) }
 {
@@ -78,7 +78,7 @@ pub fn two_fields(line: &[u8]) -> Result<(&[u8], &[u8]), Why>
     Ok((a, b))
 }
 
-/// The fields, where there are three.
+/// Reads a line of exactly three fields.
 pub fn three_fields(line: &[u8]) -> Result<(&[u8], &[u8], &[u8]), Why>
     ensures { GivesFields (λ f. (f.0.now, f.1.now, f.2.now)) result (three (words line.now)) }
 {
@@ -87,7 +87,7 @@ pub fn three_fields(line: &[u8]) -> Result<(&[u8], &[u8], &[u8]), Why>
     Ok((a, b, c))
 }
 
-/// The fields, where there are four.
+/// Reads a line of exactly four fields.
 pub fn four_fields(line: &[u8]) -> Result<(&[u8], &[u8], &[u8], &[u8]), Why>
     ensures { GivesFields (λ f. (f.0.now, f.1.now, f.2.now, f.3.now)) result (four (words line.now)) }
 {
@@ -96,10 +96,10 @@ pub fn four_fields(line: &[u8]) -> Result<(&[u8], &[u8], &[u8], &[u8]), Why>
     Ok((a, b, c, d))
 }
 
-/// Six fields of a line.
+/// The six fields of a line.
 pub type Six<'a> = (&'a [u8], &'a [u8], &'a [u8], &'a [u8], &'a [u8], &'a [u8]);
 
-/// The fields, where there are six.
+/// Reads a line of exactly six fields.
 pub fn six_fields(line: &[u8]) -> Result<Six<'_>, Why>
     ensures { GivesFields (λ f. (f.0.now, f.1.now, f.2.now, f.3.now, f.4.now, f.5.now)) result (six (words line.now)) }
 {
@@ -109,7 +109,7 @@ pub fn six_fields(line: &[u8]) -> Result<Six<'_>, Why>
     Ok((a, b, c, d, e, f))
 }
 
-/// The next field.
+/// Cuts off the next field; answers it and the rest.
 fn field(line: &[u8]) -> Result<(&[u8], &[u8]), Why>
     ensures found { IfOk result (λ f. words line.now ≡ f.0.now ∷ words f.1.now) }
     ensures none { IfErr result (λ why. (words line.now ≡ []) × (why ≡ Count)) }
@@ -120,7 +120,7 @@ fn field(line: &[u8]) -> Result<(&[u8], &[u8]), Why>
     }
 }
 
-/// The end of a line.
+/// Refuses a line that has more words.
 fn end(line: &[u8]) -> Result<(), Why>
     ensures none { OnOk result (words line.now ≡ []) }
     ensures more { IfErr result (λ why. (why ≡ Count) × IsMore (words line.now)) }
@@ -131,8 +131,8 @@ fn end(line: &[u8]) -> Result<(), Why>
     }
 }
 
-/// The number that a field spells, from least to most. `Number` where it spells none, `Range` where
-/// the number is outside.
+/// Reads a number from `least` to `most`: `Number` if the field is no number, `Range` if the number is outside
+/// the range.
 pub fn number(field: &[u8], least: u64, most: u64) -> Result<u64, Why>
     ensures said { result ≡ number_in least most field.now }
     ensures range { IfOk result (λ number. (least ≤ number) × (number ≤ most)) }
@@ -146,7 +146,7 @@ pub fn number(field: &[u8], least: u64, most: u64) -> Result<u64, Why>
     }
 }
 
-/// The node whose number a field spells.
+/// Reads the id of one of `nodes` nodes.
 pub fn node(field: &[u8], nodes: u32) -> Result<NodeId, Why>
     ensures said { result ≡ node_in nodes field.now }
     ensures range { IfOk result (λ node. (1 ≤ node) × (node ≤ nodes)) }
@@ -169,7 +169,7 @@ pub fn are_digits(field: &[u8]) -> bool
     field.iter().all(|b| b.is_ascii_digit())
 }
 
-/// The value of some digits; `None` where it does not fit.
+/// The value of decimal digits; `None` if it does not fit into 64 bits.
 pub fn value_of(digits: &[u8]) -> Option<u64>
     requires some { 0 < length digits.now }
     requires digits { IsTrue (list_all is_ascii_digit digits.now) }

@@ -1,4 +1,4 @@
--- What a cluster takes, and what it shows.
+-- The acts that a cluster takes, and the parts of the world that it shows.
 use Rattle.std.specs.Prelude.{◌≡◌, ℕ, ◌≤◌, nat_le, Bool, true, false, Option, Some, List, length}
 use Rattle.std.specs.List.{range_with_len}
 use Rattle.oc_base.specs.Lawful.{IsNode, IsLong}
@@ -21,11 +21,11 @@ use Rattle.oc_model.specs.WorldBounds.{clock_of}
 abbrev pub IsNodeOf : World → ℕ → Type 0
 IsNodeOf w x = IsNode (length (ids w)) x
 
--- and of one that is up
+-- x is the id of a node of this world that is up
 abbrev pub IsUpNode : World → ℕ → Type 0
 IsUpNode w x = IsNodeOf w x × IsUp w x
 
--- an act that a cluster of `nodes` nodes takes: any input of a node, or a delivery of any number
+-- an act that a cluster of `nodes` nodes takes: any input of a node, or a delivery of any message number
 abbrev pub IsStep : ℕ → Act → Type 0
 IsStep nodes (acts.At x i) = IsNode nodes x × IsInput nodes x i
 IsStep nodes (acts.Deliver k) = IsLong k
@@ -33,21 +33,21 @@ IsStep nodes (acts.Deliver k) = IsLong k
 abbrev pub IsStepOf : World → Act → Type 0
 IsStepOf w a = IsStep (length (ids w)) a
 
--- who a mode names as a peer is a node of this world
+-- the peer of a mode, if it has one, is a node of this world
 abbrev pub HasPeerOf : World → Mode → Type 0
 HasPeerOf w (Asking p) = IsNodeOf w p
 HasPeerOf w (Joined p) = IsNodeOf w p
 HasPeerOf w mode = Unit {0}
 
--- each lease that y holds is that of a node of this world
+-- each lease that y holds is the lease of a node of this world
 pub record HasNoStranger (w : World) (y : ℕ) : Type 0 where
   pub node : (x seq : ℕ) → leased_by (node w y).control.kept.table y x ≡ Some seq → IsNodeOf w x
 
--- the members of the chain are the nodes of the ids up to its length
+-- the chain members are the nodes with the ids up to the chain's length
 pub record HasChain (w : World) (chain : ℕ) : Type 0 where
   pub members : (x : ℕ) → IsNodeOf w x → is_member (node w x).control ≡ nat_le x chain
 
--- whether this acknowledges a check-in
+-- whether a message acknowledges a check-in
 abbrev pub is_ack : Option Body → Bool
 is_ack (Some (CheckAck seq upto rank ancestors)) = true
 is_ack b = false
@@ -60,7 +60,7 @@ UpAreBefore t w = (x : ℕ) → IsUp w x → clock_of w x ≤ t
 abbrev pub IsNumbered : World → Type 0
 IsNumbered w = ids w ≡ range_with_len 1 (length (ids w))
 
--- these are the nodes that are up, in such a world
+-- these are the nodes that are up, in a world with such ids
 pub record IsRoll (w : World) (xs : List ℕ) : Type 0 where
   pub ids : IsNumbered w
   pub up : xs ≡ up_ids w

@@ -22,11 +22,11 @@ abbrev pub nodes_in : Option (List ℕ) → ℕ
 nodes_in None = 0
 nodes_in (Some c) = length c
 
--- how many nodes the true chain of x has; 0 where there is none
+-- the number of nodes of x's true chain; 0 if it has none
 unfoldable pub chain_length : World → ℕ → ℕ
 chain_length w x = nodes_in (chain_from w x)
 
--- the same for a node that has no parent
+-- the number of nodes of the true chain of a node without a parent
 unfoldable pub length_alone : World → ℕ → ℕ
 length_alone w x = if is_root w x then 1 else 0
 
@@ -39,15 +39,15 @@ unfoldable pub above : World → ℕ → ℕ → Option ℕ
 above w zero x = Some x
 above w (suc k) x = above_of (above w k) (parent_of w x)
 
--- `steps` links above x is a node whose true chain has this length
+-- the node `steps` links above x has a true chain of this length
 pub record EndsAt (w : World) (x steps nodes : ℕ) : Type 0 where
   pub top : ℕ
   pub above : above w steps x ≡ Some top
   pub length : nodes ≡ chain_length w top
 
--- What was found of each node, by its number
+-- The known lengths of the nodes' chains, by the number of the node
 
--- what was found of x, if anything, is the length of its true chain
+-- the known length of x, if any, is that of its true chain
 abbrev pub IsFound : World → ℕ → Option ℕ → Type 0
 IsFound w x None = Unit {0}
 IsFound w x (Some n) = n ≡ chain_length w x
@@ -56,32 +56,32 @@ pub record AreFound (w : World) (lengths : List (Option ℕ)) : Type 0 where
   pub places : length lengths ≡ length (ids w)
   pub found : (y : ℕ) → IsNodeOf w y → IsFound w y (at lengths y None)
 
--- y is fewer than k links above x, and it is noted to have no chain
+-- y is fewer than k links above x, and is noted to have no chain
 pub record IsOnWay (w : World) (k x y : ℕ) (found : Option ℕ) : Type 0 where
   pub links : ℕ
   pub fewer : links < k
   pub above : above w links x ≡ Some y
   pub noted : found ≡ Some 0
 
--- the same except for nodes on the way up from x by k links
+-- all known lengths are right, except for nodes on the way up from x by k links
 pub record AreFoundBut (w : World) (k x : ℕ) (lengths : List (Option ℕ)) : Type 0 where
   pub places : length lengths ≡ length (ids w)
   pub found : (y : ℕ) → IsNodeOf w y → IsFound w y (at lengths y None) ⊎ IsOnWay w k x y (at lengths y None)
 
--- something was found of x
+-- the length of x is known
 abbrev pub IsKnown : List (Option ℕ) → ℕ → Type 0
 IsKnown lengths x = (n : ℕ) × (at lengths x None ≡ Some n)
 
--- what was known is known
+-- the lengths that were known still are
 pub record KeepKnown (old new : List (Option ℕ)) : Type 0 where
   pub known : (y : ℕ) → IsKnown old y → IsKnown new y
 
--- the length of each true chain
+-- all lengths are known and right
 pub record AreLengths (w : World) (lengths : List (Option ℕ)) : Type 0 where
   pub places : length lengths ≡ length (ids w)
   pub found : (y : ℕ) → IsNodeOf w y → at lengths y None ≡ Some (chain_length w y)
 
--- Ready
+-- Ready worlds
 
 -- x is joined to a node that is up and holds its lease
 abbrev pub is_linked_as : World → ℕ → Mode → Bool
@@ -95,6 +95,6 @@ abbrev pub is_positive : ℕ → Bool
 is_positive zero = false
 is_positive (suc n) = true
 
--- under the root r, a node is as in a ready world: it is down, or is the root, or is no root but has a true chain and its lease
+-- under the root r, a node is as in a ready world: down, or the root, or not acting and with a true chain and a lease of its parent
 unfoldable pub fits_under : World → ℕ → ℕ → Bool
 fits_under w r x = not (is_up w x) || x == r || (not (is_acting (mode_of w x)) && is_positive (chain_length w x) && is_linked w x)

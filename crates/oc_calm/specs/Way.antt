@@ -1,10 +1,10 @@
--- What calls that play acts leave.
+-- The effect of a call that plays acts.
 use Rattle.std.specs.Prelude.{◌≡◌, ℕ, ◌+◌, Option, Some, None, List, [], ◌++◌, length}
 use Rattle.oc_model.specs.declared.event.Act.{Act}
 use Rattle.oc_model.specs.Runs.{Run, after_acts}
 use Rattle.oc_model.specs.World.{World}
 
--- from one world to the other all acts of a run were played, and a count of n acts became k
+-- all acts of a run were played, from one world to the other, and a count of n acts became k
 pub record Plays (run : World → Run) (w v : World) (n k : ℕ) : Type 0 where
   pub world : v ≡ (run w).world
   pub reached : v ≡ after_acts w (run w).acts
@@ -17,11 +17,11 @@ pub record IsOnTheWay (all : List Act) (w v : World) : Type 0 where
   pub whole : all ≡ done ++ rest
   pub reached : v ≡ after_acts w done
 
--- a prefix of the acts of a run was played. Nothing is said of their count: whoever meets this gives up, and no word tells it
+-- a prefix of the acts of a run was played. The count is left open, since a caller that meets this gives up and reports no count
 pub record Begins (run : World → Run) (w v : World) : Type 0 where
   pub way : IsOnTheWay (run w).acts w v
 
--- the acts of a run, if there is one
+-- the acts of a run, or no acts without one
 abbrev pub acts_of : Option (List Act) → List Act
 acts_of None = []
 acts_of (Some done) = done

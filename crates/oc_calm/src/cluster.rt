@@ -10,24 +10,23 @@ ghost use Rattle.oc_model.specs.WorldBounds.{clock_of};
 use oc_base::{Memory, NodeId, Rank};
 use oc_model::{Act, Mode};
 
-/// All nodes of a world with the net between them. It takes acts, and shows parts of the world that
-/// these led to.
+/// All nodes of a world with the net between them. It plays acts, and shows parts of the present world.
 ///
-/// The ids are 1, 2 and so on in order. Each call that shows a part of a node takes the id of one that is
-/// up, so what a node that is down holds need not be at hand.
+/// The ids are 1, 2 and so on, in order. Each call that shows a part of a node takes the id of one that is
+/// up, so an implementation need not have the state of the nodes that are down.
 pub trait Cluster {
-    /// The world that it shows.
+    /// The present world.
     ghost world: { Self → WorldState };
 
-    /// Does what an act does. A tick may go up to the last second of a clock, 2^41, and a delivery may
-    /// name any number: one that no message has does nothing. If memory runs out, the world stays
-    /// as it was.
+    /// Plays an act. A tick may go up to the last second of a clock, 2^41, and a delivery may name any
+    /// number: one without a message does nothing. If memory runs out, the world does not
+    /// change.
     fn act(&mut self, act: &Act) -> Result<(), Memory>
         requires { IsStepOf (world self.old) act.now }
         ensures ok { OnOk result (world self.new ≡ after_act (world self.old) act.now) }
         ensures err { OnErr result (world self.new ≡ world self.old) };
 
-    /// How many nodes there are, 1,024 at most.
+    /// The number of nodes, at most 1,024.
     fn nodes(&self) -> u32
         ensures ids { ids (world self.now) ≡ range_with_len 1 result }
         ensures few { result ≤ MAX_NODES };
@@ -37,18 +36,17 @@ pub trait Cluster {
         requires { IsNodeOf (world self.now) node }
         ensures { result ≡ is_up (world self.now) node };
 
-    /// The length of the chain: its members, the nodes that can act as root, are those of the ids up to
-    /// it.
+    /// The length of the chain: its members, the nodes that can act as root, have the ids up to this number.
     fn chain(&self) -> u32
         ensures { HasChain (world self.now) result };
 
-    /// The mode of a node, which names no peer but a node of this world.
+    /// The mode of a node, whose peer, if it has one, is a node of this world.
     fn mode(&self, node: NodeId) -> Mode
         requires { IsUpNode (world self.now) node }
         ensures mode { result ≡ mode_of (world self.now) node }
         ensures peer { HasPeerOf (world self.now) result };
 
-    /// The number of a node's last ask.
+    /// The number of a node's last ask for a parent.
     fn seq(&self, node: NodeId) -> u64
         requires { IsUpNode (world self.now) node }
         ensures { result ≡ (node_in (world self.now) node).control.kept.seq };
@@ -58,25 +56,25 @@ pub trait Cluster {
         requires { IsUpNode (world self.now) node }
         ensures { result ≡ (node_in (world self.now) node).control.kept.rank };
 
-    /// The second on a node's clock.
+    /// The time of a node's clock, in seconds.
     fn clock(&self, node: NodeId) -> u64
         requires { IsUpNode (world self.now) node }
         ensures { result ≡ clock_of (world self.now) node };
 
-    /// How many certificates wait in a node's change log for its parent.
+    /// The number of certificates that wait in a node's change log for its parent.
     fn waiting(&self, node: NodeId) -> u64
         requires { IsUpNode (world self.now) node }
         ensures { result ≡ length (node_in (world self.now) node).control.kept.log.waiting };
 
-    /// The number of the ask by which the child has a lease of the parent, as the parent's table has it.
-    /// The parent is up, and its leases are of nodes of this world alone.
+    /// The ask number by which the child has a lease of the parent, in the parent's table. The parent must be
+    /// up, and all its leases are of nodes of this world.
     fn lease(&self, parent: NodeId, child: NodeId) -> Option<u64>
         requires parent { IsUpNode (world self.now) parent }
         requires child { IsNodeOf (world self.now) child }
         ensures number { result ≡ leased_by (node_in (world self.now) parent).control.kept.table parent child }
         ensures strangers { HasNoStranger (world self.now) parent };
 
-    /// How many messages were ever sent.
+    /// The number of all messages that were ever sent.
     fn sent(&self) -> u64
         ensures { result ≡ length (world self.now).net };
 

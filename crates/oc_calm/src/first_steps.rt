@@ -1,4 +1,4 @@
-//! How leases that are not current end.
+//! The end of all leases that are not current.
 
 ghost use Rattle.std.specs.Prelude.{OnOk, OnErr};
 ghost use Rattle.oc_calm.specs.Cluster.{IsRoll};
@@ -10,11 +10,11 @@ use crate::Cluster;
 use crate::rounds::{all_check_in, all_tick};
 use oc_base::{Memory, NodeId};
 
-/// How many seconds on each of the last two rounds of ticks is: half the time of a lease.
+/// The seconds by which each of the last two rounds of ticks goes on: half the duration of a lease.
 const PAUSE: u64 = 15;
 
-/// The first five steps of settle, in which each lease that is not current ends: all tick now, check in,
-/// tick 15 seconds on, check in, and tick another 15 seconds on.
+/// Plays the first five steps of settle, in which each lease that is not current ends: all nodes tick at their
+/// present second, check in, tick 15 seconds later, check in, and tick another 15 seconds later.
 pub fn five_steps<C: Cluster>(cluster: &mut C, up: &[NodeId], acts: &mut u64) -> Result<(), Memory>
     requires up { IsRoll (C.world cluster.old) up.now }
     requires time { AreTimely (five_run (C.world cluster.old)).acts }

@@ -20,15 +20,15 @@ use oc_base::{Memory, NodeId, Rank};
 use oc_model::Word;
 use std::alloc::Global;
 
-/// The greatest number of an ask from which a node can still make 64.
+/// The greatest ask number from which a node can still make 64 asks.
 const MOST_SEQ: u64 = u64::MAX - 64;
 
 /// The greatest epoch over which a root can still rise 8,192 times.
 const MOST_EPOCH: u64 = u64::MAX - 8_192;
 
-/// Joins all nodes that are up into one tree and settles it, and answers `Healed` with the number of the
-/// acts that it played; `Unready` exactly where the world is not able, and then nothing is done. No clock
-/// of a node that is up may be in its last minute. If memory runs out, a prefix of the acts was played.
+/// Joins all nodes that are up into one tree and settles it; answers `Healed` with the number of its acts, or
+/// `Unready` exactly if the world is not able, and then it plays no act. No clock of a node that is up
+/// may be in its last minute. If memory runs out, a prefix of the acts was played.
 pub fn heal<C: Cluster>(alloc: Global, cluster: &mut C) -> Result<Word, Memory>
     requires { UpAreBefore (LAST_SECOND - 60) (C.world cluster.old) }
     ensures word { IfOk result (λ word. word ≡ word_of (C.world cluster.old) Heal) }
@@ -47,7 +47,7 @@ pub fn heal<C: Cluster>(alloc: Global, cluster: &mut C) -> Result<Word, Memory>
     Ok(Word::Healed(acts))
 }
 
-/// The first chain member of the nodes that are up.
+/// The chain member with the least id among these nodes, which are up.
 fn first_member<C: Cluster>(cluster: &C, up: &[NodeId]) -> Option<NodeId>
     requires { IsRoll (C.world cluster.now) up.now }
     ensures leader { result ≡ leader_of (C.world cluster.now) }
@@ -62,7 +62,7 @@ fn first_member<C: Cluster>(cluster: &C, up: &[NodeId]) -> Option<NodeId>
     None
 }
 
-/// Whether the numbers of each of these nodes are far enough from their end.
+/// Whether the ask numbers and epochs of these nodes are far enough from their ends.
 fn all_have_room<C: Cluster>(cluster: &C, nodes: &[NodeId]) -> bool
     requires { AllByRecursion (IsUpNode (C.world cluster.now)) nodes.now }
     ensures { result ≡ list_all (room_of (C.world cluster.now)) nodes.now }
@@ -75,7 +75,7 @@ fn all_have_room<C: Cluster>(cluster: &C, nodes: &[NodeId]) -> bool
     true
 }
 
-/// Whether a node's ask number and epoch are far enough from their end.
+/// Whether a node's ask number and epoch are far enough from their ends.
 #[tactic(auto, unfolding(crate::specs::CalmRuns::room_of))]
 fn has_room<C: Cluster>(cluster: &C, node: NodeId) -> bool
     requires { IsUpNode (C.world cluster.now) node }
@@ -84,7 +84,7 @@ fn has_room<C: Cluster>(cluster: &C, node: NodeId) -> bool
     cluster.seq(node) <= MOST_SEQ && epoch_in(cluster.rank(node)) <= MOST_EPOCH
 }
 
-/// The epoch of a rank, 0 where there is none.
+/// The epoch of a rank; 0 without a rank.
 fn epoch_in(rank: Option<Rank>) -> u64
     ensures { result ≡ epoch_in rank }
 {
@@ -94,7 +94,7 @@ fn epoch_in(rank: Option<Rank>) -> u64
     }
 }
 
-/// All steps of heal under this leader. `up` are the nodes that are up.
+/// Plays all steps of heal under this leader. `up` are the nodes that are up.
 fn play_heal<C: Cluster>(
     alloc: Global,
     cluster: &mut C,

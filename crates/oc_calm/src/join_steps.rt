@@ -1,4 +1,4 @@
-//! How a node joins a member of the chain by way of the leader.
+//! The steps in which a node joins a chain member after an ask at the leader.
 
 ghost use Rattle.std.specs.Prelude.{OnOk, OnErr};
 ghost use Rattle.oc_calm.specs.Cluster.{IsNodeOf};
@@ -13,8 +13,8 @@ use oc_base::{Memory, NodeId};
 use oc_model::{Act, Input};
 use std::alloc::Global;
 
-/// A node joins another by way of the leader, whose rank its ask may raise: it asks the leader, which tells
-/// its rank down to the other, and then it asks that one.
+/// A node joins another one after an ask at the leader, which may raise the leader's rank: the leader tells its rank
+/// down to the other node, and then the node asks there.
 pub fn join_by<C: Cluster>(
     alloc: Global,
     cluster: &mut C,
@@ -34,8 +34,8 @@ pub fn join_by<C: Cluster>(
     join(cluster, peer, node, acts)
 }
 
-/// The leader tells its rank down to a node, by a check of its own, and then a check-in of each node on the way down to
-/// that one, which checks in last.
+/// The leader tells its rank down to a node: by a check of its own, and then by a check-in of each node on the way
+/// down, the last of them that node.
 fn tell_rank<C: Cluster>(
     alloc: Global,
     cluster: &mut C,

@@ -1,4 +1,4 @@
-//! How nodes come into one tree: the leader rises, and each other node that is up joins a chain member.
+//! The steps in which nodes come into one tree: the leader rises, and each other node that is up joins a chain member.
 
 ghost use Rattle.std.specs.Prelude.{◌≡◌, ◌≤◌, length, OnOk, OnErr, IfOk, filter, nat_lt};
 ghost use Rattle.std.specs.List.{AllByRecursion};
@@ -16,7 +16,7 @@ use oc_base::{Memory, NodeId};
 use oc_model::{Act, Input, Mode};
 use std::alloc::Global;
 
-/// The leader comes to act as root. It asks each earlier chain member twice at most.
+/// Makes the leader the root. It asks each earlier chain member at most twice.
 pub(crate) fn rise<C: Cluster>(
     cluster: &mut C,
     leader: NodeId,
@@ -35,7 +35,7 @@ pub(crate) fn rise<C: Cluster>(
     Ok(())
 }
 
-/// It checks where it is idle, and else its peer is unreachable.
+/// One act towards the root's place: an idle leader checks, and any other is told that its peer is unreachable.
 fn rise_once<C: Cluster>(cluster: &mut C, leader: NodeId, acts: &mut u64) -> Result<(), Memory>
     requires { IsUpNode (C.world cluster.old) leader }
     ensures ok { OnOk result (Plays (rise_once_run leader) (C.world cluster.old) (C.world cluster.new) acts.old acts.new) }
@@ -71,7 +71,7 @@ fn rise_once<C: Cluster>(cluster: &mut C, leader: NodeId, acts: &mut u64) -> Res
 }
 
 /// Each chain member that is up and past the leader, and then each node that is up and past the chain,
-/// joins if it is not placed when its turn comes. The leader is a chain member, so these are the nodes
+/// joins unless it is in place when its turn comes. The leader is a chain member, so these are all nodes
 /// past it.
 pub(crate) fn all_join<C: Cluster>(
     alloc: Global,
@@ -90,7 +90,7 @@ pub(crate) fn all_join<C: Cluster>(
     each_joins(alloc, cluster, &nodes, &mut known, leader, acts)
 }
 
-/// Those of these nodes that are past a number.
+/// The nodes of this list with ids past a number.
 fn past(alloc: Global, nodes: &[NodeId], number: u32) -> Result<Vec<NodeId>, Memory>
     ensures { IfOk result (λ past. past.items ≡ filter (nat_lt number) nodes.now) }
 {
@@ -103,7 +103,7 @@ fn past(alloc: Global, nodes: &[NodeId], number: u32) -> Result<Vec<NodeId>, Mem
     Ok(past)
 }
 
-/// Each of these nodes joins, if it is not placed when its turn comes.
+/// Each of these nodes joins, unless it is in place when its turn comes.
 fn each_joins<C: Cluster>(
     alloc: Global,
     cluster: &mut C,
@@ -126,7 +126,7 @@ fn each_joins<C: Cluster>(
     Ok(())
 }
 
-/// A node that is not placed joins the chain member before it. Then nothing is known of who is placed.
+/// Makes a node that is not in place join the chain member before it. Then no node is known to be in place.
 fn place<C: Cluster>(
     alloc: Global,
     cluster: &mut C,
@@ -155,7 +155,7 @@ fn place<C: Cluster>(
     }
 }
 
-/// The greatest chain member that is up and less than a node; the leader where there is none.
+/// The greatest chain member that is up and has a smaller id than a node; the leader if there is none.
 fn member_before<C: Cluster>(cluster: &C, leader: NodeId, node: NodeId) -> NodeId
     requires ids { IsNumbered (C.world cluster.now) }
     requires leader { IsNodeOf (C.world cluster.now) leader }
@@ -166,7 +166,7 @@ fn member_before<C: Cluster>(cluster: &C, leader: NodeId, node: NodeId) -> NodeI
     last_up(cluster, leader, (node.0 - 1).min(cluster.chain()))
 }
 
-/// The greatest node up to this number that is up; the leader where there is none.
+/// The node with the greatest id up to this number that is up; the leader if there is none.
 fn last_up<C: Cluster>(cluster: &C, leader: NodeId, most: u32) -> NodeId
     requires leader { IsNodeOf (C.world cluster.now) leader }
     requires most { most ≤ length (ids (C.world cluster.now)) }

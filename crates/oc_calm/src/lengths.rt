@@ -1,4 +1,4 @@
-//! How many nodes each true chain has.
+//! The number of nodes of each true chain.
 
 ghost use Rattle.std.specs.Prelude.{◌≡◌, ◌≤◌, length, None, IfOk};
 ghost use Rattle.oc_base.specs.Lawful.{IsNode};
@@ -12,7 +12,7 @@ use crate::tree::{is_root, parent_of};
 use oc_base::{Memory, NodeId};
 use std::alloc::Global;
 
-/// How many nodes the true chain of a node without a parent has.
+/// The number of nodes of the true chain of a node without a parent.
 #[tactic(auto, unfolding(crate::specs::Tree::length_alone))]
 fn length_alone<C: Cluster>(cluster: &C, node: NodeId) -> u32
     requires { IsNodeOf (C.world cluster.now) node }
@@ -21,7 +21,7 @@ fn length_alone<C: Cluster>(cluster: &C, node: NodeId) -> u32
     if is_root(cluster, node) { 1 } else { 0 }
 }
 
-/// What was found of a node.
+/// The known length of a node's true chain.
 fn found_of(lengths: &[Option<u32>], node: NodeId) -> Option<u32>
     requires { IsNode (length lengths.now) node }
     ensures { result ≡ at lengths.now node None }
@@ -29,7 +29,7 @@ fn found_of(lengths: &[Option<u32>], node: NodeId) -> Option<u32>
     lengths[node.index()]
 }
 
-/// How many nodes the true chain of each node has, by the index of the node; 0 where it has none. All
+/// The number of nodes of each node's true chain, by the index of the node; 0 if it has none. All
 /// walks together look at each node a few times.
 #[tactic(auto, using(crate::proofs::FoundLengths::none_found))]
 pub fn chain_lengths<C: Cluster>(alloc: Global, cluster: &C) -> Result<Vec<Option<u32>>, Memory>
@@ -64,17 +64,17 @@ fn find_length<C: Cluster>(cluster: &C, lengths: &mut [Option<u32>], node: NodeI
     note_way(cluster, lengths, node, way);
 }
 
-/// A way up from a node.
+/// A way up from a node, which ends at the first node with a known length.
 #[derive(Clone, Copy)]
 struct WayUp {
-    /// How many links it has.
+    /// The number of its links.
     steps: u32,
-    /// The length of the true chain of the node that it ends at.
+    /// The length of the true chain of its last node.
     length: u32,
 }
 
-/// Climbs from a node up to the first of which the length is known. Each node on the way is noted to
-/// have no chain, which is so if the way comes back to it.
+/// Climbs from a node up to the first one whose length is known. It notes each node on the way as one without a
+/// chain, which is right if the way comes back to it.
 fn climb<C: Cluster>(cluster: &C, lengths: &mut [Option<u32>], node: NodeId) -> WayUp
     requires node { IsNodeOf (C.world cluster.now) node }
     requires few { length lengths.old ≤ MAX_NODES }
@@ -103,7 +103,7 @@ fn climb<C: Cluster>(cluster: &C, lengths: &mut [Option<u32>], node: NodeId) -> 
     }
 }
 
-/// Notes the length of the true chain of each node on a way up, where there is one.
+/// Notes the length of the true chain of each node on a way up, if there is a chain.
 fn note_way<C: Cluster>(cluster: &C, lengths: &mut [Option<u32>], node: NodeId, way: WayUp)
     requires node { IsNodeOf (C.world cluster.now) node }
     requires few { length lengths.old ≤ MAX_NODES }

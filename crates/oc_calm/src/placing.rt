@@ -1,4 +1,4 @@
-//! Who is where heal wants it. What was found of one node serves those below it, until a node moves.
+//! The nodes that are in place for heal. A result for one node serves those below it, until a node moves.
 
 ghost use Rattle.std.specs.Prelude.{◌≡◌, length, IfOk, true, false, replicate};
 ghost use Rattle.oc_base.specs.Lawful.{IsNode};
@@ -12,8 +12,8 @@ use crate::tree::{is_linked, is_top, parent_of};
 use oc_base::{Memory, NodeId};
 use std::alloc::Global;
 
-/// Whether a node is the leader, which acts, or has a true chain to it each link of which has its lease.
-/// `known` says of which nodes this is known, by index.
+/// Whether a node is the leader, which acts, or has a true chain to it on which each link has its lease.
+/// `known` has the nodes that are known to be in place, by index.
 pub fn is_placed<C: Cluster>(cluster: &C, known: &mut [bool], leader: NodeId, node: NodeId) -> bool
     requires node { IsNodeOf (C.world cluster.now) node }
     requires known { ArePlaced (C.world cluster.now) leader known.old }
@@ -27,7 +27,7 @@ pub fn is_placed<C: Cluster>(cluster: &C, known: &mut [bool], leader: NodeId, no
     true
 }
 
-/// What is known of a node.
+/// Whether a node is known to be in place.
 fn known_of(known: &[bool], node: NodeId) -> bool
     requires { IsNode (length known.now) node }
     ensures { result ≡ at known.now node false }
@@ -35,7 +35,7 @@ fn known_of(known: &[bool], node: NodeId) -> bool
     known[node.index()]
 }
 
-/// Whether links with their leases lead up from a node to the leader, or to one that is known to be placed.
+/// Whether links with their leases lead up from a node to the leader, or to one that is known to be in place.
 fn has_leased_way<C: Cluster>(cluster: &C, known: &[bool], leader: NodeId, node: NodeId) -> bool
     requires node { IsNodeOf (C.world cluster.now) node }
     requires known { ArePlaced (C.world cluster.now) leader known.now }
@@ -62,7 +62,7 @@ fn has_leased_way<C: Cluster>(cluster: &C, known: &[bool], leader: NodeId, node:
     false
 }
 
-/// Notes that a node is placed, and those on its way up.
+/// Notes that a node and all nodes on its way up are in place.
 fn note_placed<C: Cluster>(cluster: &C, known: &mut [bool], leader: NodeId, node: NodeId)
     requires node { IsNodeOf (C.world cluster.now) node }
     requires placed { is_placed_under (C.world cluster.now) leader node ≡ true }
@@ -82,14 +82,14 @@ fn note_placed<C: Cluster>(cluster: &C, known: &mut [bool], leader: NodeId, node
     }
 }
 
-/// None of `nodes` nodes is known to be placed.
+/// A list in which none of `nodes` nodes is known to be in place.
 pub fn none_known(alloc: Global, nodes: u32) -> Result<Vec<bool>, Memory>
     ensures { IfOk result (λ known. known.items ≡ replicate nodes false) }
 {
     Ok(vec![in alloc; false; nodes as usize]?)
 }
 
-/// Nothing is known of any node from now on.
+/// Forgets which nodes are in place.
 pub fn forget(known: &mut [bool])
     ensures { IsForgotten known.new }
 {

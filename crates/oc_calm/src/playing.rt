@@ -1,5 +1,5 @@
-//! Single acts, and the few that belong together. Each call adds the acts that it plays to a count; where memory runs
-//! out, the count may be any.
+//! Single acts, and small groups of them. Each call adds its acts to a count; if memory runs out, the count may
+//! have any value.
 
 ghost use Rattle.std.specs.Prelude.{◌≡◌, ◌+◌, OnOk, OnErr, IfOk};
 ghost use Rattle.oc_calm.specs.Cluster.{IsNodeOf, IsStepOf, IsUpNode};
@@ -11,7 +11,7 @@ use crate::Cluster;
 use oc_base::{Memory, NodeId};
 use oc_model::{Act, Input, Mode};
 
-/// Plays one act. It answers `Memory` also where the count cannot grow any more.
+/// Plays one act. It answers `Memory` also if the count is at its greatest value.
 pub fn play<C: Cluster>(cluster: &mut C, act: &Act, acts: &mut u64) -> Result<(), Memory>
     requires { IsStepOf (C.world cluster.old) act.now }
     ensures ok { OnOk result (Plays (act_run act.now) (C.world cluster.old) (C.world cluster.new) acts.old acts.new) }
@@ -23,14 +23,14 @@ pub fn play<C: Cluster>(cluster: &mut C, act: &Act, acts: &mut u64) -> Result<()
     Ok(())
 }
 
-/// The next number, if there is one.
+/// The next number; `Memory` after the greatest one.
 fn one_more(count: u64) -> Result<u64, Memory>
     ensures { IfOk result (λ next. next ≡ count + 1) }
 {
     count.checked_add(1).ok_or(Memory)
 }
 
-/// The clock of a node runs on by this many seconds.
+/// Moves the clock of a node on by this number of seconds.
 pub(crate) fn tick<C: Cluster>(
     cluster: &mut C,
     node: NodeId,
@@ -53,7 +53,7 @@ pub(crate) fn tick<C: Cluster>(
     )
 }
 
-/// The message that was sent last is delivered.
+/// Delivers the message that was sent last.
 pub fn deliver_last<C: Cluster>(cluster: &mut C, acts: &mut u64) -> Result<(), Memory>
     ensures ok { OnOk result (Plays delivery_run (C.world cluster.old) (C.world cluster.new) acts.old acts.new) }
     ensures err { OnErr result (Begins delivery_run (C.world cluster.old) (C.world cluster.new)) }
@@ -62,7 +62,7 @@ pub fn deliver_last<C: Cluster>(cluster: &mut C, acts: &mut u64) -> Result<(), M
     play(cluster, &Act::Deliver { number }, acts)
 }
 
-/// The message that was sent last is delivered if it acknowledges a check-in.
+/// Delivers the message that was sent last, if it acknowledges a check-in.
 fn deliver_ack<C: Cluster>(cluster: &mut C, acts: &mut u64) -> Result<(), Memory>
     ensures ok { OnOk result (Plays ack_run (C.world cluster.old) (C.world cluster.new) acts.old acts.new) }
     ensures err { OnErr result (Begins ack_run (C.world cluster.old) (C.world cluster.new)) }
@@ -73,7 +73,7 @@ fn deliver_ack<C: Cluster>(cluster: &mut C, acts: &mut u64) -> Result<(), Memory
     Ok(())
 }
 
-/// A node checks now, its check-in is delivered, and so is the acknowledgement.
+/// Plays a check-in of a node: its check, the delivery of the check-in, and the delivery of the acknowledgement.
 pub fn check_in<C: Cluster>(cluster: &mut C, node: NodeId, acts: &mut u64) -> Result<(), Memory>
     requires { IsNodeOf (C.world cluster.old) node }
     ensures ok { OnOk result (Plays (check_in_run node) (C.world cluster.old) (C.world cluster.new) acts.old acts.new) }
@@ -91,7 +91,7 @@ pub fn check_in<C: Cluster>(cluster: &mut C, node: NodeId, acts: &mut u64) -> Re
     deliver_ack(cluster, acts)
 }
 
-/// A node that is joined checks in.
+/// Plays a check-in of a node, if the node is joined.
 pub(crate) fn check_in_if_joined<C: Cluster>(
     cluster: &mut C,
     node: NodeId,
@@ -107,7 +107,7 @@ pub(crate) fn check_in_if_joined<C: Cluster>(
     }
 }
 
-/// A node asks another to be its parent, which takes the ask.
+/// Makes a node ask another one to be its parent, and delivers the ask.
 pub fn ask<C: Cluster>(
     cluster: &mut C,
     peer: NodeId,
@@ -130,7 +130,7 @@ pub fn ask<C: Cluster>(
     deliver_last(cluster, acts)
 }
 
-/// A node asks another to be its parent, which takes the ask, and the node takes the answer.
+/// Makes a node ask another one to be its parent, and delivers the ask and the answer.
 pub fn join<C: Cluster>(
     cluster: &mut C,
     peer: NodeId,

@@ -11,7 +11,7 @@ use crate::Cluster;
 use crate::tree::{has_way, is_linked, is_root};
 use oc_base::NodeId;
 
-/// The first node that is up and acts as root.
+/// The node with the least id that is up and acts as root.
 fn first_root<C: Cluster>(cluster: &C) -> Option<NodeId>
     ensures { result ≡ find (is_root (C.world cluster.now)) (ids (C.world cluster.now)) }
 {
@@ -23,7 +23,7 @@ fn first_root<C: Cluster>(cluster: &C) -> Option<NodeId>
     None
 }
 
-/// Whether the true chain of a node has any nodes, as the lengths of all say.
+/// Whether the true chain of a node has any nodes, by the lengths of all.
 fn is_long<C: Cluster>(cluster: &C, lengths: &[Option<u32>], node: NodeId) -> bool
     requires node { IsNodeOf (C.world cluster.now) node }
     requires lengths { AreLengths (C.world cluster.now) lengths.now }
@@ -35,7 +35,7 @@ fn is_long<C: Cluster>(cluster: &C, lengths: &[Option<u32>], node: NodeId) -> bo
     }
 }
 
-/// Whether a node has a true chain. Without the lengths of all it climbs from the node.
+/// Whether a node has a true chain. Without the lengths it climbs from the node.
 fn has_chain<C: Cluster>(cluster: &C, lengths: Option<&[Option<u32>]>, node: NodeId) -> bool
     requires node { IsNodeOf (C.world cluster.now) node }
     requires lengths { IfSome lengths (λ lengths. AreLengths (C.world cluster.now) lengths.now) }
@@ -47,7 +47,7 @@ fn has_chain<C: Cluster>(cluster: &C, lengths: Option<&[Option<u32>]>, node: Nod
     }
 }
 
-/// Whether a node is down, or is the root, or is no root but has a true chain and its lease.
+/// Whether a node is down, or is the root, or is not acting and has a true chain and a lease of its parent.
 #[tactic(auto, unfolding(crate::specs::Tree::fits_under))]
 fn fits_under<C: Cluster>(
     cluster: &C,
@@ -79,7 +79,7 @@ fn all_fit<C: Cluster>(cluster: &C, lengths: Option<&[Option<u32>]>, root: NodeI
     true
 }
 
-/// Whether one node that is up acts as root, and every other that is up has a true chain to it and the
+/// Whether one node that is up acts as root, and every other node that is up has a true chain to it and the
 /// lease of its last ask. `lengths` are those of all true chains; without them it takes longer.
 pub fn is_ready<C: Cluster>(cluster: &C, lengths: Option<&[Option<u32>]>) -> bool
     requires { IfSome lengths (λ lengths. AreLengths (C.world cluster.now) lengths.now) }

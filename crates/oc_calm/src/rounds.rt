@@ -1,5 +1,5 @@
-//! What nodes do one after another. Each call adds the acts that it plays to a count; where memory runs out, the count
-//! may be any.
+//! Acts of many nodes, one after another. Each call adds its acts to a count; if memory runs out, the count may
+//! have any value.
 
 ghost use Rattle.std.specs.Prelude.{OnOk, OnErr, IfOk};
 ghost use Rattle.std.specs.List.{AllByRecursion};
@@ -27,7 +27,7 @@ pub fn roll<C: Cluster>(alloc: Global, cluster: &C) -> Result<Vec<NodeId>, Memor
     Ok(up)
 }
 
-/// The clock of each node that is up runs on by this many seconds.
+/// Moves the clock of each node that is up on by this number of seconds.
 pub fn all_tick<C: Cluster>(
     cluster: &mut C,
     up: &[NodeId],
@@ -45,7 +45,7 @@ pub fn all_tick<C: Cluster>(
     Ok(())
 }
 
-/// Each node that is up and joined checks in.
+/// Plays a check-in of each node that is up and joined.
 pub fn all_check_in<C: Cluster>(
     cluster: &mut C,
     up: &[NodeId],
@@ -61,7 +61,7 @@ pub fn all_check_in<C: Cluster>(
     Ok(())
 }
 
-/// Each of these nodes checks in.
+/// Plays a check-in of each of these nodes.
 pub fn each_checks_in<C: Cluster>(
     cluster: &mut C,
     nodes: &[NodeId],

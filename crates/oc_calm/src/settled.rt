@@ -12,10 +12,10 @@ use crate::readiness::is_ready;
 use oc_base::NodeId;
 use oc_model::Mode;
 
-/// Whether one node that is up acts as root, every other that is up has a true chain to it and the lease
-/// of its last ask, no node that is up holds any other lease, and nothing waits there for a parent.
+/// Whether one node that is up acts as root, every other node that is up has a true chain to it and the lease
+/// of its last ask, no node that is up holds any other lease, and nothing waits at it for a parent.
 ///
-/// It takes no memory, so it climbs from each node anew, and it looks for a lease between any two nodes.
+/// The test takes no memory, so it climbs from each node anew, and looks for a lease between any two nodes.
 pub fn is_settled<C: Cluster>(cluster: &C) -> bool
     ensures { result ≡ is_settled (C.world cluster.now) }
 {
@@ -66,7 +66,7 @@ fn holds_current<C: Cluster>(cluster: &C, node: NodeId) -> bool
     true
 }
 
-/// Whether the child is up and joined to the parent by its last ask, if it has a lease of it.
+/// Whether the child is up and joined to the parent by its last ask, if it has a lease of the parent.
 fn is_current<C: Cluster>(cluster: &C, parent: NodeId, child: NodeId) -> bool
     requires parent { IsUpNode (C.world cluster.now) parent }
     requires child { IsNodeOf (C.world cluster.now) child }

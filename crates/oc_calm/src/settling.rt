@@ -1,4 +1,4 @@
-//! Settle: all nodes that are up tell and renew until nothing waits.
+//! Settle: all nodes that are up check in and renew their leases until nothing waits.
 
 ghost use Rattle.std.specs.Prelude.{◌≡◌, ◌≤◌, ◌-◌, ◌++◌, length, OnOk, OnErr, IfOk, filter};
 ghost use Rattle.std.specs.List.{AllByRecursion};
@@ -22,8 +22,8 @@ use oc_base::{Memory, NodeId};
 use oc_model::Word;
 use std::alloc::Global;
 
-/// Settles a world that is ready, and answers `Settled` with the number of the acts that it played;
-/// `Unready` exactly where the world is not ready, and then nothing is done. No clock of a node that is up
+/// Settles a world that is ready; answers `Settled` with the number of its acts, or `Unready` exactly if the
+/// world is not ready, and then it plays no act. No clock of a node that is up
 /// may be in its last minute. If memory runs out, a prefix of the acts was played.
 pub fn settle<C: Cluster>(alloc: Global, cluster: &mut C) -> Result<Word, Memory>
     requires { UpAreBefore (LAST_SECOND - 60) (C.world cluster.old) }
@@ -41,7 +41,7 @@ pub fn settle<C: Cluster>(alloc: Global, cluster: &mut C) -> Result<Word, Memory
     Ok(Word::Settled(acts))
 }
 
-/// All steps of settle, whatever the world is. `up` are the nodes that are up.
+/// Plays all steps of settle, also in a world that is not ready. `up` are the nodes that are up.
 pub(crate) fn play_settle<C: Cluster>(
     alloc: Global,
     cluster: &mut C,
@@ -57,7 +57,7 @@ pub(crate) fn play_settle<C: Cluster>(
     all_tell(alloc, cluster, up, acts)
 }
 
-/// Each of the nodes that are up tells all that waits, those of longer true chains first.
+/// Makes each node that is up tell all that waits, those with longer true chains first.
 fn all_tell<C: Cluster>(
     alloc: Global,
     cluster: &mut C,
@@ -73,7 +73,7 @@ fn all_tell<C: Cluster>(
     each_tells(cluster, &nodes, acts)
 }
 
-/// Each of these nodes tells all that waits.
+/// Makes each of these nodes tell all that waits.
 fn each_tells<C: Cluster>(cluster: &mut C, nodes: &[NodeId], acts: &mut u64) -> Result<(), Memory>
     requires order { nodes.now ≡ deepest_nodes (C.world cluster.old) }
     requires nodes { AllByRecursion (IsUpNode (C.world cluster.old)) nodes.now }
@@ -86,8 +86,8 @@ fn each_tells<C: Cluster>(cluster: &mut C, nodes: &[NodeId], acts: &mut u64) -> 
     Ok(())
 }
 
-/// While something waits at a node, it checks in. Each check-in tells one certificate at least, so there are at
-/// most as many check-ins as certificates that wait at first.
+/// Plays check-ins of a node while something waits there. Each check-in tells at least one certificate, so there are
+/// at most as many check-ins as certificates that wait at first.
 fn tell_all<C: Cluster>(cluster: &mut C, node: NodeId, acts: &mut u64) -> Result<(), Memory>
     requires { IsUpNode (C.world cluster.old) node }
     ensures ok { OnOk result (Plays (telling_run node) (C.world cluster.old) (C.world cluster.new) acts.old acts.new) }
@@ -103,8 +103,8 @@ fn tell_all<C: Cluster>(cluster: &mut C, node: NodeId, acts: &mut u64) -> Result
     Ok(())
 }
 
-/// Those of these nodes for which a length from 1 on was found, the longest first, and those of one length in
-/// the order in which they come.
+/// The nodes of this list with a known length above 0, the longest first; nodes of the same length keep their
+/// order.
 fn sorted_by_length(
     alloc: Global,
     nodes: &[NodeId],
@@ -123,7 +123,7 @@ fn sorted_by_length(
     Ok(sorted)
 }
 
-/// The greatest of these lengths, 0 where nothing was found.
+/// The greatest of these lengths; 0 if none is known.
 fn greatest_of(lengths: &[Option<u32>]) -> u32
     ensures { result ≡ greatest_length lengths.now }
 {
@@ -134,7 +134,7 @@ fn greatest_of(lengths: &[Option<u32>]) -> u32
     greatest
 }
 
-/// Puts at the end those of these nodes for which this length was found.
+/// Adds the nodes of this list with this length at the end.
 fn push_of_length(
     sorted: &mut Vec<NodeId>,
     nodes: &[NodeId],
@@ -152,7 +152,7 @@ fn push_of_length(
     Ok(())
 }
 
-/// Whether this length was found for a node.
+/// Whether a node has this length.
 #[tactic(auto, unfolding(crate::specs::Longest::has_found))]
 fn has_found(lengths: &[Option<u32>], node: NodeId, wanted: u32) -> bool
     requires { IsNode (length lengths.now) node }

@@ -1,4 +1,4 @@
-//! The live tree: the links of its nodes, and the ways up that they make.
+//! The live tree: the links of its nodes, and the ways up along them.
 
 ghost use Rattle.std.specs.Prelude.{◌≡◌, ◌==◌, ◌&&◌, if◌then◌else◌, IfOk, IfSome, reverse, []};
 ghost use Rattle.std.specs.List.{AllByRecursion};
@@ -13,7 +13,7 @@ use oc_base::{Memory, NodeId};
 use oc_model::Mode;
 use std::alloc::Global;
 
-/// The parent of a node, where the node is up and joined.
+/// The parent of a node, if the node is up and joined.
 #[tactic(auto, unfolding(crate::specs::Tree::parent_of))]
 pub fn parent_of<C: Cluster>(cluster: &C, node: NodeId) -> Option<NodeId>
     requires { IsNodeOf (C.world cluster.now) node }
@@ -37,7 +37,7 @@ pub fn is_root<C: Cluster>(cluster: &C, node: NodeId) -> bool
     cluster.is_up(node) && cluster.mode(node).is_acting()
 }
 
-/// Whether this is the number that was found.
+/// Whether the number was found.
 fn is_number(found: Option<u64>, number: u64) -> bool
     ensures { result ≡ is_number found number }
 {
@@ -47,7 +47,7 @@ fn is_number(found: Option<u64>, number: u64) -> bool
     }
 }
 
-/// Whether a node is joined to one that is up and holds its lease at the number of its last ask.
+/// Whether a node is joined to one that is up and holds its lease at its last ask number.
 pub fn is_linked<C: Cluster>(cluster: &C, node: NodeId) -> bool
     requires { IsUpNode (C.world cluster.now) node }
     ensures { result ≡ is_linked (C.world cluster.now) node }
@@ -60,7 +60,7 @@ pub fn is_linked<C: Cluster>(cluster: &C, node: NodeId) -> bool
     }
 }
 
-/// Whether a node has a true chain, by a climb from it.
+/// Whether a node has a true chain, found by a climb from the node.
 pub fn has_way<C: Cluster>(cluster: &C, node: NodeId) -> bool
     requires { IsNodeOf (C.world cluster.now) node }
     ensures { result ≡ is_positive (chain_length (C.world cluster.now) node) }
@@ -75,7 +75,7 @@ pub fn has_way<C: Cluster>(cluster: &C, node: NodeId) -> bool
     false
 }
 
-/// Whether a node is the top of a tree, and acts.
+/// Whether a node is the top of a tree, and acts as root.
 pub fn is_top<C: Cluster>(cluster: &C, top: NodeId, node: NodeId) -> bool
     requires { IsNodeOf (C.world cluster.now) node }
     ensures { result ≡ (node == top && is_root (C.world cluster.now) node) }
@@ -83,7 +83,7 @@ pub fn is_top<C: Cluster>(cluster: &C, top: NodeId, node: NodeId) -> bool
     node == top && is_root(cluster, node)
 }
 
-/// The nodes of the true chain from a node up to the top, below the top, from the top down; none where
+/// The nodes of the true chain from a node up to the top, without the top, from the top down; none if
 /// there is no such chain.
 pub fn below<C: Cluster>(
     alloc: Global,
@@ -109,7 +109,7 @@ pub fn below<C: Cluster>(
     Ok(turned(nodes, false))
 }
 
-/// These nodes the other way round, or none of them.
+/// The nodes in reverse order if `all` holds, and otherwise no nodes.
 fn turned(mut nodes: Vec<NodeId>, all: bool) -> Vec<NodeId>
     ensures { result.items ≡ (if all then reverse nodes.items else []) }
 {

@@ -1,4 +1,4 @@
--- What follows a size line leads to one stage.
+-- The bytes after a size line lead to one stage.
 use Rattle.std.proofs.Common.{◌≡◌, ◌≢◌, ℕ, ◌+◌, ◌-◌, ◌<◌, ◌≤◌, ◌⊎◌, inl, inr, true, false, List, [], ◌∷◌, ◌++◌, length, take, drop, slice_index, refl, sym, ap, ◌∙◌, subst, arith, length-append}
 use Rattle.std.specs.Prelude.{nat_le, if◌then◌else◌}
 use Rattle.std.proofs.lemmas.Bool.{cases_lt, false≢true}
@@ -198,7 +198,7 @@ pub record IsGreatBody (v c : List ℕ) (s : DecoderState) : Type 0 where
   pub content : c ≡ []
   pub stage : s ≡ refused Bad
 
--- what follows a size line that says this size
+-- the bytes after a size line with this size
 pub data IsBody (size : ℕ) (v c : List ℕ) (s : DecoderState) : Type 0 where
   trailer : size ≡ 0 → IsTrailerBody v c s → IsBody size v c s
   chunk : 0 < size → size ≤ MAX_CHUNK_SIZE → IsChunkBody size v c s → IsBody size v c s

@@ -1,4 +1,4 @@
--- How many trailer fields there are.
+-- The number of trailer fields.
 use Rattle.std.proofs.Common.{◌≡◌, ◌≢◌, ℕ, ◌≤◌, List, [], length, take, refl, sym, ap, ◌∙◌, arith, length-append}
 use Rattle.std.proofs.lemmas.List.{length-map, length-take-le}
 use Rattle.httparse.specs.declared.Error.{Error}

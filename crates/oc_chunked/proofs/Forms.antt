@@ -1,4 +1,4 @@
--- Size lines and trailer fields: what is not whole yet.
+-- Size lines and trailer fields: unfinished ones.
 use Rattle.std.proofs.Common.{◌≡◌, ℕ, inl, inr, List, [], ◌∷◌, ◌++◌, sym, ap, ◌∙◌}
 use Rattle.std.specs.List.{flat_map}
 use Rattle.std.proofs.lemmas.List.{append_assoc}

@@ -3,7 +3,7 @@ use Rattle.std.proofs.Common.{◌≡◌, ℕ, ◌⊎◌, inl, inr, List, [], ◌
 use Rattle.httparse.specs.Ascii.{line_feed}
 use Rattle.oc_http.proofs.LineEnds.{ended, ended-some}
 
--- what ends a line at the front of bytes ends before their last byte, unless that byte ends it
+-- bytes that end a line at the front of bytes end before their last byte, unless that byte ends it
 pub ends_before : (line rest before : List ℕ) (b : ℕ) → ended line ++ rest ≡ before ++ b ∷ [] → (rest ≡ []) × (b ≡ line_feed) ⊎ ((behind : List ℕ) × (before ≡ ended line ++ behind))
 ends_before [] [] [] b h = inl (refl, cc)
 ends_before [] (c ∷ rest) [] b h = cc

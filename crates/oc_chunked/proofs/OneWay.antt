@@ -37,7 +37,7 @@ pub record IsNoSize (u c : List ℕ) (s : DecoderState) : Type 0 where
   pub content : c ≡ []
   pub stage : s ≡ stage_in u outcome
 
--- a size line, and what follows it
+-- a size line, and the bytes after it
 pub record IsSized (u c : List ℕ) (s : DecoderState) : Type 0 where
   pub line : ChunkLine
   pub behind : List ℕ
@@ -45,7 +45,7 @@ pub record IsSized (u c : List ℕ) (s : DecoderState) : Type 0 where
   pub bytes : u ≡ print_chunk_line line ++ behind
   pub body : IsBody (chunk_size line) behind c s
 
--- a trailer line and what follows it
+-- a trailer line and the bytes after it
 sized_trailer : (front u c : List ℕ) (s : DecoderState) (o : Outcome (List Field × LineEnd)) → IsClosedBy front u c → Collects ReadsFields MAX_TRAILER_BYTES front o → s ≡ stage_behind front o → IsSized u c s
 sized_trailer front u c s o closed collects stage = record {
   line = closed.line;
@@ -58,7 +58,7 @@ sized_trailer front u c s o closed collects stage = record {
 abbrev pub IsBehind : List ℕ → List ℕ → DecoderState → Type 0
 IsBehind u c s = IsNoSize u c s ⊎ IsSized u c s
 
--- what leads to a stage, as a size line and what follows it
+-- bytes that lead to a stage, as a size line and the bytes after it
 pub behind : (s : DecoderState) (u c : List ℕ) → LeadsOn s u c → IsBehind u c s
 behind (in_size line) u c part = inl (record {
   outcome = unended;
@@ -126,7 +126,7 @@ comparable_line : (u x : List ℕ) (s : DecoderState) (o : Outcome ChunkLine) �
 comparable_line u x s o is (inl none) = inl none
 comparable_line u x s o is (inr final) = inr (last_of_stage u o (ap is_final (sym is) ∙ final))
 
--- what is no line is not a whole one
+-- bytes that are no line are not a whole one
 not_whole : (l : ChunkLine) (o : Outcome ChunkLine) → IsNoLine o → whole l ≡ o → ⊥
 not_whole l o none e = subst IsNoLine (sym e) none
 

@@ -20,7 +20,7 @@ all_chunks : (chunks : List Chunk) → AllByRecursion IsShortChunk chunks → Al
 all_chunks [] all = tt
 all_chunks (c ∷ chunks) all = ((all.0).chunk, all_chunks chunks all.1)
 
--- what leads to the end is chunked
+-- bytes that lead to the end are chunked
 pub whole_chunked : (bytes content : List ℕ) → IsTaken bytes content ended → IsChunked bytes content
 whole_chunked bytes content taken =
     let end = taken.leads in
@@ -35,7 +35,7 @@ whole_chunked bytes content taken =
       content_is = taken.content_is ∙ ap (λ (z : List ℕ). content_of taken.chunks ++ z) end.closed.content_is ∙ append-nil (content_of taken.chunks);
     }
 
--- what is collected is not too long
+-- collected bytes are not too long
 collects_short : {T : Type 0} (Reads : List ℕ → T → List ℕ → Type 0) (most : ℕ) (bytes : List ℕ) (o : Outcome T) → Collects Reads most bytes o → length bytes ≤ most
 collects_short Reads most bytes unended c = omega (arith, c.1)
 collects_short Reads most bytes hopeless c = c.1

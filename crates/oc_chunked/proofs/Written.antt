@@ -1,4 +1,4 @@
--- What is written is chunked.
+-- The written text is chunked.
 use Rattle.std.proofs.Common.{◌≡◌, ℕ, min, zero, suc, ◌+◌, ◌/◌, ◌%◌, ◌^◌, ◌<◌, ◌≤◌, true, false, List, [], ◌∷◌, ◌++◌, length, take, drop, refl, sym, ap, ◌∙◌, subst, inl, inr, arith, length-append, length-drop, length-take, None}
 use Rattle.std.proofs.lemmas.List.{append_assoc, append-nil, take-append-drop, take_all, drop_all}
 use Rattle.std.proofs.lemmas.List.Elements.{All-nil, All-from_recursion}
@@ -133,7 +133,7 @@ written (suc most) (b ∷ bytes) few =
     let one = written_more piece rest (chunks_written most rest) (omega (arith, long)) (omega (arith, long)) (written most rest less) in
     rw (written_cons most b bytes) (subst (IsWritten (chunk_written piece ++ chunks_written most rest)) (take-append-drop WRITTEN_BYTES all) one)
 
--- what is written ends a text
+-- the written end ends a text
 end-written : end_written ≡ print_chunk_line (size_line 0) ++ print_section [] crlf
 unfolding digits
 end-written = ap (λ (z : List ℕ). z ++ crlf_bytes) (sym (print-size 0))
@@ -206,7 +206,7 @@ cut_front n bytes cut = elim (cases_lt WRITTEN_BYTES (length bytes)) [
       (take_all n bytes all ∙ sym (take_all WRITTEN_BYTES bytes few), drop_all n bytes all ∙ sym (drop_all WRITTEN_BYTES bytes few))
 ]
 
--- with a chunk more, what was written and what is written for the rest is what it was
+-- with one more chunk, the text written and the text for the rest together are unchanged
 pub chunk_more : (n : ℕ) (text rest all : List ℕ) → 0 < length rest → n ≡ min (length rest) WRITTEN_BYTES → text ++ chunks_written (length rest) rest ≡ all → (text ++ chunk_written (take n rest)) ++ chunks_written (length (drop n rest)) (drop n rest) ≡ all
 chunk_more n text rest all some cut invariant =
     let front = cut_front n rest cut in
@@ -214,7 +214,7 @@ chunk_more n text rest all some cut invariant =
     ∙ ap (λ (z : List ℕ). text ++ z) (sym (chunks_first rest some))
     ∙ invariant)
 
--- where nothing is left, what was written is all
+-- if no bytes are left, the text written is the whole text
 pub chunks_done : (text rest bytes : List ℕ) → length rest ≡ 0 → text ++ chunks_written (length rest) rest ≡ chunks_written (length bytes) bytes → text ++ end_written ≡ chunked_text bytes
 unfolding chunks_written
 chunks_done text [] bytes none invariant = ap (λ (z : List ℕ). z ++ end_written) (sym (append-nil text) ∙ invariant)

@@ -29,7 +29,7 @@ print_chunks chunks = flat_map print_chunk chunks
 abbrev pub content_of : List Chunk → List ℕ
 content_of chunks = flat_map (λ c. c.bytes) chunks
 
--- what closes a text: a size line, fields and their empty line
+-- the end of a text: a size line, trailer fields and their empty line
 pub record Trailer : Type 0 where
   pub line : ChunkLine
   pub fields : List Field

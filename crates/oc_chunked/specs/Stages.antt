@@ -1,4 +1,4 @@
--- How far the reading of a chunked text has come.
+-- The progress of reading a chunked text.
 use Rattle.std.specs.Prelude.{◌≡◌, ℕ, ◌+◌, ◌-◌, ◌≤◌, max, List, Bool, true, false, Option, Some, None}
 use Rattle.oc_chunked.specs.declared.fault.ChunkFault.{ChunkFault}
 use Rattle.oc_chunked.specs.declared.fault.ChunkFault.TheVariants as faults
@@ -8,11 +8,11 @@ use Rattle.oc_chunked.specs.declared.state.BadText.{BadText}
 use Rattle.oc_chunked.specs.declared.state.BadText.TheVariants as refusals
 
 pub data DecoderState : Type 0 where
-  -- in a size line, of which these bytes came
+  -- in a size line, with its bytes so far
   in_size : List ℕ → DecoderState
-  -- in a chunk, of which this many bytes are left, its CR LF among them
+  -- in a chunk, with the number of bytes left, its CR LF included
   in_chunk : ℕ → DecoderState
-  -- in the trailer fields, of which these bytes came
+  -- in the trailer fields, with their bytes so far
   in_trailer : List ℕ → DecoderState
   -- after a whole text
   ended : DecoderState
@@ -24,7 +24,7 @@ abbrev pub is_ended : DecoderState → Bool
 is_ended ended = true
 is_ended stage = false
 
--- why the bytes are refused, if they are
+-- the reason why the bytes are refused, if they are
 abbrev pub fault_in : DecoderState → Option ChunkFault
 fault_in (refused fault) = Some fault
 fault_in stage = None
@@ -35,14 +35,15 @@ is_final ended = true
 is_final (refused fault) = true
 is_final stage = false
 
--- how many further bytes surely belong to the text: in a chunk those of its content that are still to come, else one, and none at
--- the end
+-- the number of further bytes that must belong to the text: in a chunk the rest of its content,
+-- otherwise one, and none at the end
 abbrev pub wanted_at : DecoderState → ℕ
 wanted_at (in_chunk left) = max (left - 2) 1
 wanted_at ended = 0
 wanted_at stage = 1
 
--- `count` bytes led from stage to stage: what was wanted at the old one came, or is wanted at the new one too, which is no refusal
+-- `count` bytes led from stage to stage: all bytes wanted at the old stage came, or the rest is
+-- wanted at the new one, which is no refusal
 abbrev pub StillWants : DecoderState → ℕ → DecoderState → Type 0
 StillWants old count new = fault_in new ≡ None → wanted_at old ≤ count + wanted_at new
 

@@ -1,4 +1,4 @@
--- To which stage bytes lead, and with which content.
+-- The stage and the content of bytes.
 use Rattle.std.specs.Prelude.{◌≡◌, ◌≢◌, ℕ, ◌+◌, ◌-◌, ◌<◌, ◌≤◌, ◌⊎◌, List, [], ◌∷◌, ◌++◌, length, take, drop, slice_index}
 use Rattle.std.specs.List.{AllByRecursion}
 use Rattle.httparse.specs.Ascii.{crlf_bytes}
@@ -21,7 +21,7 @@ pub record IsShortChunk (c : Chunk) : Type 0 where
   pub chunk : IsChunk c
   pub short : length (print_chunk_line c.line) ≤ MAX_SIZE_LINE_BYTES
 
--- What can follow whole chunks:
+-- The bytes that can follow whole chunks:
 
 -- a part of a size line
 pub record IsPartOfSize (line bytes content : List ℕ) : Type 0 where
@@ -30,7 +30,7 @@ pub record IsPartOfSize (line bytes content : List ℕ) : Type 0 where
   pub unfinished : IsUnfinished ReadsChunkLine line
   pub short : length line < MAX_SIZE_LINE_BYTES
 
--- a size line and a part of the chunk after it, of which this many bytes are left
+-- a size line and a part of its chunk, of which `left` bytes are left
 pub record IsPartOfChunk (left : ℕ) (bytes content : List ℕ) : Type 0 where
   pub line : ChunkLine
   pub behind : List ℕ
@@ -51,13 +51,13 @@ pub record IsClosedBy (behind bytes content : List ℕ) : Type 0 where
   pub bytes_are : bytes ≡ print_chunk_line line ++ behind
   pub content_is : content ≡ []
 
--- such a line and a part of the trailer fields
+-- a last size line and a part of the trailer fields
 pub record IsPartOfTrailer (front bytes content : List ℕ) : Type 0 where
   pub closed : IsClosedBy front bytes content
   pub unfinished : IsUnfinished ReadsFields front
   pub short : length front < MAX_TRAILER_BYTES
 
--- such a line and all the trailer fields
+-- a last size line and all the trailer fields
 pub record IsWhole (bytes content : List ℕ) : Type 0 where
   pub front : List ℕ
   pub fields : List Field × LineEnd
@@ -121,7 +121,7 @@ LeadsOn (refused Bad) bytes content = HasBadSize bytes content ⊎ HasGreatSize 
 LeadsOn (refused Long) bytes content = HasLongSize bytes content ⊎ HasLongTrailer bytes content
 LeadsOn (refused Memory) bytes content = ⊥
 
--- these bytes lead to this stage, with this content
+-- the bytes lead to this stage, with this content
 pub record IsTaken (bytes content : List ℕ) (stage : DecoderState) : Type 0 where
   pub chunks : List Chunk
   pub behind : List ℕ
@@ -131,11 +131,11 @@ pub record IsTaken (bytes content : List ℕ) (stage : DecoderState) : Type 0 wh
   pub bytes_are : bytes ≡ print_chunks chunks ++ behind
   pub content_is : content ≡ content_of chunks ++ more
 
--- from the old stage these bytes lead to the new one, and this is their content
+-- the bytes lead from the old stage to the new one, with this content
 pub record Takes (old : DecoderState) (bytes content : List ℕ) (new : DecoderState) : Type 0 where
   pub on : (before given : List ℕ) → IsTaken before given old → IsTaken (before ++ bytes) (given ++ content) new
 
--- from the old stage a prefix of the piece leads to the refusal
+-- a prefix of the piece leads from the old stage to the refusal
 pub record RefusesPiece (old : DecoderState) (piece : List ℕ) (fault : ChunkFault) : Type 0 where
   pub front : List ℕ
   pub rest : List ℕ

@@ -1,4 +1,4 @@
--- How a content is written as chunks.
+-- The text of a content in chunks.
 use Rattle.std.specs.Prelude.{ℕ, zero, suc, false, if◌then◌else◌, ◌==◌, List, [], ◌++◌, length, take, drop, codes}
 use Rattle.std.specs.Fmt.{digits}
 use Rattle.httparse.specs.Ascii.{crlf_bytes}
@@ -8,11 +8,11 @@ use Rattle.oc_chunked.specs.declared.limits.TheConstants.{WRITTEN_BYTES}
 abbrev pub chunk_written : List ℕ → List ℕ
 chunk_written bytes = digits 16 false (length bytes) ++ crlf_bytes ++ (bytes ++ crlf_bytes)
 
--- what ends a text
+-- the end of a text
 abbrev pub end_written : List ℕ
 end_written = codes "0" ++ crlf_bytes ++ crlf_bytes
 
--- chunks of 4,096 bytes and one of the rest, at most this many
+-- chunks of 4,096 bytes and one of the rest, at most this number of chunks
 unfoldable pub chunks_written : ℕ → List ℕ → List ℕ
 chunks_written zero bytes = []
 chunks_written (suc most) bytes =

@@ -10,11 +10,11 @@ use httparse::spans::{EMPTY_HEADER_SPAN, HeaderSpan};
 use oc_base::{Memory, push_reserved};
 use std::alloc::Global;
 
-/// How far the reading of a chunked text has come.
+/// The progress of reading a chunked text.
 #[derive(Drop)]
 pub(crate) struct Decoder {
     state: State,
-    /// What has come so far of the size line or of the trailer fields.
+    /// The bytes so far of the size line or of the trailer fields.
     line: Vec<u8>,
     /// Room for the trailer fields.
     spans: Vec<HeaderSpan>,
@@ -29,7 +29,7 @@ impl Decoder {
     ghost use Rattle.oc_chunked.specs.Views.{stage_of, Advances, IsLine};
     ghost use Rattle.oc_chunked.specs.declared.state.State.TheVariants.{Chunk};
 
-    /// At the beginning of a text.
+    /// A decoder at the beginning of a text.
     pub(crate) fn new(alloc: Global) -> Result<Decoder, Memory>
         ensures { IfOk result (λ p. stage_of p ≡ in_size []) }
     {
@@ -43,7 +43,7 @@ impl Decoder {
         })
     }
 
-    /// Why the bytes so far are refused, if they are.
+    /// The reason why the bytes so far are refused, if they are.
     pub(crate) fn fault(&self) -> Option<ChunkFault>
         ensures { result ≡ fault_in (stage_of self.now) }
     {
@@ -60,7 +60,7 @@ impl Decoder {
         matches!(self.state, State::End)
     }
 
-    /// How many further bytes surely belong to the text, and one where it is refused.
+    /// The number of further bytes that must belong to the text; one if the text is refused.
     pub(crate) fn wanted(&self) -> usize
         ensures { result ≡ wanted_at (stage_of self.now) }
     {
@@ -71,8 +71,8 @@ impl Decoder {
         }
     }
 
-    /// Takes of a piece what belongs to the text, up to the byte at which it is refused, and puts its
-    /// content at the end of `out`, which has room for it. Gives how many bytes it took.
+    /// Takes the bytes of a piece that belong to the text, up to the byte at which it is refused,
+    /// and appends their content to `out`, which has room for it. Gives the number of bytes taken.
     pub(crate) fn take(&mut self, piece: &[u8], out: &mut Vec<u8>) -> usize
         requires { vec_len out.old + length piece.now ≤ vec_capacity out.old }
         ensures within { result ≤ length piece.now }
@@ -94,7 +94,7 @@ impl Decoder {
         !matches!(self.state, State::End | State::Refused(_))
     }
 
-    /// Takes some bytes, one or more, of what is left of a piece.
+    /// Takes some bytes, at least one, of the rest of a piece.
     fn advance(&mut self, rest: &[u8], out: &mut Vec<u8>) -> usize
         requires some { 0 < length rest.now }
         requires open { is_final (stage_of self.old) ≡ false }
@@ -118,7 +118,7 @@ impl Decoder {
         }
     }
 
-    /// Takes bytes of a chunk, of which there are this many with its CR LF.
+    /// Takes bytes of a chunk with `left` bytes left, its CR LF included.
     fn take_content(&mut self, left: u32, rest: &[u8], out: &mut Vec<u8>) -> usize
         requires state { self.old.state ≡ Chunk left }
         requires more { 2 < left }

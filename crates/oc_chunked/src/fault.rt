@@ -4,7 +4,7 @@ use std::alloc::AllocError;
 use std::error::Error;
 use std::fmt;
 
-/// Why a piece of a chunked text is refused.
+/// The reason why a piece of a chunked text is refused.
 #[derive(Clone, Copy, Debug, PartialEq, Eq)]
 pub enum ChunkFault {
     /// The text is not chunked: a size line or the trailer fields are malformed, a chunk has more than

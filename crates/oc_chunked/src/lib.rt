@@ -1,15 +1,15 @@
 //! Chunked transfer coding (RFC 9112, section 7.1): a content as chunks, and back.
 //!
 //! [`chunk_text`] writes a content as chunks. An [`Unchunker`] reads a chunked text in pieces, cut
-//! anywhere, and says how many bytes surely still belong to it. `httparse` reads the size lines and the
-//! trailer fields; it is asked at the end of each of their lines.
+//! anywhere, and gives the number of bytes that must still belong to the text. `httparse` parses
+//! the size lines and the trailer fields, at the end of each of their lines.
 //!
-//! `specs/Chunked` says what a chunked text is. `specs/Taken` says how far bytes lead a reader into
-//! such a text (`IsTaken`), and with which content. The layers above rest on this: whatever the pieces,
-//! the bytes that an [`Unchunker`] has taken lead to the stage that it is in, and it has given their
-//! content and nothing else. [`a_text_is_read_in_one_way`] says that the same bytes lead to one stage
-//! with one content, [`a_chunked_text_ends`] that a chunked text leads to the end, and
-//! [`a_written_text_is_read`] that what is written is read.
+//! `specs/Chunked` defines chunked texts. `specs/Taken` defines the progress of a reader in a text
+//! (`IsTaken`), with its content. The layers above rest on this: however the pieces are cut, the
+//! bytes that an [`Unchunker`] has taken lead to its stage, and it has given their content and
+//! nothing else. [`a_text_is_read_in_one_way`] says that the same bytes lead to one stage with one
+//! content, [`a_chunked_text_ends`] that a chunked text leads to the end, and
+//! [`a_written_text_is_read`] that a written text is read with its content.
 #![tactic(auto)]
 
 mod decoder;

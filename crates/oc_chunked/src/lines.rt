@@ -12,8 +12,8 @@ use httparse::spans::{HeaderSpan, parse_headers};
 use httparse::{Status, parse_chunk_size};
 use oc_base::MAX_FIELDS;
 
-/// The state after the bytes of a size line so far, the last of which is `byte`; `None`
-/// where it is in that line.
+/// The state after the bytes of a size line so far, the last of which is `byte`; `None` within that
+/// line.
 pub(crate) fn behind_size(line: &[u8], byte: u8) -> Option<State>
     ensures { (before : List ℕ) → line.now ≡ before ++ byte ∷ [] → GoesOn in_size before byte result }
 {
@@ -27,7 +27,7 @@ pub(crate) fn behind_size(line: &[u8], byte: u8) -> Option<State>
     }
 }
 
-/// The state after a size line that says this size.
+/// The state after a size line with this size.
 fn behind_size_line(size: u64) -> State
     ensures { result ≡ behind_size_line size }
 {
@@ -42,8 +42,8 @@ fn behind_size_line(size: u64) -> State
     }
 }
 
-/// The state after the bytes of the trailer fields so far, the last of which is `byte`;
-/// `None` where it is in these fields.
+/// The state after the bytes of the trailer fields so far, the last of which is `byte`; `None`
+/// within these fields.
 pub(crate) fn behind_trailer(line: &[u8], spans: &mut [HeaderSpan], byte: u8) -> Option<State>
     requires { FIELD_ROOM ≤ length spans.old }
     ensures { (before : List ℕ) → line.now ≡ before ++ byte ∷ [] → GoesOn in_trailer before byte result }
@@ -58,7 +58,7 @@ pub(crate) fn behind_trailer(line: &[u8], spans: &mut [HeaderSpan], byte: u8) ->
     }
 }
 
-/// The state after this many trailer fields.
+/// The state after `count` trailer fields.
 fn behind_fields(count: usize) -> State
     ensures { result ≡ behind_fields count }
 {
@@ -69,8 +69,8 @@ fn behind_fields(count: usize) -> State
     }
 }
 
-/// The state within lines that have no end so far, and may have fewer bytes than `most`: `None`
-/// where it is in them.
+/// The state within lines that have no end so far, and must have fewer bytes than `most`: `None` if
+/// they go on.
 fn state_within(line: &[u8], most: usize) -> Option<State>
     ensures { result ≡ state_within (length line.now) most }
 {

@@ -3,22 +3,22 @@ ghost use Rattle.oc_chunked.specs.Stages.{fault_of};
 
 use crate::fault::ChunkFault;
 
-/// Where in a chunked text the bytes taken so far end.
+/// The place in a chunked text after the bytes taken so far.
 #[derive(Clone, Copy, Debug, PartialEq, Eq)]
 pub(crate) enum State {
     /// In a size line.
     Size,
-    /// In a chunk, of which this many bytes are left, its CR LF among them.
+    /// In a chunk with `left` bytes left, its CR LF included.
     Chunk { left: u32 },
     /// In the trailer fields.
     Trailer,
     /// After the text.
     End,
-    /// After bytes that are refused.
+    /// After refused bytes.
     Refused(BadText),
 }
 
-/// Why bytes are refused.
+/// The reason why bytes are refused.
 #[derive(Clone, Copy, Debug, PartialEq, Eq)]
 pub(crate) enum BadText {
     Bad,

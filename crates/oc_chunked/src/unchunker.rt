@@ -5,10 +5,10 @@ use std::alloc::Global;
 use std::marker::Model;
 
 /// A reader of a chunked text (RFC 9112, section 7.1) that comes in pieces, cut anywhere. Chunk
-/// extensions and trailer fields are passed over.
+/// extensions and trailer fields are ignored.
 ///
-/// Contracts see it as the stage that it is in. `IsTaken` says which bytes lead to which stage, and
-/// with which content.
+/// Contracts see the stage of the reader. `IsTaken` says which bytes lead to which stage, and with
+/// which content.
 #[derive(Drop)]
 pub struct Unchunker {
     progress: Decoder,
@@ -30,7 +30,7 @@ impl Unchunker {
     ghost use Rattle.oc_chunked.specs.Taken.{IsTaken, Takes, RefusesPiece};
     ghost use Rattle.oc_chunked.specs.declared.fault.ChunkFault.{ChunkFault};
 
-    /// A reader that has taken nothing.
+    /// A reader at the beginning of a text.
     pub fn new(alloc: Global) -> Result<Unchunker, Memory>
         ensures { IfOk result (λ u. IsTaken [] [] u) }
     {
@@ -39,9 +39,10 @@ impl Unchunker {
         })
     }
 
-    /// Takes a piece of the text, puts its content at the end of `out`, and gives how many bytes it
-    /// took: the whole piece, or fewer where the text ended in it. Memory is taken first. `out` stays as
-    /// it was where the piece is refused; after `Bad` and `Long` every further piece is refused in the same way.
+    /// Takes a piece of the text, appends its content to `out`, and gives the number of bytes
+    /// taken: the whole piece, or fewer if the text ended in it. Memory is taken first. `out` is
+    /// unchanged if the piece is refused; after `Bad` and `Long` every further piece is refused in
+    /// the same way.
     pub fn feed(&mut self, piece: &[u8], out: &mut Vec<u8>) -> Result<usize, ChunkFault>
         ensures within { IfOk result (λ count. count ≤ length piece.now) }
         ensures whole { IfOk result (λ count. count < length piece.now → self.new ≡ ended) }
@@ -49,7 +50,7 @@ impl Unchunker {
             × Takes self.old (take count piece.now) content self.new) }
         ensures fine { OnOk result (fault_in self.new ≡ None) }
 
-        // A piece of no more bytes than are wanted is taken whole.
+        // A piece of at most the wanted number of bytes is taken whole.
         ensures wanted { IfOk result (λ count. length piece.now ≤ wanted_at self.old → count ≡ length piece.now) }
 
         ensures refused { IfErr result (λ fault. fault ≢ ChunkFault.Memory → (self.new ≡ refused fault) × RefusesPiece self.old piece.now fault) }
@@ -70,8 +71,8 @@ impl Unchunker {
         Ok(taken)
     }
 
-    /// How many further bytes surely belong to the text: within a chunk those of its content that are still
-    /// to come, else one, and none at its end. Where a piece was refused it is one too.
+    /// The number of further bytes that must belong to the text: within a chunk the rest of its
+    /// content, otherwise one, and none at the end. After a refused piece it is one, too.
     pub fn wanted(&self) -> usize
         ensures said { result ≡ wanted_at self.now }
         ensures surely { (bytes given more content : List ℕ) → IsTaken bytes given self.now → IsTaken (bytes ++ more) content ended
@@ -80,7 +81,7 @@ impl Unchunker {
         self.progress.wanted()
     }
 
-    /// Whether the bytes taken are a whole chunked text.
+    /// Whether the bytes taken so far are a whole chunked text.
     pub fn ended(&self) -> bool
         ensures { (bytes content : List ℕ) → IsTaken bytes content self.now
             → MatchBool result (IsChunked bytes content) ((other : List ℕ) → ¬ (IsChunked bytes other)) }

@@ -26,7 +26,7 @@ pub fn chunk_text(alloc: Global, bytes: &[u8]) -> Result<Vec<u8>, Memory>
     Ok(text)
 }
 
-/// Puts a chunk.
+/// Appends a chunk.
 fn put_chunk(text: &mut Vec<u8>, bytes: &[u8]) -> Result<(), Memory>
     ensures { OnOk result (text.new.items ≡ text.old.items ++ chunk_written bytes.now) }
 {
@@ -35,7 +35,7 @@ fn put_chunk(text: &mut Vec<u8>, bytes: &[u8]) -> Result<(), Memory>
     put(text, b"\r\n")
 }
 
-/// Puts a size line.
+/// Appends a size line.
 fn put_size(text: &mut Vec<u8>, size: u64) -> Result<(), Memory>
     ensures { OnOk result (text.new.items ≡ text.old.items ++ (digits 16 false size ++ crlf_bytes)) }
 {

@@ -1,4 +1,4 @@
--- Over a source that answers by the rules, what is done was added once.
+-- With a source that answers by the rules, a publishing that is done was added once.
 use Rattle.std.proofs.Common.{◌≡◌, ◌≢◌, ◌⊎◌, inl, inr, ℕ, ◌+◌, ◌<◌, ◌≤◌, Bool, true, false, not, ◌&&◌, ◌||◌, ◌==◌, if◌then◌else◌, Result, Ok, Err, List, [], ◌∷◌, ◌++◌, length, drop, map, refl, sym, ap, subst, ◌∙◌, arith, length-append, append_assoc, append-nil}
 use Rattle.std.specs.List.{AllByRecursion}
 use Rattle.std.proofs.lemmas.Bool.{eqb-true, eq-eqb, and_parts}
@@ -93,7 +93,7 @@ takes_now base load sealed source holds may = record {
   sealed_is = sealed_taken load sealed source.group.sealed holds.sealed_is load.seals refl;
 }
 
--- a source takes what was lost
+-- a source takes a load that was lost
 takes_old : (base : List ℕ) (load : Load) (sealed : Bool) (source : SourceState) (post : Post) → Holds base load sealed source → IsOld base load post → may_take source.group post ≡ true → Holds base load sealed (record source { group = taken post source.group })
 takes_old base load sealed source post holds (inl (inl less)) may =
     absurd (omega (arith, less, may_be source.group post may, at_least base load source.group.content holds.content))
@@ -141,7 +141,7 @@ Through old [] new = new ≡ old
 Through old (turn ∷ turns) new =
     (met : SourceState) × (next : SourceState) × Arrive old met × Reacts met turn.request turn.answer next × Through next turns new
 
--- what arrives after all turns comes last
+-- a POST that arrives after all turns comes last
 serves_through : (turns : List PutTurn) (old new : SourceState) → Serves old turns new → (last : SourceState) × Through old turns last × Arrive last new
 serves_through [] old new serves = (old, refl, serves)
 serves_through (turn ∷ turns) old new (met, next, arrive, reacts, serves) =
@@ -173,7 +173,7 @@ tells_same old new (Ok (Length told)) tells = tells.1
 tells_same old new (Ok (Refused status)) tells = tells
 tells_same old new (Err failure) tells = tells
 
--- what a client has found who asked for the length
+-- the result for a client that asked for the length
 record Finds (group : SourceGroup) (new : SourceState) (progress : Progress) : Type 0 where
   same : new ≡ fresh group
   length_is : progress.length ≡ length group.content
@@ -191,7 +191,7 @@ after_failure On effort failure turns progress h =
 same_progress : (p q : Progress) → Settled p ≡ Settled q → p ≡ q
 same_progress p q e = cc
 
--- who asks for the length, and whom a source answers with the truth
+-- a client asks for the length, and the source answers with the truth
 found_on : (turns : List PutTurn) (failures : ℕ) (group : SourceGroup) (new next : SourceState) (progress : Progress) (answer : Result PutAnswer Failure) → ((more : ℕ) → LeadsTo nothing (record { doing = Finding; failures = more }) turns (Settled progress) → Finds group new progress) → Onward (λ further. LeadsTo nothing further turns (Settled progress)) (next_of (record { doing = Finding; failures = failures }) answer) turns (Settled progress) → Through (fresh group) turns new → Tells (fresh group) answer next → Finds group new progress
 found_on turns failures group new next progress (Ok Taken) later onward through truth = absurd truth
 found_on turns failures group new next progress (Ok (Length told)) later onward through truth = record {
@@ -212,7 +212,7 @@ found_by (turn ∷ turns) failures group new progress leads (met, next, arrive, 
 
 -- A load is taken
 
--- what a client wants who sends a load after a base
+-- the next requests of a client that sends a load after a base
 abbrev IsFor : List ℕ → Load → Doing → Type 0
 IsFor base load Finding = ⊥
 IsFor base load (Posting at behind tried) = (at ≡ length base) × (behind ≡ length base + length load.piece)
@@ -241,7 +241,7 @@ told_there base load sealed source told at behind progress sound holds is_at is_
   closed = λ set. absurd (differs (same ∙ is_behind ∙ (omega (arith, ap length (sound set), is_at))));
 }
 
--- what was asked for differs from what was told
+-- the length asked for differs from the length told
 differ_by : (m n : ℕ) → (m == n) ≡ false → m ≢ n
 differ_by m n e same = absurd (let t : (m == n) ≡ true = eq-eqb m n same in let f : true ≡ false = sym t ∙ e in cc)
 
@@ -254,12 +254,12 @@ conflict base load sealed turns at behind told met new progress On true true e s
 conflict base load sealed turns at behind told met new progress On true false e sound for holds onward truth differs through = absurd (let e : Settled progress ≡ Ended (ends.Length told) = onward.1 in cc)
 conflict base load sealed turns at behind told met new progress On false c e sound for holds onward truth differs through = absurd (let e : Settled progress ≡ Ended (ends.Length told) = onward.1 in cc)
 
--- what is known of the turns after one
+-- the knowledge of the turns after one
 abbrev Later : List ℕ → Load → Bool → List PutTurn → SourceState → Progress → Type 0
 Later base load sealed turns new progress =
     (doing : Doing) (failures : ℕ) (old : SourceState) → IsFor base load doing → Holds base load sealed old → LeadsTo load (record { doing = doing; failures = failures }) turns (Settled progress) → Through old turns new → IsTaken base load sealed new progress
 
--- an answer to what was sent
+-- an answer to a request that sent a load
 posted : (base : List ℕ) (load : Load) (sealed : Bool) (turns : List PutTurn) (at behind : ℕ) (tried : Bool) (failures : ℕ) (met next new : SourceState) (progress : Progress) (answer : Result PutAnswer Failure) → Later base load sealed turns new progress → IsSound load → (at ≡ length base) × (behind ≡ length base + length load.piece) → Holds base load sealed met → Onward (λ further. LeadsTo load further turns (Settled progress)) (next_of (record { doing = Posting at behind tried; failures = failures }) answer) turns (Settled progress) → Takes met (record { at = at; load = load }) answer next → Through next turns new → IsTaken base load sealed new progress
 posted base load sealed turns at behind tried failures met next new progress (Ok Taken) later sound for holds onward takes through =
     let same : new ≡ next = subst (λ (ts : List PutTurn). Through next ts new) onward.0 through in
@@ -332,7 +332,7 @@ begins_load base load sealed source stands = record {
   sealed_is = inl stands.sealed_is;
 }
 
--- after bytes that are taken, what was sent before is spent
+-- after bytes that are taken, the earlier sent ones are spent
 now_spent : (base piece : List ℕ) (post : Post) → IsOld base (bytes piece) post → IsSpent (base ++ piece) post
 now_spent base piece post (inl (inl less)) = inl (omega (arith, less, length-append base piece))
 now_spent base piece post (inl (inr idle)) = inr idle
@@ -355,7 +355,7 @@ behind_piece base piece sealed new progress is = record {
   sealed_is = seal_stays piece sealed new.group.sealed is.holds.sealed_is;
 }
 
--- what is known after some pieces
+-- the knowledge after some pieces
 record IsThere (base : List ℕ) (sealed : Bool) (new : SourceState) (progress : Progress) : Type 0 where
   stands : Stands base sealed new
   length_is : progress.length ≡ length base
@@ -386,7 +386,7 @@ is_set : (now : Bool) → (now ≡ true) ⊎ ((seal.seals ≡ true) × (now ≡ 
 is_set now (inl e) = e
 is_set now (inr e) = e.1
 
--- between two loads what arrives changes nothing
+-- between two loads an arriving POST changes nothing
 arrive_stands : (base : List ℕ) (sealed : Bool) (old new : SourceState) → Stands base sealed old → Arrive old new → (new.group.content ≡ base) × (new.group.sealed ≡ sealed)
 arrive_stands base sealed old new stands arrive =
     let holds = arrive_holds base nothing sealed old new (begins_load base nothing sealed old stands) arrive in
@@ -410,7 +410,7 @@ sealed_or_not true base sealed progress turns old last new long stands (reached,
 stands_fresh : (group : SourceGroup) → Stands group.content group.sealed (fresh group)
 stands_fresh group = record { content = refl; lost = tt; sealed_is = refl }
 
--- what was passed over was there
+-- the part that was passed over was there
 added_at : (place : WriteMode) (found : ℕ) (before rest input content : List ℕ) → Begins place found before → found ≡ length content → input ≡ before ++ rest → IsAdded place input content (content ++ rest)
 added_at New found before rest input [] begins long is = (refl, sym (is ∙ ap (λ (b : List ℕ). b ++ rest) begins.1))
 added_at New found before rest input (b ∷ content) begins long is = absurd (omega (arith, begins.0, long))

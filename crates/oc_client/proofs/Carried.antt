@@ -50,7 +50,7 @@ pub least_some : (live : Bool) → 0 < least_piece live
 least_some true = omega arith
 least_some false = omega arith
 
--- such pieces, and one more
+-- these pieces, and one more
 some_more : (live : Bool) (pieces : List (List ℕ)) (piece : List ℕ) → AllByRecursion (IsPart live) pieces → 0 < length piece → length piece ≤ PUT_PIECE_BYTES → AreSome live (pieces ++ piece ∷ [])
 some_more live [] piece all least most = (least, most)
 some_more live (first ∷ []) piece all least most = (all.0, (least, most))

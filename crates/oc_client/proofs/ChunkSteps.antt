@@ -41,7 +41,7 @@ stops_failed gives fails ended_by a b s failed = record { front = []; rest = [];
 pub stops_early : {S : Type 0} (gives fails : S → List ℕ → S → Type 0) (ended_by : S → Type 0) (a b : S) (s : DecoderState) → gives a [] b → ended_by b → StopsPiece gives fails ended_by a b s ends.Reply
 stops_early gives fails ended_by a b s came end = record { front = []; rest = []; over = true; came = came; is_over = λ _. end; cause = inl (refl, refl) }
 
--- there was no memory for what came
+-- there was no memory for the bytes that came
 pub stops_starved : {S : Type 0} (gives fails : S → List ℕ → S → Type 0) (ended_by : S → Type 0) (a b : S) (s : DecoderState) (piece : List ℕ) → gives a piece b → StopsPiece gives fails ended_by a b s ends.Memory
 stops_starved gives fails ended_by a b s piece came = record { front = []; rest = piece; over = false; came = came; is_over = unseen; cause = tt }
 
@@ -74,7 +74,7 @@ passed_then gives takes came a b c p q s t count gathered more after has is piec
   long = has.long;
 }
 
--- some of what was gathered was written
+-- some of the gathered bytes were written
 pub passed_put : {S K : Type 0} (gives : S → List ℕ → S → Type 0) (takes : K → List ℕ → K → Type 0) → Then takes takes → (a b : S) (p q r : K) (s : DecoderState) (count more : ℕ) (gathered left : List ℕ) → HasPassed gives takes a b p q s count gathered → IsPut takes q r gathered left more → HasPassed gives takes a b p r s (count + more) left
 passed_put gives takes sent a b p q r s count more gathered left has put = record {
   bytes = has.bytes;
@@ -174,7 +174,7 @@ passed_stops gives fails ended_by takes breaks came fail a b c p q s count gathe
 passed_stops gives fails ended_by takes breaks came fail a b c p q s count gathered ends.Redirects has goes stops = absurd stops.cause
 passed_stops gives fails ended_by takes breaks came fail a b c p q s count gathered ends.Sink has goes stops = absurd stops.cause
 
--- nor could what was gathered be written
+-- nor could the gathered bytes be written
 passed_unput : {S K : Type 0} (gives fails : S → List ℕ → S → Type 0) (ended_by : S → Type 0) (takes breaks : K → List ℕ → K → Type 0) → Then gives gives → Then takes breaks → (a b c : S) (p q r : K) (s : DecoderState) (count : ℕ) (gathered more : List ℕ) (n : ℕ) → HasPassed gives takes a b p q s count gathered → gives b more c → breaks q (take n gathered) r → StopsPassing gives fails ended_by takes breaks Chunked a c p r ends.Sink
 passed_unput gives fails ended_by takes breaks came fail a b c p q r s count gathered more n has next unsent = record {
   body = has.bytes ++ more;
@@ -200,7 +200,7 @@ came_piece gives fails ended_by b c s ends.Reply other stops = stops.came
 came_piece gives fails ended_by b c s ends.Sink other stops = stops.came
 came_piece gives fails ended_by b c s ends.Memory other stops = stops.came
 
--- a piece was not taken, and what was gathered was written or left
+-- a piece was not taken, and the gathered bytes were written or left
 pub passed_ends : {S K : Type 0} (gives fails : S → List ℕ → S → Type 0) (ended_by : S → Type 0) (takes breaks : K → List ℕ → K → Type 0) → Then gives gives → Then gives fails → Then takes takes → Then takes breaks → (a b c : S) (p q r : K) (s : DecoderState) (count : ℕ) (gathered : List ℕ) (end last : GetEnd) → HasPassed gives takes a b p q s count gathered → is_ended s ≡ false → StopsPiece gives fails ended_by b c s end → EndsWritten takes breaks q r gathered end last → StopsPassing gives fails ended_by takes breaks Chunked a c p r last
 passed_ends gives fails ended_by takes breaks came fail sent break a b c p q r s count gathered end last has goes stops (inl (same, inl written)) =
     let put : IsPut takes q r gathered [] (length gathered) = record { written = gathered; split = sym (append-nil gathered); sent = written; long = refl } in
@@ -226,7 +226,7 @@ passed_too_long gives fails ended_by takes breaks a b p q s count gathered has l
   cause = (has.bytes, [], has.content ++ gathered, s, sym (append-nil has.bytes), has.taken, inr (inr (omega (arith, long, has.long, length-append has.content gathered))));
 }
 
--- the sink failed after a prefix of what was gathered
+-- the sink failed after a prefix of the gathered bytes
 pub passed_unsent : {S K : Type 0} (gives fails : S → List ℕ → S → Type 0) (ended_by : S → Type 0) (takes breaks : K → List ℕ → K → Type 0) → Then takes breaks → (a b : S) (p q r : K) (s : DecoderState) (count : ℕ) (gathered : List ℕ) (n : ℕ) → HasPassed gives takes a b p q s count gathered → breaks q (take n gathered) r → StopsPassing gives fails ended_by takes breaks Chunked a b p r ends.Sink
 passed_unsent gives fails ended_by takes breaks fail a b p q r s count gathered n has unsent = record {
   body = has.bytes;

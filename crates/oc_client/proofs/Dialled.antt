@@ -1,4 +1,4 @@
--- One dial, from what the calls on the link do.
+-- One dial, from the effects of the calls on the link.
 use Rattle.std.proofs.Common.{◌≡◌, ℕ, Bool, true, false, Option, Some, None, Result, Ok, Err, List, [], ◌∷◌, ◌++◌, refl, sym, ap, ◌∙◌, subst, option_map, IfSome}
 use Rattle.std.proofs.lemmas.List.{append-nil}
 use Rattle.oc_link.specs.Exchange.{ReadsFront, Hears, HearsThenBreaks}
@@ -22,11 +22,11 @@ whole_front whole = ([], sym (append-nil whole))
 abbrev made_at : List ℕ → List ℕ → List ℕ → Dial
 made_at address text reply = record { address = address; connection = wrote text (unused reply) }
 
--- a link that ends the dial that it made, whatever went through it
+-- a link that ends the dial that it made, whichever bytes went through it
 ended : (a b : Story) (made last : Dial) → b ≡ record (record (hung_up a) { outgoing = Some made }) { outgoing = Some last } → hung_up b ≡ record (hung_up a) { ended = dials a ++ last ∷ [] }
 ended a b made last e = ap hung_up e
 
--- what is read on a dial
+-- the bytes read on a dial
 read_on_dial : (address text reply given : List ℕ) (over : Bool) (last : Dial) → ReadsFront reply (made_at address text given).connection last.connection → Some last.address ≡ Some address → (over ≡ true → last.connection.left ≡ []) → IsWhole address text reply over last
 read_on_dial address text reply given over last gives at end = record {
   address_is = some_is last.address address at;
@@ -113,7 +113,7 @@ told_fails address text (Some a) (Some b) (dial, cut, e) = record {
   new_is = ap hung_up e ∙ ap (λ (ds : List Dial). record (hung_up a) { ended = ds }) (append-nil (dials a ++ dial ∷ []));
 }
 
--- what came on a link, of its story
+-- the bytes that came on a link, in its story
 came_story : {L : Type 0} (story : L → Option Story) (b c : L) (reply : List ℕ) (answer : Result PutAnswer Failure) → Came (λ o bytes n. Told (OnOutgoing (Hears bytes)) (story o) (story n)) (λ o bytes n. Told (OnOutgoing (HearsThenBreaks bytes)) (story o) (story n)) b reply c answer → Came (λ o bytes n. Told (OnOutgoing (Hears bytes)) o n) (λ o bytes n. Told (OnOutgoing (HearsThenBreaks bytes)) o n) (story b) reply (story c) answer
 came_story story b c reply (Ok value) came = came
 came_story story b c reply (Err Reply) came = came

@@ -1,4 +1,4 @@
--- A request and its reply, from what the calls on the link do.
+-- A request and its reply, from the effects of the calls on the link.
 use Rattle.std.proofs.Common.{◌≡◌, ℕ, ◌<◌, Bool, true, false, Option, Some, None, List, [], refl, sym, subst, inl, inr}
 use Rattle.oc_client.specs.Conversations.{LeadsOn, EndsWith, GoesOn, EndsAt}
 use Rattle.oc_client.specs.Passing.{Came, Sent, IsHeard, IsLastHeard, IsExchanged, IsLastExchanged}
@@ -68,7 +68,7 @@ told_broken at request bytes = Told-then (Speaks (asking at request)) (OnOutgoin
 told_last : (turn : Turn) (a b : Option Story) → Told (Speaks turn) a b → Told (SpeaksLast turn) a b
 told_last turn = told_so (Speaks turn) (SpeaksLast turn) (λ x y p. record { between = y; speaks = p; same = refl })
 
--- the turn asks what a client at the state wants
+-- the turn asks for the wish of a client at the state
 asks_at : (wish : Wish) (state : ClientState) (reply : List ℕ) (over : Bool) → Asks wish state (heard (dialled_at state.kept state) (request_of wish state) reply over)
 asks_at wish state reply over = record { dialled = refl; request = refl }
 

@@ -1,4 +1,4 @@
--- What a download does, from what its conversation does.
+-- The effect of a download, from the effect of its conversation.
 use Rattle.std.proofs.Common.{◌≡◌, ℕ, Option, None, Result, Err, List, [], map, inl, inr, refl, sym, ◌∙◌, subst}
 use Rattle.std.proofs.lemmas.List.{append-nil, append_cancel_left}
 use Rattle.oc_client.specs.Addresses.{IsAddressOf, IsBadAddress}
@@ -63,7 +63,7 @@ starved_talked takes breaks nothing wish state o k = record {
   so = record { through = []; content = []; reached = state; last = None; rest = []; leads = (refl, refl); ends = refl; turns_are = refl; written_is = refl };
 }
 
--- what is so of a talk, where more follows from it
+-- a property of a talk that follows from another
 pub talked_so : {K : Type 0} (takes breaks : K → List ℕ → K → Type 0) (P Q : List Turn → List ℕ → GetEnd → Type 0) (a b : Option Story) (p q : K) (end : GetEnd) → ((turns : List Turn) (written : List ℕ) → P turns written end → Q turns written end) → IsTalked takes breaks P a b p q end → IsTalked takes breaks Q a b p q end
 talked_so takes breaks P Q a b p q end so talked = record {
   turns = talked.turns;

@@ -4,7 +4,7 @@ use Rattle.std.proofs.lemmas.List.{length-take-le, take-append-le, take_at, drop
 use Rattle.std.proofs.Math.Seq.{take-add}
 use borrow.Rule.Slice.PartMut.{put_mid, post_of}
 
--- what is in it after a read that follows what was there
+-- the content of the buffer after a read that follows the bytes there
 pub read_behind : (done k more : ℕ) (buf part : List ℕ) → done ≤ length buf → more ≤ length part → take (done + more) (put_mid done k buf part) ≡ take done buf ++ take more part
 read_behind done k more buf part within inside =
     let front = take done buf in

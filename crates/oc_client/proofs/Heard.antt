@@ -1,4 +1,4 @@
--- A reply is its head and what follows it.
+-- A reply is its head and the bytes after it.
 use Rattle.std.proofs.Common.{◌≡◌, ℕ, Bool, true, false, Option, List, [], ◌++◌, length, refl, sym, inl, inr}
 use Rattle.std.proofs.lemmas.List.{append-nil}
 use Rattle.oc_client.specs.Conversations.{Replied, Serves, Brings, after_content, LeadsOn, StopsContent, EndsWith}
@@ -145,7 +145,7 @@ redirection_ends wish state head bytes (ends.Refused code) says status stays = a
 redirection_ends wish state head bytes ends.Link says status stays = absurd stays
 redirection_ends wish state head bytes ends.Sink says status stays = absurd stays
 
--- such an end is not one of a call
+-- an end of this kind is not one of a call
 redirection_came : {S : Type 0} (gives fails : S → List ℕ → S → Type 0) (state : ClientState) (location : Option (List ℕ)) (a c : S) (bytes : List ℕ) (end : GetEnd) → StaysAt state location end → gives a bytes c → Came gives fails a bytes c end
 redirection_came gives fails state location a c bytes ends.Redirects stays came = came
 redirection_came gives fails state location a c bytes ends.Reply stays came = came

@@ -64,7 +64,7 @@ led_more goal load effort further a b c address text answer led one is_address i
       made = made_then goal led.turns (turn ∷ []) a b c led.made (made_one goal turn b c told);
     }
 
--- the same by what the calls of a turn give
+-- the same by the results of a turn's calls
 pub led_turn : (goal : Goal) (load : Load) (effort further : Effort) (a b c : Option Story) (address text : List ℕ) (asked : Bool) (answer : Result PutAnswer Failure) (next : Next) → IsLed goal load effort a b (Again further) → IsDialled address text asked b c answer → address ≡ dial_address goal.url → text ≡ request_text goal (request_of load further.doing) → asked ≡ asks further.doing → next ≡ next_of further answer → IsLed goal load effort a c next
 led_turn goal load effort further a b c address text asked answer next led one is_address is_text is_asked is_next =
     let dialled : IsDialled address text (asks further.doing) b c answer = subst (λ (x : Bool). IsDialled address text x b c answer) is_asked one in
@@ -99,7 +99,7 @@ link_end effort (Err failures.Link) e = refl
 
 -- How often
 
--- what an effort has still to come: each failure takes some of it, and so does each other try
+-- the number of tries that an effort has left: each failure takes some, and so does each other try
 abbrev pub left_of_doing : Doing → ℕ → ℕ
 left_of_doing Finding failures = 3 * (MAX_FAILURES - failures)
 left_of_doing (Posting at behind tried) failures = 3 * (MAX_FAILURES - failures)

@@ -1,4 +1,4 @@
--- What lines tell of the pieces that are taken.
+-- The lines on the pieces that are taken.
 use Rattle.std.proofs.Common.{◌≡◌, ℕ, ◌+◌, Bool, Option, List, [], ◌∷◌, ◌++◌, length, length-append, refl, sym, ap, subst, arith}
 use Rattle.oc_client.specs.Metered.{grows_nothing, grows_both, grows_then}
 use Rattle.oc_link.specs.Story.{Story}
@@ -40,7 +40,7 @@ pub grew_piece : {E : Type 0} (takes fails : E → List ℕ → E → Type 0) �
 grew_piece takes fails laws a b c pieces piece count is f s =
     subst (λ (x : List ℕ). Grows takes fails a (length x) c) (sym (joined_more pieces piece)) (grew_then takes fails laws a b c (joined pieces) piece (length (joined pieces)) count refl is f s)
 
--- what was passed over
+-- the bytes that were passed over
 pub passed_length : (place : WriteMode) (found : ℕ) (before : List ℕ) → Begins place found before → passed_over place found ≡ length before
 passed_length New found before begins = sym (ap length begins.1)
 passed_length Append found before begins = sym (ap length begins)
@@ -69,7 +69,7 @@ module _ {S E : Type 0} (gives fails : S → List ℕ → S → Type 0) (takes b
   told_cut joins s t u a b x ends.Reply came cut grew = absurd cut
   told_cut joins s t u a b x ends.Link came cut grew = absurd cut
 
-  -- what was passed over was told before
+  -- the bytes that were passed over were counted before
   pub told_after : Laws takes breaks → Joins gives fails → (s t u : S) (a b c : ProgressLines E) (x : List ℕ) (passed : ℕ) (end : PutEnd) → passed ≡ length x → gives s x t → Grows takes breaks a passed b → TellsWithin gives fails takes breaks t u b c end → TellsWithin gives fails takes breaks s u a c end
   told_after laws joins s t u a b c x passed end is came first rest = record {
     came = x ++ rest.came;

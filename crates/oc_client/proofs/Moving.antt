@@ -148,7 +148,7 @@ open_passed gives fails ended takes breaks a c p r n moved long = record {
   cause = omega (arith, moved.long, long);
 }
 
--- what fits within a number fits within a greater one
+-- bytes that fit within a number fit within a greater one
 pub halted_within : {S K : Type 0} (gives fails : S → List ℕ → S → Type 0) (takes breaks : K → List ℕ → K → Type 0) (least most : ℕ) (a c : S) (p r : K) (end : GetEnd) → least ≤ most → IsHalted gives fails takes breaks least a c p r end → IsHalted gives fails takes breaks most a c p r end
 halted_within gives fails takes breaks least most a c p r end within halted = record {
   bytes = halted.bytes;

@@ -29,7 +29,7 @@ says_more reply left text head behind split says = record {
   split = split ∙ ap (λ (r : List ℕ). r ++ left) says.split ∙ append_assoc says.bytes behind left;
 }
 
--- what is known of the end where a head is refused
+-- the knowledge of the end if a head is refused
 refused_so : (bytes : List ℕ) (D E : Type 0) (fault : HttpFault) → (D → E) → RefusesReplyHead bytes D fault → RefusesReplyHead bytes E fault
 refused_so bytes D E faults.Ended so p = (p.0, p.1, so p.2)
 refused_so bytes D E faults.Source so p = p
@@ -54,7 +54,7 @@ decided (faults.Coding both) of = tt
 decided (faults.Length missing) of = tt
 decided faults.BodyLong of = tt
 
--- what begins a reply with a head is not refused for want of one
+-- bytes that begin a reply with a head are not refused for lack of one
 pub not_headless : OneAnswer → (reply left text : List ℕ) (over : Bool) (head : ReplyHead) (behind : List ℕ) → text ≡ reply ++ left → (over ≡ true → left ≡ []) → Says text head behind → IsHeadless reply over → ⊥
 not_headless one reply left text over head behind split end says none =
     let refusal = refused_so reply (over ≡ true) (left ≡ []) none.fault end none.refused in

@@ -37,7 +37,7 @@ carried_more gives both plan goal found reached next a b c s t u pieces piece ha
   came = came_piece gives both s t u pieces piece has.came came;
 }
 
--- the input ended after such pieces
+-- the input ended after these pieces
 pub carried_all : {S : Type 0} (gives : S → List ℕ → S → Type 0) (ended : S → Type 0) → ((a b c : S) (x y : List ℕ) → gives a x b → gives b y c → gives a (x ++ y) c) → (plan : Publication) (goal : Goal) (found reached : Progress) (a b : Option Story) (s t u : S) (pieces : List (List ℕ)) (piece : List ℕ) → HasCarried gives plan goal found a b s t reached pieces → gives t piece u → piece ≡ [] → ended u → (sends_empty plan.place ≡ false) ⊎ (pieces ≢ []) → IsCarried gives ended plan goal found a b s u reached
 carried_all gives ended both plan goal found reached a b s t u pieces piece has came none end later = record {
   pieces = pieces;

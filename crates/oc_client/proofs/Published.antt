@@ -19,7 +19,7 @@ use Rattle.oc_client.specs.declared.publication.Publication.{Publication}
 use Rattle.oc_client.proofs.Carried.{IsOfTurns, ends_of_turns, refuses_of_turns, came_of_turns, came_behind, stops_publishing}
 use Rattle.oc_client.proofs.Making.{made_none, made_then}
 
--- what a source promises of bytes after bytes
+-- the promise of a source about bytes after bytes
 pub record Joins {S : Type 0} (gives fails : S → List ℕ → S → Type 0) : Type 0 where
   pub none : (a : S) → gives a [] a
   pub both : (a b c : S) (x y : List ℕ) → gives a x b → gives b y c → gives a (x ++ y) c
@@ -99,7 +99,7 @@ not_placed gives fails ended plan goal a b s t found end led off = record {
   is_over = off.is_over;
 }
 
--- what was sent so far
+-- the loads that were sent so far
 has_sent : (place : WriteMode) (goal : Goal) (a b : Option Story) (found reached : Progress) (before : List ℕ) (pieces : List (List ℕ)) (turns : List PutTurn) → (led : IsLed goal nothing finding a b (Settled found)) → Begins place found.length before → Sends found (map bytes pieces) turns reached → HasSent place pieces (led.turns ++ turns) (before ++ joined pieces) reached
 has_sent place goal a b found reached before pieces turns led begins sends = record {
   found = found;

@@ -1,4 +1,4 @@
--- A reply, from what a reader of heads gives.
+-- A reply, from the results of a reader of heads.
 use Rattle.std.proofs.Common.{◌≡◌, ℕ, Bool, true, false, ◌==◌, if◌then◌else◌, Option, Some, None, Result, Ok, Err, List, ◌++◌, inl, inr, refl, sym, subst}
 use Rattle.std.specs.Prelude.{⊤}
 use Rattle.oc_http.specs.Responses.{body_length}
@@ -14,7 +14,7 @@ use Rattle.oc_client.specs.declared.answer.PutAnswer.TheVariants.{Taken, Length,
 use Rattle.oc_client.specs.declared.answer.Failure.{Failure}
 use Rattle.oc_client.specs.declared.answer.Failure.TheVariants as failures
 
--- what is not seen
+-- an end that is not seen
 unseen : {A : Type 0} → false ≡ true → A
 unseen e = cc
 
@@ -50,7 +50,7 @@ of_publish reply =
     let other : Result PutAnswer Failure = if reply.status == 409 then as_length reply.group_length else as_status reply.status in
     of_test (reply.status == 200) (Ok Taken) other tt (of_test (reply.status == 409) (as_length reply.group_length) (as_status reply.status) (of_length reply.group_length) (of_status reply.status))
 
--- such an answer of a reply that came
+-- an answer of this kind from a reply that came
 by_answer : {S : Type 0} (gives fails : S → List ℕ → S → Type 0) (ended : S → Type 0) (asks : Bool) (reply : List ℕ) (over : Bool) (a c : S) (answer : Result PutAnswer Failure) → IsOfReply answer → gives a reply c → (over ≡ true → ended c) → Replies asks reply over answer → Hears gives fails ended (λ r o. Answers asks r o answer) a c answer
 by_answer gives fails ended asks reply over a c (Ok answer) of came is_over replies = record { reply = reply; over = over; came = came; is_over = is_over; so = replies }
 by_answer gives fails ended asks reply over a c (Err failures.Reply) of came is_over replies = record { reply = reply; over = over; came = came; is_over = is_over; so = inr replies }

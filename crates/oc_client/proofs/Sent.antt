@@ -23,7 +23,7 @@ use Rattle.oc_client.proofs.Making.{made_none}
 
 -- How long the group is after it
 
--- what is sent ends here
+-- the load that is sent ends here
 abbrev IsAbout : ℕ → Doing → Type 0
 IsAbout behind Finding = ⊥
 IsAbout behind (Posting at end tried) = end ≡ behind

@@ -1,4 +1,4 @@
--- A turn on a link, from what its calls do.
+-- A turn on a link, from the effects of its calls.
 use Rattle.std.proofs.Common.{◌≡◌, ℕ, Bool, true, false, Option, Some, None, List, [], ◌∷◌, ◌++◌, IfSome, refl, sym, ap, ◌∙◌, subst}
 use Rattle.std.proofs.lemmas.List.{append-nil}
 use Rattle.oc_client.specs.Turns.{Turn, Talk, begun, went_on, IsTold, Carries, ready_for, Speaks, SpeaksLast, asking, IsCutAddress, IsCut}
@@ -7,7 +7,7 @@ use Rattle.oc_link.specs.Exchange.{ReadsFront, Hears, Says, HearsThenBreaks, Say
 use Rattle.oc_link.specs.Calls.{Told, OnOutgoing, connection_of, address_of, DialsTo, DialFails}
 use Rattle.oc_link.specs.Story.{Connection, Dial, Story, dials, unused, wrote, broken, hung_up, IsHeardOut}
 
--- what is told holds, where more follows from it
+-- a property of the story holds if another follows from it
 pub told_so : (R Q : Story → Story → Type 0) → ((a b : Story) → R a b → Q a b) → (a b : Option Story) → Told R a b → Told Q a b
 told_so R Q so a None p = tt
 told_so R Q so None (Some b) p = absurd p

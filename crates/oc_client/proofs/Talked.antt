@@ -77,7 +77,7 @@ makes_last through (Some turn) old mid new ready shows last =
     let P : List Turn → Type 0 = λ ts. Shows (behind_turns no_talks ts) old last.between in
     shows_makes (through ++ turn ∷ []) old last.between (hung_up new) (rw (behind_turns-push no_talks through turn) more) last.same
 
--- what is cut begins where the whole would
+-- a turn that is cut off begins like the whole one
 cut_ready : (kept at : Option (List ℕ)) (talk : Option Talk) → IsCutAddress kept at → IsReady at talk → IsReady kept talk
 cut_ready None None talk cut ready = ready
 cut_ready None (Some address) talk cut ready = absurd cut

@@ -12,7 +12,7 @@ pub front_of_first : (n : ℕ) (first rest : List ℕ) → IsFront (take n first
 front_of_first n first rest =
     (drop n first ++ rest, ap (λ (x : List ℕ). x ++ rest) (sym (take-append-drop n first)) ∙ append_assoc (take n first) (drop n first) rest)
 
--- what was written first, and the beginning of what follows
+-- the bytes written first, and the beginning of the next
 pub fails_behind : {E : Type 0} (takes fails : E → List ℕ → E → Type 0) → ((a b c : E) (x y : List ℕ) → takes a x b → fails b y c → fails a (x ++ y) c) → (a b c : E) (first text : List ℕ) → takes a first b → WritesFront fails b c text → WritesFront fails a c (first ++ text)
 fails_behind takes fails then a b c first text went (front, is, broke) = (first ++ front, front_behind first front text is, then a b c first front went broke)
 

@@ -41,6 +41,6 @@ port_text (Some port) = codes ":" ++ decimal port
 abbrev pub host_of : Parts → List ℕ
 host_of url = host_name url ++ port_text url.port
 
--- where the URL is asked for: the host with that port, or with 80
+-- the address to dial for a URL: its host with its port, or with 80
 abbrev pub dial_address : Parts → List ℕ
 dial_address url = host_name url ++ port_text (Some (unwrap_or url.port 80))

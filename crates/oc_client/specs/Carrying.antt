@@ -12,13 +12,13 @@ use Rattle.oc_client.specs.declared.load.Load.{Load}
 use Rattle.oc_client.specs.declared.publication.Publication.{Publication}
 use Rattle.oc_client.specs.declared.publication.WriteMode.{WriteMode}
 
--- this was sent, and is taken
+-- the load was sent and taken
 pub record IsSent (goal : Goal) (load : Load) (progress : Progress) (old new : Option Story) (reached : Progress) : Type 0 where
   pub turns : List PutTurn
   pub sends : Sends progress (load ∷ []) turns reached
   pub made : Told (Makes goal turns) old new
 
--- it is not taken
+-- the load was sent and refused
 pub record IsRefused (goal : Goal) (load : Load) (progress : Progress) (old new : Option Story) (end : PutEnd) : Type 0 where
   pub turns : List PutTurn
   pub refuses : Refuses load progress turns end
@@ -30,7 +30,7 @@ pub record IsAtPlace {S : Type 0} (gives : S → List ℕ → S → Type 0) (pla
   pub came : gives old before new
   pub begins : Begins place length before
 
--- it is not
+-- the place is not reached, and the publishing ends
 pub record IsOffPlace {S : Type 0} (gives fails : S → List ℕ → S → Type 0) (ended : S → Type 0) (place : WriteMode) (length : ℕ) (old new : S) (end : PutEnd) : Type 0 where
   pub input : List ℕ
   pub over : Bool
@@ -42,7 +42,7 @@ abbrev pub IsPlaced : {S : Type 0} → (S → List ℕ → S → Type 0) → (S 
 IsPlaced gives fails ended place length old new (Ok done) = IsAtPlace gives place length old new
 IsPlaced gives fails ended place length old new (Err end) = IsOffPlace gives fails ended place length old new end
 
--- these pieces came and are taken, and others may come after each
+-- these pieces were read and taken, and each may be followed by others
 pub record HasCarried {S : Type 0} (gives : S → List ℕ → S → Type 0) (plan : Publication) (goal : Goal) (found : Progress) (old new : Option Story) (before after : S) (reached : Progress) (pieces : List (List ℕ)) : Type 0 where
   pub turns : List PutTurn
   pub sends : Sends found (map bytes pieces) turns reached
@@ -50,7 +50,7 @@ pub record HasCarried {S : Type 0} (gives : S → List ℕ → S → Type 0) (pl
   pub made : Told (Makes goal turns) old new
   pub came : gives before (joined pieces) after
 
--- the input came to its end, and all of it is taken
+-- the input was read to its end, and all of it was taken
 pub record IsCarried {S : Type 0} (gives : S → List ℕ → S → Type 0) (ended : S → Type 0) (plan : Publication) (goal : Goal) (found : Progress) (old new : Option Story) (before after : S) (reached : Progress) : Type 0 where
   pub pieces : List (List ℕ)
   pub turns : List PutTurn
@@ -60,7 +60,7 @@ pub record IsCarried {S : Type 0} (gives : S → List ℕ → S → Type 0) (end
   pub came : gives before (joined pieces) after
   pub over : ended after
 
--- after such pieces no further one comes
+-- the input broke off after these pieces
 pub record IsCutBetween {S : Type 0} (gives fails : S → List ℕ → S → Type 0) (plan : Publication) (goal : Goal) (found : Progress) (old new : Option Story) (before after : S) (end : PutEnd) : Type 0 where
   pub pieces : List (List ℕ)
   pub reached : Progress
@@ -72,7 +72,7 @@ pub record IsCutBetween {S : Type 0} (gives fails : S → List ℕ → S → Typ
   pub came : Came gives fails before (joined pieces ++ part) after end
   pub missing : IsMissing part end
 
--- after such pieces the next one came, and is not taken
+-- the next piece after these was read, and refused
 pub record IsRefusedAt {S : Type 0} (gives : S → List ℕ → S → Type 0) (plan : Publication) (goal : Goal) (found : Progress) (old new : Option Story) (before after : S) (end : PutEnd) : Type 0 where
   pub pieces : List (List ℕ)
   pub reached : Progress
@@ -96,7 +96,7 @@ pub record IsSealed (goal : Goal) (wanted : Bool) (reached : Progress) (old new 
   pub seals : Seals wanted reached turns
   pub made : Told (Makes goal turns) old new
 
--- it is wanted, and is not closed
+-- the group is to be closed, and the closing fails
 pub record IsSealStopped (goal : Goal) (seals : Bool) (reached : Progress) (old new : Option Story) (end : PutEnd) : Type 0 where
   pub wanted : seals ≡ true
   pub refused : IsRefused goal seal reached old new end

@@ -1,4 +1,4 @@
--- How a chunked text goes from a source through a reader of chunks.
+-- The way of a chunked text from a source through a reader of chunks.
 use Rattle.std.specs.Prelude.{◌≡◌, ◌≢◌, ◌⊎◌, ℕ, Bool, true, List, [], ◌++◌, length, take, ⊤}
 use Rattle.oc_client.specs.Passing.{Came}
 use Rattle.oc_client.specs.declared.end.GetEnd.{GetEnd}
@@ -13,7 +13,7 @@ pub record TakesPiece {S : Type 0} (gives : S → List ℕ → S → Type 0) (ol
   pub came : gives old bytes new
   pub takes : Takes before bytes content after
 
--- why no piece was taken: the text ended early, or the piece was refused
+-- the reason why no piece was taken: the text ended early, or the piece was refused
 abbrev pub StopsAt : DecoderState → List ℕ → List ℕ → Bool → GetEnd → Type 0
 StopsAt stage front rest over Reply =
     ((front ++ rest ≡ []) × (over ≡ true))
@@ -22,14 +22,15 @@ StopsAt stage front rest over Link = front ++ rest ≡ []
 StopsAt stage front rest over Memory = ⊤
 StopsAt stage front rest over end = ⊥
 
--- a prefix of this length of what was gathered was written, and this is left
+-- a prefix of this length of the gathered bytes was written, and this rest is left
 pub record IsPut {K : Type 0} (takes : K → List ℕ → K → Type 0) (old new : K) (before after : List ℕ) (count : ℕ) : Type 0 where
   pub written : List ℕ
   pub split : before ≡ written ++ after
   pub sent : takes old written new
   pub long : length written ≡ count
 
--- what was gathered before this end was written or left, or writing it failed, which is another end
+-- the bytes gathered before this end were written or left, or writing them failed, which is another
+-- end
 abbrev pub EndsWritten : {K : Type 0} → (K → List ℕ → K → Type 0) → (K → List ℕ → K → Type 0) → K → K → List ℕ → GetEnd → GetEnd → Type 0
 EndsWritten takes breaks old new content end ended =
     ((ended ≡ end) × (takes old content new ⊎ (new ≡ old)))

@@ -1,4 +1,5 @@
--- When a download can end only with its content, or where a call or memory failed.
+-- The cases in which a download can end only with its content, or with a failed call or lack of
+-- memory.
 use Rattle.std.specs.Prelude.{◌≡◌, ◌⊎◌, ℕ, ◌≤◌, List, [], ◌∷◌, ◌++◌, length, map, ⊤}
 use Rattle.oc_client.specs.Conversations.{Replied, Serves, Redirects}
 use Rattle.oc_client.specs.Downloads.{first_state}
@@ -24,14 +25,14 @@ HoldsWhole (Counted count) behind = count ≤ length behind
 HoldsWhole Chunked behind = ⊥
 HoldsWhole ToTheEnd behind = length behind ≤ MAX_OPEN_BYTES
 
--- replies each of which leads on to the next, up to a 200 with a whole content
+-- replies each of which leads to the next, up to a 200 with a whole content
 abbrev pub LeadToContent : FetchOptions → ClientState → List (List ℕ) → Type 0
 LeadToContent manner state [] = ⊤
 LeadToContent manner state (text ∷ texts) =
     Replied text (λ head behind. Serves (whole manner) head × HoldsWhole (framing_of head) behind)
     ⊎ ((next : ClientState) × Replied text (λ head behind. Redirects state head next) × LeadToContent manner next texts)
 
--- nothing that came was refused
+-- no reply was refused
 abbrev pub IsUnrefused : GetEnd → Type 0
 IsUnrefused Done = ⊤
 IsUnrefused Link = ⊤
@@ -39,7 +40,7 @@ IsUnrefused Sink = ⊤
 IsUnrefused Memory = ⊤
 IsUnrefused end = ⊥
 
--- where the dials that were made gave such replies, nothing was refused
+-- if the dials gave replies that lead to a content, none was refused
 abbrev pub Completes : FetchOptions → Parts → GetEnd → Story → Story → Type 0
 Completes manner url end old new =
     (made : List Dial) → dials new ≡ dials old ++ made → LeadToContent manner (first_state manner.from url 1) (map text_of made) → IsUnrefused end

@@ -1,4 +1,4 @@
--- How a client talks with servers: where each reply leads, and how it ends.
+-- The conversation of a client with servers: the state after each reply, and the end.
 use Rattle.std.specs.Prelude.{◌≡◌, ◌≢◌, ◌⊎◌, ℕ, ◌+◌, ◌-◌, ◌^◌, ◌<◌, min, Bool, Option, Some, None, option_to_list, List, [], ◌∷◌, ◌++◌, length}
 use Rattle.oc_client.specs.Redirecting.{IsLost, Points, Follows}
 use Rattle.oc_client.specs.Replies.{Says, IsHeadless, framing_of, IsWhole, Begins, IsBodiless}
@@ -12,7 +12,7 @@ use Rattle.oc_http.specs.declared.reply.ReplyHead.{ReplyHead}
 use Rattle.oc_link.specs.Calls.{IsFront}
 use Rattle.url.specs.Parts.{Parts}
 
--- a reply that is a head and bytes after it, of which this holds
+-- a reply that consists of a head and bytes after it, for which P holds
 pub record Replied (reply : List ℕ) (P : ReplyHead → List ℕ → Type 0) : Type 0 where
   pub head : ReplyHead
   pub behind : List ℕ
@@ -39,7 +39,7 @@ pub record Serves (wish : Wish) (head : ReplyHead) : Type 0 where
   pub status : head.status ≡ 200
   pub taken : Takes wish head
 
--- how many replies are wanted after one: none where it tells its length
+-- the number of replies wanted after one: none if it gives its length
 abbrev pub wanted_after : Option ℕ → ℕ → ℕ
 wanted_after (Some count) replies = 0
 wanted_after None replies = replies - 1
@@ -63,7 +63,7 @@ abbrev pub LeadsOn : Wish → ClientState → List ℕ → Bool → List ℕ →
 LeadsOn wish state reply over content next =
     Replied reply (λ head behind. (Redirects state head next × (content ≡ [])) ⊎ Brings wish state head behind over content next)
 
--- this was written of a content of which some bytes came
+-- these bytes were written of a content of which `body` came
 pub record Passes (wish : Wish) (head : ReplyHead) (body written : List ℕ) : Type 0 where
   pub content : List ℕ
   pub serves : Serves wish head
@@ -80,7 +80,7 @@ pub record IsUntaken (wish : Wish) (head : ReplyHead) : Type 0 where
   pub status : head.status ≡ 200
   pub untaken : ¬ (Takes wish head)
 
--- after the head of a 200, bytes came, of which this was written, and the conversation ends so
+-- after the head of a 200, the bytes that came end the conversation, and these were written
 abbrev pub StopsContent : Wish → ReplyHead → List ℕ → Bool → List ℕ → GetEnd → Type 0
 StopsContent wish head body over written Reply = (IsUntaken wish head × (written ≡ [])) ⊎ CutsOff wish head body over written
 StopsContent wish head body over written Link = Passes wish head body written
@@ -92,13 +92,13 @@ StopsContent wish head body over written end = ⊥
 abbrev pub IsPartial : Wish → List ℕ → List ℕ → Type 0
 IsPartial wish reply written = (written ≡ []) ⊎ Replied reply (λ head body. Passes wish head body written)
 
--- what came is no reply, or a reply that leads nowhere, or one whose content stops with the end `Reply`
+-- the reply is not valid, leads nowhere, or has a content that ends with `Reply`
 abbrev pub IsBad : Wish → ClientState → List ℕ → Bool → List ℕ → Type 0
 IsBad wish state reply over written =
     (IsHeadless reply over × (written ≡ []))
     ⊎ Replied reply (λ head behind. (SendsNowhere state head × (written ≡ [])) ⊎ StopsContent wish head behind over written Reply)
 
--- with a reply, of which this was written, the conversation ends so
+-- the reply, of which these bytes were written, ends the conversation
 abbrev pub EndsWith : Wish → ClientState → List ℕ → Bool → List ℕ → GetEnd → Type 0
 EndsWith wish state reply over written (Refused status) =
     (written ≡ []) × Replied reply (λ head behind. (head.status ≡ status) × (status ≢ 200) × (status ≢ 302))
@@ -115,7 +115,7 @@ pub record GoesOn (wish : Wish) (state : ClientState) (turn : Turn) (content : L
   pub asks : Asks wish state turn
   pub leads : LeadsOn wish state turn.reply turn.over content next
 
--- in a turn, of whose reply this was written, the conversation ends so
+-- the turn, of whose reply these bytes were written, ends the conversation
 abbrev pub EndsIn : Wish → ClientState → Turn → List ℕ → GetEnd → Type 0
 EndsIn wish state turn written end =
     (Asks wish state turn × EndsWith wish state turn.reply turn.over written end)
@@ -127,14 +127,14 @@ Leads wish state [] content reached = (content ≡ []) × (reached ≡ state)
 Leads wish state (turn ∷ turns) content reached =
     (0 < state.replies) × ((next : ClientState) × (first : List ℕ) × (rest : List ℕ) × GoesOn wish state turn first next × (content ≡ first ++ rest) × Leads wish next turns rest reached)
 
--- at a state, with or without a last turn, the conversation ends so
+-- the conversation ends in this state, with or without a last turn
 abbrev pub EndsAt : Wish → ClientState → Option Turn → List ℕ → GetEnd → Type 0
 EndsAt wish state None written Done = (state.replies ≡ 0) × (written ≡ [])
 EndsAt wish state None written Memory = written ≡ []
 EndsAt wish state None written end = ⊥
 EndsAt wish state (Some turn) written end = (0 < state.replies) × EndsIn wish state turn written end
 
--- a conversation from a state on: its turns, what was written, and how it ended
+-- a conversation that begins in a state: its turns, the bytes written, and its end
 pub record Converses (wish : Wish) (state : ClientState) (turns : List Turn) (written : List ℕ) (end : GetEnd) : Type 0 where
   pub through : List Turn
   pub content : List ℕ

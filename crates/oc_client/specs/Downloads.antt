@@ -1,4 +1,4 @@
--- What a download of an address does.
+-- The effect of a download of an address.
 use Rattle.std.specs.Prelude.{◌≡◌, ◌⊎◌, ℕ, false, Option, unwrap_or, List, [], ⊤}
 use Rattle.oc_client.specs.Addresses.{IsAddressOf, IsBadAddress}
 use Rattle.oc_client.specs.Conversations.{Converses}
@@ -11,7 +11,8 @@ use Rattle.oc_client.specs.declared.end.GetEnd.TheVariants.{BadUrl, Memory}
 use Rattle.oc_client.specs.declared.client_state.ClientState.{ClientState}
 use Rattle.url.specs.Parts.{Parts}
 
--- where a client that wants `times` replies begins; its start is what is said, or else what the URL says
+-- the first state of a client that wants `times` replies; its start is the given one, or else that
+-- of the URL
 abbrev pub first_state : Option ℕ → Parts → ℕ → ClientState
 first_state said url times = record {
   target = url;
@@ -22,7 +23,7 @@ first_state said url times = record {
   replies = times;
 }
 
--- how it ends where nothing is asked
+-- the end of a download that makes no request
 abbrev pub IsUnasked : List ℕ → GetEnd → Type 0
 IsUnasked address BadUrl = IsBadAddress address
 IsUnasked address Memory = ⊤
@@ -38,6 +39,6 @@ Downloads wish_for said address times turns written end =
 abbrev pub content_of : FetchOptions → Parts → Wish
 content_of manner url = whole manner
 
--- what is new of a group, for the area that the URL says
+-- the news of a group, for the area in the URL
 abbrev pub news_of : FetchOptions → Parts → Wish
 news_of manner url = news manner (area_of url.query)

@@ -1,4 +1,4 @@
--- What a client does next, by what was answered to it: the whole of its patience.
+-- The next step of a client that publishes, given the last answer: all rules for repeated tries.
 use Rattle.std.specs.Prelude.{◌≡◌, ◌⊎◌, ℕ, ◌+◌, ◌-◌, ◌&&◌, ◌==◌, nat_lt, Bool, true, false, if◌then◌else◌, Option, Result, Ok, Err, List, [], ◌∷◌, length}
 use Rattle.oc_link.specs.Calls.{Told}
 use Rattle.oc_link.specs.Story.{Story}
@@ -26,7 +26,7 @@ asks Finding = true
 asks (Posting at behind tried) = false
 asks (Checking at behind) = true
 
--- where that which is sent ends
+-- the position in the group where the bytes to send end
 abbrev pub behind_of : Doing → ℕ
 behind_of Finding = 0
 behind_of (Posting at behind tried) = behind
@@ -38,7 +38,8 @@ request_of load Finding = ask
 request_of load (Posting at behind tried) = publish at load
 request_of load (Checking at behind) = ask
 
--- after a failure what was sent is asked for, and a question is asked again
+-- after a failure a client that sent bytes asks whether they were taken, and one that asked asks
+-- again
 abbrev pub behind_failure : Doing → Doing
 behind_failure Finding = Finding
 behind_failure (Posting at behind tried) = Checking at behind
@@ -55,14 +56,14 @@ abbrev pub may_try : Failure → ℕ → Bool
 may_try failures.Memory count = false
 may_try failure count = nat_lt count (MAX_FAILURES - 1)
 
--- a failure: the fifth ends it, and so does want of memory
+-- a failure: the fifth ends the publishing, and so does lack of memory
 abbrev pub tried_again : Effort → Failure → Next
 tried_again effort failure =
     if may_try failure effort.failures
     then Again (record { doing = behind_failure effort.doing; failures = effort.failures + 1 })
     else Ended (end_of_failure failure)
 
--- something is done, and the group is this long
+-- a goal is reached, with a group of this length
 abbrev pub done : ℕ → Next
 done length = Settled (record { length = length; failures = 0 })
 
@@ -79,14 +80,14 @@ weighed_doing (Checking at behind) failures length =
 abbrev pub weighed : Effort → ℕ → Next
 weighed effort length = weighed_doing effort.doing effort.failures length
 
--- what follows an answer
+-- the result of an answer
 abbrev pub next_of : Effort → Result PutAnswer Failure → Next
 next_of effort (Err failure) = tried_again effort failure
 next_of effort (Ok Taken) = done (behind_of effort.doing)
 next_of effort (Ok (Length length)) = weighed effort length
 next_of effort (Ok (Refused status)) = Ended (ends.Refused status)
 
--- the next request of a client with this effort, and an answer that was made of what came
+-- the next request of a client with this effort, and an answer made from the bytes that came
 pub record IsTurnOf (load : Load) (effort : Effort) (turn : PutTurn) : Type 0 where
   pub request : turn.request ≡ request_of load effort.doing
   pub answers : Answers (asks effort.doing) turn.reply turn.over turn.answer
@@ -97,28 +98,28 @@ Onward On (Again further) turns next = On further
 Onward On (Settled progress) turns next = (turns ≡ []) × (next ≡ Settled progress)
 Onward On (Ended end) turns next = (turns ≡ []) × (next ≡ Ended end)
 
--- where a client with this effort is led by these turns
+-- the result of these turns, for a client with this effort
 abbrev pub LeadsTo : Load → Effort → List PutTurn → Next → Type 0
 LeadsTo load effort [] next = next ≡ Again effort
 LeadsTo load effort (turn ∷ turns) next =
     IsTurnOf load effort turn × Onward (λ further. LeadsTo load further turns next) (next_of effort turn.answer) turns next
 
--- these turns went by, which led here
+-- these turns were made, with this result
 pub record IsLed (goal : Goal) (load : Load) (effort : Effort) (old new : Option Story) (next : Next) : Type 0 where
   pub turns : List PutTurn
   pub leads : LeadsTo load effort turns next
   pub made : Told (Makes goal turns) old new
 
--- they led to an end, or memory ran out on the way
+-- the turns led to an end of the publishing, or memory ran out after them
 abbrev pub IsStopped : Goal → Load → Effort → Option Story → Option Story → PutEnd → Type 0
 IsStopped goal load effort old new end =
     IsLed goal load effort old new (Ended end)
     ⊎ ((end ≡ ends.Memory) × ((further : Effort) × IsLed goal load effort old new (Again further)))
 
--- what a client does that wants to know the length
+-- the effort of a client that asks for the length
 abbrev pub finding : Effort
 finding = record { doing = Finding; failures = 0 }
 
--- what a client does that came so far, and now sends this
+-- the effort of a client at this progress that now sends the load
 abbrev pub begun : Progress → Load → Effort
 begun progress load = record { doing = Posting progress.length (progress.length + length load.piece) false; failures = progress.failures }

@@ -1,4 +1,4 @@
--- How a fault ends a download.
+-- The end of a download that a fault brings.
 use Rattle.oc_client.specs.declared.address.UrlFault.{UrlFault}
 use Rattle.oc_client.specs.declared.address.UrlFault.TheVariants as urls
 use Rattle.oc_client.specs.declared.end.GetEnd.{GetEnd}

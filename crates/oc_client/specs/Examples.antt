@@ -20,7 +20,7 @@ pub record AreTexts : Type 0 where
   pub seals : publish_lines (codes "/a") None (codes "h") None 15 seal
       ≡ codes "POST /a?seal&at=15 HTTP/1.1\r\nHost: h\r\nContent-Type: application/octet-stream\r\nContent-Length: 0\r\nConnection: close\r\n\r\n"
 
--- what replies answer
+-- the answers in replies
 pub record AreAnswers : Type 0 where
   pub length : answer_in false 200 (Some 12) ≡ Ok (Length 12)
   pub no_length : answer_in false 200 None ≡ Err Reply
@@ -36,15 +36,15 @@ pub record AreAnswers : Type 0 where
 abbrev sending : ℕ → Effort
 sending failures = begun (record { length = 10; failures = failures }) (bytes (codes "xyz"))
 
--- it asks what became of them
+-- the query that finds out whether an earlier try was taken
 abbrev checking : ℕ → Effort
 checking failures = record { doing = Checking 10 13; failures = failures }
 
--- it sends them once more
+-- the second try to send the bytes
 abbrev again : ℕ → Effort
 again failures = record { doing = Posting 10 13 true; failures = failures }
 
--- where answers lead
+-- the results of answers
 pub record AreSteps : Type 0 where
   pub taken : next_of (sending 3) (Ok Taken) ≡ done 13
   pub elsewhere : next_of (sending 0) (Ok (Length 13)) ≡ Ended (ends.Length 13)
@@ -64,7 +64,7 @@ group content = record { held = true; content = content; sealed = false }
 abbrev piece : ℕ → List ℕ → Post
 piece at content = record { at = at; load = bytes content }
 
--- what arrives more than once is taken once
+-- a load that arrives more than once is taken once
 pub record AreArrivals : Type 0 where
   pub twice : all_arrived (piece 1 (codes "b") ∷ piece 1 (codes "b") ∷ []) (group (codes "a")) ≡ group (codes "ab")
   pub late : all_arrived (piece 2 (codes "c") ∷ piece 1 (codes "b") ∷ piece 2 (codes "c") ∷ []) (group (codes "a")) ≡ group (codes "abc")

@@ -1,7 +1,8 @@
--- How a buffer is filled.
+-- Filling of a buffer.
 use Rattle.std.specs.Prelude.{◌≡◌, ℕ, ◌+◌, List, ◌++◌, length, take}
 
--- a buffer of which `done` bytes were filled now has more, which came after them, up to `now`
+-- a buffer with `done` filled bytes was filled further, up to `now`, with bytes that came from the
+-- source
 pub record Fills {S : Type 0} (gives : S → List ℕ → S → Type 0) (old new : S) (done now : ℕ) (before after : List ℕ) : Type 0 where
   pub bytes : List ℕ
   pub came : gives old bytes new

@@ -1,4 +1,4 @@
--- What of an input is passed over, its pieces, and where it breaks off.
+-- The input of a publishing: the part that is skipped, the pieces, and the breaking off.
 use Rattle.std.specs.Prelude.{◌≡◌, ℕ, ◌+◌, ◌<◌, ◌≤◌, Bool, true, Result, Ok, Err, List, [], length}
 use Rattle.oc_client.specs.Places.{least_piece}
 use Rattle.oc_client.specs.declared.input.TheConstants.{PUT_PIECE_BYTES}
@@ -12,14 +12,15 @@ Passes gives fails ended count old new (Err Short) = (bytes : List ℕ) × gives
 Passes gives fails ended count old new (Err Input) = (bytes : List ℕ) × fails old bytes new × (length bytes < count)
 Passes gives fails ended count old new (Err end) = ⊥
 
--- the next piece of an input: live what one read gave, and else as much as a piece can have, or what came up to the end
+-- the next piece of an input: in live mode the bytes of one read, otherwise a full piece or the
+-- rest of the input
 pub record IsPiece {S : Type 0} (gives : S → List ℕ → S → Type 0) (ended : S → Type 0) (calls : S → ℕ) (live : Bool) (old new : S) (piece : List ℕ) : Type 0 where
   pub came : gives old piece new
   pub within : length piece ≤ PUT_PIECE_BYTES
   pub end : length piece < least_piece live → ended new
   pub once : live ≡ true → calls new ≤ calls old + 1
 
--- why there is no next piece
+-- the reason why there is no next piece
 abbrev pub IsPieceCut : {S : Type 0} → (S → List ℕ → S → Type 0) → (S → List ℕ → S → Type 0) → S → S → PutEnd → Type 0
 IsPieceCut gives fails old new Input = (part : List ℕ) × fails old part new
 IsPieceCut gives fails old new Memory = gives old [] new

@@ -1,4 +1,4 @@
--- Where a job publishes.
+-- The target of a job.
 use Rattle.std.specs.Prelude.{option_map}
 use Rattle.oc_client.specs.PutRequests.{Goal}
 use Rattle.oc_client.specs.declared.job.Job.{Job}

@@ -1,4 +1,4 @@
--- What goes to a metered sink.
+-- The effect of a write to a metered sink.
 use Rattle.std.specs.Prelude.{◌≡◌, ℕ, ◌+◌, ◌*◌, ◌-◌, ◌/◌, ◌≤◌, zero, suc, Bool, true, false, length, List, [], ◌++◌, refl}
 use Rattle.std.proofs.Common.{◌∙◌, ap, sym, subst, inl, inr, arith, append_assoc, length-append}
 use Rattle.oc_client.specs.Lines.{Tells, lines_behind, lines_between, progress_line}
@@ -8,7 +8,7 @@ use Rattle.oc_client.specs.declared.progress_lines.ProgressLines.{ProgressLines}
 use Rattle.oc_client.specs.declared.progress_lines.TheConstants.{PROGRESS_STEP}
 use Rattle.oc_io.specs.Counts.{Rises, Rises-none}
 
--- no lines stand between a count and itself
+-- no lines lie between a count and itself
 no_lines : (count : ℕ) → lines_between count count ≡ []
 no_lines count =
     let none : count / PROGRESS_STEP - count / PROGRESS_STEP ≡ 0 = omega arith in
@@ -76,7 +76,7 @@ module _ {E : Type 0} (takes fails : E → List ℕ → E → Type 0) (nothing :
   pub grows_then : (a b c : ProgressLines E) (x y : List ℕ) → Grows takes fails a (length x) b → Grows takes fails b (length y) c → Grows takes fails a (length (x ++ y)) c
   grows_then a b c x y f s = subst (λ (k : ℕ). Grows takes fails a k c) (sym (length-append x y)) (grows_both a b c (length x) (length y) f s)
 
--- these bytes went, and this count more was told
+-- these bytes were taken, and the count grew by this number
 pub record Goes {K E : Type 0} (takes fails : E → List ℕ → E → Type 0) (went : K → List ℕ → K → Type 0) (old : Metered K E) (bytes : List ℕ) (new : Metered K E) : Type 0 where
   pub gone : went old.sink bytes new.sink
   pub grew : Grows takes fails old.lines (length bytes) new.lines

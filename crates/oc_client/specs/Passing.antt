@@ -1,4 +1,4 @@
--- How a content goes from a source to a sink.
+-- The way of a content from a source to a sink.
 use Rattle.std.specs.Prelude.{◌≡◌, ℕ, ◌≤◌, Bool, true, Option, List, length, ⊤}
 use Rattle.oc_client.specs.Replies.{IsWhole, Begins, IsBodiless}
 use Rattle.oc_client.specs.declared.end.GetEnd.{GetEnd}
@@ -8,12 +8,12 @@ use Rattle.oc_client.specs.Turns.{Turn, Makes, MakesOnceHung, Speaks, MaySpeakLa
 use Rattle.oc_link.specs.Calls.{IsFront, Told}
 use Rattle.oc_link.specs.Story.{Story}
 
--- from the old source to the new one these bytes came, and with the end `Link` a call then failed
+-- these bytes came from the source; with the end `Link` a call failed after them
 abbrev pub Came : {S : Type 0} → (S → List ℕ → S → Type 0) → (S → List ℕ → S → Type 0) → S → List ℕ → S → GetEnd → Type 0
 Came gives fails old bytes new Link = fails old bytes new
 Came gives fails old bytes new end = gives old bytes new
 
--- from the old sink to the new one these bytes were taken, and with the end `Sink` a call then failed
+-- these bytes were taken by the sink; with the end `Sink` a call failed after them
 abbrev pub Sent : {K : Type 0} → (K → List ℕ → K → Type 0) → (K → List ℕ → K → Type 0) → K → List ℕ → K → GetEnd → Type 0
 Sent takes fails old bytes new Sink = fails old bytes new
 Sent takes fails old bytes new end = takes old bytes new
@@ -52,7 +52,7 @@ pub record IsPassed {S K : Type 0} (gives : S → List ℕ → S → Type 0) (en
   pub whole : IsWhole framing body content over
   pub count_is : length content ≡ count
 
--- why a body was not passed on to its end
+-- the reason why a body was not passed on to its end
 abbrev pub StopsBody : ReplyFraming → List ℕ → Bool → GetEnd → Type 0
 StopsBody framing body over Reply = IsBodiless framing body over
 StopsBody framing body over Link = ⊤

@@ -1,4 +1,4 @@
--- Where an input is published, and in which pieces.
+-- The place of an input in its group, and its pieces.
 use Rattle.std.specs.Prelude.{ℕ, Bool, true, false}
 use Rattle.oc_client.specs.declared.input.TheConstants.{PUT_PIECE_BYTES}
 use Rattle.oc_client.specs.declared.publication.WriteMode.{WriteMode}
@@ -10,12 +10,14 @@ sends_empty New = true
 sends_empty Append = true
 sends_empty Resume = false
 
--- the least length of a piece after which others may come: live a piece is what one read gave, and else it is full
+-- the least length of a piece that is not the last: in live mode one byte or more, otherwise a full
+-- piece
 abbrev pub least_piece : Bool → ℕ
 least_piece true = 1
 least_piece false = PUT_PIECE_BYTES
 
--- how many bytes of the input the group has before any is sent, of a length that was found
+-- the number of bytes of the input that the group has before any is sent, given the length that was
+-- found
 abbrev pub passed_over : WriteMode → ℕ → ℕ
 passed_over New found = 0
 passed_over Append found = 0

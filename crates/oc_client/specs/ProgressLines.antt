@@ -1,4 +1,4 @@
--- How lines tell of a count that grows.
+-- The progress lines of a growing count.
 use Rattle.std.specs.Prelude.{ℕ, ◌≤◌, List}
 use Rattle.oc_client.specs.Lines.{Tells, lines_between}
 use Rattle.oc_client.specs.declared.progress_lines.ProgressLines.{ProgressLines}

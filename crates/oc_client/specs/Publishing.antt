@@ -1,4 +1,4 @@
--- What a publishing does: which pieces of an input it sends, in which order, and how it ends.
+-- The effect of a publishing: the pieces it sends, their order, and its end.
 use Rattle.std.specs.Prelude.{◌≡◌, ◌≢◌, ◌⊎◌, ℕ, ◌<◌, ◌≤◌, Bool, true, false, Option, List, [], ◌∷◌, ◌++◌, length, map, ⊤}
 use Rattle.std.specs.List.{AllByRecursion}
 use Rattle.oc_base.specs.declared.limits.TheConstants.{MAX_GROUP_BYTES}
@@ -28,7 +28,7 @@ abbrev pub joined : List (List ℕ) → List ℕ
 joined [] = []
 joined (piece ∷ pieces) = piece ++ joined pieces
 
--- a piece after which others may come: a full one, or live what one read gave
+-- a piece that others may follow: a full one, or in live mode the bytes of one read
 abbrev pub IsPart : Bool → List ℕ → Type 0
 IsPart live piece = (least_piece live ≤ length piece) × (length piece ≤ PUT_PIECE_BYTES)
 
@@ -38,14 +38,14 @@ AreSome live [] = ⊤
 AreSome live (piece ∷ []) = (0 < length piece) × (length piece ≤ PUT_PIECE_BYTES)
 AreSome live (piece ∷ next ∷ pieces) = IsPart live piece × AreSome live (next ∷ pieces)
 
--- the pieces in which bytes are sent: for no bytes one that is empty, where such an input is sent, and else none
+-- the pieces of an input: for an empty input one empty piece if it makes the group, otherwise none
 abbrev pub AreCut : Publication → List (List ℕ) → Type 0
 AreCut plan pieces =
     (AreSome plan.live pieces × ((sends_empty plan.place ≡ false) ⊎ (pieces ≢ []))) ⊎ ((pieces ≡ [] ∷ []) × (sends_empty plan.place ≡ true))
 
 -- One after another
 
--- each of these is sent after the one before, and taken
+-- the loads are sent one after another, and each is taken
 abbrev pub Sends : Progress → List Load → List PutTurn → Progress → Type 0
 Sends progress [] turns reached = (turns ≡ []) × (reached ≡ progress)
 Sends progress (load ∷ loads) turns reached =
@@ -53,7 +53,7 @@ Sends progress (load ∷ loads) turns reached =
     × ((first : List PutTurn) × (rest : List PutTurn) × (next : Progress) × (turns ≡ first ++ rest)
     × LeadsTo load (begun progress load) first (Settled next) × Sends next loads rest reached)
 
--- the length that was found, and what of the input is passed over
+-- the length that was found, and the part of the input that is skipped
 abbrev pub Begins : WriteMode → ℕ → List ℕ → Type 0
 Begins New length_found before = (length_found ≡ 0) × (before ≡ [])
 Begins Append length_found before = before ≡ []
@@ -95,7 +95,7 @@ Ends load effort turns end =
     LeadsTo load effort turns (Ended end)
     ⊎ ((end ≡ ends.Memory) × ((further : Effort) × LeadsTo load effort turns (Again further)))
 
--- with a group of this length nothing is sent
+-- nothing is sent, given a group of this length
 abbrev pub DoesNotBegin : WriteMode → ℕ → List ℕ → Bool → PutEnd → Type 0
 DoesNotBegin New length_found input over (ends.Length told) = (input ≡ []) × (0 < length_found) × (told ≡ length_found)
 DoesNotBegin Resume length_found input over ends.Short = (length input < length_found) × (over ≡ true)
@@ -108,7 +108,7 @@ pub record StopsBefore (place : WriteMode) (turns : List PutTurn) (input : List 
   pub finds : LeadsTo nothing finding turns (Settled found)
   pub why : DoesNotBegin place found.length input over end
 
--- the next piece does not come: a call on the input failed after some of it, or memory ran out
+-- the next piece does not come: a call on the input failed after some bytes, or memory ran out
 abbrev pub IsMissing : List ℕ → PutEnd → Type 0
 IsMissing part ends.Input = ⊤
 IsMissing part ends.Memory = part ≡ []
@@ -125,13 +125,13 @@ pub record StopsBetween (plan : Publication) (turns : List PutTurn) (input : Lis
   pub input_is : input ≡ came ++ part
   pub missing : IsMissing part end
 
--- what is sent next after these pieces
+-- the load after these pieces
 abbrev pub IsNext : Publication → List (List ℕ) → Load → Type 0
 IsNext plan pieces load =
     ((piece : List ℕ) × (load ≡ bytes piece) × AreCut plan (pieces ++ piece ∷ []))
     ⊎ ((load ≡ seal) × (plan.seal ≡ true) × AreCut plan pieces)
 
--- a group so long has no room for it, or sending it led to an end
+-- the group has no room for the load, or sending it led to an end
 abbrev pub Refuses : Load → Progress → List PutTurn → PutEnd → Type 0
 Refuses load progress turns end =
     ((MAX_GROUP_BYTES < progress.length) × (end ≡ ends.Length progress.length) × (turns ≡ []))
@@ -159,14 +159,14 @@ Stops plan turns input over end =
     ⊎ StopsBetween plan turns input end
     ⊎ StopsAt plan turns input end
 
--- a publishing: its turns, what was read of the input, whether that ended, and the end
+-- a publishing: its turns, the bytes read of the input, whether the input ended, and the end
 abbrev pub Publishes : Publication → List PutTurn → List ℕ → Bool → PutEnd → Type 0
 Publishes plan turns input over ends.Done = IsDone plan turns input × (over ≡ true)
 Publishes plan turns input over end = Stops plan turns input over end
 
 -- Over a link and a source
 
--- from the old input to the new one these bytes came, and with the end `Input` a call then failed
+-- these bytes came from the input; with the end `Input` a call failed after them
 abbrev pub Came : {S : Type 0} → (S → List ℕ → S → Type 0) → (S → List ℕ → S → Type 0) → S → List ℕ → S → PutEnd → Type 0
 Came gives fails old bytes_came new ends.Input = fails old bytes_came new
 Came gives fails old bytes_came new end = gives old bytes_came new
@@ -181,7 +181,7 @@ pub record IsPublishedAt {S : Type 0} (gives fails : S → List ℕ → S → Ty
   pub came : Came gives fails before input after end
   pub is_over : over ≡ true → ended after
 
--- how it ends where nothing is asked
+-- the end of a publishing that makes no request
 abbrev pub IsUnasked : List ℕ → PutEnd → Type 0
 IsUnasked address ends.BadUrl = IsBadAddress address
 IsUnasked address ends.Memory = ⊤

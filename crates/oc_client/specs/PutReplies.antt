@@ -1,4 +1,4 @@
--- What a reply answers to a client that publishes.
+-- The answer in a reply to a client that publishes.
 use Rattle.std.specs.Prelude.{◌≡◌, ◌⊎◌, ℕ, Bool, true, false, ◌==◌, if◌then◌else◌, Option, Some, None, Result, Ok, Err, List, ◌++◌, ⊤}
 use Rattle.oc_client.specs.Replies.{IsOfBytes}
 use Rattle.oc_client.specs.declared.answer.Failure.{Failure}
@@ -11,7 +11,7 @@ use Rattle.oc_http.specs.declared.fault.HttpFault.TheVariants as faults
 use Rattle.oc_http.specs.declared.reply.Reply.{Reply}
 use Rattle.oc_http.specs.declared.reply.ReplyHead.{ReplyHead}
 
--- a reply that has to tell a length
+-- the answer of a reply that must give a length
 abbrev pub as_length : Option ℕ → Result PutAnswer Failure
 as_length None = Err failures.Reply
 as_length (Some length) = Ok (Length length)
@@ -20,7 +20,7 @@ as_length (Some length) = Ok (Length length)
 abbrev pub as_status : ℕ → Result PutAnswer Failure
 as_status status = if status == 503 then Err failures.Unavailable else Ok (Refused status)
 
--- what the head of a reply to a question answers, by its parts
+-- the answer in the head of a reply to a query, by the parts of the head
 abbrev pub answer_in : Bool → ℕ → Option ℕ → Result PutAnswer Failure
 answer_in chunked status length =
     if chunked then Err failures.Reply
@@ -28,18 +28,18 @@ answer_in chunked status length =
     else if status == 404 then Ok (Length 0)
     else as_status status
 
--- what the head of a reply to a question answers
+-- the answer in the head of a reply to a query
 abbrev pub answer_to_ask : ReplyHead → Result PutAnswer Failure
 answer_to_ask head = answer_in head.chunked head.status head.length
 
--- what the reply to a load answers
+-- the answer in the reply to a load
 abbrev pub answer_to_publish : Reply → Result PutAnswer Failure
 answer_to_publish reply =
     if reply.status == 200 then Ok Taken
     else if reply.status == 409 then as_length reply.group_length
     else as_status reply.status
 
--- where there is no reply
+-- the failure if there is no reply
 abbrev pub failure_of : HttpFault → Failure
 failure_of faults.Source = failures.Link
 failure_of faults.Memory = failures.Memory
@@ -75,7 +75,7 @@ pub record IsNoReply (asks : Bool) (reply : List ℕ) (over : Bool) : Type 0 whe
   pub of_bytes : IsOfBytes fault
   pub refused : IsNone asks reply over fault
 
--- what is made of the bytes that came
+-- the answer made from the bytes that came
 abbrev pub Answers : Bool → List ℕ → Bool → Result PutAnswer Failure → Type 0
 Answers asks reply over (Ok answer) = Replies asks reply over (Ok answer)
 Answers asks reply over (Err failures.Reply) = IsNoReply asks reply over ⊎ Replies asks reply over (Err failures.Reply)

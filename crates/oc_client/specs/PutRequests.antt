@@ -11,16 +11,16 @@ use Rattle.url.specs.Parts.{Parts}
 abbrev pub bytes : List ℕ → Load
 bytes piece = record { piece = piece; seals = false }
 
--- nothing is sent with a question
+-- the load of a query: nothing
 abbrev pub nothing : Load
 nothing = bytes []
 
--- no bytes, and the group is closed
+-- the load that closes the group: no bytes
 abbrev pub seal : Load
 seal = record { piece = []; seals = true }
 
 pub data PutRequest : Type 0 where
-  -- how long is the group?
+  -- the query for the length of the group
   ask : PutRequest
   -- take this, if the group has this length
   publish : ℕ → Load → PutRequest
@@ -33,7 +33,7 @@ seal_part false = []
 abbrev pub from_lines : List ℕ → Option (List ℕ) → List ℕ
 from_lines host token = codes "Host: " ++ host ++ codes "\r\n" ++ authorization_line token
 
--- where a load belongs
+-- the position of a load, as a query
 abbrev pub place_query : Bool → ℕ → Option (List ℕ) → List ℕ
 place_query seals at area = seal_part seals ++ codes "at=" ++ decimal at ++ area_text area
 
@@ -42,18 +42,18 @@ abbrev pub ask_lines : List ℕ → Option (List ℕ) → List ℕ → Option (L
 ask_lines path area host token =
     codes "HEAD " ++ path ++ codes "?here" ++ area_text area ++ codes " HTTP/1.1\r\n" ++ from_lines host token ++ codes "Connection: close\r\n\r\n"
 
--- a load for it
+-- the head of a request with a load
 abbrev pub publish_lines : List ℕ → Option (List ℕ) → List ℕ → Option (List ℕ) → ℕ → Load → List ℕ
 publish_lines path area host token at load =
     codes "POST " ++ path ++ codes "?" ++ place_query load.seals at area ++ codes " HTTP/1.1\r\n" ++ from_lines host token
     ++ codes "Content-Type: application/octet-stream\r\nContent-Length: " ++ decimal (length load.piece) ++ codes "\r\nConnection: close\r\n\r\n" ++ load.piece
 
--- where a client publishes, and with which token
+-- the target of a publishing, and its token
 pub record Goal : Type 0 where
   pub url : Parts
   pub token : Option (List ℕ)
 
--- of the URL's query the first `area=` alone is sent
+-- a query sends only the first `area=` of the URL's query
 abbrev pub ask_text : Goal → List ℕ
 ask_text goal = ask_lines goal.url.path (area_of goal.url.query) (host_of goal.url) goal.token
 

@@ -1,4 +1,5 @@
--- What goes between a client and a source: requests, each on a dial of its own, and what is made of what came back.
+-- The exchange between a client and a source: requests, each on a dial of its own, and the answers
+-- made from the replies.
 use Rattle.std.specs.Prelude.{◌≡◌, ◌⊎◌, ℕ, Bool, true, Result, Err, Option, None, List, [], ◌∷◌, ◌++◌, ⊤}
 use Rattle.oc_client.specs.Addresses.{dial_address}
 use Rattle.oc_client.specs.PutReplies.{Answers}
@@ -11,7 +12,7 @@ use Rattle.oc_link.specs.Story.{Dial, Story, dials, hung_up}
 
 pub record PutTurn : Type 0 where
   pub request : PutRequest
-  -- what was read
+  -- the bytes read
   pub reply : List ℕ
   -- whether the connection was seen to end after it
   pub over : Bool
@@ -24,12 +25,12 @@ pub record IsWhole (address text reply : List ℕ) (over : Bool) (dial : Dial) :
   pub read_is : dial.connection.read ≡ reply
   pub ends : over ≡ true → dial.connection.left ≡ []
 
--- a dial of which a call failed, so that some of the request may be all that was written
+-- a dial on which a call failed, so that perhaps only a part of the request was written
 pub record IsCut (address text : List ℕ) (dial : Dial) : Type 0 where
   pub address_front : IsFront dial.address address
   pub written_front : IsFront dial.connection.written text
 
--- what a dial tells of a request and its answer
+-- the request, the reply and the answer of a dial
 abbrev pub Tells : List ℕ → List ℕ → List ℕ → Bool → Result PutAnswer Failure → Dial → Type 0
 Tells address text reply over (Err Link) dial = IsCut address text dial
 Tells address text reply over answer dial = IsWhole address text reply over dial
@@ -40,7 +41,7 @@ pub record DialsOnce (address text reply : List ℕ) (over : Bool) (answer : Res
   pub tells : Tells address text reply over answer dial
   pub new_is : new ≡ record (hung_up old) { ended = dials old ++ dial ∷ [] }
 
--- one dial was made, and this was made of what came
+-- one dial was made, and this answer was made from the bytes that came
 pub record IsDialled (address text : List ℕ) (asks : Bool) (old new : Option Story) (answer : Result PutAnswer Failure) : Type 0 where
   pub reply : List ℕ
   pub over : Bool

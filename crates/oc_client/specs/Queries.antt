@@ -1,4 +1,4 @@
--- What the query of a URL says to a client that follows a group.
+-- The parts of a URL's query that a client uses to follow a group.
 use Rattle.std.specs.Prelude.{ℕ, Bool, ◌==◌, ◌||◌, bytes_eq, is_some, if◌then◌else◌, Option, Some, None, unwrap_or, Result, Ok, Err, List, [], ◌∷◌, codes}
 use Rattle.std.specs.Option.{option_or}
 use Rattle.oc_base.specs.declared.limits.TheConstants.{MAX_START}
@@ -6,7 +6,7 @@ use Rattle.oc_base.specs.declared.why.Why.{Why}
 use Rattle.oc_base.specs.Words.{number_in}
 use Rattle.oc_http.specs.Queries.{parts}
 
--- what follows a prefix, where the bytes begin with it
+-- the bytes after a prefix, if the bytes begin with it
 abbrev pub behind : List ℕ → List ℕ → Option (List ℕ)
 behind [] bytes = Some bytes
 behind (p ∷ prefix) [] = None
@@ -37,21 +37,21 @@ abbrev pub start_of : Option (List ℕ) → ℕ
 start_of None = 0
 start_of (Some query) = unwrap_or (first_start (parts query)) 0
 
--- a part says what is known of a group: that it is known, or how long it is
+-- a part that gives knowledge of a group: `known`, or its length
 abbrev pub is_knowledge : List ℕ → Bool
 is_knowledge part = bytes_eq part (codes "known") || is_some (behind (codes "of=") part)
 
--- the first such part
+-- the first part that gives knowledge of a group
 abbrev pub first_knowledge : List (List ℕ) → Option (List ℕ)
 first_knowledge [] = None
 first_knowledge (part ∷ more) = if is_knowledge part then Some part else first_knowledge more
 
--- what a URL says to be known of a group, as it is written there
+-- the knowledge of a group in a URL's query, as text
 abbrev pub knowledge_of : Option (List ℕ) → Option (List ℕ)
 knowledge_of None = None
 knowledge_of (Some query) = first_knowledge (parts query)
 
--- the area of a URL, as it is written there
+-- the area in a URL's query, as text
 abbrev pub area_of : Option (List ℕ) → Option (List ℕ)
 area_of None = None
 area_of (Some query) = first_value (codes "area=") (parts query)

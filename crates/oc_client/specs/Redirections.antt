@@ -1,4 +1,4 @@
--- When a download ends at a redirection.
+-- The cases in which a download ends at a redirection.
 use Rattle.std.specs.Prelude.{◌≡◌, ◌⊎◌, ℕ, ◌-◌, ◌<◌, Some, List, [], ◌∷◌, ⊤}
 use Rattle.oc_client.specs.Addresses.{IsAddressOf, LeadsTo}
 use Rattle.oc_client.specs.Replies.{Says}
@@ -37,14 +37,14 @@ EndInRedirection many asked (turn ∷ turns) =
 abbrev pub EndInThird : List ℕ → List Turn → Type 0
 EndInThird address turns = (url : Parts) × IsAddressOf address url × EndInRedirection 2 url turns
 
--- what a client ends with at a third redirection, unless a call or memory failed
+-- the end of a client at a third redirection, unless a call or memory failed
 abbrev pub IsRedirected : GetEnd → Type 0
 IsRedirected Redirects = ⊤
 IsRedirected Link = ⊤
 IsRedirected Memory = ⊤
 IsRedirected end = ⊥
 
--- it ends with `Redirects` exactly at a third redirection
+-- a download ends with `Redirects` exactly at a third redirection
 pub record StopsAtThird (address : List ℕ) (turns : List Turn) (end : GetEnd) : Type 0 where
   pub only : end ≡ Redirects → EndInThird address turns
   pub always : EndInThird address turns → IsRedirected end

@@ -1,4 +1,4 @@
--- What the reply to a request says, and what of it is content.
+-- The reply to a request, and the part of it that is content.
 use Rattle.std.specs.Prelude.{◌≡◌, ℕ, ◌<◌, ◌≤◌, ◌⊎◌, Bool, true, false, Option, Some, None, List, [], ◌++◌, length}
 use Rattle.oc_client.specs.declared.reply_framing.ReplyFraming.{ReplyFraming}
 use Rattle.oc_client.specs.declared.reply_framing.ReplyFraming.TheVariants.{Counted, Chunked, ToTheEnd}
@@ -29,13 +29,13 @@ pub record IsHeadless (reply : List ℕ) (over : Bool) : Type 0 where
   pub of_bytes : IsOfBytes fault
   pub refused : RefusesReplyHead reply (over ≡ true) fault
 
--- where the content ends, by what is said of chunks and of a length
+-- the end of the content, given whether it is chunked, and its length
 abbrev pub framing_by : Bool → Option ℕ → ReplyFraming
 framing_by true length = Chunked
 framing_by false (Some count) = Counted count
 framing_by false None = ToTheEnd
 
--- where the content of a reply ends
+-- the end of the content of a reply
 abbrev pub framing_of : ReplyHead → ReplyFraming
 framing_of head = framing_by head.chunked head.length
 

@@ -17,7 +17,7 @@ get_lines path query host token last =
 abbrev pub close_lines : List ℕ
 close_lines = codes "Connection: close\r\n\r\n"
 
--- or it is kept
+-- the lines of a request whose connection is kept
 abbrev pub keep_lines : List ℕ
 keep_lines = codes "\r\n"
 
@@ -26,12 +26,12 @@ abbrev pub more_text : Option (List ℕ) → List ℕ
 more_text None = []
 more_text (Some more) = codes "&" ++ more
 
--- what is asked for from a byte on, or from where the query itself says
+-- the query for a content, with the first byte to ask for or with that of the URL's query
 abbrev pub query_from : Option ℕ → Option (List ℕ) → List ℕ
 query_from None query = query_text query
 query_from (Some from) query = codes "?start=" ++ decimal from ++ more_text query
 
--- what is new from a byte on, for an area, with what is known of the group
+-- the query for the news of a group: from a byte on, for an area, with the knowledge of the group
 abbrev pub news_query : ℕ → Option (List ℕ) → Option (List ℕ) → List ℕ
 news_query start area knowledge = codes "?start=" ++ decimal start ++ codes "&follow" ++ area_text area ++ more_text knowledge
 
@@ -40,7 +40,7 @@ abbrev pub from_at : Bool → Option ℕ → Option ℕ
 from_at true from = None
 from_at false from = from
 
--- what is known of a group is told by a Location alone
+-- only a Location gives knowledge of a group
 abbrev pub knowledge_at : Bool → Option (List ℕ) → Option (List ℕ)
 knowledge_at true query = knowledge_of query
 knowledge_at false query = None

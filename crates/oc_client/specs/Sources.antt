@@ -1,4 +1,4 @@
--- A source that answers by the rules, and what becomes of a group there.
+-- A source that answers by the rules, and the effect of requests on a group there.
 use Rattle.std.specs.Prelude.{◌≡◌, ◌≢◌, ◌⊎◌, ℕ, Bool, true, not, ◌&&◌, ◌||◌, ◌==◌, if◌then◌else◌, Result, Ok, Err, List, [], ◌∷◌, ◌++◌, length, drop}
 use Rattle.std.specs.List.{AllByRecursion}
 use Rattle.oc_client.specs.PutRequests.{PutRequest, ask, publish}
@@ -17,7 +17,7 @@ pub record SourceGroup : Type 0 where
   pub content : List ℕ
   pub sealed : Bool
 
--- what a POST asks for: a load at a place
+-- a POST: a load and its position
 pub record Post : Type 0 where
   pub at : ℕ
   pub load : Load
@@ -35,7 +35,7 @@ taken post group = record {
   sealed = group.sealed || post.load.seals;
 }
 
--- a POST arrives of which nobody hears anything any more
+-- the group after a POST arrives that nobody waits for any more
 abbrev pub arrived : Post → SourceGroup → SourceGroup
 arrived post group = if may_take group post then taken post group else group
 
@@ -48,7 +48,7 @@ pub record SourceState : Type 0 where
   pub group : SourceGroup
   pub lost : List Post
 
--- it is one of these
+-- the POST is one of these
 abbrev pub IsAmong : Post → List Post → Type 0
 IsAmong post [] = ⊥
 IsAmong post (first ∷ posts) = (post ≡ first) ⊎ IsAmong post posts
@@ -59,13 +59,15 @@ pub record Arrive (old new : SourceState) : Type 0 where
   pub were_lost : AllByRecursion (λ post. IsAmong post old.lost) posts
   pub new_is : new ≡ record old { group = all_arrived posts old.group }
 
--- what a source answers to a question: nothing changes, and a length is the truth; no reply to a question says that something is taken
+-- the answer of a source to a query: nothing changes, a length is that of the group, and no answer
+-- says that a load was taken
 abbrev pub Tells : SourceState → Result PutAnswer Failure → SourceState → Type 0
 Tells old (Ok Taken) new = ⊥
 Tells old (Ok (Length told)) new = (told ≡ length old.group.content) × (new ≡ old)
 Tells old answer new = new ≡ old
 
--- and to a POST: 200 only where it is taken, now; 409 only where it does not belong there, with the length; without an answer it is lost
+-- the answer of a source to a POST: 200 only if the load is taken now; 409 only if the position is
+-- wrong, with the length; a POST without an answer may arrive later
 abbrev pub Takes : SourceState → Post → Result PutAnswer Failure → SourceState → Type 0
 Takes old post (Ok Taken) new = (may_take old.group post ≡ true) × (new ≡ record old { group = taken post old.group })
 Takes old post (Ok (Length told)) new = (told ≡ length old.group.content) × (told ≢ post.at) × (new ≡ old)
@@ -82,11 +84,11 @@ Serves old [] new = Arrive old new
 Serves old (turn ∷ turns) new =
     (met : SourceState) × (next : SourceState) × Arrive old met × Reacts met turn.request turn.answer next × Serves next turns new
 
--- nothing was lost before
+-- no POST was lost before
 abbrev pub fresh : SourceGroup → SourceState
 fresh group = record { group = group; lost = [] }
 
--- what is in a group after an input, and what was before
+-- the content of a group after an input was added to the earlier content
 abbrev pub IsAdded : WriteMode → List ℕ → List ℕ → List ℕ → Type 0
 IsAdded New input before after = (before ≡ []) × (after ≡ input)
 IsAdded Append input before after = after ≡ before ++ input

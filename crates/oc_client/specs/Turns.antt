@@ -1,20 +1,21 @@
--- What goes between a client and the servers: requests, and what was read after each.
+-- The exchange between a client and the servers: requests, and the bytes read after each.
 use Rattle.std.specs.Prelude.{◌≡◌, ◌⊎◌, ℕ, Bool, true, false, Option, Some, None, option_map, option_to_list, List, [], ◌∷◌, ◌++◌, ⊤}
 use Rattle.oc_link.specs.Calls.{IsFront}
 use Rattle.oc_link.specs.Story.{Dial, Story, dials, hung_up}
 
--- a request and what was read after it
+-- a request and the bytes read after it
 pub record Turn : Type 0 where
-  -- the address to which a connection was made for it; none where it went on the one before
+  -- the address to which a connection was made for the request; none if it went on the kept
+  -- connection
   pub dialled : Option (List ℕ)
-  -- what was written
+  -- the bytes written
   pub request : List ℕ
-  -- what was read
+  -- the bytes read
   pub reply : List ℕ
   -- whether the connection was seen to end after it
   pub over : Bool
 
--- a connection that was made, and what went through it
+-- a connection that was made, and the bytes that went through it
 pub record Talk : Type 0 where
   pub address : List ℕ
   pub written : List ℕ
@@ -56,7 +57,7 @@ abbrev pub behind_turns : Talks → List Turn → Talks
 behind_turns talks [] = talks
 behind_turns talks (turn ∷ turns) = behind_turns (behind_turn talks turn) turns
 
--- no connection yet
+-- no connection made so far
 abbrev pub no_talks : Talks
 no_talks = record { ended = []; last = None }
 
@@ -88,7 +89,7 @@ pub record Makes (turns : List Turn) (old new : Story) : Type 0 where
   pub dials_are : dials new ≡ dials old ++ made
   pub hung : (new ≡ old) ⊎ (new.outgoing ≡ None)
 
--- What one turn does to a link
+-- The effect of one turn on a link
 
 -- the outgoing connection goes on with a turn, which dialled to here
 abbrev pub Carries : Turn → Option (List ℕ) → Option Dial → Option Dial → Type 0
@@ -119,7 +120,7 @@ abbrev pub MaySpeakLast : Option Turn → Story → Story → Type 0
 MaySpeakLast None old new = new ≡ old
 MaySpeakLast (Some turn) old new = SpeaksLast turn old new
 
--- a turn of which the request alone went by
+-- a turn of which only the request was made
 abbrev pub asking : Option (List ℕ) → List ℕ → Turn
 asking dialled request = record { dialled = dialled; request = request; reply = []; over = false }
 

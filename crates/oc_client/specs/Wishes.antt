@@ -1,4 +1,4 @@
--- What a client asks servers for, and with which requests.
+-- The content that a client wants from servers, and the requests for it.
 use Rattle.std.specs.Prelude.{◌≡◌, ℕ, Bool, true, false, not, ◌&&◌, Option, Some, None, option_map, string_bytes, List}
 use Rattle.oc_client.specs.Addresses.{host_of, dial_address}
 use Rattle.oc_client.specs.FetchOptions.{FetchOptions}
@@ -12,15 +12,15 @@ use Rattle.oc_http.specs.declared.reply.ReplyHead.{ReplyHead}
 pub data Wish : Type 0 where
   -- the content of a URL, once
   whole : FetchOptions → Wish
-  -- what is new of a group, for the area that the URL says
+  -- the news of a group, for the area in the URL
   news : FetchOptions → Option (List ℕ) → Wish
 
--- what a value of the code wishes
+-- the wish that a value of the code means
 abbrev pub wish_of : asked.Wish → Wish
 wish_of (variants.Whole manner) = whole manner.now
 wish_of (variants.News manner area) = news manner.now (option_map (λ a. string_bytes a) area)
 
--- from which byte on it asks at first, where it says so
+-- the first byte to ask for at first, if one is given
 abbrev pub from_of : Wish → Option ℕ
 from_of (whole manner) = manner.from
 from_of (news manner area) = manner.from
@@ -30,7 +30,7 @@ abbrev pub whole_request : FetchOptions → ClientState → List ℕ
 whole_request manner state =
     get_lines state.target.path (query_from (from_at state.led manner.from) state.target.query) (host_of state.target) manner.token close_lines
 
--- the request for what is new of a group
+-- the request for the news of a group
 abbrev pub news_request : FetchOptions → Option (List ℕ) → ClientState → List ℕ
 news_request manner area state =
     get_lines state.target.path (news_query state.start area (knowledge_at state.led state.target.query)) (host_of state.target) manner.token keep_lines
@@ -50,11 +50,12 @@ pub record Asks (wish : Wish) (state : ClientState) (turn : Turn) : Type 0 where
   pub dialled : turn.dialled ≡ dialled_at state.kept state
   pub request : turn.request ≡ request_of wish state
 
--- the client takes the content of such a reply
+-- the client accepts the content of a reply with this head
 abbrev pub Takes : Wish → ReplyHead → Type 0
 Takes (whole manner) head = head.chunked ≡ false
 Takes (news manner area) head = Unit {0}
 
--- the connection is kept after such a reply: it does not close it, and its content does not go to its end
+-- the connection is kept after this reply: the server does not close it, and the content does not
+-- end with it
 abbrev pub keeps : ReplyHead → Bool
 keeps head = not head.closes && head.chunked

@@ -1,4 +1,4 @@
-//! From a text to a URL that a client can ask.
+//! Parsing of a text into a URL that a client can ask.
 
 ghost use Rattle.std.specs.Prelude.{◌≡◌, true, IfOk, IsErrOf};
 ghost use Rattle.oc_client.specs.Addresses.{is_good, IsAddressOf, IsBadAddress, LeadsTo, LeadsNowhere};
@@ -10,16 +10,17 @@ use std::alloc::Global;
 use std::str;
 use url::{ParseError, ParseResult, Url};
 
-/// Why a text leads to no URL that can be asked.
+/// The reason why a text gives no URL that can be asked.
 #[derive(Clone, Copy, Debug, PartialEq, Eq)]
 pub(crate) enum UrlFault {
-    /// It is no URL, or its scheme is not `http`, it has no host, or it has a user or a password.
+    /// The text is no URL, its scheme is not `http`, the host is missing, or a user or a password
+    /// is given.
     Bad,
     /// Memory ran out, or the URL would have 4 GB.
     Memory,
 }
 
-/// The URL that an address is.
+/// Parses an address into a URL.
 pub(crate) fn read_address(alloc: Global, address: &str) -> Result<Url, UrlFault>
     ensures good { IfOk result (λ url. IsAddressOf address.now url) }
     ensures bad { IsErrOf result UrlFault.Bad → IsBadAddress address.now }
@@ -38,7 +39,7 @@ pub(crate) fn read_location(asked: &Url, location: &[u8]) -> Result<Url, UrlFaul
     }
 }
 
-/// The URL that was read, if it can be asked.
+/// The URL that was parsed, if a client can ask it.
 fn checked(read: ParseResult<Url>) -> Result<Url, UrlFault>
     ensures good { IfOk result (λ url. (read ≡ Ok url) × (is_good url ≡ true)) }
     ensures bad { IsErrOf result UrlFault.Bad → (said : Parsed Parts) → Gives read said → (url : Parts) → said ≡ Ok url → ¬ (is_good url ≡ true) }
@@ -51,14 +52,14 @@ fn checked(read: ParseResult<Url>) -> Result<Url, UrlFault>
     }
 }
 
-/// The scheme is `http`, there is a host, and there is no user and no password.
+/// Whether the scheme is `http`, a host is given, and no user and no password.
 fn can_be_asked(url: &Url) -> bool
     ensures { result ≡ is_good url.now }
 {
     url.scheme() == "http" && url.has_host() && !has_credentials(url)
 }
 
-/// Whether there is a user or a password.
+/// Whether the URL has a user or a password.
 fn has_credentials(url: &Url) -> bool
     ensures { result ≡ has_credentials url.now }
 {

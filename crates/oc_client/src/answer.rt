@@ -1,29 +1,29 @@
-//! What a reply answers to a client that publishes.
+//! The meaning of a reply for a client that publishes.
 
 ghost use Rattle.std.specs.Prelude.{◌≡◌};
 ghost use Rattle.oc_client.specs.PutReplies.{answer_to_ask, answer_to_publish, as_length, as_status, failure_of};
 
 use oc_http::{HttpFault, Reply, ReplyHead};
 
-/// What a reply answers.
+/// The answer that a reply gives.
 #[derive(Clone, Copy)]
 pub(crate) enum PutAnswer {
-    /// What was sent is taken.
+    /// The server took the bytes.
     Taken,
-    /// The group has this many bytes.
+    /// The length of the group, in bytes.
     Length(u64),
-    /// Another status.
+    /// Any other status.
     Refused(u16),
 }
 
-/// Why there is no answer.
+/// The reason why a request has no answer.
 #[derive(Clone, Copy)]
 pub(crate) enum Failure {
     /// A call on the link failed.
     Link,
-    /// What came is no reply.
+    /// The bytes that came are no valid reply.
     Reply,
-    /// The reply has status 503: it can be tried again.
+    /// The reply has status 503: the request can be tried again.
     Unavailable,
     /// Memory ran out.
     Memory,
@@ -41,8 +41,8 @@ impl From<HttpFault> for Failure {
     }
 }
 
-/// What the head of a reply to a question answers. Its body does not come; in chunks it could not (RFC 9110, section
-/// 9.3.2).
+/// The answer in the head of a reply to a query for the length. The body is not read (RFC 9110,
+/// section 9.3.2).
 pub(crate) fn answer_to_ask(head: &ReplyHead) -> Result<PutAnswer, Failure>
     ensures { result ≡ answer_to_ask head.now }
 {
@@ -54,7 +54,7 @@ pub(crate) fn answer_to_ask(head: &ReplyHead) -> Result<PutAnswer, Failure>
     }
 }
 
-/// What the reply to what was sent answers.
+/// The answer in the reply to a request that sent bytes.
 pub(crate) fn answer_to_publish(reply: &Reply) -> Result<PutAnswer, Failure>
     ensures { result ≡ answer_to_publish reply.now }
 {
@@ -75,7 +75,7 @@ fn as_status(status: u16) -> Result<PutAnswer, Failure>
     }
 }
 
-/// A reply that has to tell a length.
+/// The answer of a reply that must give a length.
 fn as_length(length: Option<u64>) -> Result<PutAnswer, Failure>
     ensures { result ≡ as_length length }
 {

@@ -10,7 +10,7 @@ use crate::client_state::ClientState;
 use crate::end::GetEnd;
 use oc_link::Dialler;
 
-/// Writes a request where it belongs.
+/// Writes a request on a new connection, or on the one that was kept.
 pub(crate) fn ask<L: Dialler>(
     state: &ClientState,
     request: &[u8],
@@ -47,7 +47,7 @@ fn ask_at<L: Dialler>(address: &str, request: &[u8], link: &mut L) -> Result<(),
     }
 }
 
-/// Writes a request on the connection of the one before.
+/// Writes a request on the connection of the previous request.
 fn ask_again<L: Dialler>(request: &[u8], link: &mut L) -> Result<(), GetEnd>
     ensures asked { OnOk result
         (Told (Speaks (asking None request.now)) (L.story link.old) (L.story link.new)) }

@@ -14,9 +14,9 @@ use oc_chunked::{ChunkFault, Unchunker};
 use oc_io::{Sink, Source, write_all};
 use std::alloc::Global;
 
-/// Passes a chunked content on from a source to a sink, at most `MAX_OPEN_BYTES`. Nothing that follows the
-/// text may be taken, so no more is read at once than surely belongs to it. The content is gathered, and written
-/// in pieces of `PIECE_BYTES`. Gives its length in bytes.
+/// Passes a chunked content on from a source to a sink, at most `MAX_OPEN_BYTES`. Bytes after the
+/// content belong to the next reply, so no read asks for more than the content must still have. The
+/// content is gathered and written in pieces of `PIECE_BYTES`. Gives its length in bytes.
 pub(crate) fn pass_chunked<S: Source, K: Sink>(
     alloc: Global,
     source: &mut S,
@@ -53,8 +53,8 @@ pub(crate) fn pass_chunked<S: Source, K: Sink>(
     Err(GetEnd::Memory)
 }
 
-/// Writes what was gathered, if it is a whole piece. Gives how many bytes were written, and leaves the rest,
-/// which is less than a piece.
+/// Writes the gathered bytes once they fill a piece. Gives the number of bytes written, and leaves
+/// the rest, which is less than a piece.
 fn put_piece<K: Sink>(sink: &mut K, content: &mut Vec<u8>) -> Result<u64, GetEnd>
     ensures put { IfOk result (λ count. IsPut K.takes sink.old sink.new content.old.items content.new.items count) }
     ensures short { OnOk result (length content.new.items < PIECE_BYTES) }
@@ -71,7 +71,7 @@ fn put_piece<K: Sink>(sink: &mut K, content: &mut Vec<u8>) -> Result<u64, GetEnd
     Ok(written)
 }
 
-/// Writes what was gathered. Gives its length in bytes.
+/// Writes the gathered bytes. Gives their number.
 fn put<K: Sink>(sink: &mut K, content: &[u8]) -> Result<u64, GetEnd>
     ensures put { IfOk result (λ count. IsPut K.takes sink.old sink.new content.now [] count) }
     ensures unsent { OnErr result ((n : ℕ) × K.fails sink.old (take n content.now) sink.new) }
@@ -85,8 +85,8 @@ fn put<K: Sink>(sink: &mut K, content: &[u8]) -> Result<u64, GetEnd>
     }
 }
 
-/// Writes what was gathered before a text that is not whole, unless the link failed. Gives how it ends, which
-/// is with `Sink` where the write fails too.
+/// Writes the bytes gathered before the content broke off, unless the link failed. Gives the end of
+/// the download: `Sink` if the write fails too.
 fn put_before<K: Sink>(end: GetEnd, sink: &mut K, content: &[u8]) -> GetEnd
     ensures written { EndsWritten K.takes K.fails sink.old sink.new content.now end result }
     ensures count { NoFall (K.faults sink.old) (K.faults sink.new) }
@@ -101,7 +101,8 @@ fn put_before<K: Sink>(end: GetEnd, sink: &mut K, content: &[u8]) -> GetEnd
     }
 }
 
-/// Takes the next bytes of a chunked text, at most as many as the buffer has, and gathers their content.
+/// Reads the next bytes of a chunked text, at most as many as fit the buffer, and gathers their
+/// content.
 fn take_piece<S: Source>(
     unchunker: &mut Unchunker,
     source: &mut S,

@@ -1,18 +1,18 @@
 use crate::target::Target;
 
-/// What a client asks next, and how much more it may ask.
+/// The next request of a client, and the numbers of redirections and replies that may still follow.
 #[derive(Drop)]
 pub(crate) struct ClientState {
-    /// The URL that is asked.
+    /// The URL to ask.
     pub(crate) target: Target,
-    /// A Location led to it.
+    /// Whether the URL came from a Location.
     pub(crate) led: bool,
-    /// The byte of the group from which it asks.
+    /// The first byte of the group to ask for.
     pub(crate) start: u64,
-    /// The connection of the last reply is kept for the next request.
+    /// Whether the connection of the last reply is kept for the next request.
     pub(crate) kept: bool,
-    /// How many redirections may still be followed.
+    /// The number of redirections that may still be followed.
     pub(crate) redirections: u8,
-    /// How many replies are still wanted.
+    /// The number of replies that are still wanted.
     pub(crate) replies: u64,
 }

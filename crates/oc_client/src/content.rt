@@ -42,7 +42,7 @@ pub(crate) fn pass_content<S: Source, K: Sink>(
     }
 }
 
-/// Passes this many bytes on.
+/// Passes `count` bytes on.
 fn pass_counted<S: Source, K: Sink>(
     count: u64,
     source: &mut S,
@@ -69,7 +69,7 @@ fn pass_counted<S: Source, K: Sink>(
     Ok(())
 }
 
-/// Passes on what comes to the end of the source, at most `MAX_OPEN_BYTES`.
+/// Passes on all bytes up to the end of the source, at most `MAX_OPEN_BYTES`.
 fn pass_open<S: Source, K: Sink>(
     source: &mut S,
     sink: &mut K,

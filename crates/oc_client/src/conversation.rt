@@ -15,7 +15,8 @@ use oc_io::Sink;
 use oc_link::Dialler;
 use std::alloc::Global;
 
-/// Talks with servers, from a state on, until no more replies are wanted. The connection is ended.
+/// Makes requests, beginning from a state, until no more replies are wanted, and then ends the
+/// connection.
 pub(crate) fn converse<L: Dialler, K: Sink>(
     alloc: Global,
     wish: &Wish<'_>,

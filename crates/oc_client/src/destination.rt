@@ -1,8 +1,8 @@
-/// Where an input is published.
+/// The group to publish into, and the token for it.
 #[derive(Clone, Copy, Debug)]
 pub struct Destination<'a> {
     /// The URL of the group.
     pub address: &'a str,
-    /// What each request shows to be let in, as that of [`FetchOptions`](crate::FetchOptions).
+    /// The token that each request shows, as in [`FetchOptions`](crate::FetchOptions).
     pub token: Option<&'a str>,
 }

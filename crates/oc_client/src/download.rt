@@ -28,7 +28,7 @@ use oc_link::Dialler;
 use std::alloc::Global;
 use url::Url;
 
-/// How many redirections a download follows.
+/// The greatest number of redirections that a download follows.
 pub const MAX_REDIRECTIONS: u8 = 2;
 
 /// Downloads the content of a URL onto a sink, in pieces of at most 64 KiB as they come (RFC 9110, section
@@ -53,7 +53,7 @@ pub fn get<L: Dialler, K: Sink>(
     ensures redirects { IsTalked K.takes K.fails (λ turns written end. StopsAtThird address.now turns end)
         (L.story link.old) (L.story link.new) sink.old sink.new result }
 
-    // Where the replies lead to a whole content, they are not refused.
+    // If the replies lead to a whole content, none is refused.
     ensures complete { (url : Parts) → IsAddressOf address.now url
         → Told (Completes manner.now url result) (L.story link.old) (L.story link.new) }
 
@@ -69,11 +69,12 @@ pub fn get<L: Dialler, K: Sink>(
     }
 }
 
-/// Downloads what is new of a group onto a sink, again and again: until a reply tells the length of its
-/// content, or until `times` replies of 200 have come. Each request asks from the byte after what was
-/// written, at first from the byte of the manner, or else the `start` of the URL's query, on the connection of the one before where that is
-/// kept (RFC 9112, section 9.3). A reply may be chunked. Redirections are counted over the whole call. It
-/// ends as `get` does. Requests to the address of a Location say on what its query says to be known of the group.
+/// Downloads the news of a group onto a sink, again and again: until a reply gives the length of
+/// its content, or until `times` replies of 200 have come. Each request asks from the byte after
+/// those written, at first from the byte of the manner, or else the `start` of the URL's query, on
+/// the previous connection if that is kept (RFC 9112, section 9.3). A reply may be chunked.
+/// Redirections are counted over the whole call. The ends are those of `get`. Requests to the
+/// address of a Location keep the knowledge of the group that its query gives.
 pub fn follow<L: Dialler, K: Sink>(
     alloc: Global,
     address: &str,
@@ -105,7 +106,7 @@ pub fn follow<L: Dialler, K: Sink>(
     }
 }
 
-/// How a download ends where nothing is asked.
+/// The end of a download whose address is refused before any request.
 fn unasked(fault: UrlFault) -> GetEnd
     ensures { result ≡ end_of_url fault }
 {
@@ -115,7 +116,7 @@ fn unasked(fault: UrlFault) -> GetEnd
     }
 }
 
-/// What a client that follows the group of a URL wishes for.
+/// The wish of a client that follows the group of a URL.
 fn news<'a>(alloc: Global, manner: &'a FetchOptions<'a>, url: &Url) -> Result<Wish<'a>, Memory>
     ensures { IfOk result (λ wish. wish_of wish ≡ news_of manner.now url.now) }
 {
@@ -125,7 +126,7 @@ fn news<'a>(alloc: Global, manner: &'a FetchOptions<'a>, url: &Url) -> Result<Wi
     }
 }
 
-/// Talks with servers, from a URL on, until `times` replies have come.
+/// Makes requests, beginning with a URL, until `times` replies have come.
 fn download<L: Dialler, K: Sink>(
     alloc: Global,
     wish: &Wish<'_>,

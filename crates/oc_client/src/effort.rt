@@ -1,4 +1,4 @@
-//! What a client that publishes does next, by what was answered.
+//! The next step of a client that publishes, given the last answer.
 
 ghost use Rattle.std.specs.Prelude.{◌≡◌};
 ghost use Rattle.oc_client.specs.Efforts.{asks, behind_of, next_of, tried_again, may_try, end_of_failure, weighed, behind_failure};
@@ -6,22 +6,22 @@ ghost use Rattle.oc_client.specs.Efforts.{asks, behind_of, next_of, tried_again,
 use crate::answer::{Failure, PutAnswer};
 use crate::put_end::PutEnd;
 
-/// How many failures one after another end a publishing.
+/// The number of consecutive failures that end a publishing.
 pub(crate) const MAX_FAILURES: u8 = 5;
 
-/// What the next request is for.
+/// The purpose of the next request.
 #[derive(Clone, Copy)]
 pub(crate) enum Doing {
-    /// It asks how long the group is.
+    /// A query for the length of the group.
     Finding,
-    /// It sends what belongs at `at` and ends at `behind`.
+    /// Bytes for the group, from the position `at` up to `behind`.
     Posting {
         at: u64,
         behind: u64,
-        /// An earlier try had no answer.
+        /// Whether an earlier try had no answer.
         tried: bool,
     },
-    /// It asks whether that was taken by an earlier try.
+    /// A query for the length of the group, to find out whether an earlier try was taken.
     Checking {
         at: u64,
         behind: u64,
@@ -29,7 +29,7 @@ pub(crate) enum Doing {
 }
 
 impl Doing {
-    /// Whether the next request is a question.
+    /// Whether the next request is a query for the length.
     pub(crate) fn asks(self) -> bool
         ensures { result ≡ asks self }
     {
@@ -39,7 +39,7 @@ impl Doing {
         }
     }
 
-    /// Where that which is sent ends.
+    /// The position in the group where the bytes to send end.
     fn behind(self) -> u64
         ensures { result ≡ behind_of self }
     {
@@ -49,7 +49,7 @@ impl Doing {
         }
     }
 
-    /// What the next request is for when this one had no answer.
+    /// The purpose of the next request after one without an answer.
     fn behind_failure(self) -> Doing
         ensures { result ≡ behind_failure self }
     {
@@ -60,35 +60,35 @@ impl Doing {
     }
 }
 
-/// What a client is about to do.
+/// The next request of a client, with the number of failures before it.
 #[derive(Clone, Copy)]
 pub(crate) struct Effort {
     pub(crate) doing: Doing,
-    /// How many requests had no answer since something was last done.
+    /// The number of requests without an answer since the last success.
     pub(crate) failures: u8,
 }
 
-/// How far a client came.
+/// The length of the group that a client has reached.
 #[derive(Clone, Copy)]
 pub(crate) struct Progress {
-    /// How long the group is.
+    /// The length of the group, in bytes.
     pub(crate) length: u64,
-    /// How many requests had no answer since something was last done.
+    /// The number of requests without an answer since the last success.
     pub(crate) failures: u8,
 }
 
-/// Where an answer leads.
+/// The result of an answer.
 #[derive(Clone, Copy)]
 pub(crate) enum Next {
-    /// To another request.
+    /// Another request is needed.
     Again(Effort),
-    /// What was wanted is done or known.
+    /// The goal of the requests is reached.
     Settled(Progress),
-    /// To the end of the publishing.
+    /// The publishing ends.
     Ended(PutEnd),
 }
 
-/// What follows an answer.
+/// The result of an answer or of a failure.
 pub(crate) fn react(effort: Effort, answer: Result<PutAnswer, Failure>) -> Next
     ensures { result ≡ next_of effort answer }
 {
@@ -103,7 +103,7 @@ pub(crate) fn react(effort: Effort, answer: Result<PutAnswer, Failure>) -> Next
     }
 }
 
-/// What follows a failure.
+/// The result of a failure.
 fn try_again(effort: Effort, failure: Failure) -> Next
     ensures { result ≡ tried_again effort failure }
 {
@@ -116,7 +116,7 @@ fn try_again(effort: Effort, failure: Failure) -> Next
     })
 }
 
-/// Whether another try follows a failure, after `count` others.
+/// Whether another try is made after a failure, given the number of failures before it.
 fn may_try(failure: Failure, count: u8) -> bool
     ensures { result ≡ may_try failure count }
 {
@@ -126,7 +126,7 @@ fn may_try(failure: Failure, count: u8) -> bool
     }
 }
 
-/// How a publishing ends with a failure.
+/// The end of a publishing that a failure brings.
 fn end_of_failure(failure: Failure) -> PutEnd
     ensures { result ≡ end_of_failure failure }
 {
@@ -138,7 +138,7 @@ fn end_of_failure(failure: Failure) -> PutEnd
     }
 }
 
-/// What follows when the group is told to be this long.
+/// The result of an answer that gives the length of the group.
 fn weigh(effort: Effort, length: u64) -> Next
     ensures { result ≡ weighed effort length }
 {

@@ -6,19 +6,19 @@ use oc_base::Memory;
 use oc_http::HttpFault;
 use std::alloc::AllocError;
 
-/// How a download ended.
+/// The end of a download.
 #[derive(Clone, Copy, Debug, PartialEq, Eq)]
 pub enum GetEnd {
-    /// The content was read whole and written.
+    /// The whole content was read and written.
     Done,
-    /// The address is no URL, or its scheme is not `http`, it has no host, or it has a user or a
-    /// password. Nothing was dialled.
+    /// The address is no URL, its scheme is not `http`, the host is missing, or a user or a
+    /// password is given. Nothing was dialled.
     BadUrl,
     /// The reply has this status, neither 200 nor 302.
     Refused(u16),
-    /// The reply redirects once more than is followed.
+    /// The reply redirects, and no more redirections are followed.
     Redirects,
-    /// What came is no reply or ended early, or it redirects to no URL that can be asked.
+    /// The reply is not valid or broke off, or its Location is no URL that can be asked.
     Reply,
     /// A call on the link failed.
     Link,

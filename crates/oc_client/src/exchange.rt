@@ -18,8 +18,8 @@ use crate::wish::{Wish, write_request};
 use oc_io::Sink;
 use oc_link::{Dialler, Outgoing};
 
-/// Makes the request of a client in a state, passes on the content that comes, and goes to the state to
-/// which the reply leads.
+/// Makes the request of a client in a state, passes on the content of the reply, and moves to the
+/// next state.
 pub(crate) fn exchange<L: Dialler, K: Sink>(
     wish: &Wish<'_>,
     state: &mut ClientState,
@@ -44,7 +44,7 @@ pub(crate) fn exchange<L: Dialler, K: Sink>(
     hear_outgoing(wish, state, room, link, sink)
 }
 
-/// Takes a reply from the outgoing connection.
+/// Reads a reply from the outgoing connection.
 fn hear_outgoing<L: Dialler, K: Sink>(
     wish: &Wish<'_>,
     state: &mut ClientState,

@@ -2,13 +2,14 @@ ghost use Rattle.std.specs.Prelude.{◌≡◌, option_map};
 
 use std::marker::Model;
 
-/// How a client asks. Contracts see the record of the same name in `specs/FetchOptions`.
+/// The options of a client's requests. Contracts see the record of the same name in
+/// `specs/FetchOptions`.
 #[derive(Drop)]
 pub struct FetchOptions<'a> {
-    /// The byte of a group from which it asks, where the URL is not to say it.
+    /// The first byte of a group to ask for, unless the URL gives one.
     pub from: Option<u64>,
-    /// What it shows to be let in: printed ASCII bytes without a space, which each request has as a bearer token
-    /// (RFC 6750, section 2.1).
+    /// The token that each request shows as a bearer token (RFC 6750, section 2.1): printable ASCII
+    /// bytes without a space.
     pub token: Option<&'a str>,
 }
 
@@ -22,14 +23,14 @@ impl<'a> Model for FetchOptions<'a> {
 }
 
 impl<'a> FetchOptions<'a> {
-    /// The byte from which a client asks, where the URL is not to say it.
+    /// The first byte to ask for, unless the URL gives one.
     pub(crate) fn first_byte(&self) -> Option<u64>
         ensures { result ≡ self.now.from }
     {
         self.from
     }
 
-    /// What it shows to be let in.
+    /// The token that each request shows.
     pub(crate) fn shown_token(&self) -> Option<&'a str>
         ensures { option_map (λ t. t.now) result ≡ self.now.token }
     {

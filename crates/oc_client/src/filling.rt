@@ -6,8 +6,8 @@ ghost use Rattle.oc_client.specs.Filling.{Fills};
 
 use oc_io::{Failed, Source};
 
-/// Reads into a buffer after its first `done` bytes, and gives how many are filled then: no more than before
-/// only at the end of the source.
+/// Reads into a buffer after its first `done` bytes, and gives the number of bytes filled then. The
+/// number does not grow only at the end of the source.
 pub(crate) fn read_on<S: Source>(
     source: &mut S,
     buffer: &mut [u8],
@@ -25,7 +25,8 @@ pub(crate) fn read_on<S: Source>(
     Ok(done + count)
 }
 
-/// Fills a buffer, and gives how many bytes came: fewer than it holds only where the source ended.
+/// Fills a buffer, and gives the number of bytes read: fewer than the buffer holds only where the
+/// source ended.
 pub(crate) fn fill<S: Source>(source: &mut S, buffer: &mut [u8]) -> Result<usize, Failed>
     ensures within { IfOk result (λ count. count ≤ length buffer.old) }
     ensures came { IfOk result (λ count. S.gives source.old (take count buffer.new) source.new) }

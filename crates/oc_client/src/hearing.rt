@@ -1,4 +1,4 @@
-//! What a reply says, and where it leads.
+//! Reading of a reply, and the state that follows.
 
 ghost use Rattle.std.specs.Prelude.{◌≡◌, ◌↔◌, ℕ, List, length, IfErr, OnOk, IsErrOf, IsTrue};
 ghost use Rattle.oc_client.specs.Conversations.{LeadsOn, EndsWith, Brings, StopsContent, after_content, wanted_after};
@@ -17,8 +17,7 @@ use crate::wish::Wish;
 use oc_http::ReplyHead;
 use oc_io::{Sink, Source};
 
-/// Takes a reply from a source, passes its content on to a sink, and goes to the state to which it
-/// leads.
+/// Reads a reply from a source, passes its content on to a sink, and moves to the next state.
 pub(crate) fn hear<S: Source, K: Sink>(
     wish: &Wish<'_>,
     state: &mut ClientState,
@@ -44,7 +43,7 @@ pub(crate) fn hear<S: Source, K: Sink>(
     }
 }
 
-/// Passes the content of a reply of 200 on, and goes to the state after it.
+/// Passes the content of a reply of 200 on, and moves to the next state.
 fn take_content<S: Source, K: Sink>(
     wish: &Wish<'_>,
     head: &ReplyHead,
@@ -72,7 +71,7 @@ fn take_content<S: Source, K: Sink>(
     Ok(())
 }
 
-/// Goes to the state after a content of `count` bytes.
+/// Moves to the state after a content of `count` bytes.
 fn go_past_content(state: &mut ClientState, head: &ReplyHead, count: u64)
     ensures { (content : List ℕ) → length content ≡ count → state.new ≡ after_content head.now content state.old }
 {
@@ -81,7 +80,7 @@ fn go_past_content(state: &mut ClientState, head: &ReplyHead, count: u64)
     state.replies = wanted_after(head.length, state.replies);
 }
 
-/// Whether the client takes the content of such a reply.
+/// Whether the client accepts the content of a reply with this head.
 fn takes(wish: &Wish<'_>, head: &ReplyHead) -> bool
     ensures { IsTrue result ↔ Takes (wish_of wish.now) head.now }
 {
@@ -91,7 +90,7 @@ fn takes(wish: &Wish<'_>, head: &ReplyHead) -> bool
     }
 }
 
-/// Where the content of a reply ends.
+/// The way in which the content of a reply ends.
 fn framing_of(head: &ReplyHead) -> ReplyFraming
     ensures { result ≡ framing_of head.now }
 {
@@ -111,7 +110,7 @@ fn keeps(head: &ReplyHead) -> bool
     !head.closes && head.chunked
 }
 
-/// How many replies are wanted after one of this length.
+/// The number of replies still wanted after one of this length.
 fn wanted_after(length: Option<u64>, replies: u64) -> u64
     ensures { result ≡ wanted_after length replies }
 {

@@ -11,11 +11,11 @@ use oc_base::Bytes;
 use oc_io::{Failed, Source};
 use std::alloc::Global;
 
-/// How many bytes of the input are sent at once at most.
+/// The largest piece of the input that one request sends, in bytes.
 pub const PUT_PIECE_BYTES: usize = 524_288;
 
-/// The next piece of the input: live what one read gives, and nothing only at the end; else `PUT_PIECE_BYTES`, and fewer only
-/// where it ended.
+/// The next piece of the input. In live mode, the bytes of one read, none only at the end;
+/// otherwise `PUT_PIECE_BYTES`, fewer only at the end.
 pub(crate) fn next_piece<S: Source>(
     alloc: Global,
     live: bool,
@@ -50,7 +50,7 @@ fn read_piece<S: Source>(live: bool, input: &mut S, buffer: &mut [u8]) -> Result
     }
 }
 
-/// Passes over the first `count` bytes of the input.
+/// Skips the first `count` bytes of the input.
 pub(crate) fn pass_over<S: Source>(
     count: u64,
     input: &mut S,

@@ -1,4 +1,4 @@
-//! What a client publishes where, and the requests for it.
+//! The requests of one publishing.
 
 ghost use Rattle.std.specs.Prelude.{◌≡◌, string_bytes, option_map, IfOk};
 ghost use Rattle.oc_client.specs.Addresses.{host_of};
@@ -16,17 +16,17 @@ use oc_base::Memory;
 use std::alloc::Global;
 use url::Url;
 
-/// What a client publishes where.
+/// The target of a publishing, as the texts that its requests have in common.
 #[derive(Drop)]
 pub(crate) struct Job<'a> {
     pub(crate) alloc: Global,
     pub(crate) plan: Publication,
     pub(crate) target: Target,
-    /// What each request shows, where that is wanted.
+    /// The token that each request shows, if any.
     pub(crate) token: Option<&'a str>,
-    /// The lines of a request that tell where it goes, and with which token.
+    /// The header lines with the Host and the token.
     lines: String,
-    /// What a request says of the area that the URL says.
+    /// The area part of each query, taken from the URL.
     area: String,
     ghost lines_are: { string_bytes lines ≡ from_lines (host_of target) (option_map (λ t. t.now) token) },
     ghost area_is: { string_bytes area ≡ area_text (area_of target.query) },
@@ -59,7 +59,7 @@ impl<'a> Job<'a> {
         })
     }
 
-    /// The next request of a client that sends this.
+    /// The next request of a client with this load.
     pub(crate) fn request(&self, load: &Load, doing: Doing) -> Result<Vec<u8>, Memory>
         ensures { IfOk result (λ text. text.items ≡ request_text (goal_of self.now) (request_of load.now doing)) }
     {
@@ -96,7 +96,7 @@ impl<'a> Job<'a> {
         Ok(text)
     }
 
-    /// The query of a request that sends something.
+    /// The query of a request that sends bytes or a seal.
     fn place_query(&self, seals: bool, at: u64) -> Result<String, Memory>
         ensures { IfOk result (λ text. string_bytes text ≡ place_query seals at (area_of self.now.target.query)) }
     {
@@ -106,7 +106,7 @@ impl<'a> Job<'a> {
     }
 }
 
-/// The Host of a request, and its token where it has one.
+/// The header lines for a Host, and for a token where there is one.
 fn from_lines(alloc: Global, host: &str, token: Option<&str>) -> Result<String, Memory>
     ensures { IfOk result (λ text. string_bytes text ≡ from_lines host.now (option_map (λ t. t.now) token.entry)) }
 {
@@ -114,7 +114,7 @@ fn from_lines(alloc: Global, host: &str, token: Option<&str>) -> Result<String, 
     Ok(format!(in alloc; "Host: {host}\r\n{authorization}")?)
 }
 
-/// What a request says that closes the group.
+/// The query part that closes the group.
 fn seal_part(seals: bool) -> &'static str
     ensures { result.now ≡ seal_part seals }
 {

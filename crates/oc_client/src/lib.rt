@@ -1,22 +1,26 @@
-//! The client: what it gets and what it publishes, over HTTP/1.1.
+//! The client: downloads and publishings over HTTP/1.1.
 //!
-//! [`get`] asks for a URL, follows two redirections, and passes the content of the reply on to a sink as it comes.
-//! [`follow`] asks for a group again and again, each time from the byte after what it has written, on the same connection
-//! where the server keeps it. Both have one contract, `Downloads`: which request was written where, what was read after it,
-//! and that the content of each reply of 200 was written in order, or a prefix of it where it was not read whole, and
-//! nothing else. `specs/Wishes` has the requests, `specs/Replies` says what a reply is and what of it is content, and
-//! `specs/Conversations` where each leads and how each [`GetEnd`] results. `Redirects` comes exactly after a third 302 with a
-//! good Location, unless a call or memory failed (`specs/Redirections`), and where the dials give [`get`] replies that lead
-//! to a whole content, nothing that came is refused (`specs/Completeness`).
+//! [`get`] asks for a URL, follows two redirections, and passes the content of the reply on to a
+//! sink as it comes. [`follow`] asks for a group again and again, each time from the byte after
+//! those written, on the same connection if the server keeps it. Both have one contract,
+//! `Downloads`: the requests and their connections, the bytes read after each, and that the content
+//! of each reply of 200 was written in order, or a prefix if it was not read whole, and nothing
+//! else. `specs/Wishes` has the requests, `specs/Replies` defines replies and their content, and
+//! `specs/Conversations` the state after each reply and the cause of each [`GetEnd`]. `Redirects`
+//! comes exactly after a third 302 with a good Location, unless a call or memory failed
+//! (`specs/Redirections`), and if the dials give [`get`] replies that lead to a whole content, none
+//! is refused (`specs/Completeness`).
 //!
-//! [`put`] asks for the length of a group, and sends its input in pieces of [`PUT_PIECE_BYTES`] bytes and one of the rest,
-//! each on a dial of its own with `at=`, the place where it belongs: so a piece that comes twice is taken once. Where no
-//! reply comes it asks for the length again, and finds out by it whether the piece was taken. Its contract is `IsPublished`:
-//! which requests went out, what was answered to each, and that each piece is the next of the input (`specs/Publishing`).
-//! `specs/PutRequests` has the requests, `specs/PutReplies` says what a reply answers, and `specs/Efforts` what a client
-//! does next and how each [`PutEnd`] results. [`the_input_is_added_once`] is the law: over a source that answers by the
-//! rules of `specs/Sources`, into whose group nobody else publishes, the group is what it was and then the input, once,
-//! whatever dials failed, and whenever what they sent arrived.
+//! [`put`] asks for the length of a group, and sends its input in pieces of [`PUT_PIECE_BYTES`]
+//! bytes and one of the rest, each on a dial of its own with its position as `at=`: so a piece that
+//! comes twice is taken once. If no reply comes, it asks for the length again, and learns from it
+//! whether the piece was taken. Its contract is `IsPublished`: the requests made, the answer to
+//! each, and that each piece is the next of the input (`specs/Publishing`). `specs/PutRequests` has
+//! the requests, `specs/PutReplies` the answers in replies, and `specs/Efforts` the next step of a
+//! client and the cause of each [`PutEnd`]. [`the_input_is_added_once`] is the law: with a source
+//! that answers by the rules of `specs/Sources`, into whose group nobody else publishes, the group
+//! has its old content and then the input, once, whichever dials failed, and however late the sent
+//! bytes arrived.
 //!
 //! `specs/Addresses` says which URLs are asked and where. A link that tells its story shows the dials of these requests and
 //! no others, and none of them is left open (`specs/Turns`, `specs/PutTurns`).

@@ -1,6 +1,6 @@
 use oc_base::Bytes;
 
-/// What is sent: bytes for a group, or none, with which it is closed.
+/// The load of a request: bytes for a group, or the seal that closes the group.
 #[derive(Drop)]
 pub(crate) struct Load {
     pub(crate) piece: Bytes,

@@ -1,12 +1,12 @@
 use crate::progress_lines::ProgressLines;
 use oc_io::{Failed, Sink};
 
-/// A sink that tells how many bytes it took.
+/// A sink that reports the number of bytes it took.
 #[derive(Drop)]
 pub struct Metered<K, E> {
-    /// What takes the bytes.
+    /// The sink that takes the bytes.
     pub sink: K,
-    /// What tells of them.
+    /// The lines that report the bytes.
     pub lines: ProgressLines<E>,
 }
 

@@ -1,4 +1,4 @@
-/// What a client does after a failure, before it tries again.
+/// The wait of a client between a failure and the next try.
 pub trait Pause {
     /// Waits a second.
     fn pause(&mut self);

@@ -1,4 +1,4 @@
-//! Lines that tell how far a client came.
+//! Progress lines of a client.
 
 ghost use Rattle.std.specs.Prelude.{◌≡◌, ◌-◌, ◌*◌, ◌^◌, ◌<◌, ◌≤◌, OnOk, OnErr};
 ghost use Rattle.oc_client.specs.Lines.{Tells, WritesFront, progress_line, lines_behind};
@@ -8,22 +8,22 @@ ghost use Rattle.oc_client.specs.ProgressLines.{Grows};
 use itoa::Buffer;
 use oc_io::{Failed, Sink, write_all};
 
-/// A line tells of each multiple of this many bytes.
+/// The distance between two progress lines, in bytes.
 pub const PROGRESS_STEP: u64 = 16_777_216;
 
-/// A sink of lines that tell how many bytes a client has so far. A failed write changes nothing but that no more lines
-/// are written.
+/// A sink of lines that report the number of bytes so far. After a failed write no more lines are
+/// written, and nothing else changes.
 #[derive(Drop)]
 pub struct ProgressLines<E> {
     pub sink: E,
-    /// Lines are wanted, and no write failed.
+    /// Whether lines are wanted and no write failed.
     pub active: bool,
-    /// How many bytes there are so far.
+    /// The number of bytes so far.
     pub count: u64,
 }
 
 impl<E: Sink> ProgressLines<E> {
-    /// No bytes yet. Where no lines are wanted, nothing is ever written.
+    /// Begins with no bytes. Writes no lines at all unless `wanted`.
     pub fn new(sink: E, wanted: bool) -> ProgressLines<E>
         ensures sink { result.sink ≡ sink }
         ensures active { result.active ≡ wanted }
@@ -36,7 +36,7 @@ impl<E: Sink> ProgressLines<E> {
         }
     }
 
-    /// How many bytes there are so far.
+    /// The number of bytes so far.
     pub fn count(&self) -> u64
         ensures { result ≡ self.now.count }
     {
@@ -55,7 +55,7 @@ impl<E: Sink> ProgressLines<E> {
         }
     }
 
-    /// All is done: a line is written for all bytes.
+    /// Writes a last line for all bytes.
     pub fn finish(&mut self)
         ensures count { self.new.count ≡ self.old.count }
         ensures told { Tells E.takes E.fails self.old.sink self.new.sink self.old.active self.new.active (progress_line self.old.count) }
@@ -65,7 +65,7 @@ impl<E: Sink> ProgressLines<E> {
         }
     }
 
-    /// The sink, with all that was written.
+    /// The sink, with all lines that were written.
     pub fn into_sink(self) -> E
         ensures { result ≡ self.sink }
     {
@@ -78,7 +78,7 @@ impl<E: Sink> ProgressLines<E> {
     }
 }
 
-/// Writes the lines of the multiples after one of this number, up to the last.
+/// Writes the lines of the multiples after number `done`, up to number `last`.
 fn write_lines<E: Sink>(sink: &mut E, done: u64, last: u64) -> Result<(), Failed>
     requires ahead { done ≤ last }
     requires fits { last * PROGRESS_STEP < 2 ^ 64 }
@@ -93,7 +93,7 @@ fn write_lines<E: Sink>(sink: &mut E, done: u64, last: u64) -> Result<(), Failed
     Ok(())
 }
 
-/// Writes the line that tells this count of bytes.
+/// Writes the line that reports `count` bytes.
 fn write_line<E: Sink>(sink: &mut E, count: u64) -> Result<(), Failed>
     ensures written { OnOk result (E.takes sink.old (progress_line count) sink.new) }
     ensures front { OnErr result (WritesFront E.fails sink.old sink.new (progress_line count)) }

@@ -2,21 +2,21 @@ ghost use Rattle.std.specs.Prelude.{◌≡◌};
 
 use crate::input::PUT_PIECE_BYTES;
 
-/// Where an input is published.
+/// The place of an input in its group.
 #[derive(Clone, Copy, Debug, PartialEq, Eq)]
 pub enum WriteMode {
-    /// Into a group that has no bytes yet.
+    /// A group that has no bytes yet.
     New,
-    /// After what the group has.
+    /// After the present end of the group.
     Append,
-    /// The group has the first bytes of the input, which are not sent again.
+    /// A group that has the first bytes of the input already; only the rest is sent.
     Resume,
 }
 
 impl WriteMode {
     ghost use Rattle.oc_client.specs.Places.{sends_empty};
 
-    /// Whether an input of no bytes is sent, which makes the group.
+    /// Whether an input of no bytes is sent, so that the group is made.
     pub(crate) fn sends_empty(self) -> bool
         ensures { result ≡ sends_empty self }
     {
@@ -27,20 +27,21 @@ impl WriteMode {
     }
 }
 
-/// How an input is published.
+/// The options of a publishing.
 #[derive(Clone, Copy, Debug, PartialEq, Eq)]
 pub struct Publication {
     pub place: WriteMode,
     /// Whether the group is closed after the input.
     pub seal: bool,
-    /// Whether what one read of the input gave is sent at once, and not only once it fills a piece.
+    /// Whether the bytes of each read of the input are sent at once, and not only once they fill a
+    /// piece.
     pub live: bool,
 }
 
 impl Publication {
     ghost use Rattle.oc_client.specs.Places.{least_piece};
 
-    /// The least length in bytes of a piece after which others may come.
+    /// The least length in bytes of a piece that is not the last.
     pub(crate) fn least_piece(self) -> usize
         ensures { result ≡ least_piece self.live }
     {

@@ -27,13 +27,15 @@ use oc_io::{Sink, Source};
 use oc_link::Dialler;
 use std::alloc::Global;
 
-/// Publishes an input at a URL, an `http` URL with a host, without a user and a password: into a group that has no
-/// bytes yet, after what it has, or from where an earlier publishing of the same input stopped. Where the whole
-/// input is empty the group is made. The place is asked for first, and nothing of the input is read before it is
-/// known. It is sent in pieces of [`PUT_PIECE_BYTES`](crate::PUT_PIECE_BYTES) and one of the rest; live, what each read of it
-/// gives is sent before the next read. After each failure but the fifth without anything done between, it pauses and tries
-/// again; a reply with status 503 is such a failure. What of the input is
-/// in the group is told as it grows: never more than came of it, whatever the end. Each connection is ended.
+/// Publishes an input at a URL, an `http` URL with a host, without a user and a password: into a
+/// group that has no bytes yet, after its present end, or from the position at which an earlier
+/// publishing of the same input stopped. An empty input makes the group. The length of the group is
+/// asked for first, and the input is not read before that. The input is sent in pieces of
+/// [`PUT_PIECE_BYTES`](crate::PUT_PIECE_BYTES) and one of the rest; in live mode the bytes of each
+/// read are sent before the next read. After a failure it pauses and tries again, up to the fifth
+/// failure in a row; a reply with status 503 counts as a failure. The lines report the bytes of the
+/// input that are in the group as they grow: never more than came of the input, at any end. Each
+/// connection is ended.
 pub fn put<L: Dialler, S: Source, P: Pause, E: Sink>(
     alloc: Global,
     to: &Destination<'_>,
@@ -112,7 +114,7 @@ fn publish_all<L: Dialler, S: Source, P: Pause, E: Sink>(
     close(job, reached, &mut room, link, &mut aside.pause)
 }
 
-/// Passes over what of the input the group has.
+/// Skips the part of the input that the group has already.
 fn go_to_place<S: Source>(
     place: WriteMode,
     found: u64,
@@ -131,7 +133,7 @@ fn go_to_place<S: Source>(
     }
 }
 
-/// How many bytes of the input the group has, before any is sent.
+/// The number of bytes of the input that the group has before any is sent.
 fn passed_over(place: WriteMode, found: u64) -> u64
     ensures { result ≡ passed_over place found }
 {
@@ -141,7 +143,7 @@ fn passed_over(place: WriteMode, found: u64) -> u64
     }
 }
 
-/// Sends the rest of the input, piece by piece, each after the one before.
+/// Sends the rest of the input piece by piece, in order.
 fn carry<L: Dialler, S: Source, P: Pause, E: Sink>(
     job: &Job<'_>,
     found: Progress,
@@ -182,7 +184,8 @@ fn carry<L: Dialler, S: Source, P: Pause, E: Sink>(
     }
 }
 
-/// Whether a piece of this length is left out: an empty one is sent only where that is wanted.
+/// Whether a piece of this length is left out: an empty piece is sent only if an empty input makes
+/// the group.
 fn is_left_out(count: usize, may_be_empty: bool) -> bool
     ensures left_out { result ≡ true → (count ≡ 0) × (may_be_empty ≡ false) }
     ensures sent { result ≡ false → count ≡ 0 → may_be_empty ≡ true }
@@ -190,7 +193,7 @@ fn is_left_out(count: usize, may_be_empty: bool) -> bool
     count == 0 && !may_be_empty
 }
 
-/// Closes the group, where that is wanted.
+/// Closes the group, if that is wanted.
 fn close<L: Dialler, P: Pause>(
     job: &Job<'_>,
     reached: Progress,

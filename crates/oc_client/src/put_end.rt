@@ -4,23 +4,24 @@ ghost use Rattle.oc_client.specs.declared.put_end.PutEnd.TheVariants.{Memory as 
 use oc_base::Memory;
 use std::alloc::AllocError;
 
-/// How a publishing ended.
+/// The end of a publishing.
 #[derive(Clone, Copy, Debug, PartialEq, Eq)]
 pub enum PutEnd {
     /// The whole input is in the group, and the group is closed where that was asked for.
     Done,
-    /// The address is no URL, or its scheme is not `http`, it has no host, or it has a user or a
-    /// password. Nothing was dialled.
+    /// The address is no URL, its scheme is not `http`, the host is missing, or a user or a
+    /// password is given. Nothing was dialled.
     BadUrl,
-    /// A reply has this status, which says neither that bytes were taken nor how long the group is; 503 for the last time.
+    /// The status of a reply that neither takes bytes nor gives the length of the group; or 503 at
+    /// the last try.
     Refused(u16),
-    /// The group has this many bytes, with which the next piece does not belong after them.
+    /// The length of the group in bytes, which does not fit the position of the next piece.
     Length(u64),
-    /// The input ended before as many bytes as the group has.
+    /// The input is shorter than the group.
     Short,
-    /// What came was no reply, for the last time.
+    /// The bytes that came at the last try are no valid reply.
     Reply,
-    /// A call on the link failed, for the last time.
+    /// A call on the link failed at the last try.
     Link,
     /// A call on the input failed.
     Input,

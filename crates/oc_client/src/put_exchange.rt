@@ -1,4 +1,4 @@
-//! One request on a dial of its own, and what is made of its reply.
+//! One request on a dial of its own, and the answer in its reply.
 
 ghost use Rattle.std.specs.Prelude.{◌≡◌, IsErrOf};
 ghost use Rattle.oc_io.specs.Faults.{NoFall, Rose};
@@ -39,7 +39,7 @@ pub(crate) fn exchange<L: Dialler>(
     }
 }
 
-/// Takes a reply from the outgoing connection.
+/// Reads a reply from the outgoing connection.
 fn hear_outgoing<L: Dialler>(
     asks: bool,
     heads: &mut HeadReader,

@@ -1,4 +1,4 @@
-//! A reply to a client that publishes, as it comes from a source.
+//! Reading of a reply for a client that publishes.
 
 ghost use Rattle.std.specs.Prelude.{◌≡◌, true, false, IsErrOf};
 ghost use Rattle.oc_io.specs.Faults.{NoFall, Rose};
@@ -9,7 +9,7 @@ use crate::answer::{Failure, PutAnswer, answer_to_ask, answer_to_publish};
 use oc_http::HeadReader;
 use oc_io::Source;
 
-/// Takes a reply from a source, and gives what it answers: of one to a question the head alone.
+/// Reads a reply from a source, and gives its answer. For a query only the head is read.
 pub(crate) fn hear<S: Source>(
     asks: bool,
     heads: &mut HeadReader,
@@ -26,7 +26,7 @@ pub(crate) fn hear<S: Source>(
     }
 }
 
-/// Takes the reply to a question.
+/// Reads the reply to a query.
 fn hear_head<S: Source>(heads: &mut HeadReader, source: &mut S) -> Result<PutAnswer, Failure>
     ensures heard { Hears S.gives S.fails S.ended (λ reply over. Answers true reply over result) source.old source.new result }
     ensures count { NoFall (S.faults source.old) (S.faults source.new) }
@@ -36,7 +36,7 @@ fn hear_head<S: Source>(heads: &mut HeadReader, source: &mut S) -> Result<PutAns
     answer_to_ask(&head)
 }
 
-/// Takes the reply to what was sent.
+/// Reads the reply to a request that sent bytes or a seal.
 fn hear_whole<S: Source>(heads: &mut HeadReader, source: &mut S) -> Result<PutAnswer, Failure>
     ensures heard { Hears S.gives S.fails S.ended (λ reply over. Answers false reply over result) source.old source.new result }
     ensures count { NoFall (S.faults source.old) (S.faults source.new) }

@@ -5,14 +5,14 @@ use oc_base::Memory;
 use oc_http::HeadReader;
 use std::alloc::Global;
 
-/// How many bytes of the input are passed over at once.
+/// The greatest number of bytes of the input that are skipped at once.
 pub(crate) const PASS_BYTES: usize = 65_536;
 
 /// The memory of a publishing, which is taken before its first request.
 #[derive(Drop)]
 pub(crate) struct PutRoom {
     pub(crate) heads: HeadReader,
-    /// What is passed over of the input.
+    /// The buffer for bytes of the input that are skipped.
     pub(crate) passed: Vec<u8>,
     ghost whole: { vec_len passed ≡ PASS_BYTES },
 }

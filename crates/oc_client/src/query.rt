@@ -1,4 +1,4 @@
-//! What the query of a URL says to a client.
+//! The parts of a URL's query that a client uses.
 
 ghost use Rattle.std.specs.Prelude.{◌≡◌, ◌<◌, ◌==◌, ◌≤◌, [], ◌∷◌, length, IfNone, IfSome, codes, unwrap_or, option_map};
 ghost use Rattle.std.specs.List.{slice_split};
@@ -10,8 +10,8 @@ ghost use Rattle.oc_client.specs.Queries.{behind, first_value, start_said, first
 use oc_base::MAX_START;
 use oc_base::words::number;
 
-/// The byte from which a client reads on, as a URL with this query says: the first `start=` that is a
-/// number of at most `MAX_START`, and 0 where there is none.
+/// The first byte to read, from the query of a URL: the first `start=` that is a number of at most
+/// `MAX_START`, and 0 if there is none.
 pub(crate) fn start(query: Option<&str>) -> u64
     ensures { result ≡ start_of (option_map (λ q. q.now) query.entry) }
 {
@@ -21,15 +21,15 @@ pub(crate) fn start(query: Option<&str>) -> u64
     }
 }
 
-/// The area that a URL with this query says, as it is written there.
+/// The area in the query of a URL, as text.
 pub(crate) fn area(query: Option<&str>) -> Option<&str>
     ensures { option_map (λ a. a.now) result ≡ area_of (option_map (λ q. q.now) query.entry) }
 {
     first_area(query?)
 }
 
-/// What a URL with this query says to be known of a group, as it is written there: the first part that is `known`
-/// or begins with `of=`.
+/// The knowledge of a group in the query of a URL, as text: the first part that is `known` or
+/// begins with `of=`.
 pub(crate) fn knowledge(query: Option<&str>) -> Option<&str>
     ensures { option_map (λ k. k.now) result ≡ knowledge_of (option_map (λ q. q.now) query.entry) }
 {
@@ -75,14 +75,14 @@ fn first_knowledge(query: &str) -> Option<&str>
     }
 }
 
-/// Whether a part of a query says what is known of a group.
+/// Whether a part of a query gives knowledge of a group.
 fn is_knowledge(part: &str) -> bool
     ensures { result ≡ is_knowledge part.now }
 {
     part == "known" || part.strip_prefix("of=").is_some()
 }
 
-/// The start that a part of a query says.
+/// The start in a part of a query.
 fn start_in(part: &str) -> Option<u64>
     ensures { result ≡ start_said (behind (codes "start=") part.now) }
 {
@@ -90,7 +90,7 @@ fn start_in(part: &str) -> Option<u64>
     number(value.as_bytes(), 0, MAX_START).ok()
 }
 
-/// The first part of a query, and what follows it; `None` where it is the only part.
+/// The first part of a query, and the rest after it; `None` as the rest if there is only one part.
 fn first_part(query: &str) -> (&str, Option<&str>)
     ensures last { IfNone result.1 (parts query.now ≡ result.0.now ∷ []) }
     ensures first { IfSome result.1 (λ rest. parts query.now ≡ result.0.now ∷ parts rest.now) }

@@ -1,4 +1,4 @@
-//! Where a redirection leads.
+//! Handling of redirections.
 
 ghost use Rattle.std.specs.Prelude.{◌≡◌, ℕ, ◌<◌, List, Some, IfErr, OnOk};
 ghost use Rattle.oc_client.specs.Addresses.{LeadsTo};
@@ -12,7 +12,7 @@ use crate::target::Target;
 use oc_base::Text;
 use std::alloc::Global;
 
-/// Goes to the state to which a reply of 302 with this Location sends the client.
+/// Moves to the state that follows a 302 with this Location.
 pub(crate) fn redirect(
     alloc: Global,
     state: &mut ClientState,
@@ -36,7 +36,7 @@ pub(crate) fn redirect(
     Ok(())
 }
 
-/// Goes to the state from which another URL is asked for, on a new connection.
+/// Moves to the state that asks for another URL, on a new connection.
 fn go_to(state: &mut ClientState, target: Target)
     requires { 0 < state.old.redirections }
     ensures { state.new ≡ sent_to target state.old }

@@ -1,13 +1,13 @@
-/// Where the content of a reply ends (RFC 9112, section 6.3).
+/// The end of the content of a reply (RFC 9112, section 6.3).
 #[derive(Clone, Copy, Debug, PartialEq, Eq)]
 pub(crate) enum ReplyFraming {
-    /// After this many bytes.
+    /// After this number of bytes.
     Counted(u64),
-    /// With the last chunk (RFC 9112, section 7.1).
+    /// At the last chunk (RFC 9112, section 7.1).
     Chunked,
-    /// With the connection.
+    /// At the end of the connection.
     ToTheEnd,
 }
 
-/// The greatest number of bytes of a content whose length is not given: 2^40.
+/// The greatest length in bytes of a content whose length is not given: 2^40.
 pub const MAX_OPEN_BYTES: u64 = 1_099_511_627_776;

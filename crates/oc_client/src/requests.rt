@@ -7,7 +7,7 @@ ghost use Rattle.oc_client.specs.Requests.{authorization_line, more_text, query_
 use oc_base::Memory;
 use std::alloc::Global;
 
-/// The line that shows a token, where there is one.
+/// The line that shows a token, if there is one.
 pub(crate) fn authorization_line(alloc: Global, token: Option<&str>) -> Result<String, Memory>
     ensures { IfOk result (λ line. string_bytes line ≡ authorization_line (option_map (λ t. t.now) token.entry)) }
 {
@@ -17,7 +17,7 @@ pub(crate) fn authorization_line(alloc: Global, token: Option<&str>) -> Result<S
     }
 }
 
-/// `?` and the query of a request for a content, from a byte on where one is given.
+/// `?` and the query of a request for a content, with the first byte to ask for where one is given.
 pub(crate) fn query_from(
     alloc: Global,
     from: Option<u64>,
@@ -34,7 +34,7 @@ pub(crate) fn query_from(
     }
 }
 
-/// `?` and the query of a request for what is new of a group.
+/// `?` and the query of a request for the news of a group.
 pub(crate) fn news_query(
     alloc: Global,
     start: u64,

@@ -5,7 +5,7 @@ use oc_base::Memory;
 use oc_http::HeadReader;
 use std::alloc::Global;
 
-/// How many bytes of a content are passed on at once.
+/// The greatest number of bytes of a content that are passed on at once.
 pub(crate) const PIECE_BYTES: usize = 65_536;
 
 /// The memory of a conversation, which is taken before its first request.
@@ -13,9 +13,9 @@ pub(crate) const PIECE_BYTES: usize = 65_536;
 pub(crate) struct Room {
     pub(crate) alloc: Global,
     pub(crate) heads: HeadReader,
-    /// The bytes of a reply that have come.
+    /// The bytes of a reply read so far.
     pub(crate) buffer: Vec<u8>,
-    /// What is gathered of its content, where that is chunked.
+    /// The gathered content of a chunked reply.
     pub(crate) content: Vec<u8>,
     ghost whole: { vec_len buffer ≡ PIECE_BYTES },
 }

@@ -1,4 +1,5 @@
-//! One thing that a client wants to know or to have done: as many requests as it takes.
+//! Requests that are repeated until one goal is reached: the length of the group is known, or a
+//! load is taken.
 
 ghost use Rattle.std.specs.Prelude.{◌≡◌, ◌+◌, length, IfOk, IfErr, IsErrOf};
 ghost use Rattle.oc_io.specs.Faults.{NoFall, Rose};
@@ -19,7 +20,7 @@ use crate::put_room::PutRoom;
 use oc_base::{Bytes, MAX_GROUP_BYTES};
 use oc_link::Dialler;
 
-/// Asks how long the group is.
+/// Asks for the length of the group.
 pub(crate) fn find<L: Dialler, P: Pause>(
     job: &Job<'_>,
     room: &mut PutRoom,
@@ -42,7 +43,7 @@ pub(crate) fn find<L: Dialler, P: Pause>(
     settle(job, &load, effort, room, link, pause)
 }
 
-/// Has this taken after what the group has. No group has more than `MAX_GROUP_BYTES`.
+/// Has the load taken at the end of the group. No group has more than `MAX_GROUP_BYTES`.
 pub(crate) fn send<L: Dialler, P: Pause>(
     job: &Job<'_>,
     load: &Load,
@@ -73,7 +74,7 @@ pub(crate) fn send<L: Dialler, P: Pause>(
     settle(job, load, effort, room, link, pause)
 }
 
-/// Makes one request after another, until one settles it. After a failure it waits.
+/// Makes requests until one reaches the goal, with a wait after each failure.
 fn settle<L: Dialler, P: Pause>(
     job: &Job<'_>,
     load: &Load,

@@ -1,4 +1,4 @@
-//! A URL that is asked, with the texts that it is asked with.
+//! A URL to ask, with the texts for its requests.
 
 ghost use Rattle.std.specs.Prelude.{◌≡◌, ◌++◌, codes, decimal, string_bytes, true, IfOk, option_map, unwrap_or};
 ghost use Rattle.oc_client.specs.Addresses.{is_good, host_name, host_of, dial_address};
@@ -8,7 +8,7 @@ use std::alloc::Global;
 use std::marker::Model;
 use url::Url;
 
-/// A URL that is asked. Contracts see it as the URL.
+/// A URL to ask. Contracts see only the URL.
 #[derive(Drop)]
 pub(crate) struct Target {
     url: Url,
@@ -43,7 +43,7 @@ impl Target {
         &self.url
     }
 
-    /// Where the URL is asked for: its host, and its port or 80.
+    /// The address to dial: the host, and the port or 80.
     pub(crate) fn address(&self) -> &str
         ensures { result.now ≡ dial_address self.now }
     {

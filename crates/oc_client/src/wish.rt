@@ -1,4 +1,4 @@
-//! What a client asks servers for.
+//! The content that a client wants from servers.
 
 ghost use Rattle.std.specs.Prelude.{◌≡◌, option_map, string_bytes, IfOk};
 ghost use Rattle.oc_client.specs.Requests.{from_at, knowledge_at};
@@ -11,17 +11,17 @@ use crate::requests::{authorization_line, news_query, query_from};
 use oc_base::Memory;
 use std::alloc::Global;
 
-/// What a client wishes for.
+/// The content that a client wants.
 #[derive(Drop)]
 pub(crate) enum Wish<'a> {
     /// The content of a URL, once.
     Whole(&'a FetchOptions<'a>),
-    /// What is new of a group, for the area that the URL says.
+    /// The news of a group, for the area that the URL gives.
     News(&'a FetchOptions<'a>, Option<String>),
 }
 
 impl<'a> Wish<'a> {
-    /// From which byte on it asks at first, where it says so.
+    /// The first byte to ask for at first, if one is given.
     pub(crate) fn from(&self) -> Option<u64>
         ensures { result ≡ from_of (wish_of self.now) }
     {
@@ -48,7 +48,8 @@ pub(crate) fn write_request(
     }
 }
 
-/// The request for the content of a URL. The first one may say from which byte on; a Location says it itself.
+/// The request for the content of a URL. The first request may give a first byte; a Location gives
+/// its own.
 fn write_whole(
     alloc: Global,
     manner: &FetchOptions<'_>,
@@ -67,7 +68,7 @@ fn write_whole(
     Ok(text.into_bytes())
 }
 
-/// The request for what is new of a group, with what a Location says to be known of it.
+/// The request for the news of a group, with the knowledge of the group that a Location gives.
 fn write_news(
     alloc: Global,
     manner: &FetchOptions<'_>,
@@ -88,14 +89,14 @@ fn write_news(
     Ok(text.into_bytes())
 }
 
-/// From which byte on the next request asks, where its URL is not to say it.
+/// The first byte of the next request, unless its URL gives one.
 fn from_at(led: bool, from: Option<u64>) -> Option<u64>
     ensures { result ≡ from_at led from }
 {
     if led { None } else { from }
 }
 
-/// What the next request says to be known of the group.
+/// The part of the next request that gives knowledge of the group.
 fn knowledge_at(led: bool, query: Option<&str>) -> Option<&str>
     ensures { option_map (λ k. k.now) result ≡ knowledge_at led (option_map (λ q. q.now) query.entry) }
 {

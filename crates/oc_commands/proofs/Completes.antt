@@ -1,4 +1,4 @@
--- What had happened leaves no other end to a command that has what it needs.
+-- The effect of an end leaves no other end to a command that has all it needs.
 use Rattle.std.proofs.Common.{◌≡◌, ℕ, Bool, inl, inr, refl, subst, ap, List, Option, Some, None}
 use Rattle.oc_keep.proofs.Complete.{only_memory}
 use Rattle.oc_client.specs.Completeness.{Completes, IsUnrefused}
@@ -15,8 +15,8 @@ use Rattle.oc_words.specs.declared.request.Member.{Member}
 use Rattle.oc_words.specs.declared.request.Invocation.{Invocation}
 use Rattle.oc_words.specs.declared.request.Invocation.TheVariants.{Check, Get}
 use Rattle.oc_commands.specs.AtGet.{Downloaded}
-use Rattle.oc_commands.specs.declared.network.Network.{Network}
-use Rattle.oc_commands.specs.AtCheck.{HappenedAtCheck, network_of}
+use Rattle.oc_model.specs.declared.header.Sizes.{Sizes}
+use Rattle.oc_commands.specs.AtCheck.{HappenedAtCheck, sizes_of}
 use Rattle.oc_commands.specs.Complete.{IsDoneOrMemory, IsServed, once, plainly}
 use Rattle.oc_commands.specs.Ends.{status_of, status_of_cause, status_of_check, status_of_get}
 use Rattle.oc_commands.specs.Outside.{Input, OnError, OnFiles, OnLink, OnNode, OnStage, Output, at_files, at_link}
@@ -40,7 +40,7 @@ same_download : (asked : Option Invocation) (d e : Download) → asked ≡ Some 
 same_download asked d e is also = cc
 
 module _ {D : Type 0} (view : D → DiskView) (old new : Disks D) (output : Output) (sound : IsSound output) (honest : AreHonest view old) (unfailed : OneRose view old new → ⊥) where
-  check_done : (n : Network) (id : ℕ) (end : CheckEnd) → HoldFiles view n.nodes old → HappenedAtCheck (at_files view old new) output n id end → IsDoneOrMemory (number_of (status_of_check end))
+  check_done : (n : Sizes) (id : ℕ) (end : CheckEnd) → HoldFiles view n.nodes old → HappenedAtCheck (at_files view old new) output n id end → IsDoneOrMemory (number_of (status_of_check end))
   check_done n id checks.Done files h = inl refl
   check_done n id checks.Sink files h = let (text, shows, cut) = h.0 in absurd (sound _ cut.1)
   check_done n id (checks.Load error) files h =
@@ -61,7 +61,7 @@ module _ {D : Type 0} (view : D → DiskView) (old new : Disks D) (output : Outp
   checked input error stage link token node asked m f (Listed end) is files h = let also = h.0.1 in cc
   checked input error stage link token node asked m f (Checked end) is files h =
       let (n, g, also, at) = h.0 in
-      check_done (network_of m) m.id end files (subst (λ (x : Member). HappenedAtCheck (at_files view old new) output (network_of x) x.id end) (same_member asked m n f g is also) at)
+      check_done (sizes_of m) m.id end files (subst (λ (x : Member). HappenedAtCheck (at_files view old new) output (sizes_of x) x.id end) (same_member asked m n f g is also) at)
   checked input error stage link token node asked m f (CheckedConfigured end) is files h = let also = h.0.2 in cc
   checked input error stage link token node asked m f (NoToken end) is files h = absurd (untokened asked (Check m f) h.0.0 is refl h.0.1)
   checked input error stage link token node asked m f (Got end) is files h = let also = h.0.1 in cc

@@ -1,4 +1,4 @@
--- What had happened leaves `check` of a node of a configuration the status of that, where nothing fails.
+-- The effect of an end gives `check` of a node of a configuration its status, if nothing fails.
 use Rattle.std.proofs.Common.{◌≡◌, ◌∙◌, ℕ, ◌⊎◌, inl, inr, refl, sym, subst, List, length, Option, Some, Err, Ok, Result}
 use Rattle.oc_base.specs.Lawful.{IsNode}
 use Rattle.oc_keep.proofs.Complete.{only_memory}
@@ -17,7 +17,7 @@ use Rattle.oc_keep.specs.declared.errors.KeepLoad.{KeepLoad}
 use Rattle.oc_words.specs.declared.request.Paths.{Paths}
 use Rattle.oc_words.specs.declared.request.Invocation.{Invocation}
 use Rattle.oc_words.specs.declared.request.Invocation.TheVariants.{CheckConfigured as CheckRequest}
-use Rattle.oc_commands.specs.AtCheck.{HappenedAtCheck, network_in}
+use Rattle.oc_commands.specs.AtCheck.{HappenedAtCheck, sizes_in}
 use Rattle.oc_commands.specs.AtConfigured.{HappenedAtConfigured, HasShownStatus, IsShownOf, IsShownOver}
 use Rattle.oc_commands.specs.Ends.{status_of, status_of_cause, status_of_check, status_of_configured}
 use Rattle.oc_commands.specs.Outside.{Input, OnError, OnLink, OnNode, OnStage, Output, at_files, at_source}
@@ -51,13 +51,13 @@ module _ {S D : Type 0} (gives fails : S → List ℕ → S → Type 0) (ended :
   load_has s id error causes.Memory is node h = inr refl
 
   -- over the files of a node
-  check_has : (s : Settings) (id : ℕ) (end : CheckEnd) → IsNode (length s.addresses) id → HappenedAtCheck (at_files view d e) output (network_in s) id end
+  check_has : (s : Settings) (id : ℕ) (end : CheckEnd) → IsNode (length s.addresses) id → HappenedAtCheck (at_files view d e) output (sizes_in s) id end
       → IsShownOver view d s id (number_of (status_of_check end)) ⊎ (number_of (status_of_check end) ≡ 4)
   check_has s id checks.Done node h = inl (inr (node, λ files. refl))
   check_has s id checks.Sink node h = let (text, shows, cut) = h.0 in absurd (sound _ cut.1)
   check_has s id (checks.Load error) node h = load_has s id error (cause_of error) refl node h.0.0
 
-  -- by what all bytes of the input say
+  -- by the meaning of all bytes of the input
   told : (id : ℕ) (said : Result Settings ConfigFault) (status : ℕ) (bytes : List ℕ) → gives old bytes new → ended new → (line : ℕ) → settings_of line bytes ≡ said → IsShownOf view d id said status ⊎ (status ≡ 4)
       → HasShownStatus gives ended view d id old new status ⊎ (status ≡ 4)
   told id said status bytes came whole line is (inl has) = inl (record { bytes = bytes; came = came; status_is = inl (whole, shown_over view d id line bytes status (subst (λ r. IsShownOf view d id r status) (sym is) has)) })

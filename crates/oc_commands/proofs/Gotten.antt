@@ -1,4 +1,4 @@
--- What a download did, told of a link and an output.
+-- The effect of a download, on a link and an output.
 use Rattle.std.proofs.Common.{◌≡◌, ℕ, Bool, true, false, Option, Some, None, List, ◌++◌, length, refl, subst, sym}
 use Rattle.oc_client.specs.Addresses.{IsAddressOf, IsBadAddress}
 use Rattle.oc_client.specs.Downloads.{Downloads, IsUnasked, content_of, news_of}
@@ -98,7 +98,7 @@ module _ {K E : Type 0} (takes fails : K → List ℕ → K → Type 0) (count :
   abbrev Metering : Type 0
   Metering = Downloaded link (at_sink (Goes T F takes) (Goes T F fails) (λ (m : Metered K (Counting E)). count m.sink) old mid) d token end
 
-  -- what was written of it, and how much that is
+  -- the bytes written of the download, and their number
   wrote_under : (bytes : List ℕ) (x : GetEnd) → Wrote (at_sink (Goes T F takes) (Goes T F fails) (λ (m : Metered K (Counting E)). count m.sink) old mid) bytes x
       → Wrote (at_sink takes fails count old.sink mid.sink) bytes x × Grows T F old.lines (length bytes) mid.lines
   wrote_under bytes gets.Sink h = ((h.0.gone, h.1), h.0.grew)
@@ -110,7 +110,7 @@ module _ {K E : Type 0} (takes fails : K → List ℕ → K → Type 0) (count :
   wrote_under bytes gets.Link h = (h.gone, h.grew)
   wrote_under bytes gets.Memory h = (h.gone, h.grew)
 
-  -- what was told of that
+  -- the progress lines on these bytes
   tells_of : (bytes : ℕ) (wanted : Bool) → old.lines.active ≡ wanted → old.lines.count ≡ 0 → Grows T F old.lines bytes mid.lines
       → Tells T F mid.lines.sink new.sink mid.lines.active new.active (last_line (is_done end) mid.lines.count)
       → gotten_at.Tells (at_error writes breaks faults old.lines.sink.sink new.sink.sink) wanted end bytes

@@ -1,4 +1,4 @@
--- What lines tell of a client, one after another.
+-- The progress lines of a client, one after another.
 use Rattle.std.proofs.Common.{◌≡◌, ◌∙◌, ℕ, Bool, true, false, List, ◌++◌, length, take, sym, ap, subst, inl, inr, arith}
 use Rattle.std.proofs.lemmas.List.{append_assoc, take-append-le, take_all}
 use Rattle.oc_client.specs.Lines.{Tells, lines_between}
@@ -36,7 +36,7 @@ module _ {E : Type 0} (writes breaks : E → List ℕ → E → Type 0) (faults 
   tells_then a b c true false false x y (front, (rest, e), broke) s =
       (front, (rest ++ y, ap (λ (t : List ℕ). t ++ y) e ∙ append_assoc front rest y), subst (λ (k : Counting E). F a front k) (sym s.0) broke)
 
-  -- what they told was written, or a prefix of it and then a call failed
+  -- the lines were written, or a prefix and then a call failed
   written_of : (a c : Counting E) (active : Bool) (text : List ℕ) → Tells T F a c true active text → IsWrittenOrCut writes breaks faults a.sink c.sink text
   written_of a c true text told = inl told.0
   written_of a c false text (front, is, broke) = inr ((length front, subst (λ (t : List ℕ). breaks a.sink t c.sink) (sym (front_is front text is)) broke.0), broke.2)

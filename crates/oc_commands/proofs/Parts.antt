@@ -21,7 +21,7 @@ joined_front parts i n d inside few =
     ap (λ (l : List ℕ). joined (take i parts) ++ l) (sym (take-append-le n part (joined (drop (suc i) parts)) (omega (arith, few))))
     ∙ (sym (take-append-add (joined (take i parts)) (part ++ joined (drop (suc i) parts)) n) ∙ ap (take (length (joined (take i parts)) + n)) (sym whole))
 
--- what holds holds where a call failed
+-- a property that holds, if a call failed
 pub on_err : {A E : Type 0} (r : Result A E) (P : Type 0) → P → OnErr r P
 on_err (Ok v) P holds = tt
 on_err (Err e) P holds = holds

@@ -1,4 +1,4 @@
--- What a publishing did, told of a link and an input.
+-- The effect of a publishing, on a link and an input.
 use Rattle.std.proofs.Common.{◌≡◌, ℕ, ◌≤◌, Bool, true, false, Option, List, ◌++◌, length, refl, subst, inl, inr, arith}
 use Rattle.oc_client.specs.Addresses.{IsBadAddress}
 use Rattle.oc_client.specs.Lines.{Tells}
@@ -84,7 +84,7 @@ module _ {S : Type 0} (gives fails : S → List ℕ → S → Type 0) (ended : S
       tells = tells;
     }
 
-  -- what was told of it
+  -- the progress lines of the publishing
   module _ {E : Type 0} (writes breaks : E → List ℕ → E → Type 0) (faults : E → ℕ)
       (then : (a b c : E) (x y : List ℕ) → writes a x b → writes b y c → writes a (x ++ y) c) (then_breaks : (a b c : E) (x y : List ℕ) → writes a x b → breaks b y c → breaks a (x ++ y) c)
       (first mid : ProgressLines (Counting E)) (last : Counting E) (active : Bool) (zero : first.count ≡ 0) where

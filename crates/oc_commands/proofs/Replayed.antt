@@ -22,7 +22,7 @@ use Rattle.oc_commands.specs.Headline.{HeadlineHolds}
 use Rattle.oc_commands.specs.Outside.{at_sink, at_source, at_stage}
 use Rattle.std.specs.Prelude.{None}
 
--- what a text says as a schedule is one
+-- the schedule in a text is lawful
 lawful : (scale : Scale) (bytes : List ℕ) (s : Script) → schedule_of scale bytes ≡ Ok s → IsSchedule scale s
 lawful scale bytes s is = by_length (nat_lt (most_of scale limits.Bytes) (length bytes)) is where
   by_length : (b : Bool) → cond b (Err (faults.Limit limits.Bytes)) (read_lines scale 1 None (lines bytes)) ≡ Ok s → IsSchedule scale s
@@ -36,7 +36,7 @@ module _ {S K T : Type 0} (gives fails : S → List ℕ → S → Type 0) (ended
   abbrev text : Script → List ℕ
   text s = output_text summary s
 
-  -- what the call says of how it ended
+  -- the promise of the call for its end
   pub record Replays (end : ReplayEnd) : Type 0 where
     pub done : OnDone end ((s : Script) × IsInput scale gives ended source came (Ok s) × IsSchedule scale s × takes sink (text s) gone × (world left ≡ world_at s s.events))
     pub text_is : IfText end (λ line why. IsInput scale gives ended source came (Err (faults.Line line why)))

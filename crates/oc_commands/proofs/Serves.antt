@@ -1,4 +1,4 @@
--- What had happened leaves `node` the status of its configuration, where nothing fails.
+-- The effect of an end gives `node` the status of its configuration, if nothing fails.
 use Rattle.std.proofs.Common.{◌≡◌, ◌∙◌, ℕ, ◌⊎◌, inl, inr, refl, sym, subst, List, length, Option, Some, Err, Ok, Result}
 use Rattle.oc_keep.proofs.Complete.{only_memory}
 use Rattle.oc_config.specs.Reading.{settings_of}
@@ -69,7 +69,7 @@ module _ {S D N K : Type 0} (gives fails : S → List ℕ → S → Type 0) (end
   run_has s v (nodes.Turned turns.Memory) node h = inr refl
   run_has s v (nodes.Turned turns.Sink) node h = absurd (sound _ h.2.2)
 
-  -- by what all bytes of the input say
+  -- by the meaning of all bytes of the input
   told : (v : Service) (said : Result Settings ConfigFault) (status : ℕ) (bytes : List ℕ) → gives old bytes new → ended new → (line : ℕ) → settings_of line bytes ≡ said → OrMemory (IsStatusOf view d v said) status
       → OrMemory (HasServiceStatus gives ended view d v old new) status
   told v said status bytes came whole line is (inl has) = inl (record { bytes = bytes; came = came; status_is = inl (whole, status_over view d v line bytes status (subst (λ r. IsStatusOf view d v r status) (sym is) has)) })

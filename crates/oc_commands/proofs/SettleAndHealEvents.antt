@@ -1,4 +1,4 @@
--- What settle and heal do at each event of a schedule, from the laws on each of them.
+-- The effect of settle and heal at each event of a schedule, from the laws on each of them.
 use Rattle.std.proofs.Common.{◌≡◌, ◌↔◌, ℕ, Bool, true, false, Option, Some, None, List, [], ◌∷◌, refl}
 use Rattle.oc_laws_tree.specs.Healing.{HealHeals, HealTakes, WhereAble}
 use Rattle.oc_laws_tree.specs.Settling.{SettleLists, SettleSettles, SettleTakes, SettleTells}
@@ -11,7 +11,7 @@ use Rattle.oc_model.specs.declared.event.Event.TheVariants.{Up, Crash, Stop, Do,
 use Rattle.oc_model.specs.declared.word.Word.TheVariants.{Healed, Settled, Unready}
 use Rattle.oc_commands.specs.SettleAndHeal.{AtEach, SettleAndHealHold, HealHolds, SettleHolds}
 
--- what is so of any event after any others is so at each
+-- a property of any event after any others holds at each
 pub at_each : (P : World → Event → Type 0) (w : World) → ((front : List Event) (e : Event) → P (world_after w front) e) → (es : List Event) → AtEach P w es
 at_each P w each [] = tt
 at_each P w each (e ∷ es) = (each [] e, at_each P (next_world w e) (λ front f. each (e ∷ front) f) es)
@@ -38,7 +38,7 @@ same_settled w n k told is = cc
 same_healed : (w : World) (n k : ℕ) → word_of w Heal ≡ Healed n → word_of w Heal ≡ Healed k → n ≡ k
 same_healed w n k told is = cc
 
--- what the laws say of a settle in this world
+-- the laws about a settle in this world
 pub record SettleLaws (w : World) : Type 0 where
   pub tested : is_ready w ≡ true → IsReady w
   pub refused : (word_of w Settle ≡ Unready) ↔ (IsReady w → ⊥)

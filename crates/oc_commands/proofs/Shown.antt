@@ -1,4 +1,4 @@
--- What a loaded node shows.
+-- The text of a loaded node.
 use Rattle.std.proofs.Common.{◌≡◌, ◌∙◌, ◌++◌, ℕ, false, ap, List}
 use Rattle.oc_base.specs.Groups.{shelf}
 use Rattle.oc_keep.specs.Files.{Disks}

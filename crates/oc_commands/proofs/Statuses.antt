@@ -1,4 +1,4 @@
--- What the end of a run tells of its status.
+-- The status of a run, from its end.
 use Rattle.std.proofs.Common.{◌≡◌, None, arith}
 use Rattle.oc_replay.specs.declared.end.ReplayEnd.{ReplayEnd}
 use Rattle.oc_replay.specs.declared.end.ReplayEnd.TheVariants as replays

@@ -28,7 +28,7 @@ IsUtf8-token line is =
     let parts = and_parts (not (length line == 0) && nat_le (length line) MAX_TOKEN_BYTES) (list_all is_token_byte line) is in
     IsUtf8-from_ascii line (all_ascii line parts.1)
 
--- what was cut off in front is the first line
+-- the part cut off in front is the first line
 pub first_cut : (rest : Option (Bor (List ℕ))) (line : List ℕ) (lines : List (List ℕ)) (others : List ℕ → List (List ℕ)) → IfNone rest (lines ≡ line ∷ []) → IfSome rest (λ r. lines ≡ line ∷ others r.now) → line ≡ first_of lines
 first_cut None line lines others last more = sym (ap first_of last)
 first_cut (Some r) line lines others last more = sym (ap first_of more)

@@ -1,4 +1,4 @@
--- What had happened, told of the outside in other words that follow.
+-- The effect on the outside, stated in other relations that follow.
 use Rattle.std.proofs.Common.{◌≡◌, ℕ, Bool, true, false, List, length, Option, Some, None, Result, Ok, Err, inl, inr, subst, take}
 use Rattle.oc_config.specs.Settings.{Settings}
 use Rattle.oc_config.specs.declared.fault.ConfigFault.TheVariants as faults
@@ -18,12 +18,12 @@ use Rattle.oc_schedule.specs.declared.fault.ScheduleFault.{ScheduleFault}
 use Rattle.oc_schedule.specs.declared.fault.What.{What}
 use Rattle.oc_schedule.specs.declared.scale.Scale.{Scale}
 use Rattle.oc_words.specs.declared.request.Download.{Download}
-use Rattle.oc_commands.specs.declared.network.Network.{Network}
+use Rattle.oc_model.specs.declared.header.Sizes.{Sizes}
 use Rattle.oc_words.specs.declared.request.Invocation.{Invocation}
 use Rattle.oc_words.specs.declared.request.Sample.{Sample}
 use Rattle.oc_words.specs.declared.request.Service.{Service}
 use Rattle.oc_words.specs.declared.request.Upload.{Upload}
-use Rattle.oc_commands.specs.AtCheck.{HappenedAtCheck, network_in, network_of}
+use Rattle.oc_commands.specs.AtCheck.{HappenedAtCheck, sizes_in, sizes_of}
 use Rattle.oc_commands.specs.AtConfig.{ReadsConfig}
 use Rattle.oc_commands.specs.AtConfigured.{HappenedAtConfigured}
 use Rattle.oc_commands.specs.AtGen.{HappenedAtGen}
@@ -55,7 +55,7 @@ use Rattle.oc_commands.specs.declared.serving.ServiceEnd.{ServiceEnd}
 use Rattle.oc_commands.specs.declared.serving.ServiceEnd.TheVariants as services
 use Rattle.oc_commands.specs.declared.token.TokenEnd.{TokenEnd}
 use Rattle.oc_commands.specs.declared.token.TokenEnd.TheVariants as tokens
-use Rattle.oc_server.specs.Deeds.{Setting}
+use Rattle.oc_deeds.specs.Deeds.{Setting}
 use Rattle.oc_service.specs.OnSite.{NodeEnds, OnRun, Stops, setting_of}
 use Rattle.oc_service.specs.declared.running.Task.{Task}
 use Rattle.oc_service.proofs.Retold.{TellsRun, run_retold}
@@ -95,7 +95,7 @@ pub record TellsNode (m n : OnNode) : Type 0 where
   pub run : (s : Settings) (task : Task) → TellsRun (m.run s task) (n.run s task)
   pub untouched : m.untouched → n.untouched
 
--- what is told of a node whose output is seen as another one, from this state to that one
+-- the statements about a node whose output is seen as another one, from this state to that one
 module _ {D N K J : Type 0} (view : D → DiskView) (story : N → Option (List Call)) (counts : N → LinkCounts) (takes fails : K → List ℕ → K → Type 0) (adds adds_less : J → List ℕ → J → Type 0) (seen : K → J)
     (added : (a b : K) (text : List ℕ) → takes a text b → adds (seen a) text (seen b)) (added_less : (a b : K) (text : List ℕ) → fails a text b → adds_less (seen a) text (seen b)) where
   pub node_seen : (old new : Disks D) (link after : N) (sink written : K) (first last : J) → seen sink ≡ first → seen written ≡ last
@@ -169,7 +169,7 @@ module _ (i j : Input) (o p : Output) (d e : OnError) (stage : OnStage) (input :
   rules_told (lists.Config end) h = (config_told (Err end) h.0, output.written _ h.1)
 
   -- at the end of `check`
-  check_told : (files : OnFiles) (n : Network) (id : ℕ) (end : CheckEnd) → HappenedAtCheck files o n id end → HappenedAtCheck files p n id end
+  check_told : (files : OnFiles) (n : Sizes) (id : ℕ) (end : CheckEnd) → HappenedAtCheck files o n id end → HappenedAtCheck files p n id end
   check_told files n id checks.Done h = let (shown, safely) = h in ((shown.0, shown.1, output.written _ shown.2), safely)
   check_told files n id checks.Sink h = let (shown, safely) = h in let (text, shows, cut) = shown in ((text, shows, (cut.0, output.cut_off (take cut.0 text) cut.1)), safely)
   check_told files n id (checks.Load error) h = let (refused, safely) = h in ((refused.0, output.written _ refused.1), safely)
@@ -178,7 +178,7 @@ module _ (i j : Input) (o p : Output) (d e : OnError) (stage : OnStage) (input :
   configured_told : (files : OnFiles) (id : ℕ) (end : ConfiguredEnd) → HappenedAtConfigured i files o id end → HappenedAtConfigured j files p id end
   configured_told files id (configured.Config end) h = (config_told (Err end) h.0, output.written _ h.1)
   configured_told files id configured.Stranger h = let (settings, read, rest) = h in (settings, config_told (Ok settings) read, (rest.0, output.written _ rest.1))
-  configured_told files id (configured.Checked end) h = let (settings, read, rest) = h in (settings, config_told (Ok settings) read, (rest.0, check_told files (network_in settings) id end rest.1))
+  configured_told files id (configured.Checked end) h = let (settings, read, rest) = h in (settings, config_told (Ok settings) read, (rest.0, check_told files (sizes_in settings) id end rest.1))
 
   -- at the end of `get`
   wrote_told : (bytes : List ℕ) (end : GetEnd) → Wrote o bytes end → Wrote p bytes end
@@ -337,7 +337,7 @@ module _ (i j : Input) (o p : Output) (d e : OnError) (stage : OnStage) (input :
     happened_told (Generated end) h = let ((sample, a, at), x, n) = h in ((sample, a, gen_told sample end at), unplayed_told x, alone_told n)
     happened_told (Merged end) h = let (a, at, unplayed, n) = h in (a, merge_told end at, unplayed, alone_told n)
     happened_told (Listed end) h = let (a, at, unplayed, n) = h in (a, rules_told end at, unplayed, alone_told n)
-    happened_told (Checked end) h = let ((member, folder, a, at), x, n) = h in ((member, folder, a, check_told files (network_of member) member.id end at), unplayed_told x, offline_told n)
+    happened_told (Checked end) h = let ((member, folder, a, at), x, n) = h in ((member, folder, a, check_told files (sizes_of member) member.id end at), unplayed_told x, offline_told n)
     happened_told (CheckedConfigured end) h = let ((id, paths, a, at), unplayed, n, f) = h in ((id, paths, a, configured_told files id end at), unplayed, offline_told n, f)
     happened_told (NoToken end) h = let ((file, a, read), written, x, l, n, q) = h in ((file, a, token_told (Err end) read), output.written _ written, unplayed_told x, l, fileless_told n, error.silent q)
     happened_told (Got end) h = let ((download, a, bearer, took, at), x, n) = h in ((download, a, bearer, took_told download.token_file bearer took, get_told link download bearer end at), unplayed_told x, fileless_told n)

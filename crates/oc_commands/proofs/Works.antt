@@ -1,4 +1,5 @@
--- What had happened leaves no other end to `--help`, to `--version`, to `gen`, to `replay`, to `merge` and to `rules` than their work, or lack of memory.
+-- The effect of an end leaves no other end to `--help`, to `--version`, to `gen`, to `replay`, to
+-- `merge` and to `rules` than their work, or lack of memory.
 use Rattle.std.proofs.Common.{◌≡◌, ℕ, ◌≤◌, ◌<◌, ◌⊎◌, Bool, cond, List, length, Option, Some, None, Result, Ok, Err, inl, inr, refl, sym, subst, ap}
 use Rattle.std.specs.Str.Lines.{lines}
 use Rattle.std.proofs.lemmas.Bool.{lt-ltb}
@@ -123,7 +124,7 @@ merged_number (merges.Unsent line) = refl
 
 module _ {S : Type 0} (gives fails : S → List ℕ → S → Type 0) (ended : S → Type 0) (faulty : S → ℕ) (old new : S) (output : Output) (stage : OnStage)
     (unfailed : Rose (faulty old) (faulty new) → ⊥) (sound : IsSound output) where
-  -- the status of what these bytes tell as records
+  -- the status for the records in these bytes
   status_by : (bytes : List ℕ) → gives old bytes new → ended new ⊎ (records_of bytes ≡ Err (record_faults.Limit mosts.Bytes)) → (told : Result Records RecordsFault)
       → records_of bytes ≡ told → {status : ℕ} → IsStatusOfRecords told status → HasRecordsStatus gives ended old new status
   status_by bytes came whole told read {status} is = record {

@@ -1,29 +1,29 @@
--- What had happened at each end of `check`.
+-- The effect of `check` at each of its ends.
 use Rattle.std.specs.Prelude.{ℕ, List, [], length}
 use Rattle.oc_base.specs.declared.limits.TheConstants.{USUAL_CHUNK_BYTES}
 use Rattle.oc_commands.specs.Checks.{header_without_areas}
-use Rattle.oc_commands.specs.declared.network.Network.{Network}
 use Rattle.oc_config.specs.Settings.{Settings}
+use Rattle.oc_model.specs.declared.header.Sizes.{Sizes}
 use Rattle.oc_replay.specs.Pieces.{SomeFront}
 use Rattle.oc_words.specs.declared.request.Member.{Member}
 use Rattle.oc_commands.specs.Outside.{OnFiles, Output}
 use Rattle.oc_commands.specs.declared.checking.CheckEnd.{CheckEnd}
 use Rattle.oc_commands.specs.declared.checking.CheckEnd.TheVariants.{Done, Load, Sink}
 
--- among which nodes the node is: of a network with these numbers, and the usual chunk
-abbrev pub network_of : Member → Network
-network_of m = record { nodes = m.nodes; chain = m.chain; chunk = USUAL_CHUNK_BYTES }
+-- the sizes of the network of a member, with the usual chunk
+abbrev pub sizes_of : Member → Sizes
+sizes_of m = record { nodes = m.nodes; chain = m.chain; chunk = USUAL_CHUNK_BYTES }
 
 -- and of a configuration
-abbrev pub network_in : Settings → Network
-network_in s = record { nodes = length s.addresses; chain = s.chain; chunk = s.chunk }
+abbrev pub sizes_in : Settings → Sizes
+sizes_in s = record { nodes = length s.addresses; chain = s.chain; chunk = s.chunk }
 
 -- what the files show was written, or some of it and then the output failed; or they were refused, and nothing was
-abbrev pub WritesCheck : OnFiles → Output → Network → ℕ → CheckEnd → Type 0
+abbrev pub WritesCheck : OnFiles → Output → Sizes → ℕ → CheckEnd → Type 0
 WritesCheck files output n id Done = (text : List ℕ) × files.show (header_without_areas n) id text × output.written text
 WritesCheck files output n id Sink = (text : List ℕ) × files.show (header_without_areas n) id text × SomeFront text output.cut_off
 WritesCheck files output n id (Load error) = files.are_refused n.nodes error × output.written []
 
 -- what had happened; no moment of it lost anything of the files
-abbrev pub HappenedAtCheck : OnFiles → Output → Network → ℕ → CheckEnd → Type 0
+abbrev pub HappenedAtCheck : OnFiles → Output → Sizes → ℕ → CheckEnd → Type 0
 HappenedAtCheck files output n id end = WritesCheck files output n id end × files.load_safely (header_without_areas n) id

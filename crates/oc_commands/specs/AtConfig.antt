@@ -7,14 +7,14 @@ use Rattle.oc_commands.specs.Outside.{Input}
 use Rattle.oc_commands.specs.declared.configuring.ConfigEnd.{ConfigEnd}
 use Rattle.oc_commands.specs.declared.configuring.ConfigEnd.TheVariants.{Source, Long, Fault}
 
--- these bytes say these settings, or have this first fault
+-- the bytes have these settings, or this first fault
 abbrev pub GivesConfig : Result Settings ConfigEnd → List ℕ → Type 0
 GivesConfig (Ok settings) bytes = Reads bytes (Ok settings)
 GivesConfig (Err (Fault fault)) bytes = Reads bytes (Err fault)
 GivesConfig (Err Source) bytes = ⊥
 GivesConfig (Err Long) bytes = ⊥
 
--- all input came and says this; or it failed, or is too long, or memory ran out
+-- the whole input came with this meaning; or it failed, or is too long, or memory ran out
 abbrev pub ReadsConfig : Input → Result Settings ConfigEnd → Type 0
 ReadsConfig input (Err Source) = input.failed
 ReadsConfig input (Err Long) = input.long

@@ -1,4 +1,4 @@
--- What had happened at each end of `gen`.
+-- The effect of `gen` at each of its ends.
 use Rattle.std.specs.Prelude.{ℕ, ◌-◌, List, []}
 use Rattle.oc_replay.specs.Pieces.{SomeFront}
 use Rattle.oc_schedule.specs.Generator.{generated}

@@ -1,4 +1,4 @@
--- What had happened at each end of `merge`, and which status has to come.
+-- The effect of `merge` at each of its ends, and the required status.
 use Rattle.std.specs.Prelude.{◌≡◌, ℕ, ◌⊎◌, [], Result, Ok, Err, List}
 use Rattle.oc_index.specs.Digest.{digest}
 use Rattle.oc_merge.specs.Merging.{IsMergeOf}
@@ -18,21 +18,21 @@ use Rattle.oc_commands.specs.Outside.{Input, Output}
 use Rattle.oc_commands.specs.declared.merging.RecordsEnd.{RecordsEnd}
 use Rattle.oc_commands.specs.declared.merging.RecordsEnd.TheVariants.{Merged, Text, Limit, Source, Sink, Memory}
 
--- all input came, and this is what it tells as records
+-- the whole input came, and these are its records
 abbrev pub TellsRecords : Input → Result Records RecordsFault → Type 0
 TellsRecords input told = (bytes : List ℕ) × input.whole bytes × (records_of bytes ≡ told)
 
--- so many bytes came that they pass the limit, or all input came and passes another one
+-- more bytes came than the limit, or the whole input came and exceeds another limit
 abbrev pub PassesMost : Input → Most → Type 0
 PassesMost input Bytes = (bytes : List ℕ) × input.gave bytes × (records_of bytes ≡ Err (faults.Limit Bytes))
 PassesMost input most = TellsRecords input (Err (faults.Limit most))
 
--- this text is the schedule of all lines of the records that can be taken, without those of inputs that were not taken, and
--- the merge ended so
+-- the text is the schedule of all lines of the records that can be taken, without those of inputs
+-- that were not taken, and this is the end of the merge
 abbrev pub IsMergedText : Records → List ℕ → MergeEnd → Type 0
 IsMergedText r text end = (s : Script) × IsMergeOf digest (records_there digest r) s end × (text ≡ script_text s)
 
--- what had happened to the input where there are no records to merge
+-- the effect on the input if there are no records to merge
 abbrev pub EndsEarly : Input → RecordsEnd → Type 0
 EndsEarly input (Text line cause) = TellsRecords input (Err (faults.Line line cause))
 EndsEarly input (Limit most) = PassesMost input most
@@ -41,7 +41,7 @@ EndsEarly input Memory = input.came
 EndsEarly input (Merged end) = ⊥
 EndsEarly input Sink = ⊥
 
--- what had happened
+-- the effect of this end
 abbrev pub HappenedAtMerge : Input → Output → RecordsEnd → Type 0
 HappenedAtMerge input output (Merged end) = (r : Records) × TellsRecords input (Ok r) × (text : List ℕ) × IsMergedText r text end × output.written text
 HappenedAtMerge input output Sink = (r : Records) × TellsRecords input (Ok r) × (text : List ℕ) × (end : MergeEnd) × IsMergedText r text end × SomeFront text output.cut_off
@@ -62,14 +62,15 @@ status_of_merged merges.Whole = 0
 status_of_merged (merges.State line) = 3
 status_of_merged (merges.Unsent line) = 3
 
--- the status of what a text tells as records
+-- the status for the records in a text
 abbrev pub IsStatusOfRecords : Result Records RecordsFault → ℕ → Type 0
 IsStatusOfRecords (Ok r) status = (text : List ℕ) × (end : MergeEnd) × IsMergedText r text end × (status ≡ status_of_merged end)
 IsStatusOfRecords (Err (faults.Line line cause)) status = status ≡ 3
 IsStatusOfRecords (Err (faults.Limit most)) status = status ≡ 5
 IsStatusOfRecords (Err faults.Memory) status = status ≡ 4
 
--- these bytes came, which are all that the input had, or more than records may have; the status is that of what they tell
+-- these bytes came, which are the whole input, or more than records may have; the status is that of
+-- their records
 pub record HasRecordsStatus {S : Type 0} (gives : S → List ℕ → S → Type 0) (ended : S → Type 0) (old new : S) (status : ℕ) : Type 0 where
   pub bytes : List ℕ
   pub came : gives old bytes new

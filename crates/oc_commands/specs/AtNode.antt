@@ -1,4 +1,4 @@
--- What had happened at each end of `node`.
+-- The effect of `node` at each of its ends.
 use Rattle.std.specs.Prelude.{◌≡◌, ℕ, ◌<◌, ◌⊎◌, Option, Some, None, Result, Ok, Err, List, [], length, ⊤}
 use Rattle.oc_base.specs.Lawful.{IsNode}
 use Rattle.oc_base.specs.declared.limits.TheConstants.{MAX_SCHEDULE_BYTES}
@@ -8,8 +8,8 @@ use Rattle.oc_config.specs.declared.fault.ConfigFault.{ConfigFault}
 use Rattle.oc_io.specs.DiskView.{DiskView}
 use Rattle.oc_keep.specs.Files.{Disks}
 use Rattle.oc_keep.specs.Promises.{HoldFiles}
-use Rattle.oc_server.specs.declared.log.Log.{Log}
-use Rattle.oc_server.specs.declared.log.Log.TheVariants as logs
+use Rattle.oc_deeds.specs.declared.log.Log.{Log}
+use Rattle.oc_deeds.specs.declared.log.Log.TheVariants as logs
 use Rattle.oc_service.specs.OnSite.{NodeEnds, setting_of}
 use Rattle.oc_service.specs.declared.running.Task.{Task}
 use Rattle.oc_words.specs.declared.request.LogWord.{LogWord}
@@ -25,28 +25,28 @@ use Rattle.oc_commands.specs.declared.serving.ServiceEnd.TheVariants.{Config, St
 abbrev pub HasNode : Settings → Service → Type 0
 HasNode s v = IsNode (length s.addresses) v.id
 
--- what it writes of its inputs
+-- the form in which the node logs its inputs
 abbrev pub log_of : LogWord → Log
 log_of Inputs = logs.Inputs
 log_of Record = logs.Record
 log_of Brief = logs.Brief
 
--- what that node is asked to do
+-- the task of that node
 abbrev pub task_of : Service → Task
 task_of v = record { me = v.id; turns = v.turns; probes = v.probes; log = log_of v.log }
 
--- no node of the configuration has this id, or the node was run
+-- no node of the configuration has this id, or the node ran
 abbrev pub RunsService : OnNode → Output → Settings → Service → ServiceEnd → Type 0
 RunsService node output s v Stranger = (HasNode s v → ⊥) × output.written []
 RunsService node output s v (Ran end) = HasNode s v × NodeEnds (node.run s (task_of v)) output.written output.cut_off (setting_of s (task_of v)) end
 RunsService node output s v (Config end) = ⊥
 
--- what had happened
+-- the effect of this end
 abbrev pub HappenedAtNode : Input → OnNode → Output → Service → ServiceEnd → Type 0
 HappenedAtNode input node output v (Config end) = ReadsConfig input (Err end) × output.written []
 HappenedAtNode input node output v end = (s : Settings) × ReadsConfig input (Ok s) × RunsService node output s v end
 
--- this is so, unless the node was run
+-- this holds, unless the node ran
 abbrev pub UnlessRan : ServiceEnd → Type 0 → Type 0
 UnlessRan (Ran end) so = ⊤
 UnlessRan end so = so
@@ -58,18 +58,18 @@ IsMemberOf nodes id None = IsNode nodes id → ⊥
 
 -- ---- which status has to come
 
--- For a configuration that has no node of this id the status is 3. If it has one, over the files of a node it is 0, or 5 where a file is
--- full.
+-- For a configuration without a node of this id the status is 3. Otherwise, over the files of a
+-- node, it is 0, or 5 if a file is full.
 abbrev pub IsStatusOver : {D : Type 0} → (D → DiskView) → Disks D → Settings → Service → ℕ → Type 0
 IsStatusOver view d s v status =
     ((HasNode s v → ⊥) × (status ≡ 3)) ⊎ (HasNode s v × (HoldFiles view (length s.addresses) d → (status ≡ 0) ⊎ (status ≡ 5)))
 
--- the status of what a text says; which line `toml` tells makes no difference
+-- the status for a text; the line that `toml` names makes no difference
 abbrev pub IsStatusOf : {D : Type 0} → (D → DiskView) → Disks D → Service → Result Settings ConfigFault → ℕ → Type 0
 IsStatusOf view d v (Ok s) status = IsStatusOver view d s v status
 IsStatusOf view d v (Err fault) status = status ≡ status_of_settings (Err fault)
 
--- these bytes came, which are all that the input had; or more came than a configuration may have
+-- these bytes came, which are the whole input; or more than a configuration may have
 pub record HasServiceStatus {S D : Type 0} (gives : S → List ℕ → S → Type 0) (ended : S → Type 0) (view : D → DiskView) (d : Disks D) (v : Service) (old new : S) (status : ℕ) : Type 0 where
   pub bytes : List ℕ
   pub came : gives old bytes new

@@ -1,4 +1,4 @@
--- What had happened at each end of `put`, with a token or without.
+-- The effect of `put` at each of its ends, with a token or without.
 use Rattle.std.specs.Prelude.{◌≡◌, ◌⊎◌, ℕ, ◌≤◌, Bool, true, false, Option, List, length, ⊤}
 use Rattle.oc_client.specs.Addresses.{IsAddressOf, IsBadAddress}
 use Rattle.oc_client.specs.Publishing.{IsUnasked, Publishes}
@@ -15,17 +15,18 @@ use Rattle.oc_words.specs.declared.request.Upload.{Upload}
 use Rattle.oc_commands.specs.Outside.{Input, OnError, OnLink}
 use Rattle.url.specs.Parts.{Parts}
 
--- where the input goes
+-- the place of the input in its group
 abbrev pub place_of : Onto → WriteMode
 place_of New = places.New
 place_of Append = places.Append
 place_of Resume = places.Resume
 
--- how it is published
+-- the options of the publishing
 abbrev pub plan_of : Upload → Publication
 plan_of u = record { place = place_of u.onto; seal = u.seals; live = u.live }
 
--- these bytes came of the input, and it ended where `over` says so; where it is to blame a call on it then failed
+-- these bytes came of the input, which ended if `over`; if the end blames the input a call on it
+-- failed then
 abbrev pub CameSo : Input → List ℕ → Bool → Type 0
 CameSo input bytes true = input.whole bytes
 CameSo input bytes false = input.gave bytes
@@ -34,12 +35,12 @@ abbrev pub Came : Input → List ℕ → Bool → PutEnd → Type 0
 Came input bytes over ends.Input = input.broke bytes
 Came input bytes over end = CameSo input bytes over
 
--- where the link is to blame a dial failed
+-- if the end blames the link a dial failed
 abbrev pub Blames : OnLink → PutEnd → Type 0
 Blames link ends.Link = link.has_failed
 Blames link end = ⊤
 
--- the turns with the source there, and what was read of the input
+-- the turns with the source, and the bytes read of the input
 pub record PublishedAt (link : OnLink) (input : Input) (plan : Publication) (goal : Goal) (end : PutEnd) : Type 0 where
   pub turns : List PutTurn
   pub bytes : List ℕ
@@ -48,7 +49,7 @@ pub record PublishedAt (link : OnLink) (input : Input) (plan : Publication) (goa
   pub makes : link.publishes goal turns
   pub came : Came input bytes over end
 
--- nothing was asked, or the input was published at the URL of the address, with this token
+-- no request was made, or the input was published at the URL of the address, with this token
 abbrev pub Published : OnLink → Input → Publication → List ℕ → Option (List ℕ) → PutEnd → Type 0
 Published link input plan address token end =
     (IsUnasked address end × link.silent × input.unread)
@@ -58,19 +59,19 @@ abbrev pub is_done : PutEnd → Bool
 is_done ends.Done = true
 is_done end = false
 
--- no more than came of the input, and where all is done all of it
+-- the count is at most the bytes that came of the input, and exactly these if all is done
 pub record CountsInput (input : Input) (end : PutEnd) (count : ℕ) : Type 0 where
   pub bytes : List ℕ
   pub came : Came input bytes false end
   pub within : count ≤ length bytes
   pub all : end ≡ ends.Done → count ≡ length bytes
 
--- where that is wanted, lines told of this many bytes of the input, whatever the end
+-- if wanted, lines gave this number of bytes of the input, at any end
 abbrev pub Tells : OnError → Input → Bool → PutEnd → Type 0
 Tells error input false end = error.silent
 Tells error input true end = (count : ℕ) × error.told (is_done end) count × CountsInput input end count
 
--- what was published, and what was told of it
+-- the publishing, and its progress lines
 pub record HappenedAtPut (link : OnLink) (input : Input) (error : OnError) (u : Upload) (token : Option (List ℕ)) (end : PutEnd) : Type 0 where
   pub published : Published link input (plan_of u) u.address token end
   pub bad : IsBadAddress u.address → IsUnasked u.address end

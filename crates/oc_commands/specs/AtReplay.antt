@@ -1,4 +1,4 @@
--- What had happened at each end of a replay, and which status has to come.
+-- The effect of a replay at each of its ends, and the required status.
 use Rattle.std.specs.Prelude.{◌≡◌, ℕ, ◌<◌, ◌⊎◌, Bool, true, false, [], Result, Ok, Err, List, length}
 use Rattle.oc_replay.specs.Pieces.{SomeFront}
 use Rattle.oc_replay.specs.Replay.{output_text}
@@ -15,12 +15,12 @@ use Rattle.oc_schedule.specs.declared.fault.ScheduleFault.TheVariants as faults
 use Rattle.oc_commands.specs.Headline.{HeadlineHolds}
 use Rattle.oc_commands.specs.Outside.{Input, Output, OnStage}
 
--- how much a schedule may have, by the flag `--large`
+-- the limits of a schedule, by the flag `--large`
 abbrev pub scale_of : Bool → Scale
 scale_of true = Large
 scale_of false = Usual
 
--- what had happened to a schedule of this scale, where the summary was asked for or the report
+-- the effect on a schedule of this scale, if the summary or the report was asked for
 abbrev pub HappenedAtReplay : Input → Output → OnStage → Scale → Bool → ReplayEnd → Type 0
 HappenedAtReplay input output stage scale summary Done = (s : Script) × input.says scale (Ok s) × IsSchedule scale s × output.written (output_text summary s) × stage.played s s.events × HeadlineHolds s
 HappenedAtReplay input output stage scale summary (Text line why) = input.says scale (Err (faults.Line line why)) × output.written [] × stage.unplayed
@@ -32,15 +32,15 @@ HappenedAtReplay input output stage scale summary Memory = (input.came × output
 
 -- ---- which status has to come
 
--- the status of what a text says
+-- the status for the schedule in a text
 abbrev pub status_for : Result Script ScheduleFault → ℕ
 status_for (Ok s) = 0
 status_for (Err (faults.Line line why)) = 3
 status_for (Err (faults.Limit what)) = 5
 status_for (Err faults.Memory) = 4
 
--- these bytes came, which are all that the input had, or more than a schedule of this scale may have; the
--- status is that of what they say
+-- these bytes came, which are the whole input, or more than a schedule of this scale may have; the
+-- status is that of their schedule
 pub record HasStatus {S : Type 0} (scale : Scale) (gives : S → List ℕ → S → Type 0) (ended : S → Type 0) (old new : S) (status : ℕ) : Type 0 where
   pub bytes : List ℕ
   pub came : gives old bytes new

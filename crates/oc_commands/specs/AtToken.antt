@@ -27,14 +27,14 @@ GivesToken (Err Memory) bytes = Unit {0}
 GivesToken (Err Source) bytes = ⊥
 GivesToken (Err Long) bytes = ⊥
 
--- all of the file came, and says this; or it failed, or is too long, or memory ran out
+-- the whole file came with this meaning; or it failed, or is too long, or memory ran out
 abbrev pub ReadsToken : Input → Result (List ℕ) TokenEnd → Type 0
 ReadsToken file (Err Source) = file.failed
 ReadsToken file (Err Long) = file.long
 ReadsToken file (Err Memory) = file.came
 ReadsToken file read = (bytes : List ℕ) × file.whole bytes × GivesToken read bytes
 
--- where a file is named its token was read, and else nothing was
+-- if a file is named its token was read, otherwise nothing was read
 abbrev pub TakesToken : Input → Option (List ℕ) → Option (List ℕ) → Type 0
 TakesToken file None None = file.unread
 TakesToken file (Some name) (Some token) = ReadsToken file (Ok token)

@@ -1,4 +1,4 @@
--- What is shown of a node's files.
+-- The text shown for a node's files.
 use Rattle.std.specs.Prelude.{◌≡◌, ◌≤◌, ℕ, false, List, ◌++◌, replicate}
 use Rattle.oc_base.specs.declared.limits.TheConstants.{MAX_CHAIN, MAX_CHUNK_BYTES, MAX_NODES}
 use Rattle.oc_base.specs.Groups.{shelf}
@@ -11,10 +11,10 @@ use Rattle.oc_io.specs.DiskView.{DiskView}
 use Rattle.oc_replay.specs.Lines.{held_text}
 use Rattle.oc_replay.specs.Shows.{show_text}
 use Rattle.oc_model.specs.Status.{status_of}
-use Rattle.oc_commands.specs.declared.network.Network.{Network}
+use Rattle.oc_model.specs.declared.header.Sizes.{Sizes}
 
 -- the numbers are within their ranges
-pub record IsNetwork (n : Network) : Type 0 where
+pub record AreSizes (n : Sizes) : Type 0 where
   pub some : 1 ≤ n.nodes
   pub few : n.nodes ≤ MAX_NODES
   pub chained : 1 ≤ n.chain
@@ -23,8 +23,8 @@ pub record IsNetwork (n : Network) : Type 0 where
   pub sends : 1 ≤ n.chunk
   pub fits : n.chunk ≤ MAX_CHUNK_BYTES
 
--- in this network, with areas of 0
-abbrev pub header_without_areas : Network → Header
+-- in a network of these sizes, with areas of 0
+abbrev pub header_without_areas : Sizes → Header
 header_without_areas n = header n.nodes n.chain n.chunk (replicate n.nodes 0)
 
 -- a text is the block of `show` of a node that is down, and its block of `held`: over honest disks, of the node that their files recover

@@ -1,4 +1,4 @@
--- When a command can only do its work, or run out of memory.
+-- The cases in which a command can only do its work, or run out of memory.
 use Rattle.std.specs.Prelude.{◌≡◌, ◌⊎◌, ℕ, Bool, Option, Some, None, List, ◌++◌, map}
 use Rattle.oc_client.specs.Addresses.{IsAddressOf}
 use Rattle.oc_client.specs.Completeness.{LeadToContent, text_of}
@@ -12,15 +12,16 @@ use Rattle.oc_words.specs.declared.request.Download.{Download}
 abbrev pub IsDoneOrMemory : ℕ → Type 0
 IsDoneOrMemory status = (status ≡ 0) ⊎ (status ≡ 4)
 
--- one download of an address, from this byte on where one is said, of which lines tell or not
+-- one download of an address, with the first byte if given, and with progress lines or without
 abbrev pub once : List ℕ → Option ℕ → Bool → Download
 once address start progress = record { address = address; times = None; start = start; token_file = None; progress = progress }
 
--- how a client asks that has no token
+-- the options of a client without a token
 abbrev pub plainly : Option ℕ → FetchOptions
 plainly start = record { from = start; token = None }
 
--- the address is a URL, and the dials that were made gave replies each of which led on to the next, up to a 200 with a whole content
+-- the address is a URL, and the dials gave replies each of which led to the next, up to a 200 with
+-- a whole content
 pub record IsServed (address : List ℕ) (start : Option ℕ) (old new : Option Story) : Type 0 where
   pub url : Parts
   pub address_is : IsAddressOf address url

@@ -1,14 +1,14 @@
--- A sink whose relations speak of its count of faults too.
+-- A sink whose relations include its count of faults.
 use Rattle.std.specs.Prelude.{ℕ, List, [], ◌++◌}
 use Rattle.std.proofs.Common.{inl, inr, arith}
 use Rattle.oc_io.specs.Faults.{NoFall, Rose}
 use Rattle.oc_commands.specs.declared.progress.Counting.{Counting}
 
--- these bytes were taken, and no fault is forgotten
+-- these bytes were taken, and the count of faults did not fall
 abbrev pub Takes : {E : Type 0} → (E → List ℕ → E → Type 0) → (E → ℕ) → Counting E → List ℕ → Counting E → Type 0
 Takes takes faults a text b = takes a.sink text b.sink × NoFall (faults a.sink) (faults b.sink)
 
--- these bytes were taken, then a call failed, and that was counted
+-- these bytes were taken, then a call failed, and the failure was counted
 abbrev pub Fails : {E : Type 0} → (E → List ℕ → E → Type 0) → (E → ℕ) → Counting E → List ℕ → Counting E → Type 0
 Fails fails faults a text b = fails a.sink text b.sink × NoFall (faults a.sink) (faults b.sink) × Rose (faults a.sink) (faults b.sink)
 

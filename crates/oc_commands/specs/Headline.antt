@@ -1,4 +1,4 @@
--- What holds of every world of a schedule.
+-- The properties of every world of a schedule.
 use Rattle.oc_laws_tree.specs.Listing.{SettledListsExactly}
 use Rattle.oc_laws_world.specs.Ranks.{ToldRanksHold}
 use Rattle.oc_laws_world.specs.Throughout.{Throughout}
@@ -9,8 +9,8 @@ use Rattle.oc_model.specs.World.{new_world}
 use Rattle.oc_schedule.specs.Script.{Script}
 use Rattle.oc_commands.specs.SettleAndHeal.{AtEach, SettleAndHealHold}
 
--- of the new world of its header, of each world to which its events lead, one after another, and of those inside settle and heal;
--- and what settle and heal do, at each such event
+-- the properties of the new world of its header, of each world to which its events lead, one after
+-- another, and of those inside settle and heal; and the effect of each settle and heal
 pub record HeadlineHolds (s : Script) : Type 0 where
   pub prefixes : Throughout HoldPrefixes (new_world s.header) s.events
   pub acknowledged : Throughout HoldAcknowledged (new_world s.header) s.events

@@ -80,7 +80,7 @@ long_line first second third fourth fifth = first ++ (second ++ (third ++ (fourt
 abbrev pub short_line : List ℕ → List ℕ
 short_line text = line text [] [] []
 
--- the objects that failed; the input is named where it is a file
+-- the objects that failed; the input has its name if it is a file
 abbrev pub input_failed : Option (List ℕ) → List ℕ
 input_failed None = short_line (codes "overcast: input failed")
 input_failed (Some file) = line (codes "overcast: input failed: ") file [] []
@@ -101,7 +101,7 @@ out_of_memory = short_line (codes "overcast: out of memory")
 abbrev pub limit_line : Scale → What → List ℕ
 limit_line scale what = line (codes "overcast: limit ") (what_text what) (codes " ") (decimal (most_of scale what))
 
--- the line of the input that is to blame, and why
+-- the line of the input that has the fault, and the fault
 abbrev pub blame_line : ℕ → List ℕ → List ℕ
 blame_line number why = line (codes "overcast: line ") (decimal number) (codes ": ") why
 
@@ -118,7 +118,7 @@ line_of_gen gens.Done = []
 line_of_gen gens.Sink = output_failed
 line_of_gen gens.Memory = out_of_memory
 
--- why a line of records is refused
+-- the reason why a line of records is refused
 abbrev pub cause_text : Cause → List ℕ
 cause_text (Said why) = why_text why
 cause_text Areas = codes "area"
@@ -136,7 +136,7 @@ line_of_records records.Source = input_failed None
 line_of_records records.Sink = output_failed
 line_of_records records.Memory = out_of_memory
 
--- a fault of a table, and of what; a table of an array is named
+-- a fault in a section; a table of an array has its name
 abbrev pub line_in : SectionName → List ℕ → List ℕ → List ℕ
 line_in places.Top fault text = line (codes "overcast: config: ") fault text []
 line_in (places.Node number) fault text = long_line (codes "overcast: config: node ") (decimal number) (codes ": ") fault text
@@ -168,7 +168,7 @@ abbrev pub side_text : Side → List ℕ
 side_text sides.First = codes "control"
 side_text sides.Second = codes "alternate"
 
--- why the file of this word was not loaded
+-- the reason why the file of this word was not loaded
 abbrev pub line_of_file : List ℕ → FileError → List ℕ
 line_of_file word causes.Disk = disk_failed
 line_of_file word causes.NotJournal = line (codes "overcast: ") word (codes ": not a journal") []
@@ -181,7 +181,7 @@ file_text (loads.Store error) = side_text error.side
 file_text (loads.Content cause) = codes "content"
 file_text loads.Memory = []
 
--- why a node was not loaded
+-- the reason why a node was not loaded
 abbrev pub line_of_load : KeepLoad → List ℕ
 line_of_load error = line_of_file (file_text error) (cause_of error)
 
@@ -199,7 +199,7 @@ line_of_configured file (configured.Config end) = line_of_config file end
 line_of_configured file configured.Stranger = stranger_line
 line_of_configured file (configured.Checked end) = line_of_check end
 
--- why a client has no token
+-- the reason why a client has no token
 abbrev pub line_of_token : Option (List ℕ) → TokenEnd → List ℕ
 line_of_token file tokens.Source = input_failed file
 line_of_token file tokens.Long = limit_line Usual Bytes
@@ -244,7 +244,8 @@ line_of_service file (services.Config end) = line_of_config file end
 line_of_service file services.Stranger = stranger_line
 line_of_service file (services.Ran end) = line_of_run end
 
--- the file that an end is about, of those that the words name: that of the token, or that which takes the place of the input
+-- the file that an end is about, among those that the words name: that of the token, or that read
+-- instead of the input
 abbrev pub file_by : Bool → Option Invocation → Option (List ℕ)
 file_by true asked = token_file_asked asked
 file_by false asked = file_asked asked
@@ -252,11 +253,11 @@ file_by false asked = file_asked asked
 abbrev pub file_told : Option Invocation → End → Option (List ℕ)
 file_told asked end = file_by (lacks_token end) asked
 
--- of those that a request names
+-- the file among those that a request names
 abbrev pub file_at : Invocation → End → Option (List ℕ)
 file_at request end = file_by (lacks_token end) (Some request)
 
--- and of those in words that were read
+-- the file among those in words that were read
 abbrev pub file_in : Bool → Result Invocation WordsFault → Option (List ℕ)
 file_in lacks given = file_by lacks (result_ok given)
 

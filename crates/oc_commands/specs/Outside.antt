@@ -1,10 +1,12 @@
--- What can be said of the outside once a run has ended: of the words, of the input, of the output, of what a client told on the
--- error output, of the stage, of the files, of the link of a client and the file of its token, and of a node with its own link.
+-- The knowledge of the outside once a run has ended: of the words, the input, the output, a
+-- client's progress lines on the error output, the stage, the files, the link of a client and the
+-- file of its token, and of a node with its own link.
 --
--- The input is one object, whatever the words name: the file that they name, else the standard input. Who calls `run` hands in that
--- object, which he finds by `Invocation::file`; and the three files are those of the folder that `Invocation::folder` gives. So nothing that is
--- said here depends on whether a file was named, but the line on the error output where the input failed (`Lines`), which names it. A
--- file is opened at the first call on its object, as a node's files are: an opening that is refused is a call that failed, no more. The
+-- The input is one object: the file that the words name, or else the standard input. The caller of
+-- `run` gives that object, found by `Invocation::file`; and the three files are those of the folder
+-- that `Invocation::folder` gives. So no statement here depends on whether a file was named, except
+-- the line on the error output for a failed input (`Lines`), which names the file. A file is opened
+-- at the first call on its object, like a node's files: a refused opening is a failed call. The
 -- file of a token is an object of its own.
 use Rattle.std.specs.Prelude.{◌≡◌, ℕ, ◌<◌, Bool, Option, Result, List, length}
 use Rattle.oc_base.specs.declared.limits.TheConstants.{MAX_SCHEDULE_BYTES}
@@ -38,13 +40,13 @@ use Rattle.oc_service.specs.declared.running.Task.{Task}
 use Rattle.oc_words.specs.declared.request.Invocation.{Invocation}
 use Rattle.url.specs.Parts.{Parts}
 
--- of the input
+-- the input
 pub record Input : Type 1 where
-  -- all input came, and this is what it says as a schedule of this scale
+  -- the whole input came, with this meaning as a schedule of this scale
   pub says : Scale → Result Script ScheduleFault → Type 0
   -- the input passes this limit on one
   pub passes : Scale → What → Type 0
-  -- all input came: these bytes
+  -- the whole input came: these bytes
   pub whole : List ℕ → Type 0
   -- more bytes came than a text may have
   pub long : Type 0
@@ -59,39 +61,40 @@ pub record Input : Type 1 where
   -- the input is as it was
   pub unread : Type 0
 
--- of the output
+-- the output
 pub record Output : Type 1 where
-  -- this was written and nothing else
+  -- exactly this was written
   pub written : List ℕ → Type 0
   -- this was written, and then the output failed
   pub cut_off : List ℕ → Type 0
 
--- of the error output, before the line that says how the run ended
+-- the error output, before the line that tells how the run ended
 pub record OnError : Type 1 where
-  -- lines told of this many bytes, as they became more, and with `true` one of all at the end; as far as the error output took them
+  -- lines gave this number of bytes, as it grew, and with `true` a last one for all bytes; as far
+  -- as the error output took them
   pub told : Bool → ℕ → Type 0
   -- nothing was written
   pub silent : Type 0
 
--- of the stage
+-- the stage
 pub record OnStage : Type 1 where
-  -- it is where these events of a schedule lead
+  -- the stage is at the world after these events of a schedule
   pub played : Script → List Event → Type 0
-  -- it is as it was
+  -- the stage is unchanged
   pub unplayed : Type 0
 
--- of the three files of a node
+-- the three files of a node
 pub record OnFiles : Type 1 where
   -- the node of this id, among the nodes of this header, as they recover it, is shown by this text
   pub show : Header → ℕ → List ℕ → Type 0
-  -- among this many nodes no node was loaded from them, for this cause
+  -- among this number of nodes no node was loaded from the files, for this reason
   pub are_refused : ℕ → KeepLoad → Type 0
-  -- at every moment a crash leaves what a crash at the start would have left
+  -- at every moment a crash leaves the files as a crash at the start would have left them
   pub load_safely : Header → ℕ → Type 0
-  -- they are as they were
+  -- the files are unchanged
   pub untouched : Type 0
 
--- of the link
+-- the link
 pub record OnLink : Type 1 where
   -- a client made these turns on it, and nothing else was done
   pub makes : List Turn → Type 0
@@ -101,20 +104,21 @@ pub record OnLink : Type 1 where
   pub completes : FetchOptions → Parts → GetEnd → Type 0
   -- a client that publishes there made these turns on it, and nothing else was done
   pub publishes : Goal → List PutTurn → Type 0
-  -- nothing was done on it
+  -- the link was not used
   pub silent : Type 0
-  -- it is as it was
+  -- the link is unchanged
   pub untouched : Type 0
 
--- of a node that runs on the files and on a link of its own
+-- a node that runs on the files and on a link of its own
 pub record OnNode : Type 1 where
-  -- what can be said of its run, of this configuration and with this task, and of the output at each moment of it
+  -- the knowledge of the node's run, of this configuration and with this task, and of the output at
+  -- each moment of the run
   pub run : Settings → Task → OnRun
-  -- its link is as it was
+  -- the link of the node is unchanged
   pub untouched : Type 0
 
 pub record Outside : Type 1 where
-  -- what the words ask for, if anything
+  -- the request of the words, if they make one
   pub asked : Option Invocation
   pub input : Input
   pub output : Output

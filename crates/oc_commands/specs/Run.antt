@@ -1,4 +1,4 @@
--- What had happened outside at each end of a run.
+-- The effect on the outside at each end of a run.
 use Rattle.std.specs.Prelude.{◌≡◌, ℕ, ◌<◌, ◌⊎◌, Bool, List, [], length, Option, Some, None, ⊤}
 use Rattle.oc_io.specs.Faults.{Rose}
 use Rattle.oc_replay.specs.Pieces.{SomeFront}
@@ -11,7 +11,7 @@ use Rattle.oc_words.specs.declared.request.Sample.{Sample}
 use Rattle.oc_words.specs.declared.request.Service.{Service}
 use Rattle.oc_words.specs.declared.request.Upload.{Upload}
 use Rattle.oc_words.specs.Paths.{token_file_asked}
-use Rattle.oc_commands.specs.AtCheck.{HappenedAtCheck, network_of}
+use Rattle.oc_commands.specs.AtCheck.{HappenedAtCheck, sizes_of}
 use Rattle.oc_commands.specs.AtConfigured.{HappenedAtConfigured, UnlessChecked}
 use Rattle.oc_commands.specs.AtGen.{HappenedAtGen}
 use Rattle.oc_commands.specs.AtGet.{HappenedAtGet}
@@ -40,7 +40,7 @@ pub record IsUnplayed (o : Outside) : Type 0 where
   pub input : o.input.unread
   pub stage : o.stage.unplayed
 
--- no file and no link was asked for, and nothing was told
+-- no file and no link was used, and no progress line was written
 pub record IsAlone (o : Outside) : Type 0 where
   pub error : o.error.silent
   pub files : o.files.untouched
@@ -48,19 +48,19 @@ pub record IsAlone (o : Outside) : Type 0 where
   pub token : o.token.unread
   pub node : o.node.untouched
 
--- no link was asked for, and nothing was told
+-- no link was used, and no progress line was written
 pub record IsOffline (o : Outside) : Type 0 where
   pub error : o.error.silent
   pub link : o.link.untouched
   pub token : o.token.unread
   pub node : o.node.untouched
 
--- no file and no link of a node was asked for
+-- no file and no link of a node was used
 pub record IsFileless (o : Outside) : Type 0 where
   pub files : o.files.untouched
   pub node : o.node.untouched
 
--- what had happened at each end
+-- the effect of each end
 abbrev pub Happened : Outside → End → Type 0
 Happened o Helped = (o.asked ≡ Some Help) × ((text : List ℕ) × (0 < length text) × o.output.written text) × IsUnplayed o × IsAlone o
 Happened o HelpFailed = (o.asked ≡ Some Help) × ((text : List ℕ) × o.output.cut_off text) × IsUnplayed o × IsAlone o
@@ -72,7 +72,7 @@ Happened o (Replayed large end) = ((summary : Bool) × (file : Option (List ℕ)
 Happened o (Generated end) = ((sample : Sample) × (o.asked ≡ Some (Gen sample)) × HappenedAtGen o.output sample end) × IsUnplayed o × IsAlone o
 Happened o (Merged end) = (o.asked ≡ Some Merge) × HappenedAtMerge o.input o.output end × o.stage.unplayed × IsAlone o
 Happened o (Listed end) = ((file : Option (List ℕ)) × (o.asked ≡ Some (Rules file))) × HappenedAtRules o.input o.output end × o.stage.unplayed × IsAlone o
-Happened o (Checked end) = ((member : Member) × (folder : Option (List ℕ)) × (o.asked ≡ Some (Check member folder)) × HappenedAtCheck o.files o.output (network_of member) member.id end) × IsUnplayed o × IsOffline o
+Happened o (Checked end) = ((member : Member) × (folder : Option (List ℕ)) × (o.asked ≡ Some (Check member folder)) × HappenedAtCheck o.files o.output (sizes_of member) member.id end) × IsUnplayed o × IsOffline o
 Happened o (CheckedConfigured end) = ((id : ℕ) × (paths : Paths) × (o.asked ≡ Some (CheckConfigured id paths)) × HappenedAtConfigured o.input o.files o.output id end) × o.stage.unplayed × IsOffline o
     × UnlessChecked end o.files.untouched
 Happened o (NoToken end) = LacksToken o.token (token_file_asked o.asked) end × o.output.written [] × IsUnplayed o × o.link.untouched × IsFileless o × o.error.silent

@@ -1,4 +1,4 @@
--- What the headline says of settle and heal, in the world in which such a line comes.
+-- The statements of the headline about settle and heal, in the world in which the event comes.
 use Rattle.std.specs.Prelude.{◌≡◌, ◌↔◌, ℕ, Some, List, [], ◌∷◌}
 use Rattle.oc_laws_tree.specs.Healing.{IsLeast, acts_to_heal}
 use Rattle.oc_laws_tree.specs.Settling.{CountsExactly, acts_to_settle}
@@ -38,13 +38,13 @@ pub record HealHolds (w : World) : Type 0 where
   pub root : (n : ℕ) → word_of w Heal ≡ Healed n → (m : ℕ) × IsLeast w m × IsRoot (next_world w Heal) m
   pub number : (n : ℕ) → word_of w Heal ≡ Healed n → (m : ℕ) × (leader w ≡ Some m) × (n ≡ acts_to_heal w m)
 
--- what is so where an event comes in this world
+-- the properties if an event comes in this world
 abbrev pub SettleAndHealHold : World → Event → Type 0
 SettleAndHealHold w Settle = SettleHolds w
 SettleAndHealHold w Heal = HealHolds w
 SettleAndHealHold w e = Unit {0}
 
--- this is so at each of these events, in the world to which those before it lead
+-- this holds at each of these events, in the world to which the earlier ones lead
 abbrev pub AtEach : (World → Event → Type 0) → World → List Event → Type 0
 AtEach P w [] = Unit {0}
 AtEach P w (e ∷ es) = P w e × AtEach P (next_world w e) es

@@ -9,11 +9,11 @@ use Rattle.oc_commands.specs.Run.{IsWrittenOrCut}
 abbrev pub last_line : Bool → ℕ → List ℕ
 last_line whole count = if whole then progress_line count else []
 
--- a line for each multiple that this many bytes reach or pass, and the last one
+-- a line for each multiple of the step up to this number of bytes, and the last line
 abbrev pub progress_text : Bool → ℕ → List ℕ
 progress_text whole count = lines_between 0 count ++ last_line whole count
 
--- this was written of this many bytes, which are counted as far as a u64 goes
+-- the lines of this number of bytes were written; the count stops at the greatest u64
 abbrev pub IsToldOf : (List ℕ → Type 0) → Bool → ℕ → Type 0
 IsToldOf written whole bytes = (count : ℕ) × Rises 0 bytes count × written (progress_text whole count)
 

@@ -1,4 +1,4 @@
--- Worked examples of what is told of a client.
+-- Worked examples of a client's progress lines.
 use Rattle.std.specs.Prelude.{◌≡◌, true, false, [], codes}
 use Rattle.oc_commands.specs.Telling.{progress_text}
 

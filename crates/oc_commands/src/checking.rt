@@ -1,26 +1,27 @@
-//! The command `check`, which shows what the files of a node recover.
+//! The command `check`, which shows the recovery of a node's files.
 ghost use Rattle.std.specs.Prelude.{◌≡◌, length};
 ghost use Rattle.oc_base.specs.Lawful.{IsNode};
-ghost use Rattle.oc_commands.specs.Checks.{IsNetwork};
+ghost use Rattle.oc_commands.specs.Checks.{AreSizes};
 ghost use Rattle.oc_config.specs.Reading.{IsConfig};
 ghost use Rattle.oc_keep.specs.Files.{disks_in};
 ghost use Rattle.oc_io.specs.Faults.{NoFall};
-ghost use Rattle.oc_commands.specs.AtCheck.{HappenedAtCheck, network_in, network_of};
+ghost use Rattle.oc_commands.specs.AtCheck.{HappenedAtCheck, sizes_in, sizes_of};
 ghost use Rattle.oc_commands.specs.AtConfigured.{ChecksOne, HappenedAtConfigured, UnlessChecked};
 ghost use Rattle.oc_commands.specs.Outside.{at_files, at_sink, at_source};
 ghost use Rattle.oc_words.specs.Requests.{IsMember};
 
 use crate::configuring::{ConfigEnd, read_config};
 use crate::serving::member_of;
-use crate::{Network, Recovered, recovered_text};
+use crate::{Recovered, recovered_text};
 use oc_base::{NodeId, USUAL_CHUNK_BYTES};
 use oc_config::Config;
 use oc_io::{Disk, Sink, Source, write_all};
 use oc_keep::{Files, KeepLoad};
+use oc_model::Sizes;
 use oc_words::Member;
 use std::alloc::Global;
 
-/// How `check` ended.
+/// The end of `check`.
 #[derive(Clone, Copy)]
 pub enum CheckEnd {
     /// The whole text was written.
@@ -31,18 +32,18 @@ pub enum CheckEnd {
     Sink,
 }
 
-/// How `check` ended, of a node of a configuration.
+/// The end of `check` for a node of a configuration.
 #[derive(Clone, Copy)]
 pub enum ConfiguredEnd {
     /// There is no configuration, and nothing was written.
     Config(ConfigEnd),
     /// No node of the configuration has this id, and nothing was written.
     Stranger,
-    /// The files of the node were looked at, which ended in this way.
+    /// The files of the node were read, with this end.
     Checked(CheckEnd),
 }
 
-/// Writes what the files of a node recover, one of a network with these numbers.
+/// Writes what the files of a node recover, one of a network with these sizes.
 pub fn check_files<K: Sink, D: Disk>(
     alloc: Global,
     member: Member,
@@ -52,27 +53,27 @@ pub fn check_files<K: Sink, D: Disk>(
     requires { IsMember member }
     ensures happened { HappenedAtCheck
         (at_files D.view (disks_in files) (disks_in result.1))
-        (at_sink K.takes K.fails K.faults out.old out.new) (network_of member) member.id result.0 }
+        (at_sink K.takes K.fails K.faults out.old out.new) (sizes_of member) member.id result.0 }
     ensures count { NoFall (K.faults out.old) (K.faults out.new) }
 {
-    let network = network_of(member);
-    show_files(alloc, NodeId(member.id), network, out, files)
+    let sizes = sizes_of(member);
+    show_files(alloc, NodeId(member.id), sizes, out, files)
 }
 
-/// The network of these numbers, with the usual chunk.
-fn network_of(member: Member) -> Network
+/// The sizes of the network of a member, with the usual chunk.
+fn sizes_of(member: Member) -> Sizes
     requires { IsMember member }
-    ensures same { result ≡ network_of member }
-    ensures lawful { IsNetwork result }
+    ensures same { result ≡ sizes_of member }
+    ensures lawful { AreSizes result }
 {
-    Network {
+    Sizes {
         nodes: member.nodes,
         chain: member.chain,
         chunk: USUAL_CHUNK_BYTES,
     }
 }
 
-/// Writes what the files of a node recover, one of the configuration on the input.
+/// Writes the recovery of the files of a node, one of the configuration on the input.
 pub fn check_configured<S: Source, K: Sink, D: Disk>(
     alloc: Global,
     id: u64,
@@ -94,7 +95,7 @@ pub fn check_configured<S: Source, K: Sink, D: Disk>(
     }
 }
 
-/// Writes what the files of a node recover, one of this configuration.
+/// Writes the recovery of the files of a node, one of this configuration.
 fn check_one<K: Sink, D: Disk>(
     alloc: Global,
     id: u64,
@@ -111,44 +112,44 @@ fn check_one<K: Sink, D: Disk>(
 {
     match member_of(config, id) {
         Some(me) => {
-            let network = network_in(config);
-            let (end, files) = show_files(alloc, me, network, out, files);
+            let sizes = sizes_in(config);
+            let (end, files) = show_files(alloc, me, sizes, out, files);
             (ConfiguredEnd::Checked(end), files)
         }
         None => (ConfiguredEnd::Stranger, files),
     }
 }
 
-/// The network of a configuration.
-fn network_in(config: &Config) -> Network
+/// The sizes of the network of a configuration.
+fn sizes_in(config: &Config) -> Sizes
     requires { IsConfig config.now }
-    ensures same { result ≡ network_in config.now }
-    ensures lawful { IsNetwork result }
+    ensures same { result ≡ sizes_in config.now }
+    ensures lawful { AreSizes result }
 {
-    Network {
+    Sizes {
         nodes: config.addresses.len() as u32,
         chain: config.chain,
         chunk: config.chunk(),
     }
 }
 
-/// Writes what the files of a node recover: the block of `show` and the block of `held`. All memory is taken
-/// before anything is written.
+/// Writes the recovery of a node's files: the block of `show` and the block of `held`. All memory
+/// is taken before anything is written.
 fn show_files<K: Sink, D: Disk>(
     alloc: Global,
     id: NodeId,
-    network: Network,
+    sizes: Sizes,
     out: &mut K,
     files: Files<D>,
 ) -> (CheckEnd, Files<D>)
-    requires network { IsNetwork network }
-    requires id { IsNode network.nodes id }
+    requires sizes { AreSizes sizes }
+    requires id { IsNode sizes.nodes id }
     ensures happened { HappenedAtCheck
         (at_files D.view (disks_in files) (disks_in result.1))
-        (at_sink K.takes K.fails K.faults out.old out.new) network id result.0 }
+        (at_sink K.takes K.fails K.faults out.old out.new) sizes id result.0 }
     ensures count { NoFall (K.faults out.old) (K.faults out.new) }
 {
-    let Recovered { files, text } = recovered_text(alloc, id, network, files);
+    let Recovered { files, text } = recovered_text(alloc, id, sizes, files);
     let end = match text {
         Ok(text) => match write_all(out, &text) {
             Ok(()) => CheckEnd::Done,

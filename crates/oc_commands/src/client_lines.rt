@@ -1,4 +1,4 @@
-//! The lines that say how a client ended.
+//! The error lines for the ends of a client.
 
 ghost use Rattle.std.specs.Prelude.{◌≡◌, option_map};
 ghost use Rattle.oc_commands.specs.Lines.{line_of_get, line_of_put, line_of_token, text_of};
@@ -8,7 +8,7 @@ use crate::token::TokenEnd;
 use oc_client::{GetEnd, PutEnd};
 use oc_schedule::{Scale, What};
 
-/// The line where a client has no token.
+/// The line for a client without a token.
 pub(crate) fn line_of_token<'a>(
     end: TokenEnd,
     file: Option<&'a str>,
@@ -24,7 +24,7 @@ pub(crate) fn line_of_token<'a>(
     }
 }
 
-/// The line of an end of `get`.
+/// The line for an end of `get`.
 pub(crate) fn line_of_get(end: GetEnd, digits: &mut Digits) -> ErrorLine<'_>
     ensures { text_of result ≡ line_of_get end }
 {
@@ -42,7 +42,7 @@ pub(crate) fn line_of_get(end: GetEnd, digits: &mut Digits) -> ErrorLine<'_>
     }
 }
 
-/// The line of an end of `put`.
+/// The line for an end of `put`.
 pub(crate) fn line_of_put(end: PutEnd, digits: &mut Digits) -> ErrorLine<'_>
     ensures { text_of result ≡ line_of_put end }
 {

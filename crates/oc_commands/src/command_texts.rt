@@ -1,4 +1,4 @@
-//! The texts that answer `--help` after a command.
+//! The texts printed for `--help` after a command.
 
 ghost use Rattle.std.specs.Prelude.{◌<◌, length};
 

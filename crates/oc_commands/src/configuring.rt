@@ -11,18 +11,18 @@ use oc_config::{Config, ConfigFault, read};
 use oc_io::{ReadFault, Source, read_all};
 use std::alloc::Global;
 
-/// Why there is no configuration.
+/// The reason why there is no configuration.
 #[derive(Clone, Copy)]
 pub enum ConfigEnd {
     /// The input failed.
     Source,
-    /// The input has more bytes than a configuration may have.
+    /// The input is longer than a configuration may be.
     Long,
-    /// The text is no configuration, or memory ran out.
+    /// The text is not a valid configuration, or memory ran out.
     Fault(ConfigFault),
 }
 
-/// Reads the input to its end, as a configuration of at most as many bytes as a schedule may have.
+/// Reads the input to its end, as a configuration of at most the length of a schedule.
 pub(crate) fn read_config<S: Source>(alloc: Global, input: &mut S) -> Result<Config, ConfigEnd>
     ensures reads { ReadsConfig (at_source S.gives S.fails S.ended S.faults input.old input.new) result }
     ensures lawful { IfOk result IsConfig }

@@ -1,4 +1,4 @@
-//! How a run ends.
+//! The end of a run.
 ghost use Rattle.std.specs.Prelude.{◌≡◌};
 ghost use Rattle.oc_commands.specs.Ends.{lacks_token, status_of, status_of_check, status_of_config, status_of_configured, status_of_fault, status_of_gen};
 ghost use Rattle.oc_commands.specs.Ends.{status_of_get, status_of_load, status_of_put, status_of_records, status_of_replay, status_of_rules, status_of_run, status_of_service};
@@ -19,7 +19,7 @@ use oc_replay::ReplayEnd;
 use oc_service::{NodeEnd, TurnEnd};
 use oc_words::Status;
 
-/// How a run ended.
+/// The end of a run.
 #[derive(Clone, Copy)]
 pub enum End {
     /// The help was written.
@@ -30,41 +30,41 @@ pub enum End {
     Versioned,
     /// The output failed while the version was written.
     VersionFailed,
-    /// The words are no words of the program.
+    /// The words make no valid request.
     Misused,
     /// Memory ran out before the words were read.
     NoMemory,
-    /// A replay, of a large schedule or of another one, ended in this way.
+    /// The end of a replay, of a large schedule or of another one.
     Replayed { large: bool, end: ReplayEnd },
-    /// The command `gen` ended in this way.
+    /// The end of the command `gen`.
     Generated(GenEnd),
-    /// The command `merge` ended in this way.
+    /// The end of the command `merge`.
     Merged(RecordsEnd),
-    /// The command `rules` ended in this way.
+    /// The end of the command `rules`.
     Listed(RulesEnd),
-    /// The command `check` ended in this way.
+    /// The end of the command `check`.
     Checked(CheckEnd),
-    /// The command `check` ended in this way, of a node of a configuration.
+    /// The end of the command `check` for a node of a configuration.
     CheckedConfigured(ConfiguredEnd),
-    /// A client has no token, for this cause, and did nothing.
+    /// A client has no token, for this reason, and did nothing.
     NoToken(TokenEnd),
-    /// The command `get` ended in this way.
+    /// The end of the command `get`.
     Got(GetEnd),
-    /// The command `put` ended in this way.
+    /// The end of the command `put`.
     Published(PutEnd),
-    /// The command `node` ended in this way.
+    /// The end of the command `node`.
     Served(ServiceEnd),
 }
 
 impl End {
-    /// Whether it is that a client has no token.
+    /// Whether the run ended because a client has no token.
     pub fn lacks_token(self) -> bool
         ensures { result ≡ lacks_token self }
     {
         matches!(self, End::NoToken(_))
     }
 
-    /// The status with which the program ends.
+    /// The exit status of the program.
     pub fn status(self) -> Status
         ensures { result ≡ status_of self }
     {

@@ -1,4 +1,4 @@
-//! The command `gen`, which writes the schedule that follows from a seed.
+//! The command `gen`, which generates a schedule from a seed.
 ghost use Rattle.std.specs.Prelude.{◌≡◌, IfOk};
 ghost use Rattle.oc_io.specs.Faults.{NoFall};
 ghost use Rattle.oc_commands.specs.AtGen.{HappenedAtGen};
@@ -12,7 +12,7 @@ use oc_schedule::{generate, print};
 use oc_words::Sample;
 use std::alloc::Global;
 
-/// How `gen` ended.
+/// The end of `gen`.
 #[derive(Clone, Copy)]
 pub enum GenEnd {
     /// The whole schedule was written.

@@ -1,4 +1,4 @@
-//! The command `get`, which downloads.
+//! The command `get`, which downloads a URL.
 ghost use Rattle.std.specs.Prelude.{◌≡◌};
 ghost use Rattle.oc_io.specs.Faults.{NoFall};
 ghost use Rattle.oc_commands.specs.AtGet.{Downloaded, HappenedAtGet, is_done};
@@ -12,8 +12,8 @@ use oc_link::Dialler;
 use oc_words::{Download, Name, text_of};
 use std::alloc::Global;
 
-/// Writes the content of a URL, or what is new of a group, again and again, with a token or without. Where lines are
-/// wanted, they tell how much was written.
+/// Writes the content of a URL, or the news of a group, again and again, with a token or without.
+/// If progress lines are wanted, they give the number of bytes written.
 pub fn download<K: Sink, E: Sink, L: Dialler>(
     alloc: Global,
     wanted: &Download,
@@ -34,7 +34,7 @@ pub fn download<K: Sink, E: Sink, L: Dialler>(
     end
 }
 
-/// Whether all was downloaded.
+/// Whether the whole content was downloaded.
 fn is_done(end: GetEnd) -> bool
     ensures { result ≡ is_done end }
 {

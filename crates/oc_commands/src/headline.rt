@@ -1,4 +1,4 @@
-//! What holds of every world of a schedule, by the laws of the model.
+//! The properties of every world of a schedule, by the laws of the model.
 ghost use Rattle.oc_model.specs.Lawful.{IsHeader};
 ghost use Rattle.oc_schedule.specs.Script.{Script};
 ghost use Rattle.oc_commands.specs.Headline.{HeadlineHolds};

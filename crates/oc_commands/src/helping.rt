@@ -10,7 +10,7 @@ use crate::texts::help;
 use oc_io::{Sink, write_all};
 use oc_words::VERSION;
 
-/// Writes the help for which the words ask.
+/// Writes the help that the words ask for.
 pub fn write_help<K: Sink>(words: &[String], out: &mut K) -> End
     ensures helped { result ≡ End.Helped → (text : List ℕ) × (0 < length text) × K.takes out.old text out.new }
     ensures failed { result ≡ End.HelpFailed → (text : List ℕ) × K.fails out.old text out.new × Rose (K.faults out.old) (K.faults out.new) }

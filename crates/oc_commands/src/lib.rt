@@ -1,18 +1,21 @@
-//! The commands of the program: what each does, how it ends, and with which status and which line.
+//! The commands of the program: the effect of each, its ends, and the status and the error line of
+//! each end.
 //!
-//! Each command is a file: `replaying`, `generating`, `merging`, `listing` (`rules`), `checking`, `getting`, `putting`
-//! and `serving` (`node`), besides `helping`, which answers `--help` and `--version`, `token`, which reads that of a client, and
-//! `progress`, which tells how far one came. [`End`] is the end of any of them, from which
-//! [`End::status`] and [`tell`] make the status and the line on the error output. `Outside` in `specs/` is all that
-//! their contracts speak of, and `Happened` says for each end what then holds.
+//! Each command is a file: `replaying`, `generating`, `merging`, `listing` (`rules`), `checking`,
+//! `getting`, `putting` and `serving` (`node`). Besides these, `helping` answers `--help` and
+//! `--version`, `token` reads the token of a client, and `progress` writes a client's progress
+//! lines. [`End`] is the end of any of them, from which [`End::status`] and [`tell`] make the
+//! status and the line on the error output. `Outside` in `specs/` is the subject of their
+//! contracts, and `Happened` gives the effect of each end on it.
 //!
-//! Where a replay is done, [`headline_holds`] is part of that: what holds of every world of the schedule,
-//! also inside settle and heal, and what settle and heal leave and report. [`limits_are_as_published`] says which numbers the
-//! limits are that all these contracts cite.
+//! If a replay is done, [`headline_holds`] is part of that: the properties of every world of the
+//! schedule, also inside settle and heal, and the results and reports of settle and heal.
+//! [`limits_are_as_published`] states the values of the limits that all these contracts cite.
 //!
-//! `check` shows what the three files of a node recover, by [`recovered_text`]: the block of `show` and the block of `held`
-//! of that node (`Shows`), or why they recover none. A load writes the header of a file that is new and nothing else, so at
-//! every moment a crash leaves what a crash at the start would have left.
+//! `check` shows the node recovered from three files, by [`recovered_text`]: the block of `show`
+//! and the block of `held` of that node (`Shows`), or the reason why there is none. A load writes
+//! only the header of a new file, so at every moment a crash leaves the files as a crash at the
+//! start would have left them.
 #![tactic(auto)]
 
 mod checking;
@@ -29,7 +32,6 @@ mod lines;
 mod listing;
 mod loading;
 mod merging;
-mod network;
 mod progress;
 mod putting;
 mod replaying;
@@ -50,7 +52,6 @@ pub use limits::limits_are_as_published;
 pub use listing::{RulesEnd, list_rules};
 pub use loading::{Recovered, recovered_text};
 pub use merging::{RecordsEnd, merge_input};
-pub use network::Network;
 pub use oc_words::Status;
 pub use progress::{Counting, error_of, progress_computes, progress_on};
 pub use putting::publish;

@@ -1,4 +1,4 @@
-//! Which numbers the limits are.
+//! The values of the limits.
 
 ghost use Rattle.std.specs.Prelude.{◌≡◌, ◌^◌, ◌+◌, ◌-◌};
 ghost use Rattle.oc_base.specs.declared.limits.TheConstants.{
@@ -51,14 +51,15 @@ ghost use Rattle.oc_routes.specs.declared.waiting.TheConstants.{FOLLOW_MILLIS, I
 ghost use Rattle.oc_merge.specs.declared.fault.TheConstants.{MAX_RECORD_BYTES, MAX_RECORD_LINES, MAX_RECORD_PUBLISHED};
 ghost use Rattle.oc_schedule.specs.declared.generating.TheConstants.{MAX_GENERATED_EVENTS};
 ghost use Rattle.oc_schedule.specs.declared.scale.TheConstants.{MAX_LARGE_BYTES, MAX_LARGE_LINES, MAX_LARGE_PUBLISHED};
-ghost use Rattle.oc_server.specs.declared.choosing.TheConstants.{MAX_DIALS, MAX_OTHER_DIALS};
-ghost use Rattle.oc_server.specs.declared.outbox.TheConstants.{MAX_OUTBOX};
-ghost use Rattle.oc_server.specs.declared.pace.TheConstants.{LEAST_INTERVAL, MOST_INTERVAL};
+ghost use Rattle.oc_deeds.specs.declared.choosing.TheConstants.{MAX_DIALS, MAX_OTHER_DIALS};
+ghost use Rattle.oc_deeds.specs.declared.outbox.TheConstants.{MAX_OUTBOX};
+ghost use Rattle.oc_deeds.specs.declared.pace.TheConstants.{LEAST_INTERVAL, MOST_INTERVAL};
 ghost use Rattle.oc_updown.specs.declared.leases.TheConstants.{LEASE_TIME};
 ghost use Rattle.oc_words.specs.declared.request.TheConstants.{ENDLESS, MAX_EVENTS, MAX_FOLLOWED, MAX_TURNS};
 
-/// The limits, as the protocol's pages give them: contracts cite the constants, and this law says which numbers those are
-/// that operators, clients and other nodes meet, so that none of these can change unseen.
+/// The limits, as the protocol's pages give them. Contracts cite the constants, and this law states
+/// the values that operators, clients and other nodes meet, so that none of these can change
+/// unseen.
 pub fn limits_are_as_published()
     ensures network { (MAX_NODES ≡ 1024) × (MAX_CHAIN ≡ 16) × (MAX_AREA ≡ 255) × (MAX_DEPTH ≡ 1000) × (MAX_ANCESTORS ≡ 1000) }
     ensures measures { (MAX_RATE ≡ 2 ^ 40) × (MAX_HOPS ≡ 255) × (MAX_TIME ≡ 2 ^ 40) × (LAST_SECOND ≡ 2 ^ 41) × (LEASE_TIME ≡ 30) }

@@ -1,5 +1,5 @@
-//! The lines that say on the error output how a run ended. They take no memory, so that they can be written
-//! where there is none.
+//! The lines on the error output that tell how a run ended. They take no memory, so that they can
+//! be written when memory ran out.
 
 ghost use Rattle.std.specs.Prelude.{◌≡◌, [], option_map};
 ghost use Rattle.oc_config.specs.Keys.{key_text};
@@ -22,7 +22,7 @@ use oc_replay::ReplayEnd;
 use oc_schedule::{Scale, What};
 use oc_service::{NodeEnd, TurnEnd};
 
-/// The digits of the numbers of a line.
+/// Buffers for the digits of the numbers in a line.
 #[derive(Drop)]
 pub(crate) struct Digits {
     pub(crate) first: Buffer,
@@ -64,14 +64,14 @@ pub(crate) fn no_line<'a>() -> ErrorLine<'a>
     }
 }
 
-/// The line of this text.
+/// A line of this text alone.
 pub(crate) fn short_line(text: &str) -> ErrorLine<'_>
     ensures { text_of result ≡ short_line text.entry.now }
 {
     with_word(text, "")
 }
 
-/// The line of an end of a replay.
+/// The line for an end of a replay.
 pub(crate) fn line_of_replay<'a>(
     scale: Scale,
     end: ReplayEnd,
@@ -97,7 +97,7 @@ pub(crate) fn line_of_replay<'a>(
     }
 }
 
-/// The line of an input that failed, which is named where it is a file.
+/// The line for an input that failed, with its name if it is a file.
 pub(crate) fn input_failed(file: Option<&str>) -> ErrorLine<'_>
     ensures { text_of result ≡ input_failed (option_map (λ name. name.now) file.entry) }
 {
@@ -107,7 +107,7 @@ pub(crate) fn input_failed(file: Option<&str>) -> ErrorLine<'_>
     }
 }
 
-/// The line of a limit that was passed.
+/// The line for a limit that was exceeded.
 pub(crate) fn limit_line(scale: Scale, what: What, digits: &mut Digits) -> ErrorLine<'_>
     ensures { text_of result ≡ limit_line scale what }
 {
@@ -121,7 +121,7 @@ pub(crate) fn limit_line(scale: Scale, what: What, digits: &mut Digits) -> Error
     }
 }
 
-/// The line that names a line of the input, and why it is to blame.
+/// The line that names a line of the input and its fault.
 fn blame_line<'a>(number: u32, why: &'static str, digits: &'a mut Digits) -> ErrorLine<'a>
     ensures { text_of result ≡ blame_line number why.now }
 {
@@ -135,7 +135,7 @@ fn blame_line<'a>(number: u32, why: &'static str, digits: &'a mut Digits) -> Err
     }
 }
 
-/// The line of an end of `merge`.
+/// The line for an end of `merge`.
 pub(crate) fn line_of_records(end: RecordsEnd, digits: &mut Digits) -> ErrorLine<'_>
     ensures { text_of result ≡ line_of_records end }
 {
@@ -156,7 +156,7 @@ pub(crate) fn line_of_records(end: RecordsEnd, digits: &mut Digits) -> ErrorLine
     }
 }
 
-/// The line of a merge, which names the first line that was not taken and blocks others.
+/// The line for a merge, which names the first line that was not taken and blocks others.
 fn line_of_merged(end: MergeEnd, digits: &mut Digits) -> ErrorLine<'_>
     ensures { text_of result ≡ line_of_merged end }
 {
@@ -167,7 +167,7 @@ fn line_of_merged(end: MergeEnd, digits: &mut Digits) -> ErrorLine<'_>
     }
 }
 
-/// The word of the cause for which a line of records is refused.
+/// The word for the reason why a line of records is refused.
 fn cause_word(cause: Cause) -> &'static str
     ensures { result.now ≡ cause_text cause }
 {
@@ -177,7 +177,7 @@ fn cause_word(cause: Cause) -> &'static str
     }
 }
 
-/// The line of an end of `gen`.
+/// The line for an end of `gen`.
 pub(crate) fn line_of_gen<'a>(end: GenEnd) -> ErrorLine<'a>
     ensures { text_of result ≡ line_of_gen end }
 {
@@ -188,7 +188,7 @@ pub(crate) fn line_of_gen<'a>(end: GenEnd) -> ErrorLine<'a>
     }
 }
 
-/// The line of an end of `rules`.
+/// The line for an end of `rules`.
 pub(crate) fn line_of_rules<'a>(
     end: &'a RulesEnd,
     file: Option<&'a str>,
@@ -204,7 +204,7 @@ pub(crate) fn line_of_rules<'a>(
     }
 }
 
-/// The line where there is no configuration.
+/// The line for a configuration that could not be read.
 pub(crate) fn line_of_config<'a>(
     end: &'a ConfigEnd,
     file: Option<&'a str>,
@@ -219,7 +219,7 @@ pub(crate) fn line_of_config<'a>(
     }
 }
 
-/// The line of a fault of a configuration.
+/// The line for a fault of a configuration.
 fn line_of_fault<'a>(fault: &'a ConfigFault, digits: &'a mut Digits) -> ErrorLine<'a>
     ensures { text_of result ≡ line_of_fault fault.now }
 {
@@ -237,7 +237,7 @@ fn line_of_fault<'a>(fault: &'a ConfigFault, digits: &'a mut Digits) -> ErrorLin
     }
 }
 
-/// The line of a fault of a table, and of what.
+/// The line for a fault in a section of a configuration.
 fn line_in<'a>(
     place: SectionName,
     fault: &'a str,
@@ -274,7 +274,7 @@ fn line_in<'a>(
     }
 }
 
-/// The line of a fault of a key.
+/// The line for a fault of a key.
 fn key_line<'a>(
     place: SectionName,
     fault: &'a str,
@@ -311,14 +311,14 @@ fn key_line<'a>(
     }
 }
 
-/// The line of a text that is no TOML.
+/// The line for a text that is not TOML.
 fn toml_line(line: u64, digits: &mut Buffer) -> ErrorLine<'_>
     ensures { text_of result ≡ line_of_fault (ConfigFault.Toml line) }
 {
     with_word("overcast: config: toml line ", digits.format(line))
 }
 
-/// The line of a bad line of the measures.
+/// The line for a bad line of the measures.
 fn measure_line(line: u32, why: Why, digits: &mut Buffer) -> ErrorLine<'_>
     ensures { text_of result ≡ line_of_fault (ConfigFault.Measure line why) }
 {
@@ -332,7 +332,7 @@ fn measure_line(line: u32, why: Why, digits: &mut Buffer) -> ErrorLine<'_>
     }
 }
 
-/// The line of a text and a word after it.
+/// A line of a text and a word after it.
 pub(crate) fn with_word<'a>(text: &'a str, word: &'a str) -> ErrorLine<'a>
     ensures { text_of result ≡ line text.entry.now word.entry.now [] [] }
 {
@@ -346,7 +346,7 @@ pub(crate) fn with_word<'a>(text: &'a str, word: &'a str) -> ErrorLine<'a>
     }
 }
 
-/// The line of an end of `check`.
+/// The line for an end of `check`.
 pub(crate) fn line_of_check(end: CheckEnd, digits: &mut Digits) -> ErrorLine<'_>
     ensures { text_of result ≡ line_of_check end }
 {
@@ -357,7 +357,7 @@ pub(crate) fn line_of_check(end: CheckEnd, digits: &mut Digits) -> ErrorLine<'_>
     }
 }
 
-/// The line of an end of `check`, of a node of a configuration.
+/// The line for an end of `check` for a node of a configuration.
 pub(crate) fn line_of_configured<'a>(
     end: &'a ConfiguredEnd,
     file: Option<&'a str>,
@@ -372,7 +372,7 @@ pub(crate) fn line_of_configured<'a>(
     }
 }
 
-/// The line where no node of a configuration has the id.
+/// The line for an id that no node of the configuration has.
 fn stranger_line<'a>() -> ErrorLine<'a>
     ensures { text_of result ≡ stranger_line }
 {
@@ -386,7 +386,7 @@ fn stranger_line<'a>() -> ErrorLine<'a>
     }
 }
 
-/// The line where a node was not loaded.
+/// The line for a node that was not loaded.
 pub(crate) fn line_of_load(error: KeepLoad, digits: &mut Digits) -> ErrorLine<'_>
     ensures { text_of result ≡ line_of_load error }
 {
@@ -413,7 +413,7 @@ pub(crate) fn line_of_load(error: KeepLoad, digits: &mut Digits) -> ErrorLine<'_
     }
 }
 
-/// The word of the file of a node that was not loaded; none where memory ran out beside them.
+/// The word for the file from which a node was not loaded; none if memory ran out elsewhere.
 fn file_word(error: KeepLoad) -> &'static str
     ensures { result.now ≡ file_text error }
 {
@@ -424,7 +424,7 @@ fn file_word(error: KeepLoad) -> &'static str
     }
 }
 
-/// The word of a control file.
+/// The word for a control file.
 fn side_word(side: Side) -> &'static str
     ensures { result.now ≡ side_text side }
 {
@@ -434,7 +434,7 @@ fn side_word(side: Side) -> &'static str
     }
 }
 
-/// The line of an end of `node`.
+/// The line for an end of `node`.
 pub(crate) fn line_of_service<'a>(
     end: &'a ServiceEnd,
     file: Option<&'a str>,
@@ -449,7 +449,7 @@ pub(crate) fn line_of_service<'a>(
     }
 }
 
-/// The line of the run of a node.
+/// The line for the end of a node's run.
 fn line_of_run(end: NodeEnd, digits: &mut Digits) -> ErrorLine<'_>
     ensures { text_of result ≡ line_of_run end }
 {
@@ -459,7 +459,7 @@ fn line_of_run(end: NodeEnd, digits: &mut Digits) -> ErrorLine<'_>
     }
 }
 
-/// The line of the end of a node's turns.
+/// The line for the end of a node's turns.
 fn line_of_turns<'a>(end: TurnEnd) -> ErrorLine<'a>
     ensures { text_of result ≡ line_of_turns end }
 {

@@ -11,7 +11,7 @@ use oc_io::{Sink, Source, write_all};
 use oc_policy::rules_text;
 use std::alloc::Global;
 
-/// How `rules` ended.
+/// The end of `rules`.
 #[derive(Clone, Copy)]
 pub enum RulesEnd {
     /// All lines were written.

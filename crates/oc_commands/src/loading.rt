@@ -2,7 +2,7 @@
 
 ghost use Rattle.std.specs.Prelude.{◌≡◌, ◌++◌, false, IfErr, IfOk, replicate};
 ghost use Rattle.oc_base.specs.Lawful.{IsNode};
-ghost use Rattle.oc_commands.specs.Checks.{IsNetwork, Shows, header_without_areas};
+ghost use Rattle.oc_commands.specs.Checks.{AreSizes, Shows, header_without_areas};
 ghost use Rattle.oc_keep.specs.Errors.{IsOutOfMemory};
 ghost use Rattle.oc_keep.specs.Files.{AreHonest, OneRose, disks_in};
 ghost use Rattle.oc_base.specs.Groups.{shelf};
@@ -12,48 +12,48 @@ ghost use Rattle.oc_replay.specs.Lines.{held_text};
 ghost use Rattle.oc_replay.specs.Shows.{show_text};
 ghost use Rattle.oc_model.specs.Status.{status_of};
 
-use crate::network::Network;
 use crate::showing::show;
 use oc_base::{Memory, NodeId};
 use oc_io::Disk;
 use oc_keep::{Files, KeepLoad, Kept, Seat};
+use oc_model::{Header, Sizes};
 use std::alloc::Global;
 
-/// What the files of a node showed, and the files.
+/// The text of a node's files, and the files.
 #[derive(Drop)]
 pub struct Recovered<D: Disk> {
     pub files: Files<D>,
-    /// The text of the node, or why there is none.
+    /// The text of the node, or the reason why there is none.
     pub text: Result<Vec<u8>, KeepLoad>,
 }
 
-/// The block of `show` and the block of `held` of the node with this id in this network, as its first control file,
+/// The block of `show` and the block of `held` of the node with this id in a network of these sizes, as its first control file,
 /// its second one and its content file recover it. Its areas are 0.
 pub fn recovered_text<D: Disk>(
     alloc: Global,
     id: NodeId,
-    network: Network,
+    sizes: Sizes,
     files: Files<D>,
 ) -> Recovered<D>
-    requires network { IsNetwork network }
-    requires id { IsNode network.nodes id }
+    requires sizes { AreSizes sizes }
+    requires id { IsNode sizes.nodes id }
 
     // The text is that of the node that the files recover.
-    ensures shows { IfOk result.text (λ text. Shows D.view (header_without_areas network) id (disks_in files) text.items) }
+    ensures shows { IfOk result.text (λ text. Shows D.view (header_without_areas sizes) id (disks_in files) text.items) }
 
     // When it refuses.
-    ensures refuses { IfErr result.text (λ error. RefusesNode D.view network.nodes (disks_in files) (disks_in result.files) error) }
+    ensures refuses { IfErr result.text (λ error. RefusesNode D.view sizes.nodes (disks_in files) (disks_in result.files) error) }
 
     // At every moment a crash leaves what a crash at the start would have left.
-    ensures safely { LoadsSafely D.view (header_without_areas network) id (disks_in files) (disks_in result.files) }
+    ensures safely { LoadsSafely D.view (header_without_areas sizes) id (disks_in files) (disks_in result.files) }
 
-    // The files of a node on honest disks are shown, where no disk fails and there is the memory.
+    // The files of a node on honest disks are shown, unless a disk fails or memory runs out.
     ensures complete { IfErr result.text (λ error. AreHonest D.view (disks_in files)
-        → HoldFiles D.view network.nodes (disks_in files)
+        → HoldFiles D.view sizes.nodes (disks_in files)
         → (OneRose D.view (disks_in files) (disks_in result.files) → ⊥)
         → IsOutOfMemory error) }
 {
-    let areas = match no_areas(alloc, network.nodes) {
+    let areas = match no_areas(alloc, sizes.nodes) {
         Ok(areas) => areas,
         Err(Memory) => {
             return Recovered {
@@ -64,10 +64,7 @@ pub fn recovered_text<D: Disk>(
     };
     let seat = Seat {
         id,
-        nodes: network.nodes,
-        chain: network.chain,
-        chunk: network.chunk,
-        areas,
+        header: Header { sizes, areas },
     };
     match Kept::load(alloc, files, seat) {
         Ok(kept) => {

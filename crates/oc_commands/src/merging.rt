@@ -1,4 +1,4 @@
-//! The command `merge`, which makes the records of running nodes into one schedule.
+//! The command `merge`, which merges the records of running nodes into one schedule.
 ghost use Rattle.std.specs.Prelude.{◌≡◌, ℕ, List, Ok, Err, IfOk, IfErr};
 ghost use Rattle.oc_io.specs.Faults.{NoFall};
 ghost use Rattle.oc_merge.specs.Records.{AreRecords};
@@ -15,14 +15,15 @@ use oc_merge::{
 use oc_schedule::print;
 use std::alloc::Global;
 
-/// How `merge` ended.
+/// The end of `merge`.
 #[derive(Clone, Copy)]
 pub enum RecordsEnd {
-    /// The whole schedule of the lines that can be taken was written, and the merge ended in this way.
+    /// The whole schedule of the lines that can be taken was written, and this is the end of the
+    /// merge.
     Merged(MergeEnd),
-    /// A line of the input, counted from 1, is refused for this cause, and nothing was written.
+    /// A line of the input, counted from 1, is refused for this reason, and nothing was written.
     Text { line: u32, cause: Cause },
-    /// The input passes a limit, and nothing was written.
+    /// The input exceeds a limit, and nothing was written.
     Limit(Most),
     /// The input failed, and nothing was written.
     Source,
@@ -32,8 +33,8 @@ pub enum RecordsEnd {
     Memory,
 }
 
-/// Reads the records on the input to its end, and writes the schedule of their lines that can be taken. All
-/// memory is taken before anything is written.
+/// Reads the records on the input to its end, and writes the schedule of their lines that can be
+/// taken. All memory is taken before anything is written.
 #[tactic(auto, using(crate::proofs::RecordsRead::happened_early))]
 pub fn merge_input<S: Source, K: Sink>(alloc: Global, input: &mut S, out: &mut K) -> RecordsEnd
     ensures happened { HappenedAtMerge
@@ -55,7 +56,7 @@ pub fn merge_input<S: Source, K: Sink>(alloc: Global, input: &mut S, out: &mut K
     }
 }
 
-/// The records that the source gives, up to its end. The error is the end of the command where there are none.
+/// Reads the records from the source, up to its end. An error is the end of the command.
 #[tactic(auto, using(crate::proofs::RecordsRead::long_records, crate::proofs::RecordsRead::ends_at))]
 fn records_in<S: Source>(alloc: Global, input: &mut S) -> Result<Records, RecordsEnd>
     ensures read { IfOk result (λ r. (bytes : List ℕ) × S.gives input.old bytes input.new × S.ended input.new × (records_of bytes ≡ Ok r)) }
@@ -74,7 +75,7 @@ fn records_in<S: Source>(alloc: Global, input: &mut S) -> Result<Records, Record
     }
 }
 
-/// To which end a fault of records leads.
+/// The end that a fault of records brings.
 fn end_of_records(fault: RecordsFault) -> RecordsEnd
     ensures { result ≡ end_of_records fault }
 {
@@ -85,13 +86,14 @@ fn end_of_records(fault: RecordsFault) -> RecordsEnd
     }
 }
 
-/// The text of the schedule that records make, without the lines of inputs that were not taken, and how the merge ended.
+/// The text of the merged schedule of records, without the lines of inputs that were not taken, and
+/// the end of the merge.
 fn merged_text(alloc: Global, records: Records) -> Result<(Vec<u8>, MergeEnd), Memory>
     requires { AreRecords records }
     ensures { IfOk result (λ merged. IsMergedText records merged.0.items merged.1) }
 {
     let there = without_missed::<LoneNode>(alloc, records)?;
-    let mut nodes = IndexedWorld::new(alloc, there.nodes, there.chain, there.chunk, &there.areas)?;
+    let mut nodes = IndexedWorld::new(alloc, &there.header)?;
     let (schedule, end) = merge(alloc, &mut nodes, &there)?;
     Ok((print(alloc, &schedule)?, end))
 }

@@ -1,4 +1,4 @@
-//! Lines that tell on the error output how far a client came.
+//! Progress lines of a client on the error output.
 
 ghost use Rattle.std.specs.Prelude.{◌≡◌};
 ghost use Rattle.oc_client.specs.Lines.{Tells};
@@ -8,7 +8,7 @@ ghost use Rattle.oc_commands.specs.TellingExamples.{AreTold};
 use oc_client::ProgressLines;
 use oc_io::{Failed, Sink};
 
-/// A sink whose relations speak of its count of faults too.
+/// A sink whose relations include its count of faults.
 #[derive(Drop)]
 pub struct Counting<E> {
     pub sink: E,
@@ -36,7 +36,7 @@ impl<E: Sink> Sink for Counting<E> {
     }
 }
 
-/// The lines of a client that has done nothing yet. Where they are not wanted, none is ever written.
+/// The progress lines of a client at its start. None is written unless `wanted`.
 pub fn progress_on<E: Sink>(error: E, wanted: bool) -> ProgressLines<Counting<E>>
     ensures sink { result.sink.sink ≡ error }
     ensures active { result.active ≡ wanted }
@@ -45,7 +45,7 @@ pub fn progress_on<E: Sink>(error: E, wanted: bool) -> ProgressLines<Counting<E>
     ProgressLines::new(Counting { sink: error }, wanted)
 }
 
-/// The error output on which lines told.
+/// The error output that the lines were written to.
 pub fn error_of<E: Sink>(lines: ProgressLines<Counting<E>>) -> E
     ensures { result ≡ lines.sink.sink }
 {
@@ -53,7 +53,7 @@ pub fn error_of<E: Sink>(lines: ProgressLines<Counting<E>>) -> E
     sink
 }
 
-/// Tells of all bytes, where all is done.
+/// Writes the last line, for all bytes, if all is done.
 pub(crate) fn finish<E: Sink>(lines: &mut ProgressLines<E>, whole: bool)
     ensures { Tells E.takes E.fails lines.old.sink lines.new.sink lines.old.active lines.new.active (last_line whole lines.old.count) }
 {
@@ -62,7 +62,7 @@ pub(crate) fn finish<E: Sink>(lines: &mut ProgressLines<E>, whole: bool)
     }
 }
 
-/// The worked examples compute from the definitions: what is told of a client.
+/// The worked examples of a client's progress lines, computed from the definitions.
 pub fn progress_computes()
     ensures { AreTold }
 {}

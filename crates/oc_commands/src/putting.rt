@@ -12,8 +12,9 @@ use oc_link::Dialler;
 use oc_words::{Name, Onto, Upload, text_of};
 use std::alloc::Global;
 
-/// Publishes the input into a group, with a token or without. It pauses after each failure but the last. Where lines are
-/// wanted, they tell how much of the input is in the group: never more than came of it, whatever the end.
+/// Publishes the input into a group, with a token or without. It pauses after each failure but the
+/// last. If progress lines are wanted, they give the number of bytes of the input in the group:
+/// never more than came of the input, at any end.
 pub fn publish<S: Source, L: Dialler, P: Pause, E: Sink>(
     alloc: Global,
     wanted: &Upload,
@@ -44,14 +45,14 @@ pub fn publish<S: Source, L: Dialler, P: Pause, E: Sink>(
     end
 }
 
-/// Whether all was published.
+/// Whether the whole input was published.
 fn is_done(end: PutEnd) -> bool
     ensures { result ≡ is_done end }
 {
     matches!(end, PutEnd::Done)
 }
 
-/// Where the input goes.
+/// The place of the input in its group.
 fn place_of(onto: Onto) -> WriteMode
     ensures { result ≡ place_of onto }
 {

@@ -30,7 +30,7 @@ pub fn replay_input<S: Source, K: Sink, T: Stage>(
     replay(alloc, input, out, stage, scale, summary)
 }
 
-/// How much a schedule may have, by the flag `--large`.
+/// The limits of a schedule, by the flag `--large`.
 pub fn scale_of(large: bool) -> Scale
     ensures { result ≡ scale_of large }
 {

@@ -17,18 +17,18 @@ use oc_service::{Log, NodeEnd, Ran, Site, Task, run_node};
 use oc_words::{LogWord, Service};
 use std::alloc::Global;
 
-/// How `node` ended.
+/// The end of `node`.
 #[derive(Clone, Copy)]
 pub enum ServiceEnd {
     /// There is no configuration.
     Config(ConfigEnd),
     /// No node of the configuration has this id.
     Stranger,
-    /// The node was run, and its run ended in this way.
+    /// The node ran, and this is the end of its run.
     Ran(NodeEnd),
 }
 
-/// How `node` ended, and what it had to run on.
+/// The end of `node`, and the files, link and output of its run.
 #[derive(Drop)]
 pub struct Served<D: Disk, L: Link, K: Sink> {
     pub end: ServiceEnd,
@@ -96,7 +96,7 @@ fn serve_config<D: Disk, L: Link, K: Sink>(
     }
 }
 
-/// What a node writes of its inputs.
+/// The form in which a node logs its inputs.
 fn log_of(word: LogWord) -> Log
     ensures { result ≡ log_of word }
 {

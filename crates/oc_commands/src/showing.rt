@@ -1,4 +1,4 @@
-//! A node as a text.
+//! The text of a node.
 
 ghost use Rattle.std.specs.Prelude.{◌≡◌, ◌++◌, false, IfOk};
 ghost use Rattle.oc_replay.specs.Lines.{held_text};

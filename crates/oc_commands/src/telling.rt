@@ -1,4 +1,4 @@
-//! The line that says on the error output how a run ended, written.
+//! Writing of the line on the error output that tells how a run ended.
 
 ghost use Rattle.std.specs.Prelude.{◌≡◌, ℕ, List, OnErr, OnOk, option_map};
 ghost use Rattle.oc_io.specs.Faults.{NoFall, Rose};
@@ -17,7 +17,7 @@ use crate::replaying::scale_of;
 use crate::texts::usage;
 use oc_io::{Failed, Sink, write_all};
 
-/// Has the sink take these parts, one after another.
+/// Writes these parts to the sink, one after another.
 pub(crate) fn write_parts<K: Sink>(sink: &mut K, parts: &[&[u8]]) -> Result<(), Failed>
     ensures told { IsWrittenOrCut K.takes K.fails K.faults sink.old sink.new (joined parts.now) }
     ensures takes { OnOk result (K.takes sink.old (joined parts.now) sink.new) }
@@ -31,8 +31,8 @@ pub(crate) fn write_parts<K: Sink>(sink: &mut K, parts: &[&[u8]]) -> Result<(), 
     Ok(())
 }
 
-/// Writes the line of an end on the error output, where `file` is the file that it is about, if it is about one. Where
-/// that output fails, a prefix of the line is written.
+/// Writes the line for an end on the error output; `file` is the file that the end is about, if
+/// any. If that output fails, a prefix of the line is written.
 pub fn tell<E: Sink>(err: &mut E, end: &End, file: Option<&str>)
     ensures told { (usage : List ℕ) × IsWrittenOrCut E.takes E.fails E.faults err.old err.new
         (line_of end.now (option_map (λ name. name.now) file.entry) usage) }
@@ -43,7 +43,7 @@ pub fn tell<E: Sink>(err: &mut E, end: &End, file: Option<&str>)
     write_line(err, line);
 }
 
-/// Writes a line, or a prefix of it where the output fails.
+/// Writes a line, or a prefix of it if the output fails.
 fn write_line<E: Sink>(err: &mut E, line: ErrorLine<'_>)
     ensures told { IsWrittenOrCut E.takes E.fails E.faults err.old err.new (text_of line.entry) }
     ensures count { NoFall (E.faults err.old) (E.faults err.new) }
@@ -61,7 +61,7 @@ fn write_line<E: Sink>(err: &mut E, line: ErrorLine<'_>)
     );
 }
 
-/// The line of an end.
+/// The line for an end.
 fn line_of<'a>(end: &'a End, file: Option<&'a str>, digits: &'a mut Digits) -> ErrorLine<'a>
     ensures { (usage : List ℕ) × (text_of result ≡ line_of end.now (option_map (λ name. name.now) file.entry) usage) }
 {

@@ -1,4 +1,4 @@
-//! The text that says what the program is and which commands it has, and that on usage.
+//! The texts on the program, its commands, and their usage.
 
 ghost use Rattle.std.specs.Prelude.{◌<◌, length};
 
@@ -6,7 +6,7 @@ use crate::command_texts::{
     check_help, gen_help, get_help, merge_help, node_help, put_help, replay_help, rules_help,
 };
 
-/// The text that answers `--help`, by the first word: that of a command, or that of the program.
+/// The text for `--help`, by the first word: that of a command, or that of the program.
 pub fn help(words: &[String]) -> &'static str
     ensures { 0 < length result.now }
 {
@@ -16,7 +16,7 @@ pub fn help(words: &[String]) -> &'static str
     }
 }
 
-/// The text on this command, or that of the program where the word is no command.
+/// The text on this command, or that of the program if the word is no command.
 fn help_on(word: &str) -> &'static str
     ensures { 0 < length result.now }
 {
@@ -87,7 +87,7 @@ With each status but 0, one line on standard error says why.
 "
 }
 
-/// The text after the line `overcast: usage`, which says what the words may be.
+/// The text after the line `overcast: usage`, which lists the forms of the words.
 pub fn usage() -> &'static str
     ensures { 0 < length result.now }
 {

@@ -1,4 +1,4 @@
-//! The token with which a client asks to be let in, from its file.
+//! The token that a client shows to servers, read from a file.
 
 ghost use Rattle.std.specs.List.{list_all};
 ghost use Rattle.std.specs.Prelude.{◌≡◌, true, IfErr, IfOk};
@@ -12,23 +12,24 @@ use oc_io::{ReadFault, Source, read_all};
 use oc_words::Name;
 use std::alloc::Global;
 
-/// The most bytes of a token.
+/// The greatest length of a token, in bytes.
 pub const MAX_TOKEN_BYTES: usize = 200;
 
-/// Why there is no token.
+/// The reason why there is no token.
 #[derive(Clone, Copy)]
 pub enum TokenEnd {
-    /// Its file failed.
+    /// The file failed.
     Source,
-    /// Its file has more bytes than a text may have.
+    /// The file is longer than a text may be.
     Long,
-    /// The first line of its file is none.
+    /// The first line of the file is not a token.
     Fault,
     /// Memory ran out.
     Memory,
 }
 
-/// The token in a file, where the words name one: its first line, without the end of that. The file is read to its end.
+/// The token in a file, if the words name one: its first line, without the line end. The file is
+/// read to its end.
 pub fn take_token<S: Source>(
     alloc: Global,
     name: &Option<Name>,
@@ -74,7 +75,7 @@ fn token_in(alloc: Global, bytes: &[u8]) -> Result<Name, TokenEnd>
     }
 }
 
-/// The first line, without its end.
+/// The first line, without its line end.
 fn first_line(bytes: &[u8]) -> &[u8]
     ensures { result.now ≡ first_line bytes.now }
 {
@@ -89,14 +90,14 @@ fn is_token(line: &[u8]) -> bool
     !line.is_empty() && line.len() <= MAX_TOKEN_BYTES && are_printed(line)
 }
 
-/// Whether all bytes are those of a token.
+/// Whether all bytes may be in a token.
 fn are_printed(line: &[u8]) -> bool
     ensures { result ≡ list_all is_token_byte line.now }
 {
     line.iter().all(|b| is_token_byte(*b))
 }
 
-/// Whether a byte is a printed one of ASCII, and no space.
+/// Whether a byte is a printable ASCII byte, and not a space.
 fn is_token_byte(byte: u8) -> bool
     ensures { result ≡ is_token_byte byte }
 {

@@ -27,7 +27,7 @@ take_row m xs ys = by_order (cases_lt (length xs) m) where
       let sum : length xs + (m - length xs) ≡ m = omega (arith, lt) in
       rw (p, take_all (length xs) xs (omega arith)) (sym (take_beyond xs ys (m - length xs)) ∙ ap (λ (k : ℕ). take k (xs ++ ys)) sum)
 
--- what was read of the first span, and what those after it give, is what all give
+-- the bytes read from the first span, and those of the later spans, are those of all spans
 pub read_step : (most count n skip : ℕ) (xs ys : List ℕ) → count ≤ most → skip ≤ length xs → n ≡ count + min (most - count) (length xs - skip) → take (n - count) (drop skip xs) ++ take (most - n) (drop 0 ys) ≡ take (most - count) (drop skip (xs ++ ys))
 read_step most count n skip xs ys within inside is =
     let len : length xs - skip ≡ length (drop skip xs) = sym (length-drop skip xs) in
@@ -35,14 +35,14 @@ read_step most count n skip xs ys within inside is =
     let f : most - n ≡ (most - count) - min (most - count) (length (drop skip xs)) = omega (arith, is, len, within) in
     rw (e, f) (take_row (most - count) (drop skip xs) ys ∙ ap (take (most - count)) (sym (drop-append-le skip xs ys inside)))
 
--- what is in a buffer after a read that follows what was there
+-- the buffer after a read into the part after its first bytes
 pub read_behind : (count k more : ℕ) (buf part : List ℕ) → count ≤ length buf → more ≤ length part → take (count + more) (put_mid count k buf part) ≡ take count buf ++ take more part
 read_behind count k more buf part within inside =
     let len : length (take count buf) ≡ count = length-take-le count buf within in
     ap (λ (n : ℕ). take (n + more) (take count buf ++ (part ++ post_of count k buf))) (sym len)
     ∙ (take_beyond (take count buf) (part ++ post_of count k buf) more ∙ ap (λ (l : List ℕ). take count buf ++ l) (take-append-le more part (post_of count k buf) inside))
 
--- what was read so far, and what the spans to come give, one span on
+-- the bytes read so far, and those of the spans to come, one span on
 pub read_on : (frames : List (List ℕ)) (spans : List Span) (i : ℕ) (s : Span) (most count n skip : ℕ) (buf new whole : List ℕ) → i < length spans → s ≡ get_or spans i s → count ≤ most → BeginsWithin frames skip (drop i spans) → n ≡ count + min (most - count) (length (bytes_at frames s) - skip) → take n new ≡ take count buf ++ take (n - count) (drop skip (bytes_at frames s)) → take count buf ++ take (most - count) (drop skip (flat_map (bytes_at frames) (drop i spans))) ≡ whole → take n new ++ take (most - n) (drop 0 (flat_map (bytes_at frames) (drop (i + 1) spans))) ≡ whole
 read_on frames spans i s most count n skip buf new whole inside item within begins is read so_far =
     let next : drop i spans ≡ s ∷ drop (i + 1) spans = drop_more spans i s inside ∙ ap (λ (t : Span). t ∷ drop (i + 1) spans) (sym item) in

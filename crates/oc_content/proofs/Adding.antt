@@ -1,4 +1,4 @@
--- What one more entry makes of the index.
+-- The index after one more entry.
 use Rattle.std.proofs.Common.{◌≡◌, ℕ, zero, suc, ◌+◌, ◌<◌, ◌≤◌, Bool, true, false, IsTrue, List, [], ◌∷◌, ◌++◌, length, get_or, drop, insert, Option, Some, None, refl, sym, ap, subst, ◌∙◌, arith}
 use Rattle.std.proofs.lemmas.List.{length-map, get_or_push, length_push}
 use Rattle.oc_base.specs.declared.shelf.Shelf.{Shelf}
@@ -93,7 +93,7 @@ IsSized-good bodies groups x honest is =
       short = rw is.lines (all_at (λ s. s.held ≤ MAX_GROUP_BYTES) (shelf groups) good.short);
     }
 
--- and with more memory it is within the limits still
+-- an index with more memory is still within the limits
 pub IsSized-reserved : (x y : Index) → IsSized x → OnlyReserves x y → IsSized y
 IsSized-reserved x y sized keeps = record {
   rows = sym (length-map y.tracks.items (λ (t : Track). t.spans.items)) ∙ (ap length keeps.tracks.paths ∙ (length-map x.tracks.items (λ (t : Track). t.spans.items) ∙ (sized.rows ∙ sym (ap length keeps.lines))));

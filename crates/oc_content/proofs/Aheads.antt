@@ -1,4 +1,4 @@
--- What was read ahead, as calls go on.
+-- The bytes that were read ahead, as calls go on.
 use Rattle.std.proofs.Common.{◌≡◌, ◌-◌, ◌≤◌, ℕ, Bool, IsTrue, IsSomeAnd, IfSome, List, Option, Some, None, length, take, drop, refl, sym, ap, subst, ◌∙◌, arith}
 use Rattle.std.proofs.lemmas.List.{take_all}
 use Rattle.oc_io.specs.DiskView.{DiskView}
@@ -55,7 +55,7 @@ content_reads view j k x a b is reads ahead = record {
   ahead = ahead;
 }
 
--- and what is seen of it
+-- the view of the content is the same
 pub sees_nothing : {D : Type 0} (view : D → DiskView) (j k : JournalView D) (x : Index) (v : ContentView D) → content_with j x ≡ v → OnlyReads view j k → PutsNothing view v (content_with k x)
 sees_nothing view j k x v is reads =
     subst (λ (w : ContentView _). PutsNothing view w (content_with k x)) is

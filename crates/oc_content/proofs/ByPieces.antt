@@ -29,7 +29,7 @@ found_same g k (j ∷ js) h = by_order (found_same g k js h) (slice_cmp nat_cmp 
       let apart : same_name g j.name ≡ false = ap (λ (n : List ℕ). same_name n j.name) (names_equal g k.name h) ∙ names_apart j.name k.name (names_back k.name j.name e) in
       rw (e, apart) rest
 
--- what is known of a group after an entry
+-- the group, if there is one, after an entry
 abbrev pub after_entry : List ℕ → Option Group → Option Entry → Option Group
 after_entry g o None = o
 after_entry g o (Some e) = cond (same_name g e.group) (Some (grown e (or_empty g o))) o
@@ -43,7 +43,7 @@ found_after g ks e = by_name (same_name g e.group) refl where
       ∙ ap (λ (n : List ℕ). Some (grown e (group_or_empty n ks))) (sym (names_equal g e.group h))
   by_name false h = found_other g (grown e (group_or_empty e.group ks)) ks h
 
--- and after frames
+-- the group, if there is one, after frames
 abbrev pub after_bodies : List ℕ → Option Group → List (List ℕ) → Option Group
 after_bodies g o [] = o
 after_bodies g o (body ∷ bodies) = after_bodies g (after_entry g o (entry_of body)) bodies
@@ -73,7 +73,7 @@ bytes_after g o (Some e) = by_name (same_name g e.group) where
   by_name true = refl
   by_name false = sym (append-nil (or_empty g o).bytes)
 
--- its bytes are those it had and the pieces for it
+-- the group's bytes are those it had and the pieces for it
 bytes_by_pieces : (g : List ℕ) (bodies : List (List ℕ)) (o : Option Group) → (or_empty g (after_bodies g o bodies)).bytes ≡ (or_empty g o).bytes ++ pieces_for g bodies
 bytes_by_pieces g [] o = sym (append-nil (or_empty g o).bytes)
 bytes_by_pieces g (body ∷ bodies) o =
@@ -105,7 +105,7 @@ or_none : (a : Bool) → a || false ≡ a
 or_none true = refl
 or_none false = refl
 
--- it is there where it was, or where a body is for it
+-- the group is there if it was before, or if a body is for it
 there_by_bodies : (g : List ℕ) (bodies : List (List ℕ)) (o : Option Group) → is_some (after_bodies g o bodies) ≡ is_some o || list_any (is_for g) bodies
 there_by_bodies g [] o = sym (or_none (is_some o))
 there_by_bodies g (body ∷ bodies) o =
@@ -113,7 +113,7 @@ there_by_bodies g (body ∷ bodies) o =
     ∙ ap (λ (b : Bool). b || list_any (is_for g) bodies) (there_after g o (entry_of body))
     ∙ or_assoc (is_some o) (is_for g body) (list_any (is_for g) bodies)
 
--- the seal of what a body says is its first byte
+-- the seal of a body's entry is told by its first byte
 past_test : (b : Bool) (entry : Option Entry) (e : Entry) → cond b None entry ≡ Some e → entry ≡ Some e
 past_test true entry e is = absurd cc
 past_test false entry e is = is
@@ -127,7 +127,7 @@ fields_seal seals (n ∷ rest) e is =
     let same : Some (record { group = name; start = from_be_bytes w64 (take 8 (drop n rest)); bytes = drop 8 (drop n rest); seals = seals }) ≡ Some e = past_test (is_some (name_fault name)) _ e said in
     cc
 
--- and a body that of its first byte
+-- a body seals its group exactly if its first byte is 0
 body_seals : (body : List ℕ) (e : Entry) → entry_of body ≡ Some e → e.seals ≡ begins_with_zero body
 body_seals [] e is = absurd cc
 body_seals (b ∷ rest) e is = by_first (b == 0) is where
@@ -140,7 +140,7 @@ abbrev pub entry_seals : Option Entry → Bool
 entry_seals None = false
 entry_seals (Some e) = e.seals
 
--- so a body seals a group where it is for it and begins with the byte 0
+-- a body seals a group if it is for the group and begins with the byte 0
 seals_by_first : (g body : List ℕ) (entry : Option Entry) → entry_of body ≡ entry → (is_entry_for g entry && entry_seals entry) ≡ (is_entry_for g entry && begins_with_zero body)
 seals_by_first g body None is = refl
 seals_by_first g body (Some e) is = ap (λ (b : Bool). same_name g e.group && b) (body_seals body e is)
@@ -166,7 +166,7 @@ any_by_test : {A : Type 0} (p : A → Bool) (xs : List A) (b : Bool) → b ≡ l
 any_by_test p xs b is =
     (λ h. Any-from_list_any p xs (sym is ∙ h), λ some. is ∙ list_any-from_Any p xs some)
 
--- good frames, and what is known of a group in them
+-- the group in good frames, if there is one
 good : (g : List ℕ) (bodies : List (List ℕ)) → IsSome (content_of bodies) → group_of g (groups_in bodies) ≡ after_bodies g None bodies
 good g bodies some = by_content (content_of bodies) refl some where
   by_content : (c : Option (List Group)) → content_of bodies ≡ c → IsSome c → group_of g (unwrap_or c []) ≡ after_bodies g None bodies
@@ -180,12 +180,12 @@ pub bytes_are_pieces : (bodies : List (List ℕ)) (g : List ℕ) → IsSome (con
 bytes_are_pieces bodies g some =
     ap (λ (o : Option Group). (or_empty g o).bytes) (good g bodies some) ∙ bytes_by_pieces g bodies None
 
--- its seal
+-- the seal of a group
 pub sealed_by_zero : (bodies : List (List ℕ)) (g : List ℕ) → IsSome (content_of bodies) → IsTrue (sealed_in g bodies) ↔ Any (λ body. seals_for g body ≡ true) bodies
 sealed_by_zero bodies g some =
     any_by_test (seals_for g) bodies (sealed_in g bodies) (ap (λ (o : Option Group). (or_empty g o).sealed) (good g bodies some) ∙ sealed_by_bodies g bodies None)
 
--- and whether it is held
+-- whether a group is there
 pub held_by_bodies : (bodies : List (List ℕ)) (g : List ℕ) → IsSome (content_of bodies) → IsSome (group_of g (groups_in bodies)) ↔ Any (λ body. is_for g body ≡ true) bodies
 held_by_bodies bodies g some =
     any_by_test (is_for g) bodies (is_some (group_of g (groups_in bodies))) (ap (λ (o : Option Group). is_some o) (good g bodies some) ∙ there_by_bodies g bodies None)

@@ -84,7 +84,7 @@ pub parts_kept : {D : Type 0} (j k : JournalView D) (x y : Index) (r : Result �
 parts_kept j k x y (Ok n) journal index = tt
 parts_kept j k x y (Err e) journal index = λ other. ap (λ a. content_with a y) (journal other) ∙ ap (λ b. content_with j b) index
 
--- and one that the disk refused closed the journal
+-- a commit that the disk refused closed the journal
 pub closed_parts : {D : Type 0} (view : D → DiskView) (body : List ℕ) (j k : JournalView D) (x y : Index) (r : Result ℕ AppendError) → (IsErrOf r appends.Disk → ClosesByAppend view body j k) → OnErr r (y ≡ x) → IsErrOf r appends.Disk → ClosesByCommit view body (content_with j x) (content_with k y)
 closed_parts view body j k x y (Ok n) closes index is = let f : Ok n ≡ Err appends.Disk = is in absurd cc
 closed_parts view body j k x y (Err e) closes index is = record {

@@ -1,4 +1,4 @@
--- What was read ahead, as a commit adds a frame.
+-- The bytes that were read ahead, as a commit adds a frame.
 use Rattle.std.proofs.Common.{◌≡◌, ◌≢◌, ◌-◌, ◌<◌, ◌≤◌, ◌⊎◌, inl, inr, ℕ, Bool, IsTrue, IsSome, IfSome, IsErrOf, IfOk, IfErr, Result, Ok, Err, List, [], ◌∷◌, ◌++◌, Option, Some, None, length, take, drop, refl, sym, ap, subst, ◌∙◌, arith}
 use Rattle.std.proofs.lemmas.Bool.{cases_lt}
 use Rattle.std.proofs.lemmas.List.{append-nil, drop-append-le, length-drop, length-take, take-append-le}
@@ -45,7 +45,7 @@ bytes_grow : (old new : List (List ℕ)) (g : List ℕ) → IsSome (content_of o
 bytes_grow old new g old_good new_good grows =
     (pieces_for g grows.0, bytes_are_pieces new g new_good ∙ (ap (pieces_for g) grows.1 ∙ (flat_map-append (piece_for g) old grows.0 ∙ ap (λ (bs : List ℕ). bs ++ pieces_for g grows.0) (sym (bytes_are_pieces old g old_good)))))
 
--- so what was read ahead is still theirs
+-- the bytes that were read ahead are still those of the frames
 chunk_stays : (old new : List (List ℕ)) (c : Chunk) → IsSome (content_of old) → IsSome (content_of new) → Grows old new → IsChunkOf old c → IsChunkOf new c
 chunk_stays old new c old_good new_good grows are =
     let more = bytes_grow old new c.group old_good new_good grows in
@@ -62,7 +62,7 @@ frames_grow view j k x y p (Err appends.Closed) commits same disk honest = ([], 
 frames_grow view j k x y p (Err appends.Full) commits same disk honest = ([], ap (λ i. i.frames) (same (λ other. cc)) ∙ sym (append-nil j.frames))
 frames_grow view j k x y p (Err appends.Disk) commits same disk honest = ([], (disk refl).frames honest ∙ sym (append-nil j.frames))
 
--- what was read ahead, as frames are added
+-- the bytes that were read ahead, as frames are added
 pub ahead_grows : {D : Type 0} (view : D → DiskView) (j k : JournalView D) (x y : Index) (a : Ahead) → IsIndexed view j x → IsIndexed view k y → (view k.disk).honest ≡ (view j.disk).honest → (IsTrue (view j.disk).honest → Grows j.frames k.frames) → IsAhead view j a → IsAhead view k a
 ahead_grows view j k x y a is are same grows = by_chunk a.chunk where
   by_chunk : (o : Option Chunk) → IfSome o (λ c. IsTrue (view j.disk).honest → IsChunkOf j.frames c) → IfSome o (λ c. IsTrue (view k.disk).honest → IsChunkOf k.frames c)

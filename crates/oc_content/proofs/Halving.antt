@@ -1,4 +1,4 @@
--- The span that is found by halving.
+-- The span that binary search finds.
 use Rattle.std.proofs.Common.{◌≡◌, ℕ, zero, suc, ◌+◌, ◌-◌, ◌<◌, ◌≤◌, true, false, leb, List, length, get_or, Option, Some, None, [], ◌∷◌, ◌++◌, drop, flat_map, refl, sym, ap, subst, ◌∙◌, arith}
 use Rattle.std.specs.Option.{SomeIff}
 use Rattle.std.specs.List.Sorted.{IsNonDecreasingBy, IsPartitionPoint}
@@ -58,7 +58,7 @@ pub record Holds (bodies : List (List ℕ)) (g : List ℕ) (at start i : ℕ) (s
   pub here : start - (get_or ss i d).start < length (bytes_at bodies (get_or ss i d))
   pub rest : drop (start - at) (flat_map (bytes_at bodies) ss) ≡ drop (start - (get_or ss i d).start) (flat_map (bytes_at bodies) (drop i ss))
 
--- it begins at its own start
+-- a span begins at its own start
 own_start : (bodies : List (List ℕ)) (g : List ℕ) (at : ℕ) (s : Span) → IsSpan bodies g at s → IsSpan bodies g s.start s
 own_start bodies g at s is = subst (λ (n : ℕ). IsSpan bodies g n s) (sym is.start) is
 
@@ -96,7 +96,7 @@ found_none bodies k (s ∷ ss) start tracked within none =
 from_zero : (n : ℕ) (xs : List ℕ) → drop n xs ≡ drop (n - 0) xs
 from_zero n xs = let e : n - 0 ≡ n = omega arith in ap (λ (m : ℕ). drop m xs) (sym e)
 
--- and the last of them is a hit
+-- the last of these spans has the byte
 pub found_some : (bodies : List (List ℕ)) (k : Group) (ss : List Span) (start i : ℕ) (f : Found) (d : Span) → IsTracked bodies k ss → start < length k.bytes → IsLastBefore ss start (Some i) → f.span ≡ i → f.skip + (get_or ss i d).start ≡ start → IsHit bodies k ss start f
 found_some bodies k ss start i f d tracked within last is place =
     let part = last.1 (spans_ascend bodies k.name 0 ss tracked.spans) in

@@ -1,4 +1,4 @@
--- Where a group is among the lines, and what an entry makes of them there.
+-- The place of a group among the lines, and the lines after an entry there.
 use Rattle.std.proofs.Common.{◌≡◌, ℕ, zero, suc, ◌<◌, ◌≤◌, Bool, true, false, List, [], ◌∷◌, length, get_or, drop, insert, Option, Some, None, option_map, Greater, nat_cmp, refl, sym, ap, ◌∙◌, arith}
 use Rattle.std.specs.Cmp.Lexicographic.{slice_cmp}
 use Rattle.oc_base.specs.declared.shelf.Shelf.{Shelf}
@@ -32,7 +32,7 @@ goes_within ss g zero h = omega arith
 goes_within [] g (suc i) h = absurd h
 goes_within (s ∷ ss) g (suc i) h = omega (arith, goes_within ss g i h.1)
 
--- its line is the one that is there
+-- the line of the name is the one at the index
 pub line_of-stands : (ss : List Shelf) (g : List ℕ) (i : ℕ) (s : Shelf) → IsLineAt ss g i → s ≡ get_or ss i s → line_of g ss ≡ Some s
 line_of-stands [] g i s h e = absurd h
 line_of-stands (t ∷ ss) g zero s h e =
@@ -40,7 +40,7 @@ line_of-stands (t ∷ ss) g zero s h e =
     rw same (ap Some (sym e))
 line_of-stands (t ∷ ss) g (suc i) s h e = rw h.0 (line_of-stands ss g i s h.1 e)
 
--- that line has the name
+-- the line at the index has the name
 pub stands_name : (ss : List Shelf) (g : List ℕ) (i : ℕ) (s : Shelf) → IsLineAt ss g i → s ≡ get_or ss i s → s.group ≡ g
 stands_name [] g i s h e = absurd h
 stands_name (t ∷ ss) g zero s h e = ap (λ (x : Shelf). x.group) e ∙ h
@@ -109,7 +109,7 @@ shelf-changed [] h body count i n at = absurd at
 shelf-changed (k ∷ ks) h body count zero n at = rw (at, n, length-append k.bytes (drop h.skip body))
 shelf-changed (k ∷ ks) h body count (suc i) n at = ap (λ l. shelf_of k ∷ l) (shelf-changed ks h body count i n at.1)
 
--- and after an insert
+-- the shelf after an insert
 pub shelf-insert : (ks : List Group) (i : ℕ) (k : Group) → shelf (insert ks i k) ≡ insert (shelf ks) i (shelf_of k)
 shelf-insert ks zero k = refl
 shelf-insert [] (suc i) k = refl

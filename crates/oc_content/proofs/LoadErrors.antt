@@ -13,7 +13,7 @@ memory_not_bad i is = absurd cc
 pub memory_not_disk : {T : Type 0} → IsErrOf {T = T} (Err Memory) Disk → ⊥
 memory_not_disk is = absurd cc
 
--- and no bad file
+-- a lack of memory is no bad file
 pub memory_not_journal : {T : Type 0} → IsErrOf {T = T} (Err Memory) NotJournal → ⊥
 memory_not_journal is = absurd cc
 
@@ -21,7 +21,7 @@ memory_not_journal is = absurd cc
 pub bad_not_disk : {T : Type 0} (i : ℕ) → IsErrOf {T = T} (Err (BadFrame i)) Disk → ⊥
 bad_not_disk i is = absurd cc
 
--- and the file is a journal
+-- a file with a bad frame is a journal
 pub bad_not_journal : {T : Type 0} (i : ℕ) → IsErrOf {T = T} (Err (BadFrame i)) NotJournal → ⊥
 bad_not_journal i is = absurd cc
 
@@ -30,7 +30,7 @@ pub unread_not_bad : {T : Type 0} (e : FrameError) (i : ℕ) → IsErrOf {T = T}
 unread_not_bad frames.Disk i is = absurd cc
 unread_not_bad frames.Memory i is = absurd cc
 
--- and the file is a journal
+-- a file with an unread frame is a journal
 pub unread_not_journal : {T : Type 0} (e : FrameError) → IsErrOf {T = T} (Err (of_frame e)) NotJournal → ⊥
 unread_not_journal frames.Disk is = absurd cc
 unread_not_journal frames.Memory is = absurd cc

@@ -28,7 +28,7 @@ IsIndexedTo-start view j x lines tracks = record {
   frames = λ _. refl;
 }
 
--- it is within the limits
+-- the index is within the limits
 pub IsSized-to : {D : Type 0} (view : D → DiskView) (j : JournalView D) (x : Index) (n : ℕ) → IsIndexedTo view j x n → IsSized x
 IsSized-to view j x n so_far = IsSized-good so_far.bodies so_far.groups x (view j.disk).honest so_far.is
 

@@ -1,4 +1,4 @@
--- The group at a place of the index, and a byte of it.
+-- The group at a place of the index, and the search for one of its bytes.
 use Rattle.std.proofs.Common.{◌≡◌, ℕ, zero, suc, ◌<◌, ◌≤◌, Bool, true, IsTrue, List, [], ◌∷◌, length, get_or, Some, None, refl, sym, ap, subst, ◌∙◌, arith}
 use Rattle.oc_base.specs.declared.shelf.Shelf.{Shelf}
 use Rattle.oc_content.specs.declared.track.Span.{Span}
@@ -31,7 +31,7 @@ group_stands bodies (k ∷ ks) (p ∷ ps) g (suc at) are stands =
     let there = group_stands bodies ks ps g at are.1 stands.1 in
     record { group = there.group; named = there.named; tracked = there.tracked; held = there.held; found = group_of-past g k ks stands.0 ∙ there.found }
 
--- and so in an index
+-- the same in an index
 pub group_at : (bodies : List (List ℕ)) (groups : List Group) (x : Index) (honest : Bool) (g : List ℕ) (at : ℕ) → IsIndexOf bodies groups x honest → IsTrue honest → IsLineAt x.shelves.items g at → GroupAt bodies groups x.shelves.items (paths x.tracks.items) g at
 group_at bodies groups x honest g at is h stands =
     subst (λ (ss : List Shelf). GroupAt bodies groups ss (paths x.tracks.items) g at) (sym is.lines) (group_stands bodies groups (paths x.tracks.items) g at (is.tracked h) (subst (λ (ss : List Shelf). IsLineAt ss g at) is.lines stands))
@@ -57,11 +57,11 @@ pub past_end : (ss : List Shelf) (g : List ℕ) (at start : ℕ) → IsLineAt ss
 past_end ss g at start stands past =
     λ h. let within : start < get_or (helds ss) at 0 = rw (held_of-stands ss g at stands) at h in omega (arith, within, past)
 
--- and none in an absent group
+-- an absent group has no bytes
 pub absent_group : (ss : List Shelf) (g : List ℕ) (at start : ℕ) → IsFreeLineAt ss g at → ¬ IsHeldAt g ss start
 absent_group ss g at start goes = λ h. rw (held_of-goes ss g at goes) at h
 
--- what is found of a byte is its spot
+-- a byte that is found is at its spot
 pub IsSpot-rest : (bodies : List (List ℕ)) (k : Group) (g : List ℕ) (start : ℕ) (spans : List Span) (skip : ℕ) (d : Span) → k.name ≡ g → IsRest bodies k start spans skip → IsSpot bodies g start (record { frame = (get_or spans 0 d).frame; skip = skip })
 IsSpot-rest bodies k g start spans skip d named rest =
     subst (λ (ss : List Span). IsSpot bodies g start (record { frame = (get_or ss 0 d).frame; skip = skip })) (sym rest.are) (record {

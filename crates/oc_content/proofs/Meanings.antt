@@ -1,4 +1,4 @@
--- What the groups of good frames are like, and what one more frame makes of them.
+-- The properties of the groups in good frames, and the groups after one more frame.
 use Rattle.std.proofs.Common.{◌≡◌, ℕ, suc, ◌+◌, ◌<◌, ◌≤◌, Bool, true, false, ◌&&◌, List, [], ◌∷◌, ◌++◌, length, take, drop, if◌then◌else◌, Option, Some, None, Ordering, Less, Equal, Greater, nat_cmp, nat_lt, nat_le, is_some, fold, option_map, not, ◌||◌, ◌==◌, refl, sym, ap, subst, ◌∙◌, arith}
 use Rattle.std.specs.Cmp.Lexicographic.{slice_cmp}
 use Rattle.std.specs.List.{AllByRecursion}
@@ -29,7 +29,7 @@ and_three true true false h = absurd cc
 and_three true false c h = absurd cc
 and_three false b c h = absurd cc
 
--- and of four tests
+-- the same for four tests
 and_four : (a b c d : Bool) → (a && b && c && d) ≡ true → (a ≡ true) × (b ≡ true) × (c ≡ true) × (d ≡ true)
 and_four true true true true h = (refl, refl, refl, refl)
 and_four true true true false h = absurd cc
@@ -37,7 +37,7 @@ and_four true true false d h = absurd cc
 and_four true false c d h = absurd cc
 and_four false b c d h = absurd cc
 
--- what is put among greater names is among them
+-- a group that is put among greater names is among them
 above_more : (g : List ℕ) (k : Group) (ks : List Group) → slice_cmp nat_cmp g k.name ≡ Less → AreLinesAbove g (shelf ks) → AreLinesAbove g (shelf (with_group k ks))
 above_more g k [] h all = (h, tt)
 above_more g k (j ∷ js) h all = by_order (above_more g k js h all.1) (slice_cmp nat_cmp k.name j.name) refl where
@@ -46,7 +46,7 @@ above_more g k (j ∷ js) h all = by_order (above_more g k js h all.1) (slice_cm
   by_order rest Equal e = rw e (h, all.1)
   by_order rest Greater e = rw e (all.0, rest)
 
--- what is above a name is above a lesser one
+-- lines above a name are above a lesser name
 pub above_lower : (a b : List ℕ) (ss : List Shelf) → slice_cmp nat_cmp a b ≡ Less → AreLinesAbove b ss → AreLinesAbove a ss
 above_lower a b ss h all = all_weaker (λ s. slice_cmp nat_cmp b s.group ≡ Less) (λ s. slice_cmp nat_cmp a s.group ≡ Less) (λ s e. names_rise a b s.group h e) ss all
 
@@ -59,7 +59,7 @@ ascending-with_group k (j ∷ js) up = by_order (ascending-with_group k js up.1)
   by_order rest Equal e = rw e (subst (λ g. AreLinesAbove g (shelf js)) (sym (names_tied k.name j.name e)) up.0, up.1)
   by_order rest Greater e = rw e (above_more j.name k js (names_back k.name j.name e) up.0, rest)
 
--- what holds of the lines and of a new one holds once it was put
+-- a property of the lines and of the new one holds of all lines after the put
 all-with_group : (P : Shelf → Type 0) (k : Group) (ks : List Group) → P (shelf_of k) → AllByRecursion P (shelf ks) → AllByRecursion P (shelf (with_group k ks))
 all-with_group P k [] here all = (here, tt)
 all-with_group P k (j ∷ js) here all = by_order (all-with_group P k js here all.1) (slice_cmp nat_cmp k.name j.name) refl where
@@ -77,7 +77,7 @@ length-with_group k (j ∷ js) = by_order (length-with_group k js) (slice_cmp na
   by_order rest Equal e = rw e (omega arith)
   by_order rest Greater e = rw e (omega (arith, rest))
 
--- and none more where one of its name is there
+-- no group is added if one of its name is there
 length-with_group_same : (k : Group) (ks : List Group) → AreLinesAscending (shelf ks) → is_some (line_of k.name (shelf ks)) ≡ true → length (with_group k ks) ≡ length ks
 length-with_group_same k [] up h = absurd cc
 length-with_group_same k (j ∷ js) up h = by_order (length-with_group_same k js up.1) (slice_cmp nat_cmp k.name j.name) refl where
@@ -95,12 +95,12 @@ length-with_group_same k (j ∷ js) up h = by_order (length-with_group_same k js
       let there : is_some (line_of k.name (shelf js)) ≡ true = rw e at h in
       rw e (ap suc (rest there))
 
--- what is said names a group, if anything is
+-- an entry, if there is one, names a group
 abbrev IsNamed : Option Entry → Type 0
 IsNamed None = Unit {0}
 IsNamed (Some e) = IsGroupName e.group
 
--- a body names the group of what it says
+-- a body names the group of its entry
 entry_of-named : (body : List ℕ) → IsNamed (entry_of body)
 entry_of-named [] = tt
 entry_of-named (b ∷ rest) = by_mark (b == 0) where
@@ -119,26 +119,26 @@ entry_of-named (b ∷ rest) = by_mark (b == 0) where
   by_mark true = by_fields true rest
   by_mark false = by_fields false (b ∷ rest)
 
--- what the groups of good frames are like: they are named, their names ascend, and they are within the limits
+-- the properties of groups in good frames: they are named, their names ascend, and they are within the limits
 pub record IsGood (ks : List Group) : Type 0 where
   pub named : AllByRecursion (λ s. IsGroupName s.group) (shelf ks)
   pub ascending : AreLinesAscending (shelf ks)
   pub few : length ks ≤ MAX_GROUPS
   pub short : AllByRecursion (λ s. s.held ≤ MAX_GROUP_BYTES) (shelf ks)
 
--- what a new group meets
+-- the conditions of an entry for a new group
 pub fits_new : (groups start count : ℕ) (seals : Bool) → fits None groups start count seals ≡ true → (start ≡ 0) × (groups < MAX_GROUPS) × (count ≤ MAX_GROUP_BYTES)
 fits_new groups start count seals h =
     let three = and_three (start == 0) (nat_lt groups MAX_GROUPS) (nat_le count MAX_GROUP_BYTES) h in
     (eqb-true start 0 three.0, ltb-true groups MAX_GROUPS three.1, leb-true count MAX_GROUP_BYTES three.2)
 
--- what a group meets that is held
+-- the conditions of an entry for a group that is there
 pub fits_held : (line : Shelf) (groups start count : ℕ) (seals : Bool) → fits (Some line) groups start count seals ≡ true → (start ≡ line.held) × (line.held + count ≤ MAX_GROUP_BYTES)
 fits_held line groups start count seals h =
     let some = and_four (start == line.held) (not line.sealed) (nat_le (line.held + count) MAX_GROUP_BYTES) (seals || nat_lt 0 count) h in
     (eqb-true start line.held some.0, leb-true (line.held + count) MAX_GROUP_BYTES some.2)
 
--- what an entry leaves that fits
+-- the groups after an entry that fits
 pub with_entry-good : (e : Entry) (ks : List Group) → IsGroupName e.group → fits (line_of e.group (shelf ks)) (length ks) e.start (length e.bytes) e.seals ≡ true → IsGood ks → IsGood (with_entry e ks)
 with_entry-good e ks name h good = by_found (group_of e.group ks) refl where
   by_found : (found : Option Group) → group_of e.group ks ≡ found → IsGood (with_entry e ks)
@@ -162,7 +162,7 @@ with_entry-good e ks name h good = by_found (group_of e.group ks) refl where
         short = all-with_group (λ s. s.held ≤ MAX_GROUP_BYTES) (grown e k) ks (omega (arith, length-append k.bytes e.bytes, held.1)) good.short;
       })
 
--- what a frame leaves that is taken
+-- the groups after a frame that is taken
 taken-good : (said : Option Entry) (ks js : List Group) → IsNamed said → taken ks said ≡ Some js → IsGood ks → IsGood js
 taken-good None ks js name h good = absurd cc
 taken-good (Some e) ks js name h good = by_test (fits (line_of e.group (shelf ks)) (length ks) e.start (length e.bytes) e.seals) refl where
@@ -193,7 +193,7 @@ pub content_of-good : (bodies : List (List ℕ)) (groups : List Group) → conte
 content_of-good bodies groups h =
     good_from bodies [] groups (record { named = tt; ascending = tt; few = omega arith; short = tt }) h
 
--- their lines are those of a shelf
+-- the lines of these groups are those of a shelf
 pub lines_of_good : (ks : List Group) → IsGood ks → AreLines (shelf ks)
 lines_of_good ks good = by_lines (shelf ks) good.named good.short good.ascending where
   by_lines : (ls : List Shelf) → AllByRecursion (λ s. IsGroupName s.group) ls → AllByRecursion (λ s. s.held ≤ MAX_GROUP_BYTES) ls → AreLinesAscending ls → AreLines ls

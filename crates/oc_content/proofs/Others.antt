@@ -8,7 +8,7 @@ use Rattle.oc_content.specs.Entries.{Entry}
 use Rattle.oc_content.specs.ContentFile.{grown, with_entry}
 use Rattle.oc_base.proofs.NameOrder.{names_equal, names_tied}
 
--- what is found at another name
+-- the group found at another name
 pub found_other : (g : List ℕ) (k : Group) (ks : List Group) → same_name g k.name ≡ false → group_of g (with_group k ks) ≡ group_of g ks
 found_other g k [] h = rw h
 found_other g k (j ∷ js) h = by_order (found_other g k js h) (slice_cmp nat_cmp k.name j.name) refl where

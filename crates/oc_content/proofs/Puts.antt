@@ -1,4 +1,4 @@
--- What may be put may be appended.
+-- Bytes that may be put may be appended.
 use Rattle.std.proofs.Common.{◌≡◌, ℕ, ◌+◌, ◌-◌, ◌<◌, ◌≤◌, Bool, true, false, ◌&&◌, ◌||◌, not, nat_lt, nat_le, ◌==◌, List, [], length, drop, get_or, Some, None, All, refl, sym, ap, subst, ◌∙◌, arith}
 use Rattle.std.proofs.lemmas.List.{length-drop, get_or_default}
 use Rattle.std.proofs.lemmas.Bool.Decides.{nat_tests}
@@ -17,14 +17,14 @@ use Rattle.oc_content.specs.ContentView.{PieceView, IsReady}
 use Rattle.oc_content.specs.Indexes.{IsWithin, HasGroupRoom, HasTrackRoom}
 use Rattle.oc_content.proofs.Lines.{stands_within, goes_within, line_of-stands, line_of-goes}
 
--- what is not refused
+-- the conditions under which bytes are not refused
 pub record IsAllowed (s : GroupState) (start count : ℕ) : Type 0 where
   pub behind : start ≤ s.held
   pub unsealed : s.sealed ≡ true → start + count ≤ s.held
   pub few : s.one_too_many ≡ false
   pub short : start + count ≤ MAX_GROUP_BYTES
 
--- what has no cause to be refused
+-- bytes without a reason to refuse them are allowed
 pub allowed : (s : GroupState) (start count : ℕ) → fault_of s start count ≡ None → IsAllowed s start count
 allowed s start count h = by_tests (nat_lt s.held start) s.sealed (nat_lt s.held (start + count)) s.one_too_many (nat_lt MAX_GROUP_BYTES (start + count)) refl refl refl refl refl where
   not_less : (a b : ℕ) → nat_lt a b ≡ false → b ≤ a
@@ -50,7 +50,7 @@ allowed s start count h = by_tests (nat_lt s.held start) s.sealed (nat_lt s.held
     short = not_less MAX_GROUP_BYTES (start + count) pe;
   }
 
--- what is put to a group that is there may follow it, if it adds anything
+-- bytes put to a group that is there fit after it, if they add anything
 fits_there : (line : Shelf) (groups start : ℕ) (bytes : List ℕ) (last : Bool) (name : List ℕ) → line.held ≤ MAX_GROUP_BYTES → IsAllowed (group_state (Some line) groups) start (length bytes) → (nat_lt 0 (length (drop (line.held - start) bytes)) || (last && not line.sealed && nat_le line.held (start + length bytes))) ≡ true → fits (Some line) groups line.held (length (drop (line.held - start) bytes)) (last && not line.sealed && nat_le line.held (start + length bytes)) ≡ true
 fits_there line groups start bytes last name held ok adds = by_seal line.sealed refl where
   len : length (drop (line.held - start) bytes) ≡ length bytes - (line.held - start)
@@ -89,7 +89,7 @@ fits_there line groups start bytes last name held ok adds = by_seal line.sealed 
       let unsealed : not line.sealed ≡ true = ap not e in
       all_four (line.held == line.held) (not line.sealed) (nat_le (line.held + length (drop (line.held - start) bytes)) MAX_GROUP_BYTES) _ (same line.held) unsealed within more
 
--- and to a new group
+-- bytes put to a new group fit
 fits_first : (groups start : ℕ) (bytes : List ℕ) (seals : Bool) → IsAllowed (group_state None groups) start (length bytes) → fits None groups 0 (length (drop (0 - start) bytes)) seals ≡ true
 fits_first groups start bytes seals ok = all_three (0 == 0) (nat_lt groups MAX_GROUPS) (nat_le (length (drop (0 - start) bytes)) MAX_GROUP_BYTES) refl few within where
   few : nat_lt groups MAX_GROUPS ≡ true
@@ -101,7 +101,7 @@ fits_first groups start bytes seals ok = all_three (0 == 0) (nat_lt groups MAX_G
   all_three : (a b c : Bool) → a ≡ true → b ≡ true → c ≡ true → (a && b && c) ≡ true
   all_three a b c p q r = rw (p, q, r)
 
--- what is put may follow what is held, if it adds anything
+-- bytes that are put fit after the present content, if they add anything
 pub put_fits : (ss : List Shelf) (name : List ℕ) (place : Lookup) (start : ℕ) (bytes : List ℕ) (last : Bool) → All (λ s. s.held ≤ MAX_GROUP_BYTES) ss → LooksUpLine ss name place → fault_of (group_state_in ss name) start (length bytes) ≡ None → (is_free place || nat_lt 0 (length (put_entry (group_state_in ss name) name start bytes last).bytes) || (put_entry (group_state_in ss name) name start bytes last).seals) ≡ true → fits (line_of name ss) (length ss) (put_entry (group_state_in ss name) name start bytes last).start (length (put_entry (group_state_in ss name) name start bytes last).bytes) (put_entry (group_state_in ss name) name start bytes last).seals ≡ true
 put_fits ss name (Found i) start bytes last short at none adds =
     let d : Shelf = record { group = []; held = 0; sealed = false } in
@@ -144,7 +144,7 @@ state_short ss name (Free i) short at =
     let absent : line_of name ss ≡ None = line_of-goes ss name i at in
     rw absent (omega arith)
 
--- what was put is ready
+-- a piece that was put is ready
 pub ready_put : (ss : List Shelf) (rs : List ℕ) (memory spare : ℕ) (p : PieceView) (name : List ℕ) (start : ℕ) (bytes : List ℕ) (last : Bool) → All (λ s. s.held ≤ MAX_GROUP_BYTES) ss → LooksUpLine ss name p.place → fault_of (group_state_in ss name) start (length bytes) ≡ None → p.entry ≡ put_entry (group_state_in ss name) name start bytes last → HasTrackRoom rs p.room p.place → HasGroupRoom (length ss) memory p.place → 0 < spare → IsReady ss rs memory spare p
 ready_put ss rs memory spare p name start bytes last short at none is room groups some = record {
   place = subst (λ (e : Entry). LooksUpLine ss e.group p.place) (sym is) at;

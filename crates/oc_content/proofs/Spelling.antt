@@ -1,4 +1,4 @@
--- Bodies, and what is read in them.
+-- Bodies, and the entries read from them.
 use Rattle.std.proofs.Common.{◌≡◌, ℕ, zero, suc, ◌+◌, ◌-◌, ◌<◌, ◌≤◌, ◌^◌, Bool, true, false, List, ◌∷◌, ◌++◌, length, take, drop, Option, Some, None, Ok, nat_lt, ◌==◌, refl, sym, ap, ◌∙◌, arith}
 use Rattle.std.specs.Int.{w64, from_be_bytes, to_be_bytes}
 use Rattle.std.proofs.lemmas.List.{drop-drop, length-append, take_at, drop_at, append_assoc}
@@ -67,7 +67,7 @@ name_length name is = by_short (nat_lt (length name) 2) (nat_lt 200 (length name
   by_short false true e f = let fault : Some NameLength ≡ None = rw (e, f) at is in absurd cc
   by_short false false e f = (not_less (length name) 2 e, not_less 200 (length name) f)
 
--- what a body says that was written
+-- the entry of a body that was written
 pub entry_of-written : (e : Entry) → IsGroupName e.group → e.start < 2 ^ 64 → entry_of (written e) ≡ Some e
 entry_of-written e is small = by_mark e.seals where
   rest : List ℕ
@@ -109,7 +109,7 @@ entry_of-written e is small = by_mark e.seals where
       let other : (n == 0) ≡ false = not_zero n (name_length e.group is).0 in
       rw other (ap (λ (l : List ℕ). fields false (n ∷ l)) plain ∙ read false)
 
--- its bytes
+-- the bytes of a body that was written
 pub bytes_at-written : (h : Heading) (bytes : List ℕ) → h.skip ≡ length (heading h.seals h.group h.start) → drop h.skip (heading h.seals h.group h.start ++ bytes) ≡ bytes
 bytes_at-written h bytes skip = drop_at (heading h.seals h.group h.start) bytes h.skip (sym skip)
 

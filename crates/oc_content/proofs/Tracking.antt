@@ -15,7 +15,7 @@ use Rattle.oc_content.specs.Indexes.{changed, bytes_at, IsSpan, AreSpans, IsTrac
 bytes_at-more : (bodies : List (List ℕ)) (body : List ℕ) (s : Span) → s.frame < length bodies → bytes_at (bodies ++ body ∷ []) s ≡ bytes_at bodies s
 bytes_at-more bodies body s h = ap (drop s.skip) (get_or_append_left bodies (body ∷ []) [] s.frame h)
 
--- and so does what it is
+-- a span keeps its properties with one more body
 IsSpan-more : (bodies : List (List ℕ)) (body group : List ℕ) (at : ℕ) (s : Span) → IsSpan bodies group at s → IsSpan (bodies ++ body ∷ []) group at s
 IsSpan-more bodies body group at s is =
     let same = get_or_append_left bodies (body ∷ []) [] s.frame is.within in

@@ -30,11 +30,11 @@ use Rattle.oc_content.specs.declared.errors.ReadError.TheVariants.{NoGroup, Disk
 use Rattle.oc_content.proofs.Locating.{group_at, held_of-stands}
 use Rattle.oc_content.proofs.Others.{with_entry-others}
 
--- it is within the limits
+-- the index is within the limits
 pub IsIndexed-sized : {D : Type 0} (view : D → DiskView) (j : JournalView D) (x : Index) → IsIndexed view j x → IsSized x
 IsIndexed-sized view j x is = IsSized-good is.bodies is.groups x (view j.disk).honest is.is
 
--- its lines are a shelf
+-- the lines of the index are a shelf
 pub IsIndexed-shelf : {D : Type 0} (view : D → DiskView) (j : JournalView D) (x : Index) → IsIndexed view j x → IsShelf x.shelves.items
 IsIndexed-shelf view j x is =
     let good = content_of-good is.bodies is.groups is.is.content in
@@ -44,7 +44,7 @@ IsIndexed-shelf view j x is =
 pub good_frames : {D : Type 0} (view : D → DiskView) (j : JournalView D) (x : Index) (is : IsIndexed view j x) → IsTrue (view j.disk).honest → content_of j.frames ≡ Some is.groups
 good_frames view j x is honest = ap content_of (is.frames honest) ∙ is.is.content
 
--- and the groups are these
+-- the groups of the frames are these
 pub groups_are : {D : Type 0} (view : D → DiskView) (j : JournalView D) (x : Index) (is : IsIndexed view j x) → IsTrue (view j.disk).honest → groups_in j.frames ≡ is.groups
 groups_are view j x is honest = ap (λ (c : Option (List Group)). unwrap_or c []) (good_frames view j x is honest)
 
@@ -64,7 +64,7 @@ held_is groups g n h = by_found (group_of g groups) refl where
       let same : length k.bytes ≡ n = cc in
       sym same ∙ ap (λ (f : Option Group). length (or_empty g f).bytes) (sym e)
 
--- and the length of a group
+-- the number of bytes of a group is its length
 pub held_bytes : {D : Type 0} (view : D → DiskView) (j : JournalView D) (x : Index) (g : List ℕ) (n : ℕ) → IsIndexed view j x → IsTrue (view j.disk).honest → held_of g x.shelves.items ≡ Some n → n ≡ length (bytes_in g j.frames)
 held_bytes view j x g n is honest h =
     held_is is.groups g n (ap (held_of g) (sym is.is.lines) ∙ h) ∙ ap (λ (ks : List Group). length (bytes_of g ks)) (sym (groups_are view j x is honest))
@@ -88,7 +88,7 @@ pub IsIndexed-same : {D : Type 0} (view : D → DiskView) (j k : JournalView D) 
 IsIndexed-same view j k x is honest frames =
     IsIndexed-kept view j k x x is honest frames (record { lines = refl; tracks = record { paths = refl; rooms = λ i. omega arith }; memory = omega arith })
 
--- and what is seen of the content then
+-- the view of the content then
 pub PutsNothing-by : {D : Type 0} (view : D → DiskView) (j k : JournalView D) (x y : Index) → OnlyReads view j k → OnlyReserves x y → PutsNothing view (content_with j x) (content_with k y)
 PutsNothing-by view j k x y reads keeps = record {
   journal = reads;
@@ -97,7 +97,7 @@ PutsNothing-by view j k x y reads keeps = record {
   memory = keeps.memory;
 }
 
--- what adding an entry says of the index
+-- the effect of adding an entry on the index
 abbrev pub Puts : List ℕ → Entry → ℕ → Index → Index → Type 0
 Puts body e number x y = (bodies : List (List ℕ)) (groups : List Group) (honest : Bool) → IsIndexOf bodies groups x honest → (IsTrue honest → number ≡ length bodies) → IsIndexOf (bodies ++ body ∷ []) (with_entry e groups) y honest
 
@@ -123,7 +123,7 @@ pub others_stay : (frames : List (List ℕ)) (groups : List Group) (e : Entry) �
 others_stay frames groups e content = λ name other.
     ap (λ (c : Option (List Group)). group_of name (unwrap_or c [])) content ∙ with_entry-others e groups name other
 
--- what is left of a put that was stopped
+-- the content after a put that was stopped
 pub content_stopped : (calls image : ℕ) (frames : List (List ℕ)) (body : List ℕ) (groups : List Group) (e : Entry) (left : List (List ℕ)) → left ≡ frames_after calls image frames body → content_of frames ≡ Some groups → content_of (frames ++ body ∷ []) ≡ Some (with_entry e groups) → content_of left ≡ Some (groups_after calls image groups e)
 content_stopped calls image frames body groups e left is old new = ap content_of is ∙ by_kept (is_kept_new calls image) refl where
   by_kept : (b : Bool) → is_kept_new calls image ≡ b → content_of (frames_after calls image frames body) ≡ Some (groups_after calls image groups e)
@@ -139,17 +139,17 @@ read_nothing most start bytes past =
       none zero = refl
       none (suc n) = refl
 
--- what is found begins within its first span
+-- the byte that is found is within the first span
 pub begins_rest : (bodies : List (List ℕ)) (k : Group) (start : ℕ) (spans : List Span) (skip : ℕ) → IsRest bodies k start spans skip → BeginsWithin bodies skip spans
 begins_rest bodies k start spans skip rest =
     subst (λ (ss : List Span). BeginsWithin bodies skip ss) (sym rest.are) (omega (arith, rest.here))
 
--- what is held of a group is its length
+-- the number of bytes of a group in the index is its length
 pub held_some : {D : Type 0} (view : D → DiskView) (j : JournalView D) (x : Index) (g : List ℕ) (r : Option ℕ) → IsIndexed view j x → r ≡ held_of g x.shelves.items → IfSome r (λ n. IsTrue (view j.disk).honest → n ≡ length (bytes_in g j.frames))
 held_some view j x g None is e = tt
 held_some view j x g (Some n) is e = λ honest. held_bytes view j x g n is honest (sym e)
 
--- what the index says of a spot, of the journal
+-- a spot in the index is one in the journal
 abbrev pub Spots : Index → List ℕ → ℕ → Option Spot → Type 0
 Spots x g start r = (bodies : List (List ℕ)) (groups : List Group) → IsIndexOf bodies groups x true → MatchOption r (¬ IsHeldAt g x.shelves.items start) (λ s. IsSpot bodies g start s)
 
@@ -173,7 +173,7 @@ pub spot_some : {D : Type 0} (view : D → DiskView) (j : JournalView D) (x : In
 spot_some view j x g start r is spots honest =
     on_some r (¬ IsHeldAt g x.shelves.items start) (λ s. IsSpot j.frames g start s) (spots_at view j x g start r is spots honest)
 
--- what the index says of a byte that is looked for at a place
+-- the result of the index for a byte at a place
 abbrev pub Finds : Index → ℕ → ℕ → Option (List Span × ℕ) → Type 0
 Finds x at start r = (bodies : List (List ℕ)) (k : Group) → IsTracked bodies k (get_or (paths x.tracks.items) at []) → length k.bytes ≡ get_or (helds x.shelves.items) at 0 → MatchOption r (length k.bytes ≤ start) (λ rest. IsRest bodies k start rest.0 rest.1)
 
@@ -227,7 +227,7 @@ stands_there ss g at stands none =
     let some : Some (get_or (helds ss) at 0) ≡ None = sym (held_of-stands ss g at stands) ∙ none in
     absurd cc
 
--- what a frame makes of the content whose entry fits
+-- the content after a frame whose entry fits
 pub content_next : {D : Type 0} (view : D → DiskView) (j : JournalView D) (x : Index) (body : List ℕ) (e : Entry) → IsIndexed view j x → IsTrue (view j.disk).honest → entry_of body ≡ Some e → fits (line_of e.group x.shelves.items) (length x.shelves.items) e.start (length e.bytes) e.seals ≡ true → content_of (j.frames ++ body ∷ []) ≡ Some (with_entry e (groups_in j.frames))
 content_next view j x body e is honest says fit =
     let groups = is.groups in

@@ -6,25 +6,25 @@ use Rattle.oc_base.specs.Groups.{group_or_empty}
 use Rattle.oc_content.specs.ContentFile.{groups_in}
 use Rattle.oc_content.specs.Entries.{Entry, entry_of}
 
--- whether an entry is one of this group
+-- whether an entry belongs to this group
 abbrev pub is_entry_for : List ℕ → Option Entry → Bool
 is_entry_for g None = false
 is_entry_for g (Some e) = same_name g e.group
 
--- whether a body is for this group
+-- whether a body belongs to this group
 abbrev pub is_for : List ℕ → List ℕ → Bool
 is_for g body = is_entry_for g (entry_of body)
 
--- the bytes of an entry of this group, and none of another
+-- the bytes of an entry of this group; no bytes for another group
 abbrev pub entry_piece : List ℕ → Option Entry → List ℕ
 entry_piece g None = []
 entry_piece g (Some e) = if same_name g e.group then e.bytes else []
 
--- the piece for this group in a body
+-- the bytes for this group in a body
 abbrev pub piece_for : List ℕ → List ℕ → List ℕ
 piece_for g body = entry_piece g (entry_of body)
 
--- the pieces for this group, one after the other
+-- the bytes for this group in all bodies, in order
 abbrev pub pieces_for : List ℕ → List (List ℕ) → List ℕ
 pieces_for g bodies = flat_map (piece_for g) bodies
 
@@ -33,7 +33,7 @@ abbrev pub begins_with_zero : List ℕ → Bool
 begins_with_zero [] = false
 begins_with_zero (b ∷ rest) = b == 0
 
--- whether a body is for this group and begins with the byte 0
+-- whether a body belongs to this group and begins with the byte 0
 abbrev pub seals_for : List ℕ → List ℕ → Bool
 seals_for g body = is_for g body && begins_with_zero body
 

@@ -1,18 +1,18 @@
--- A heading that was read, and the body after it.
+-- Headings, and the bodies after them.
 use Rattle.std.specs.Prelude.{◌≡◌, ℕ, ◌+◌, ◌-◌, ◌<◌, ◌≤◌, Option, None, Some, List, drop, length}
 use Rattle.oc_content.specs.declared.heading.Heading.{Heading}
 use Rattle.oc_content.specs.Entries.{Entry}
 
--- what a body with this heading says
+-- the entry of a body with this heading
 abbrev pub entry_at : Heading → List ℕ → Entry
 entry_at h body = record { group = h.group; start = h.start; bytes = drop h.skip body; seals = h.seals }
 
--- what a body says, by the heading that was read
+-- the entry of a body, by the heading that was read
 abbrev pub IsBehind : Option Heading → List ℕ → Option Entry → Type 0
 IsBehind None body said = said ≡ None
 IsBehind (Some h) body said = said ≡ Some (entry_at h body)
 
--- the same for the fields, which come after `before` bytes in the body
+-- the same for fields that come after `before` bytes of the body
 abbrev pub IsHeadingOf : ℕ → List ℕ → Option Heading → Option Entry → Type 0
 IsHeadingOf before bytes None said = said ≡ None
 IsHeadingOf before bytes (Some h) said =

@@ -1,4 +1,4 @@
--- What the calls of a content log promise.
+-- The promises of the calls of a content log.
 use Rattle.std.specs.Prelude.{◌≡◌, ℕ, ◌+◌, ◌≤◌, Bool, IsTrue, List, length, get_or, Some}
 use Rattle.oc_io.specs.DiskView.{DiskView, FailsToRead}
 use Rattle.oc_journal.specs.JournalFile.{IsNoJournal}
@@ -13,12 +13,12 @@ use Rattle.oc_content.specs.Putting.{group_state_in, put_entry}
 
 -- Loading
 
--- the content of a disk: its journal is loaded, all frames are good, and the lines tell their groups
+-- the content of a disk: its journal is loaded, all frames are good, and the lines are those of their groups
 pub record IsContentOf {D : Type 0} (view : D → DiskView) (disk : D) (new : ContentView D) : Type 0 where
   pub journal : IsLoaded view disk new.journal
   pub shelved : IsTrue (view disk).honest → IsShelved new.journal.frames new.shelves
 
--- why a disk was not loaded: a call failed, its file is no journal, or this is its first bad frame
+-- the reason why a disk was not loaded: a failed call, a file that is no journal, or the first bad frame
 abbrev pub RefusesContent : DiskView → DiskView → FileError → Type 0
 RefusesContent old new Disk = FailsToRead old new
 RefusesContent old new NotJournal = IsTrue old.honest → IsNoJournal old.seen
@@ -27,14 +27,14 @@ RefusesContent old new Memory = Unit {0}
 
 -- Putting
 
--- a call that put nothing: the groups are as they were, and all memory is still there
+-- a call that put nothing: the groups and all memory are unchanged
 pub record PutsNothing {D : Type 0} (view : D → DiskView) (old new : ContentView D) : Type 0 where
   pub journal : OnlyReads view old.journal new.journal
   pub shelves : new.shelves ≡ old.shelves
   pub rooms : (i : ℕ) → get_or old.rooms i 0 ≤ get_or new.rooms i 0
   pub memory : old.memory ≤ new.memory
 
--- the piece of these bytes from an offset of a group on, with its seal where they are the last, which can be committed
+-- the piece of these bytes from an offset of a group on, with the seal if they are the last; it can be committed
 pub record Prepares {D : Type 0} (view : D → DiskView) (group : List ℕ) (start : ℕ) (bytes : List ℕ) (last : Bool) (old new : ContentView D) (piece : PieceView) : Type 0 where
   pub entry : piece.entry ≡ put_entry (group_state_in old.shelves group) group start bytes last
   pub body : piece.body ≡ written piece.entry
@@ -43,7 +43,7 @@ pub record Prepares {D : Type 0} (view : D → DiskView) (group : List ℕ) (sta
 
 -- Committing
 
--- a piece was added to its group, which has this many bytes then, and nothing else; no memory was taken but what was prepared
+-- a piece was added to its group, which then has this number of bytes, and all else is unchanged; only prepared memory was used
 pub record Commits {D : Type 0} (view : D → DiskView) (piece : PieceView) (held : ℕ) (old new : ContentView D) : Type 0 where
   pub held_is : held ≡ piece.entry.start + length piece.entry.bytes
   pub content : IsTrue (view old.journal.disk).honest → content_of new.journal.frames ≡ Some (with_entry piece.entry (groups_in old.journal.frames))

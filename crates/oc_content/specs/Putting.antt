@@ -1,4 +1,4 @@
--- What is refused, and what is added, where bytes are put to a group from a place on.
+-- The refusals and the effect of bytes put to a group from an offset on.
 use Rattle.std.specs.Prelude.{ℕ, ◌+◌, ◌-◌, Bool, ◌&&◌, not, nat_lt, nat_le, if◌then◌else◌, Option, Some, None, List, length, drop}
 use Rattle.oc_base.specs.declared.shelf.Shelf.{Shelf}
 use Rattle.oc_content.specs.declared.errors.PutError.{PutError}
@@ -9,11 +9,11 @@ use Rattle.oc_base.specs.Shelves.{line_of}
 use Rattle.oc_base.specs.declared.limits.TheConstants.{MAX_GROUP_BYTES}
 use Rattle.oc_content.specs.Entries.{Entry}
 
--- what is known of the group of this name among these lines
+-- the state of the group of this name, by these lines
 abbrev pub group_state_in : List Shelf → List ℕ → GroupState
 group_state_in shelves group = group_state (line_of group shelves) (length shelves)
 
--- the first cause that refuses `count` bytes from a place on
+-- the first reason to refuse `count` bytes from an offset on
 abbrev pub fault_of : GroupState → ℕ → ℕ → Option PutError
 fault_of s start count =
     if nat_lt s.held start then Some (Gap s.held)
@@ -22,7 +22,7 @@ fault_of s start count =
     else if nat_lt MAX_GROUP_BYTES (start + count) then Some TooLong
     else None
 
--- the bytes past those held; and the seal where they are the last, reach the end of what is held, and the group is not sealed
+-- the bytes past those that the group has; and the seal if they are the last, reach the group's end, and the group is not sealed
 abbrev pub put_entry : GroupState → List ℕ → ℕ → List ℕ → Bool → Entry
 put_entry s group start bytes last = record {
   group = group;

@@ -5,11 +5,11 @@ use Rattle.std.specs.List.Sorted.{IsNonDecreasingBy}
 use Rattle.oc_content.specs.declared.track.Span.{Span}
 use Rattle.oc_content.specs.declared.track.Track.{Track}
 
--- for how many more spans a track has memory
+-- the number of further spans for which a track has memory
 abbrev pub room_of : Track → ℕ
 room_of t = vec_capacity t.spans - vec_len t.spans
 
--- the last of the ascending spans that begins at this byte or before it; none where each begins after it
+-- the last of the ascending spans that begins at this byte or before it; none if each begins after it
 abbrev pub IsLastBefore : List Span → ℕ → Option ℕ → Type 0
 IsLastBefore spans start None = IsNonDecreasingBy (λ s. s.start) spans → AllWithin (λ s. start < s.start) spans 0 (length spans)
 IsLastBefore spans start (Some i) =

@@ -1,4 +1,4 @@
-//! Bytes of a group that are read before they are asked for.
+//! Reading ahead: bytes of a group that are read before a fetch asks for them.
 
 ghost use Rattle.std.specs.Prelude.{◌≡◌, ◌-◌, ◌↔◌, None, Some, IsTrue, IsErrOf, IsOk, IfSome, IfOk, IfErr, OnOk, OnErr, MatchOption, length, take, drop};
 ghost use Rattle.oc_base.specs.Shelves.{AreLinesAscending, held_of};
@@ -15,7 +15,7 @@ use oc_io::{Disk, Failed};
 use oc_journal::Journal;
 use std::alloc::Global;
 
-/// Bytes of a group: `count` from an offset on.
+/// A range of bytes of a group: `count` bytes from an offset on.
 #[derive(Clone, Copy)]
 pub struct Stretch {
     pub group: GroupName,
@@ -23,7 +23,7 @@ pub struct Stretch {
     pub count: usize,
 }
 
-/// Bytes of a group from an offset on, as they were read.
+/// Bytes of a group from an offset on, in memory.
 #[derive(Drop)]
 pub struct Chunk {
     pub group: GroupName,
@@ -31,19 +31,19 @@ pub struct Chunk {
     pub bytes: Vec<u8>,
 }
 
-/// What is read of a group before it is asked for.
+/// The state of reading ahead.
 #[derive(Drop)]
 pub struct Ahead {
-    /// What was read and not asked for since.
+    /// The bytes that were read ahead and not fetched since.
     pub chunk: Option<Chunk>,
-    /// What comes right after the bytes that were asked for last, as many again.
+    /// The range right after the last fetch, of the same length.
     next: Option<Stretch>,
-    /// Whether it is worth a read: those bytes, too, came right after the ones before them.
+    /// Whether it is worth a read: the last fetch, too, came right after the one before.
     likely: bool,
 }
 
 impl Stretch {
-    /// As many bytes again, right after these.
+    /// The range right after this one, of the same length.
     fn next(&self) -> Stretch {
         Stretch {
             group: self.group,
@@ -52,7 +52,7 @@ impl Stretch {
         }
     }
 
-    /// Whether all of them are held.
+    /// Whether the group has all bytes of the range.
     fn is_held(&self, index: &Index) -> bool
         requires { AreLinesAscending index.now.shelves.items }
         ensures { IsTrue result → AreHeld index.now.shelves.items self.now }
@@ -65,7 +65,7 @@ impl Stretch {
 }
 
 impl Ahead {
-    /// Nothing was read or asked for.
+    /// The state before the first fetch.
     pub fn new() -> Ahead
         ensures { result.chunk ≡ None }
     {
@@ -76,7 +76,7 @@ impl Ahead {
         }
     }
 
-    /// Notes that these bytes are asked for, and hands them out if they are exactly those that were read.
+    /// Notes a fetch of this range, and hands out the bytes if exactly this range was read ahead.
     fn take(&mut self, asked: &Stretch) -> Option<Vec<u8>>
         ensures taken { IfSome result (λ bytes. self.old.chunk
             ≡ Some (record { group = asked.now.group; start = asked.now.start; bytes = bytes })) }
@@ -91,7 +91,7 @@ impl Ahead {
         Some(chunk.bytes)
     }
 
-    /// Notes that these bytes are asked for.
+    /// Notes a fetch of this range.
     fn note(&mut self, asked: &Stretch)
         ensures { self.new.chunk ≡ self.old.chunk }
     {
@@ -102,7 +102,7 @@ impl Ahead {
         self.next = Some(asked.next());
     }
 
-    /// Whether what was read are exactly these bytes.
+    /// Whether exactly this range was read ahead.
     fn has(&self, asked: &Stretch) -> bool
         ensures { IsTrue result → IfSome self.now.chunk (λ chunk. (chunk.group ≡ asked.now.group)
             × (chunk.start ≡ asked.now.start) × (length chunk.bytes.items ≡ asked.now.count)) }
@@ -117,8 +117,8 @@ impl Ahead {
         }
     }
 
-    /// What is worth a read, if all of it is held already. It is told once: who follows a group that still grows asks
-    /// for whatever there is by then.
+    /// The range that is worth a read, if the group has all of its bytes. It is told once: a reader that follows a
+    /// growing group fetches as many bytes as there are at that moment.
     fn wanted(&mut self, index: &Index) -> Option<Stretch>
         requires { AreLinesAscending index.now.shelves.items }
         ensures there { IfSome result (λ wanted. AreHeld index.now.shelves.items wanted) }
@@ -131,7 +131,7 @@ impl Ahead {
     }
 }
 
-/// Hands out bytes of a group in a buffer of their own: those that were read ahead, or else by a read.
+/// Hands out bytes of a group in a buffer of their own: those that were read ahead, or those of a new read.
 pub fn fetch<D: Disk>(
     alloc: Global,
     journal: &mut Journal<D>,
@@ -160,7 +160,7 @@ pub fn fetch<D: Disk>(
     }
 }
 
-/// Reads what is worth it before it is asked for.
+/// Reads the range that the next fetch is likely to ask for.
 pub fn read_ahead<D: Disk>(
     alloc: Global,
     journal: &mut Journal<D>,
@@ -187,7 +187,7 @@ pub fn read_ahead<D: Disk>(
             Ok(())
         }
         Err(FetchError::Disk) => Err(Failed),
-        // It is read once it is asked for, if there is the memory then.
+        // The next fetch reads the range, if there is memory then.
         Err(FetchError::Memory | FetchError::NoGroup) => Ok(()),
     }
 }

@@ -1,4 +1,4 @@
-//! Appending what was prepared.
+//! Appending a prepared piece.
 
 ghost use Rattle.std.specs.Prelude.{◌≡◌, ◌≢◌, ◌↔◌, ◌+◌, ◌<◌, false, length, IsTrue, IsOk, IsErrOf, OnErr, IfOk, IfErr};
 ghost use Rattle.oc_io.specs.DiskView.{CannotFail};
@@ -11,7 +11,7 @@ use crate::piece::Piece;
 use oc_io::Disk;
 use oc_journal::{AppendError, Journal};
 
-/// Appends a piece to the journal, and where that works adds it to the index.
+/// Appends a piece to the journal, and on success adds it to the index.
 pub fn append<D: Disk>(
     journal: &mut Journal<D>,
     index: &mut Index,

@@ -28,8 +28,8 @@ use oc_journal::{AppendError, FileError, Journal};
 use std::alloc::Global;
 use std::marker::Model;
 
-/// Groups of bytes in the frames of a journal. A contract sees its journal, the line of each group,
-/// for how many more frames of each group its index has memory, and for how many groups.
+/// The content log: groups of bytes in the frames of a journal. A contract sees its journal, the line of
+/// each group, and the numbers of further frames of each group and of further groups for which it has memory.
 #[derive(Drop)]
 pub struct Content<D: Disk> {
     journal: Journal<D>,
@@ -49,10 +49,10 @@ impl<D: Disk> Model for Content<D> {
 }
 
 impl<D: Disk> Content<D> {
-    /// Loads the content of a disk. A file of at most 9 bytes is new, and its header is written. On
-    /// a refusal the disk comes back. A bad frame is one that is no content body, that does not begin
-    /// where its group ends or adds nothing to it, that would be a 65th group or pass 2^40 bytes, or
-    /// whose group is sealed.
+    /// Loads the content of a disk. A file of at most 9 bytes is new, and gets its header. On a refusal the
+    /// disk comes back. A frame is bad if it is no content body, does not begin where its group ends or
+    /// adds nothing to it, would be a 65th group or take its group past 2^40 bytes, or if its group is
+    /// sealed.
     pub fn load(alloc: Global, disk: D) -> Result<Content<D>, (D, FileError)>
         ensures loaded { IfOk result (λ content. IsContentOf D.view disk content) }
         ensures safely { IfOk result (λ content. LoadsSafely (D.view disk) (D.view content.journal.disk)) }
@@ -79,25 +79,25 @@ impl<D: Disk> Content<D> {
         ensures few { length self.now.shelves ≤ MAX_GROUPS }
         ensures short { All (λ s. s.held ≤ MAX_GROUP_BYTES) self.now.shelves }
 
-        // They tell the content of the frames.
+        // The lines are those of the groups in the frames.
         ensures content { IsTrue (D.view self.now.journal.disk).honest
             → IsShelved self.now.journal.frames self.now.shelves }
     {
         &self.index.shelves
     }
 
-    /// How many bytes of a group are held. It takes no memory.
+    /// The number of bytes of a group. It takes no memory.
     pub fn held(&self, group: &GroupName) -> Option<u64>
         ensures held { result ≡ held_of group.now self.now.shelves }
 
-        // It is the length of the group's bytes.
+        // The number is the length of the group's bytes.
         ensures bytes { IfSome result (λ held. IsTrue (D.view self.now.journal.disk).honest
             → held ≡ length (bytes_in group.now self.now.journal.frames)) }
     {
         self.index.held(group)
     }
 
-    /// The frame that holds a byte of a group, and the offset in its bytes. It takes no memory.
+    /// The frame with a byte of a group, and the offset of the byte in the frame's bytes. It takes no memory.
     pub fn spot(&self, group: &GroupName, start: u64) -> Option<Spot>
         ensures held { IfSome result (λ _. IsHeldAt group.now self.now.shelves start) }
         ensures none { IsTrue (D.view self.now.journal.disk).honest
@@ -108,8 +108,8 @@ impl<D: Disk> Content<D> {
         self.index.spot(group, start)
     }
 
-    /// Makes ready bytes of a group, and takes all memory for them. Bytes that are
-    /// held already are left out. On a refusal nothing is put.
+    /// Prepares bytes of a group, and takes all memory for them. Bytes that the group has already are left
+    /// out. After a refusal the content is unchanged.
     pub fn prepare(&mut self, alloc: Global, added: &NewBytes<'_>) -> Result<Piece, PutError>
         requires name { IsGroupName added.now.group.now }
         requires few { length added.now.bytes.now ≤ MAX_PUBLISH_BYTES }
@@ -118,7 +118,7 @@ impl<D: Disk> Content<D> {
         ensures same { PutsNothing D.view self.old self.new }
         ensures none_failed { NoneFailed D.view self.old.journal self.new.journal }
 
-        // When it refuses.
+        // The refusals.
         ensures fault { IfErr result (λ error. error ≢ PutError.Memory
             → fault_of (group_state_in self.old.shelves added.now.group.now) added.now.start (length added.now.bytes.now) ≡ Some error) }
         ensures none { OnOk result
@@ -127,19 +127,19 @@ impl<D: Disk> Content<D> {
         ready(alloc, &mut self.journal, &mut self.index, added)
     }
 
-    /// Appends what was prepared, and answers how many bytes of the group are held. It takes no
-    /// memory. After `Disk` each further commit answers `Closed`.
+    /// Appends a prepared piece, and answers the number of bytes of its group. It takes no memory. After
+    /// `Disk` each further commit answers `Closed`.
     pub fn commit(&mut self, piece: Piece) -> Result<u64, AppendError>
         requires prepared { IsPrepared self.old piece }
         requires adds { IsTrue (adds piece) }
         ensures commits { IfOk result (λ held. Commits D.view piece held self.old self.new) }
         ensures safely { AppendsSafely D.view piece.body self.old.journal self.new.journal }
 
-        // The lines tell the content of the frames.
+        // The lines are those of the groups in the frames.
         ensures lines { IsTrue (D.view self.old.journal.disk).honest
             → IsShelved self.new.journal.frames self.new.shelves }
 
-        // When it refuses, and what it leaves then.
+        // The refusals, and the content log after each.
         ensures closed { IsErrOf result AppendError.Closed ↔ IsTrue self.old.journal.closed }
         ensures full { IsErrOf result AppendError.Full
             ↔ ((self.old.journal.closed ≡ false) × IsFullFor (length piece.body) self.old.journal) }
@@ -147,15 +147,15 @@ impl<D: Disk> Content<D> {
         ensures disk { IsErrOf result AppendError.Disk
             → ClosesByCommit D.view piece.body self.old self.new }
 
-        // An open content log on a reliable disk with the room takes it.
+        // On a reliable disk with the room, an open content log takes the piece.
         ensures works { self.old.journal.closed ≡ false
             → CannotFail (length piece.body + 6) 4 (D.view self.old.journal.disk) → IsOk result }
     {
         append(&mut self.journal, &mut self.index, piece)
     }
 
-    /// Reads the bytes of a group from an offset on, as many as fit, and answers how many. It makes
-    /// one read of the disk for each frame that it touches. After `Disk` each commit answers `Closed`.
+    /// Reads the bytes of a group from an offset on, as many as fit, and answers their number. It makes one
+    /// read of the disk for each frame with such bytes. After `Disk` each commit answers `Closed`.
     pub fn read(
         &mut self,
         group: &GroupName,
@@ -172,16 +172,16 @@ impl<D: Disk> Content<D> {
             → NoneFailed D.view self.old.journal self.new.journal }
         ensures same { PutsNothing D.view self.old self.new }
 
-        // On a reliable disk a group that is held is read.
+        // On a reliable disk, the read of a group that is there succeeds.
         ensures works { IsTrue (D.view self.old.journal.disk).reliable
             → IfErr result (λ error. error ≡ ReadError.NoGroup) }
     {
         read_group(&mut self.journal, &self.index, group, start, buf)
     }
 
-    /// Reads `count` bytes of a group from an offset on, into a buffer of their own. It is that long also where the
-    /// group has fewer there; what comes after them says nothing then. Bytes that were read ahead are handed out
-    /// without a read. After `Disk` each commit answers `Closed`.
+    /// Reads `count` bytes of a group from an offset on, into a buffer of their own. The buffer has that length also if
+    /// the group has fewer bytes there; the rest of it then has no meaning. Bytes that were read ahead come without a
+    /// read of the disk. After `Disk` each commit answers `Closed`.
     pub fn fetch(
         &mut self,
         alloc: Global,
@@ -200,7 +200,7 @@ impl<D: Disk> Content<D> {
             → NoneFailed D.view self.old.journal self.new.journal }
         ensures same { PutsNothing D.view self.old self.new }
 
-        // On a reliable disk a group that is held is read, if there is the memory.
+        // On a reliable disk with enough memory, the fetch of a group that is there succeeds.
         ensures works { IsTrue (D.view self.old.journal.disk).reliable
             → IfErr result (λ error. error ≢ FetchError.Disk) }
     {
@@ -218,15 +218,15 @@ impl<D: Disk> Content<D> {
         )
     }
 
-    /// Reads what the next `fetch` is likely to ask for, once: the bytes right after those of the last one, if that,
-    /// too, went on where the one before had ended. It does nothing where there is no memory, or where the group has
-    /// not that many bytes yet. After an error each commit answers `Closed`.
+    /// Reads ahead the range of the next `fetch`, once: the range right after the last one, if that one, too, came
+    /// right after the one before. It does nothing if there is no memory, or if the group has too few bytes yet. After
+    /// an error each commit answers `Closed`.
     pub fn read_ahead(&mut self, alloc: Global) -> Result<(), Failed>
         ensures disk { OnErr result (ClosesByRead D.view self.old.journal self.new.journal) }
         ensures none_failed { OnOk result (NoneFailed D.view self.old.journal self.new.journal) }
         ensures same { PutsNothing D.view self.old self.new }
 
-        // On a reliable disk it works.
+        // On a reliable disk it succeeds.
         ensures works { IsTrue (D.view self.old.journal.disk).reliable → IsOk result }
     {
         ahead::read_ahead(alloc, &mut self.journal, &self.index, &mut self.ahead)
@@ -236,7 +236,7 @@ impl<D: Disk> Content<D> {
     pub fn into_disk(self) -> D
         ensures disk { result ≡ self.journal.disk }
 
-        // While no call failed, every crash leaves a journal with these frames.
+        // Every crash leaves a journal with these frames, unless a call has failed.
         ensures holds { self.journal.closed ≡ false → IsTrue (D.view self.journal.disk).honest
             → HoldsJournal D.view self.journal }
     {
@@ -244,7 +244,7 @@ impl<D: Disk> Content<D> {
     }
 }
 
-/// The content of a journal that was loaded.
+/// The content of a loaded journal.
 fn indexed<D: Disk>(alloc: Global, mut journal: Journal<D>) -> Result<Content<D>, (D, FileError)>
     ensures opened { IfOk result (λ content. IsOpened D.view journal content) }
     ensures stays_err { IfErr result (λ refused. StaysAsItWas (D.view journal.disk) (D.view refused.0)) }
@@ -262,8 +262,8 @@ fn indexed<D: Disk>(alloc: Global, mut journal: Journal<D>) -> Result<Content<D>
 }
 
 impl Content<MemDisk> {
-    /// Makes the four calls of `commit` with a stop after `calls` of them, crashes, and hands back
-    /// what is left. It takes no memory.
+    /// Makes the four calls of `commit` with a stop after `calls` of them, crashes, and hands back the
+    /// disk. It takes no memory.
     pub fn commit_stopped(self, piece: Piece, calls: u8, image: u8) -> MemDisk
         requires prepared { IsPrepared self piece }
         requires adds { IsTrue (adds piece) }
@@ -271,8 +271,8 @@ impl Content<MemDisk> {
         requires open { self.journal.closed ≡ false }
         requires room { CanStop (length piece.body) self.journal }
 
-        // The old content, and the piece exactly after four calls, or after three with an image
-        // that opens the gate. All of it is safe, and nothing is set on the disk.
+        // The old content, and the piece exactly after four calls, or after three with an image that
+        // opens the gate. All bytes are durable, and no failure is set on the disk.
         ensures content { content_of (frames_of result.bytes)
             ≡ Some (groups_after calls image (groups_in self.journal.frames) piece.entry) }
         ensures frames { frames_of result.bytes ≡ frames_after calls image self.journal.frames piece.body }

@@ -1,4 +1,4 @@
-//! What an entry adds to the line of its group.
+//! The change of a group's line by an entry.
 
 ghost use Rattle.std.specs.Prelude.{◌≡◌, ◌+◌, ◌^◌, ◌<◌, ◌≤◌, length, vec_capacity, All};
 ghost use Rattle.oc_base.specs.declared.limits.TheConstants.{MAX_GROUP_BYTES};

@@ -8,16 +8,16 @@ use oc_base::Memory;
 use oc_io::Failed;
 use std::alloc::AllocError;
 
-/// Why bytes were not put; the causes are tested in this order.
+/// Why bytes were not put; of several reasons the first one is answered.
 #[derive(Clone, Copy, Debug, PartialEq, Eq)]
 pub enum PutError {
-    /// They begin past the bytes that are held, whose number is `held`.
+    /// The bytes begin past the end of the group, which has `held` bytes.
     Gap { held: u64 },
-    /// The group is sealed and they end past its end.
+    /// The group is sealed, and the bytes end past its end.
     Sealed,
-    /// The group is new, and 64 are held.
+    /// The group is new, and there are 64 groups already.
     TooManyGroups,
-    /// The group would have more than 2^40 bytes.
+    /// The group would be longer than 2^40 bytes.
     TooLong,
     /// Memory ran out.
     Memory,

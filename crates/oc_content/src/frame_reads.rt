@@ -16,7 +16,7 @@ use oc_base::{GroupName, Lookup, look_up};
 use oc_io::{Disk, Failed};
 use oc_journal::Journal;
 
-/// Reads the bytes of a group from an offset on, as many as fit; answers how many.
+/// Reads the bytes of a group from an offset on, as many as fit; answers their number.
 pub fn read_group<D: Disk>(
     journal: &mut Journal<D>,
     index: &Index,
@@ -42,8 +42,8 @@ pub fn read_group<D: Disk>(
     Ok(read_spans(journal, spans, skip, buf)?)
 }
 
-/// Reads the bytes of these spans from the offset `skip` of the first on, as many as fit, by one
-/// read for each span that it touches; answers how many.
+/// Reads the bytes of these spans from the offset `skip` of the first on, as many as fit, by one read
+/// for each span concerned; answers their number.
 pub fn read_spans<D: Disk>(
     journal: &mut Journal<D>,
     spans: &[Span],
@@ -70,8 +70,8 @@ pub fn read_spans<D: Disk>(
     Ok(count)
 }
 
-/// Reads the bytes of a span from an offset on, after the `count` bytes that are in the buffer;
-/// answers how many are there then.
+/// Reads the bytes of a span from an offset on, after the `count` bytes that are in the buffer; answers
+/// the number of bytes in the buffer then.
 fn read_span<D: Disk>(
     journal: &mut Journal<D>,
     span: &Span,

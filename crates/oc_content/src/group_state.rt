@@ -1,22 +1,22 @@
-//! What is known of a group before bytes are put to it, and what of them is new to it.
+//! The state of a group before bytes are put to it, and the part of the bytes that is new.
 
 ghost use Rattle.std.specs.Prelude.{◌≡◌, None, Some, ℕ, drop};
 ghost use Rattle.oc_content.specs.GroupStates.{group_state};
 
 use oc_base::{MAX_GROUPS, Shelf};
 
-/// What is known of a group: an absent one counts as empty.
+/// The state of a group; an absent one counts as empty.
 #[derive(Clone, Copy)]
 pub struct GroupState {
-    /// Bytes held.
+    /// The number of bytes of the group.
     pub held: u64,
     pub sealed: bool,
-    /// Whether it is new, and there are as many groups as there may be.
+    /// Whether the group is new, although there are 64 groups already.
     pub one_too_many: bool,
 }
 
 impl GroupState {
-    /// What is known of the group of a line.
+    /// The state of the group with this line.
     pub fn of_line(shelf: &Shelf) -> GroupState
         ensures { (groups : ℕ) → result ≡ group_state (Some shelf.now) groups }
     {
@@ -27,7 +27,7 @@ impl GroupState {
         }
     }
 
-    /// What is known of an absent group, where there are `groups` others.
+    /// The state of an absent group beside `groups` others.
     pub fn absent(groups: usize) -> GroupState
         ensures { result ≡ group_state None groups }
     {
@@ -39,7 +39,7 @@ impl GroupState {
     }
 }
 
-/// The bytes after the first `held_of_them`, which are held already.
+/// The bytes after the first `held_of_them`, which the group has already.
 pub fn past(bytes: &[u8], held_of_them: u64) -> &[u8]
     ensures { result.now ≡ drop held_of_them bytes.now }
 {

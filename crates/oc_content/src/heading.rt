@@ -1,4 +1,4 @@
-//! What is before the bytes in the body of a frame.
+//! The heading of a frame's body: the part before the bytes.
 
 ghost use Rattle.std.specs.Prelude.{◌≡◌, ◌+◌, ◌^◌, ◌<◌, ◌≤◌, length, take, IfOk, IfSome};
 ghost use Rattle.std.specs.Int.{w64, from_be_bytes};
@@ -12,7 +12,7 @@ use std::alloc::{AllocError, Global};
 /// The byte that begins a sealed body. No name has this length.
 const SEALED: u8 = 0;
 
-/// What a body says before its bytes.
+/// The heading of a body, which says where its bytes belong.
 #[derive(Clone, Copy)]
 pub struct Heading {
     pub group: GroupName,
@@ -25,8 +25,8 @@ pub struct Heading {
 }
 
 impl Heading {
-    /// The heading of an entry of this group, which has `start` bytes before it, and is sealed after it
-    /// where `seals` is set.
+    /// The heading of an entry of this group, which has `start` bytes before the entry, and is sealed after
+    /// it if `seals` is set.
     pub fn of(group: GroupName, start: u64, seals: bool) -> Heading
         ensures group { result.group ≡ group }
         ensures start { result.start ≡ start }
@@ -57,7 +57,7 @@ impl Heading {
         }
     }
 
-    /// What the body of a frame has before its bytes.
+    /// The bytes of the heading, which come before the bytes of the entry.
     pub fn front(&self, alloc: Global) -> Result<Vec<u8>, AllocError>
         ensures front { IfOk result (λ front. front.items ≡ heading self.now.seals self.now.group self.now.start) }
         ensures short { IfOk result (λ front. length front.items < 512) }
@@ -73,14 +73,14 @@ impl Heading {
     }
 }
 
-/// The length of a name.
+/// The length of a name in bytes.
 fn name_len(name: GroupName) -> u8
     ensures { result ≡ length name }
 {
     name.bytes().len() as u8
 }
 
-/// Reads the length of a name, the name and the start, which follow `before` bytes.
+/// Reads the length of a name, the name and the start, which come after `before` bytes of the body.
 fn read_fields(bytes: &[u8], seals: bool, before: u16) -> Option<Heading>
     requires { before ≤ 1 }
     ensures { IsHeadingOf before bytes.now result (fields seals bytes.now) }
@@ -102,7 +102,7 @@ fn read_fields(bytes: &[u8], seals: bool, before: u16) -> Option<Heading>
     })
 }
 
-/// The number in the first eight bytes.
+/// The big-endian number in the first eight bytes.
 fn start_in(bytes: &[u8]) -> u64
     requires { 8 ≤ length bytes.now }
     ensures { result ≡ from_be_bytes w64 (take 8 bytes.now) }

@@ -1,4 +1,4 @@
-//! The line of each group, and the frames that hold its bytes.
+//! The index: the line of each group, and the frames with its bytes.
 
 ghost use Rattle.std.specs.Prelude.{◌≡◌, ℕ, ◌+◌, ◌-◌, ◌^◌, ◌<◌, ◌≤◌, Bool, [], ◌∷◌, ◌++◌, List, length, vec_capacity, None, Some, true, MatchBool, IsTrue, IfOk, IfSome, MatchOption, OnOk, All, insert, get_or, ◌||◌};
 ghost use Rattle.oc_base.specs.declared.group.Group.{Group};
@@ -26,7 +26,7 @@ pub struct Index {
 }
 
 impl Index {
-    /// No groups, and no memory.
+    /// An empty index, without memory.
     pub fn new(alloc: Global) -> Index
         ensures lines { result.shelves.items ≡ [] }
         ensures tracks { result.tracks.items ≡ [] }
@@ -37,7 +37,7 @@ impl Index {
         }
     }
 
-    /// Adds the frame of the number `frame`, and answers whether it may follow those before it.
+    /// Adds the frame of the number `frame`, and answers whether it is allowed after those before it.
     pub fn take(&mut self, alloc: Global, frame: u64, body: &[u8]) -> Result<bool, AllocError>
         requires { IsSized self.old }
         ensures { IfOk result (λ took. (bodies : List (List ℕ)) (groups : List Group) (honest : Bool)
@@ -59,7 +59,7 @@ impl Index {
         Ok(true)
     }
 
-    /// Whether an entry with `count` bytes may follow what is held.
+    /// Whether an entry with `count` bytes is allowed after the present content.
     fn fits(&self, place: Lookup, heading: &Heading, count: u64) -> bool
         requires { LooksUpLine self.now.shelves.items heading.now.group place }
         ensures { result ≡ fits (line_of heading.now.group self.now.shelves.items)
@@ -71,8 +71,8 @@ impl Index {
         }
     }
 
-    /// Memory for one more span of a group: in its own track, or in the one that is handed out. For a
-    /// new group it is memory for its line and its track too.
+    /// Reserves memory for one more span of a group: in the group's own track, or in the track that is handed
+    /// out. For a new group it also reserves memory for the line and the track.
     pub fn reserve(&mut self, alloc: Global, place: Lookup) -> Result<Track, AllocError>
         requires within { IsWithin place (length self.old.tracks.items) }
         requires rows { length self.old.tracks.items ≡ length self.old.shelves.items }
@@ -94,8 +94,8 @@ impl Index {
         }
     }
 
-    /// Finds a byte of the group at an index: the spans from the one that holds it on, and the offset of
-    /// the byte among those of the first.
+    /// Finds a byte of the group at an index: the spans from the one with the byte on, and the offset of the
+    /// byte in the first of them.
     pub fn find(&self, at: usize, start: u64) -> Option<(&[Span], u64)>
         requires within { at < length self.now.shelves.items }
         requires rows { length self.now.tracks.items ≡ length self.now.shelves.items }
@@ -116,7 +116,7 @@ impl Index {
         Some((&spans[found.span..], found.skip))
     }
 
-    /// How many bytes of a group are held.
+    /// The number of bytes of a group.
     pub fn held(&self, group: &GroupName) -> Option<u64>
         requires { AreLinesAscending self.now.shelves.items }
         ensures { result ≡ held_of group.now self.now.shelves.items }
@@ -127,7 +127,7 @@ impl Index {
         }
     }
 
-    /// The frame that holds a byte of a group, and the offset in its bytes.
+    /// The frame with a byte of a group, and the offset of the byte in the frame's bytes.
     pub fn spot(&self, group: &GroupName, start: u64) -> Option<Spot>
         requires { IsSized self.now }
         ensures held { IfSome result (λ _. IsHeldAt group.now self.now.shelves.items start) }
@@ -145,8 +145,8 @@ impl Index {
         })
     }
 
-    /// Adds a piece, which is in the frame of this number; answers how many bytes of its group are
-    /// held then.
+    /// Adds a piece, which is in the frame of this number; answers the number of bytes of its group
+    /// then.
     pub fn put(&mut self, piece: Piece, frame: u64) -> u64
         requires sized { IsSized self.old }
         requires place { LooksUpLine self.old.shelves.items piece.entry.group piece.place }
@@ -227,7 +227,7 @@ impl Index {
     }
 }
 
-/// Whether an entry with `count` bytes may follow those of its group.
+/// Whether an entry with `count` bytes is allowed in a group that is there.
 fn fits_held(shelf: &Shelf, heading: &Heading, count: u64) -> bool
     ensures { (groups : ℕ)
         → result ≡ fits (Some shelf.now) groups heading.now.start count heading.now.seals }
@@ -239,14 +239,14 @@ fn fits_held(shelf: &Shelf, heading: &Heading, count: u64) -> bool
         && (heading.seals || 0 < count)
 }
 
-/// Whether an entry with `count` bytes may begin a group, after this many others.
+/// Whether an entry with `count` bytes may begin a group, beside this number of others.
 fn fits_new(groups: usize, heading: &Heading, count: u64) -> bool
     ensures { result ≡ fits None groups heading.now.start count heading.now.seals }
 {
     heading.start == 0 && groups < MAX_GROUPS && count <= MAX_GROUP_BYTES
 }
 
-/// Memory for one more span of a track.
+/// Reserves memory for one more span of the track at an index.
 fn reserve_at(tracks: &mut Vec<Track>, at: usize) -> Result<(), AllocError>
     requires { at < length tracks.old.items }
     ensures room { OnOk result (0 < get_or (rooms tracks.new.items) at 0) }
@@ -256,7 +256,7 @@ fn reserve_at(tracks: &mut Vec<Track>, at: usize) -> Result<(), AllocError>
     tracks[at].reserve()
 }
 
-/// Adds the span of an entry, if that has bytes, to the track of the group at an index.
+/// Adds the span of an entry, unless it has no bytes, to the track of the group at an index.
 fn add_span_at(tracks: &mut Vec<Track>, at: usize, heading: &Heading, count: u64, frame: u64)
     requires within { at < length tracks.old.items }
     requires room { 0 < get_or (rooms tracks.old.items) at 0 }
@@ -268,7 +268,7 @@ fn add_span_at(tracks: &mut Vec<Track>, at: usize, heading: &Heading, count: u64
     add_span(&mut tracks[at], heading, count, frame);
 }
 
-/// Adds the span of an entry, if that has bytes, to a track that has room for it.
+/// Adds the span of an entry, unless it has no bytes, to a track that has room for it.
 fn add_span(track: &mut Track, heading: &Heading, count: u64, frame: u64)
     requires { 0 < room_of track.old }
     ensures spans { track.new.spans.items ≡ track.old.spans.items ++ span_of heading.now count frame }

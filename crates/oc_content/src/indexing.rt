@@ -10,7 +10,7 @@ use oc_io::Disk;
 use oc_journal::{FileError, Journal};
 use std::alloc::Global;
 
-/// Reads each frame once, in order, up to the first bad one.
+/// Reads each frame once, in order, up to the first bad one, and indexes it.
 pub fn index_frames<D: Disk>(alloc: Global, journal: &mut Journal<D>) -> Result<Index, FileError>
     ensures indexed { IfOk result (λ index. IsIndexed D.view journal.new index) }
     ensures bad { (i : ℕ) → IsErrOf result (FileError.BadFrame i)

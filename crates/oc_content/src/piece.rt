@@ -11,8 +11,8 @@ use oc_journal::{Frame, FrameFault};
 use std::alloc::{AllocError, Global};
 use std::marker::Model;
 
-/// Bytes, and perhaps a seal, made ready for a group. A contract sees the body of its frame, what
-/// that says, the index of the group, and the memory that it brings for a new one.
+/// A prepared piece: bytes, and perhaps a seal, for a group. A contract sees the body of its frame, its
+/// entry, the index of the group, and the memory that it brings for a new group.
 #[derive(Drop)]
 pub struct Piece {
     pub(crate) frame: Frame,
@@ -37,7 +37,7 @@ impl Model for Piece {
 }
 
 impl Piece {
-    /// A piece with this heading and these bytes, for a group that was looked up.
+    /// The piece with this heading and these bytes, for the group at a place of the index.
     pub(crate) fn new(
         alloc: Global,
         heading: Heading,
@@ -66,7 +66,7 @@ impl Piece {
         })
     }
 
-    /// The frame that says it.
+    /// The frame of the piece.
     pub(crate) fn frame(&self) -> &Frame
         ensures body { result.now ≡ self.now.body }
         ensures says { entry_of self.now.body ≡ Some self.now.entry }
@@ -74,7 +74,7 @@ impl Piece {
         &self.frame
     }
 
-    /// Whether it adds anything: the group is new, or there are bytes, or it adds the seal.
+    /// Whether the piece adds anything: a new group, bytes, or a seal.
     pub fn adds(&self) -> bool
         ensures { result ≡ adds self.now }
     {

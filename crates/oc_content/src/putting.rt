@@ -1,4 +1,4 @@
-//! What is put to a group, and when it is refused.
+//! Bytes to be put to a group, and the reasons to refuse them.
 
 ghost use Rattle.std.specs.Prelude.{◌≡◌, ◌≢◌, ◌+◌, ◌-◌, ◌^◌, ◌<◌, ◌≤◌, ℕ, None, Some, List, IfOk, IfErr, OnOk, length, drop, not, nat_le, ◌&&◌};
 ghost use Rattle.oc_base.specs.Names.{IsGroupName};
@@ -26,14 +26,14 @@ use std::alloc::{AllocError, Global};
 #[derive(Clone, Copy)]
 pub struct NewBytes<'a> {
     pub group: &'a GroupName,
-    /// The offset in the group from which on they are.
+    /// The offset of the first byte in the group.
     pub start: u64,
     pub bytes: &'a [u8],
-    /// Whether they are the last: the group is sealed after them.
+    /// Whether the bytes are the last: the group is sealed after them.
     pub last: bool,
 }
 
-/// Makes ready bytes of a group, with all memory for them.
+/// Prepares bytes of a group, with all memory for them.
 pub fn ready<D: Disk>(
     alloc: Global,
     journal: &mut Journal<D>,
@@ -58,7 +58,7 @@ pub fn ready<D: Disk>(
     Ok(piece)
 }
 
-/// The piece of these bytes of a group, with the memory of the index for it.
+/// The piece of these bytes, with the index's memory for it.
 fn piece_for(alloc: Global, index: &mut Index, added: &NewBytes<'_>) -> Result<Piece, PutError>
     requires sized { IsSized index.old }
     requires name { IsGroupName added.now.group.now }
@@ -96,8 +96,8 @@ fn piece_for(alloc: Global, index: &mut Index, added: &NewBytes<'_>) -> Result<P
     )?)
 }
 
-/// The heading of what is put: it begins where the group ends, and seals it where the bytes are the
-/// last, reach that end, and the group is not sealed.
+/// The heading of the new part of these bytes: it begins where the group ends, and seals the group if the
+/// bytes are the last, reach that end, and the group is not sealed.
 fn heading_for(state: &GroupState, group: GroupName, start: u64, count: u64, last: bool) -> Heading
     requires { start + count < 2 ^ 64 }
     ensures group { result.group ≡ group }
@@ -109,7 +109,7 @@ fn heading_for(state: &GroupState, group: GroupName, start: u64, count: u64, las
     Heading::of(group, state.held, seals)
 }
 
-/// What is known of a group that was looked up.
+/// The state of the group at a place of the index.
 pub fn state_at(shelves: &[Shelf], place: Lookup) -> GroupState
     requires { IsThere place (length shelves.now) }
     ensures { (name : List ℕ) → LooksUpLine shelves.now name place
@@ -121,7 +121,7 @@ pub fn state_at(shelves: &[Shelf], place: Lookup) -> GroupState
     }
 }
 
-/// The first cause that refuses `count` bytes from the offset `start` on, if any does.
+/// The first reason to refuse `count` bytes from the offset `start` on, if there is one.
 pub fn refusal(state: &GroupState, start: u64, count: u64) -> Option<PutError>
     requires held { state.now.held ≤ MAX_GROUP_BYTES }
     requires count { count ≤ MAX_GROUP_BYTES }

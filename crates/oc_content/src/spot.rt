@@ -1,8 +1,8 @@
-/// Where a byte of a group is kept.
+/// The place of a byte of a group in the journal.
 #[derive(Clone, Copy, Debug, PartialEq, Eq)]
 pub struct Spot {
-    /// The number of the frame that holds it.
+    /// The number of the frame with the byte.
     pub frame: u64,
-    /// The offset of the byte among those of the frame.
+    /// The offset of the byte in the frame's bytes.
     pub skip: u64,
 }

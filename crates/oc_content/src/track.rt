@@ -1,4 +1,4 @@
-//! The frames that hold the bytes of one group.
+//! The frames with the bytes of one group.
 
 ghost use Rattle.std.specs.Prelude.{◌≡◌, ℕ, ◌+◌, ◌-◌, ◌<◌, ◌≤◌, [], ◌∷◌, ◌++◌, List, length, OnOk, IfOk, IfSome};
 ghost use Rattle.oc_base.specs.declared.group.Group.{Group};
@@ -9,25 +9,25 @@ ghost use Rattle.oc_content.specs.Tracks.{room_of, IsLastBefore};
 
 use std::alloc::{AllocError, Global};
 
-/// Bytes of a group that one frame holds.
+/// The bytes of a group in one frame.
 #[derive(Clone, Copy)]
 pub struct Span {
     /// The number of the frame.
     pub frame: u64,
-    /// The offset of the first of them in the group.
+    /// The offset of the first byte in the group.
     pub start: u64,
-    /// The offset of the first of them in the body of the frame.
+    /// The offset of the first byte in the body of the frame.
     pub skip: u16,
 }
 
-/// The spans of a group, one after the other.
+/// The spans of a group, in order.
 #[derive(Drop)]
 pub struct Track {
     pub spans: Vec<Span>,
 }
 
 impl Track {
-    /// No spans, and no memory.
+    /// A track without spans and memory.
     pub fn new(alloc: Global) -> Track
         ensures { result.spans.items ≡ [] }
     {
@@ -36,7 +36,7 @@ impl Track {
         }
     }
 
-    /// No spans, and memory for one.
+    /// A track without spans, and with memory for one.
     pub fn with_room(alloc: Global) -> Result<Track, AllocError>
         ensures spans { IfOk result (λ track. track.spans.items ≡ []) }
         ensures room { IfOk result (λ track. 0 < room_of track) }
@@ -46,7 +46,7 @@ impl Track {
         Ok(track)
     }
 
-    /// Memory for one more span.
+    /// Reserves memory for one more span.
     pub fn reserve(&mut self) -> Result<(), AllocError>
         ensures spans { self.new.spans.items ≡ self.old.spans.items }
         ensures room { OnOk result (0 < room_of self.new) }
@@ -55,7 +55,7 @@ impl Track {
         self.spans.reserve(1)
     }
 
-    /// One more span, for which `reserve` made room.
+    /// Adds a span, for which `reserve` made room.
     pub fn push(&mut self, span: Span)
         requires { 0 < room_of self.old }
         ensures spans { self.new.spans.items ≡ self.old.spans.items ++ span ∷ [] }
@@ -65,16 +65,16 @@ impl Track {
     }
 }
 
-/// Where a byte of a group was found.
+/// The place of a byte of a group in its spans.
 #[derive(Clone, Copy)]
 pub struct Found {
-    /// The index of its span among those of the group.
+    /// The index of its span.
     pub span: usize,
-    /// The offset of the byte among those of the span.
+    /// The offset of the byte in the span.
     pub skip: u64,
 }
 
-/// Finds a byte of a group by halving.
+/// Finds a byte of a group by binary search.
 pub fn find_byte(spans: &[Span], start: u64) -> Option<Found>
     requires { start < MAX_GROUP_BYTES }
     ensures within { IfSome result (λ found. found.span < length spans.now) }

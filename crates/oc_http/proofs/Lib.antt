@@ -15,3 +15,5 @@ pub mod OneReply
 pub mod BodyLengths
 pub mod Wholes
 pub mod Parts
+pub mod PathTexts
+pub mod PathTargets

@@ -30,13 +30,13 @@ pub follow_joined : (get path start digits follow mark area version name host en
 follow_joined get path start digits follow mark area version name host end close target two three a b c = rw (a, b, c) (simp (append_assoc, append-nil))
 
 -- a reply's head in parts
-head_joined : (v d s n e l1 l2 l3 a r1 r2 r3 t g1 g2 g3 c1 c2 c3 k m1 m2 m3 : List ℕ) →
-    v ++ (d ++ ((s ++ n ++ e) ++ (l1 ++ (l2 ++ (l3 ++ (a ++ (r1 ++ (r2 ++ (r3 ++ (t ++ (g1 ++ (g2 ++ (g3 ++ (c1 ++ (c2 ++ (c3 ++ (k ++ (m1 ++ (m2 ++ (m3 ++ (e ++ []))))))))))))))))))))) ≡ (v ++ d ++ s ++ n ++ e) ++ (l1 ++ l2 ++ l3) ++ a ++ (r1 ++ r2 ++ r3) ++ t ++ (g1 ++ g2 ++ g3) ++ (c1 ++ c2 ++ c3) ++ k ++ ((m1 ++ m2 ++ m3) ++ e)
-head_joined v d s n e l1 l2 l3 a r1 r2 r3 t g1 g2 g3 c1 c2 c3 k m1 m2 m3 = simp (append_assoc, append-nil)
+head_joined : (v d s n e l1 l2 l3 a h r1 r2 r3 t q1 q2 q3 g1 g2 g3 c1 c2 c3 k m1 m2 m3 : List ℕ) →
+    v ++ (d ++ ((s ++ n ++ e) ++ (l1 ++ (l2 ++ (l3 ++ (a ++ (h ++ (r1 ++ (r2 ++ (r3 ++ (t ++ (q1 ++ (q2 ++ (q3 ++ (g1 ++ (g2 ++ (g3 ++ (c1 ++ (c2 ++ (c3 ++ (k ++ (m1 ++ (m2 ++ (m3 ++ (e ++ []))))))))))))))))))))))))) ≡ (v ++ d ++ s ++ n ++ e) ++ (l1 ++ l2 ++ l3) ++ a ++ h ++ (r1 ++ r2 ++ r3) ++ t ++ (q1 ++ q2 ++ q3) ++ (g1 ++ g2 ++ g3) ++ (c1 ++ c2 ++ c3) ++ k ++ ((m1 ++ m2 ++ m3) ++ e)
+head_joined v d s n e l1 l2 l3 a h r1 r2 r3 t q1 q2 q3 g1 g2 g3 c1 c2 c3 k m1 m2 m3 = simp (append_assoc, append-nil)
 
 -- the same with the lines that the parts make
-pub head_is : (v d s p e l1 l2 l3 a r1 r2 r3 t g1 g2 g3 c1 c2 c3 k m1 m2 m3 number phrase location allow rule type group content connection mac : List ℕ) →
-    d ≡ number → p ≡ s ++ phrase ++ e → l1 ++ l2 ++ l3 ≡ location → a ≡ allow → r1 ++ r2 ++ r3 ≡ rule → t ≡ type → g1 ++ g2 ++ g3 ≡ group → c1 ++ c2 ++ c3 ≡ content → k ≡ connection → m1 ++ m2 ++ m3 ≡ mac →
-    v ++ (d ++ (p ++ (l1 ++ (l2 ++ (l3 ++ (a ++ (r1 ++ (r2 ++ (r3 ++ (t ++ (g1 ++ (g2 ++ (g3 ++ (c1 ++ (c2 ++ (c3 ++ (k ++ (m1 ++ (m2 ++ (m3 ++ (e ++ []))))))))))))))))))))) ≡ (v ++ number ++ s ++ phrase ++ e) ++ location ++ allow ++ rule ++ type ++ group ++ content ++ connection ++ (mac ++ e)
-head_is v d s p e l1 l2 l3 a r1 r2 r3 t g1 g2 g3 c1 c2 c3 k m1 m2 m3 number phrase location allow rule type group content connection mac e1 e2 e3 e4 e5 e6 e7 e8 e9 e10 =
-    rw e2 (head_joined v d s phrase e l1 l2 l3 a r1 r2 r3 t g1 g2 g3 c1 c2 c3 k m1 m2 m3 ∙ rw (e1, e3, e4, e5, e6, e7, e8, e9, e10))
+pub head_is : (v d s p e l1 l2 l3 a h r1 r2 r3 t q1 q2 q3 g1 g2 g3 c1 c2 c3 k m1 m2 m3 number phrase location allow challenge rule type range group content connection mac : List ℕ) →
+    d ≡ number → p ≡ s ++ phrase ++ e → l1 ++ l2 ++ l3 ≡ location → a ≡ allow → h ≡ challenge → r1 ++ r2 ++ r3 ≡ rule → t ≡ type → q1 ++ q2 ++ q3 ≡ range → g1 ++ g2 ++ g3 ≡ group → c1 ++ c2 ++ c3 ≡ content → k ≡ connection → m1 ++ m2 ++ m3 ≡ mac →
+    v ++ (d ++ (p ++ (l1 ++ (l2 ++ (l3 ++ (a ++ (h ++ (r1 ++ (r2 ++ (r3 ++ (t ++ (q1 ++ (q2 ++ (q3 ++ (g1 ++ (g2 ++ (g3 ++ (c1 ++ (c2 ++ (c3 ++ (k ++ (m1 ++ (m2 ++ (m3 ++ (e ++ []))))))))))))))))))))))))) ≡ (v ++ number ++ s ++ phrase ++ e) ++ location ++ allow ++ challenge ++ rule ++ type ++ range ++ group ++ content ++ connection ++ (mac ++ e)
+head_is v d s p e l1 l2 l3 a h r1 r2 r3 t q1 q2 q3 g1 g2 g3 c1 c2 c3 k m1 m2 m3 number phrase location allow challenge rule type range group content connection mac e1 e2 e3 e4 e5 e6 e7 e8 e9 e10 e11 e12 =
+    rw e2 (head_joined v d s phrase e l1 l2 l3 a h r1 r2 r3 t q1 q2 q3 g1 g2 g3 c1 c2 c3 k m1 m2 m3 ∙ rw (e1, e3, e4, e5, e6, e7, e8, e9, e10, e11, e12))

@@ -13,8 +13,11 @@ use Rattle.std.proofs.lemmas.List.Elements.{All-from_recursion}
 use lib.Utf8.{encode}
 use Rattle.httparse.specs.Grammar.{RequestHead, IsRequestHead, print_request, Field, IsField, print_field, crlf, is_token, is_uri_byte, is_value_byte, is_ows}
 use Rattle.httparse.proofs.OnLiterals.{httparse_on_literals}
+use Rattle.percent_encoding.proofs.OnLiterals.{percent_encoding_on_literals}
 use Rattle.oc_base.specs.declared.limits.TheConstants.{MAX_BODY_BYTES, MAX_HEAD_BYTES}
 use Rattle.oc_http.specs.Answers.{written_head, AnswersRequest, IsDecided}
+use Rattle.oc_http.specs.Escapes.{decoded}
+use Rattle.oc_http.specs.Paths.{message_path}
 use Rattle.oc_http.specs.Fields.{Named, named, is_length}
 use Rattle.oc_http.specs.Requests.{read_request, read_request_parts}
 use Rattle.oc_http.specs.Taking.{SaysRequest}
@@ -173,11 +176,16 @@ found_fields mac host digits good hosts numbers =
     let last = found_mac mac good in
     λ i. (codes "Host", first i) ∷ (codes "Content-Type", codes "application/octet-stream") ∷ (codes "Content-Length", third i) ∷ (codes "Connection", codes "close") ∷ last i
 
+-- the path of messages has no escape
+plain_path : decoded message_path ≡ Some message_path
+unfolding percent_encoding_on_literals
+plain_path = refl
+
 -- the fields say this
 said_with : (mac : Option (List ℕ)) (host digits : List ℕ) (count : ℕ) → is_length digits ≡ true → digits_value 10 digits ≡ count → nat_lt MAX_BODY_BYTES count ≡ false → read_request_parts (codes "POST") (codes "/!overcast") 1 (fields_with mac host digits) ≡ Ok (written_head mac count)
 unfolding httparse_on_literals
-said_with None host digits count good value few = rw (good, value, few) refl
-said_with (Some mac) host digits count good value few = rw (good, value, few) refl
+said_with None host digits count good value few = rw (good, value, few, plain_path) refl
+said_with (Some mac) host digits count good value few = rw (good, value, few, plain_path) refl
 
 -- digits of a length that is read
 good_digits : (count : ℕ) → count ≤ MAX_BODY_BYTES → is_length (decimal count) ≡ true

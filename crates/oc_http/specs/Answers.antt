@@ -1,5 +1,5 @@
 -- What is answered for the bytes that are left of a source, where these are known.
-use Rattle.std.specs.Prelude.{◌≡◌, ℕ, true, false, Option, None, Result, Ok, Err, List, [], ◌++◌, ⊤}
+use Rattle.std.specs.Prelude.{◌≡◌, ℕ, true, false, Option, Some, None, Result, Ok, Err, List, [], ◌++◌, ⊤}
 use Rattle.httparse.specs.Grammar.{ReadsRequest, ReadsResponse}
 use Rattle.oc_http.specs.Paths.{message_path}
 use Rattle.oc_http.specs.Requests.{read_request}
@@ -41,12 +41,13 @@ AnswersReply left rest (Err fault) = (bytes : List ℕ) × (left ≡ bytes ++ re
 abbrev pub written_head : Option (List ℕ) → ℕ → Head
 written_head mac count = record {
   method = Post;
-  path = message_path;
+  path = Some message_path;
   query = [];
   length = count;
   expects = false;
   minor = 1;
   closes = true;
+  has_authorization = false;
   authorization = None;
   mac = mac;
 }

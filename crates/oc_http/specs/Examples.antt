@@ -1,11 +1,12 @@
 -- Worked examples of heads and texts.
-use Rattle.std.specs.Prelude.{◌≡◌, ℕ, true, false, Some, None, List, [], ◌∷◌, codes, replicate}
+use Rattle.std.specs.Prelude.{◌≡◌, ℕ, true, false, Some, None, List, [], ◌∷◌, ◌++◌, codes, replicate}
 use Rattle.oc_http.specs.Fields.{Named, closes, is_unusable, length_of, only_of, number_of, authorizations, macs, group_lengths}
 use Rattle.oc_http.specs.Targets.{path_of, query_of}
-use Rattle.oc_http.specs.Requests.{head_fault, expects}
+use Rattle.oc_http.specs.Escapes.{decoded, path_text}
+use Rattle.oc_http.specs.Requests.{head_fault, expects, begins_with_head}
 use Rattle.oc_http.specs.Responses.{reply_head_fault, reply_fault, is_chunked}
-use Rattle.oc_http.specs.Writing.{request_text, request_with, get_text, follow_text, probe_text, head_text, response_text}
-use Rattle.oc_http.specs.declared.content_type.ContentType.TheVariants.{Octets, Html}
+use Rattle.oc_http.specs.Writing.{request_text, request_with, get_text, follow_text, probe_text, head_text, to_head_text, response_text}
+use Rattle.oc_http.specs.declared.content_type.ContentType.TheVariants.{Octets, Html, Text}
 use Rattle.oc_http.specs.declared.fault.HttpFault.TheVariants as faults
 use Rattle.oc_http.specs.declared.framing.Persistence.TheVariants.{Keep}
 use Rattle.oc_http.specs.declared.framing.Framing.TheVariants as framings
@@ -83,7 +84,7 @@ pub record AreParts : Type 0 where
   pub two_group_lengths : number_of (group_lengths (group_length_is (codes "7") ∷ group_length_is (codes "7") ∷ [])) ≡ None
 
 abbrev reply : ℕ → Reply
-reply status = record { status = status; location = None; content_type = None; body = []; rule = None; group_length = None; mac = None }
+reply status = record { status = status; location = None; content_type = None; body = []; rule = None; content_range = None; group_length = None; mac = None }
 
 -- the texts
 pub record AreTexts : Type 0 where
@@ -102,9 +103,34 @@ pub record AreTexts : Type 0 where
   pub method : response_text (reply 405) ≡ codes "HTTP/1.1 405 Method Not Allowed\r\nAllow: GET, HEAD, POST\r\nContent-Length: 0\r\nConnection: close\r\n\r\n"
   pub denied : response_text (record (reply 403) { rule = Some 7 }) ≡ codes "HTTP/1.1 403 Forbidden\r\nOvercast-Rule: 7\r\nContent-Length: 0\r\nConnection: close\r\n\r\n"
   pub elsewhere : response_text (record (reply 409) { group_length = Some 12 }) ≡ codes "HTTP/1.1 409 Conflict\r\nOvercast-Length: 12\r\nContent-Length: 0\r\nConnection: close\r\n\r\n"
+  pub unknown : response_text (record (reply 401) { rule = Some 2; content_type = Some Text; body = codes "a\n" })
+      ≡ codes "HTTP/1.1 401 Unauthorized\r\nWWW-Authenticate: Bearer\r\nOvercast-Rule: 2\r\nContent-Type: text/plain; charset=utf-8\r\nContent-Length: 2\r\nConnection: close\r\n\r\na\n"
+  pub past_the_end : response_text (record (reply 416) { content_type = Some Text; content_range = Some 12; body = codes "a\n" })
+      ≡ codes "HTTP/1.1 416 Range Not Satisfiable\r\nContent-Type: text/plain; charset=utf-8\r\nContent-Range: bytes */12\r\nContent-Length: 2\r\nConnection: close\r\n\r\na\n"
+  pub to_head : to_head_text (record (reply 404) { content_type = Some Text; body = codes "a\n" })
+      ≡ codes "HTTP/1.1 404 Not Found\r\nContent-Type: text/plain; charset=utf-8\r\nContent-Length: 2\r\nConnection: close\r\n\r\n"
   pub page : response_text (record (reply 200) { content_type = Some Html; body = codes "a" })
       ≡ codes "HTTP/1.1 200 OK\r\nContent-Type: text/html; charset=utf-8\r\nContent-Length: 1\r\nConnection: close\r\n\r\na"
   pub message : response_text (record (reply 200) { content_type = Some Octets; body = codes "ab"; mac = Some (codes "0a") })
       ≡ codes "HTTP/1.1 200 OK\r\nContent-Type: application/octet-stream\r\nContent-Length: 2\r\nConnection: close\r\nOvercast-Mac: 0a\r\n\r\nab"
   pub kept : head_text (record (reply 200) { content_type = Some Octets }) framings.Chunked Keep
       ≡ codes "HTTP/1.1 200 OK\r\nContent-Type: application/octet-stream\r\nTransfer-Encoding: chunked\r\n\r\n"
+
+-- paths, and what is written of them
+pub record ArePaths : Type 0 where
+  pub plain : decoded (codes "/a+b") ≡ Some (codes "/a+b")
+  pub either_case : decoded (codes "/%41%2b%2B%fF") ≡ Some (codes "/A++" ++ 255 ∷ [])
+  pub once : decoded (codes "/%2541") ≡ Some (codes "/%41")
+  pub empty : decoded [] ≡ Some []
+  pub alone : decoded (codes "/a%") ≡ None
+  pub one_digit : decoded (codes "/a%4") ≡ None
+  pub no_digit : decoded (codes "/%4g/a") ≡ None
+  pub no_first_digit : decoded (codes "/% 1") ≡ None
+  pub two_marks : decoded (codes "/%%41") ≡ None
+  pub nul : decoded (codes "/a%00") ≡ None
+  pub slash : decoded (codes "/a%2Fb") ≡ None
+  pub small_slash : decoded (codes "/a%2fb") ≡ None
+  pub written : path_text (codes "/a.b-c_d~/+:=@,() %" ++ 127 ∷ 255 ∷ []) ≡ codes "/a.b-c_d~/%2B%3A%3D%40%2C%28%29%20%25%7F%FF"
+  pub head : begins_with_head (codes "\r\n\nHEAD") ≡ true
+  pub no_head : begins_with_head (codes "\r\rHEAD /a") ≡ false
+  pub other : begins_with_head (codes "HEA") ≡ false

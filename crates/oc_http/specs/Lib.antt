@@ -14,5 +14,7 @@ pub mod Bytes
 pub mod Fields
 pub mod Found
 pub mod Targets
+pub mod Escapes
+pub mod PlainLine
 pub mod Paths
 pub mod Queries

@@ -1,10 +1,11 @@
 -- What the head of a request says, and which faults it has.
-use Rattle.std.specs.Prelude.{ℕ, Bool, true, false, not, ◌&&◌, ◌==◌, nat_lt, if◌then◌else◌, Option, Some, None, unwrap_or, Result, Ok, Err, List, length, codes}
+use Rattle.std.specs.Prelude.{ℕ, Bool, true, false, not, ◌&&◌, ◌==◌, nat_lt, if◌then◌else◌, Option, Some, None, unwrap_or, Result, Ok, Err, List, [], ◌∷◌, length, take, codes}
 use Rattle.std.specs.Str.{bytes_eq}
 use Rattle.httparse.specs.Grammar.{RequestHead}
 use Rattle.oc_base.specs.Steps.{◌>>=◌}
 use Rattle.oc_base.specs.declared.limits.TheConstants.{MAX_FIELDS, MAX_BODY_BYTES}
 use Rattle.oc_http.specs.Fields.{Named, named, is_present, is_only, is_unusable, length_of, only_of, hosts, codings, lengths, expectations, authorizations, macs, closes, has_host_fault}
+use Rattle.oc_http.specs.Escapes.{decoded}
 use Rattle.oc_http.specs.Targets.{path_of, query_of}
 use Rattle.oc_http.specs.Lengths.{fault_or, checked_length}
 use Rattle.oc_http.specs.declared.fault.HttpFault.{HttpFault}
@@ -24,6 +25,19 @@ method_of method =
 abbrev pub is_post : Method → Bool
 is_post methods.Post = true
 is_post method = false
+
+-- the bytes without the empty lines with which they begin
+abbrev pub after_empty_lines : List ℕ → List ℕ
+after_empty_lines [] = []
+after_empty_lines (a ∷ []) = if a == 10 then [] else a ∷ []
+after_empty_lines (a ∷ b ∷ rest) =
+    if a == 10 then after_empty_lines (b ∷ rest)
+    else if a == 13 && b == 10 then after_empty_lines rest
+    else a ∷ b ∷ rest
+
+-- the bytes of a request, empty lines aside, begin with `HEAD`
+abbrev pub begins_with_head : List ℕ → Bool
+begins_with_head bytes = bytes_eq (take 4 (after_empty_lines bytes)) (codes "HEAD")
 
 -- the first fault of a request's head
 abbrev pub head_fault : Method → ℕ → List Named → Option HttpFault
@@ -56,12 +70,13 @@ expects minor fields = minor == 1 && is_only (codes "100-continue") (expectation
 abbrev pub head_of : List ℕ → List ℕ → ℕ → List Named → Head
 head_of method target minor fields = record {
   method = method_of method;
-  path = path_of target;
+  path = decoded (path_of target);
   query = query_of target;
   length = unwrap_or (length_of (lengths fields)) 0;
   expects = expects minor fields;
   minor = minor;
   closes = closes fields;
+  has_authorization = is_present (authorizations fields);
   authorization = only_of (authorizations fields);
   mac = only_of (macs fields);
 }

@@ -76,6 +76,7 @@ reply_of head body = record {
   content_type = None;
   body = body;
   rule = None;
+  content_range = None;
   group_length = head.group_length;
   mac = head.mac;
 }

@@ -5,7 +5,7 @@ use Rattle.std.specs.List.{list_all}
 use Rattle.std.specs.Str.{byte}
 use Rattle.oc_http.specs.Paths.{probe_path}
 use Rattle.oc_http.specs.declared.content_type.ContentType.{ContentType}
-use Rattle.oc_http.specs.declared.content_type.ContentType.TheVariants.{Octets, Json, Metrics, Html}
+use Rattle.oc_http.specs.declared.content_type.ContentType.TheVariants.{Octets, Json, Metrics, Html, Text}
 use Rattle.oc_http.specs.declared.reply.Reply.{Reply}
 use Rattle.oc_http.specs.declared.framing.Framing.{Framing}
 use Rattle.oc_http.specs.declared.framing.Framing.TheVariants as framings
@@ -109,14 +109,17 @@ phrase status =
     else if status == 204 then Some (codes "No Content")
     else if status == 302 then Some (codes "Found")
     else if status == 400 then Some (codes "Bad Request")
+    else if status == 401 then Some (codes "Unauthorized")
     else if status == 403 then Some (codes "Forbidden")
     else if status == 404 then Some (codes "Not Found")
     else if status == 405 then Some (codes "Method Not Allowed")
     else if status == 409 then Some (codes "Conflict")
     else if status == 411 then Some (codes "Length Required")
     else if status == 413 then Some (codes "Content Too Large")
+    else if status == 416 then Some (codes "Range Not Satisfiable")
     else if status == 431 then Some (codes "Request Header Fields Too Large")
     else if status == 501 then Some (codes "Not Implemented")
+    else if status == 503 then Some (codes "Service Unavailable")
     else None
 
 -- the status has a phrase
@@ -140,6 +143,10 @@ location_line status (Some location) = if status == 302 then codes "Location: " 
 abbrev pub allow_line : ℕ → List ℕ
 allow_line status = if status == 405 then codes "Allow: GET, HEAD, POST\r\n" else []
 
+-- `WWW-Authenticate`, of a 401
+abbrev pub challenge_line : ℕ → List ℕ
+challenge_line status = if status == 401 then codes "WWW-Authenticate: Bearer\r\n" else []
+
 -- `Overcast-Rule`, where a rule denied the request
 abbrev pub rule_line : Option ℕ → List ℕ
 rule_line None = []
@@ -151,11 +158,17 @@ type_name Octets = codes "application/octet-stream"
 type_name Json = codes "application/json"
 type_name Metrics = codes "text/plain; version=0.0.4"
 type_name Html = codes "text/html; charset=utf-8"
+type_name Text = codes "text/plain; charset=utf-8"
 
 -- `Content-Type`, where it is given
 abbrev pub content_type_line : Option ContentType → List ℕ
 content_type_line None = []
 content_type_line (Some type) = codes "Content-Type: " ++ type_name type ++ line_end
+
+-- `Content-Range`, where a content of this length ends before what was asked for begins
+abbrev pub content_range_line : Option ℕ → List ℕ
+content_range_line None = []
+content_range_line (Some count) = codes "Content-Range: bytes */" ++ decimal count ++ line_end
 
 -- `Overcast-Length`, where the length of a group is told
 abbrev pub group_length_line : Option ℕ → List ℕ
@@ -174,10 +187,15 @@ content_line status framing = if status == 204 then [] else framing_line framing
 -- the head of a reply, with the empty line that ends it
 abbrev pub head_text : Reply → Framing → Persistence → List ℕ
 head_text reply framing connection =
-    status_line reply.status ++ location_line reply.status reply.location ++ allow_line reply.status ++ rule_line reply.rule
-    ++ content_type_line reply.content_type ++ group_length_line reply.group_length ++ content_line reply.status framing
+    status_line reply.status ++ location_line reply.status reply.location ++ allow_line reply.status
+    ++ challenge_line reply.status ++ rule_line reply.rule ++ content_type_line reply.content_type
+    ++ content_range_line reply.content_range ++ group_length_line reply.group_length ++ content_line reply.status framing
     ++ connection_line connection ++ head_end reply.mac
+
+-- a reply to HEAD: the head with the length of the body, without the body
+abbrev pub to_head_text : Reply → List ℕ
+to_head_text reply = head_text reply (framings.Length (length reply.body)) Close
 
 -- a reply with its body
 abbrev pub response_text : Reply → List ℕ
-response_text reply = head_text reply (framings.Length (length reply.body)) Close ++ reply.body
+response_text reply = to_head_text reply ++ reply.body

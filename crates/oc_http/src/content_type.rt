@@ -9,4 +9,6 @@ pub enum ContentType {
     Metrics,
     /// A page.
     Html,
+    /// Lines of plain text, such as why a request is refused.
+    Text,
 }

@@ -13,9 +13,10 @@ pub enum Method {
 #[derive(Drop)]
 pub struct Head {
     pub method: Method,
-    /// The target up to the first `?`, without scheme and authority.
-    pub path: Text,
-    /// What follows that `?`.
+    /// What the target stands for up to the first `?`, without scheme and authority; `None` where it has a `%` that does
+    /// not begin an escape, or an escape of NUL or `/`.
+    pub path: Option<Text>,
+    /// What follows that `?`, as it came.
     pub query: Text,
     /// The length of the body in bytes.
     pub length: u64,
@@ -25,7 +26,9 @@ pub struct Head {
     pub minor: u8,
     /// The client closes the connection after this request (RFC 9112, section 9.6).
     pub closes: bool,
-    /// The value of the Authorization field, where there is just one (RFC 9110, section 11.6.2).
+    /// There is an Authorization field (RFC 9110, section 11.6.2).
+    pub has_authorization: bool,
+    /// The value of the Authorization field, where there is just one.
     pub authorization: Option<Text>,
     /// The value of the Overcast-Mac field, where there is just one.
     pub mac: Option<Text>,

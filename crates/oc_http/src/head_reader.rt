@@ -82,6 +82,7 @@ impl HeadReader {
             content_type: None,
             body: Bytes::of(body),
             rule: None,
+            content_range: None,
             group_length: head.group_length,
             mac: head.mac,
         })

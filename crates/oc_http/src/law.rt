@@ -1,11 +1,14 @@
 //! Laws of the definitions.
 
-ghost use Rattle.std.specs.Prelude.{◌≡◌, ℕ, ◌≤◌, IfSome, List, [], ◌++◌, length, Option, Result, Ok};
+ghost use Rattle.std.specs.Prelude.{◌≡◌, ℕ, ◌≤◌, IfSome, List, [], ◌∷◌, ◌++◌, length, Option, Some, Result, Ok};
+ghost use Rattle.std.specs.Str.{byte};
 ghost use Rattle.oc_base.specs.declared.limits.TheConstants.{MAX_BODY_BYTES};
 ghost use Rattle.oc_http.specs.Answers.{IsDecided, AnswersRequest, AnswersReplyHead, AnswersReply, written_head};
-ghost use Rattle.oc_http.specs.Examples.{AreRefused, AreRepliesRefused, AreParts, AreTexts};
+ghost use Rattle.oc_http.specs.Escapes.{AreBytes, decoded, path_text};
+ghost use Rattle.oc_http.specs.Examples.{AreRefused, AreRepliesRefused, AreParts, AreTexts, ArePaths};
 ghost use Rattle.oc_http.specs.Taking.{SaysRequest};
-ghost use Rattle.oc_http.specs.Writing.{IsHost, IsMac, request_head_with, request_with};
+ghost use Rattle.oc_http.specs.Targets.{path_of};
+ghost use Rattle.oc_http.specs.Writing.{IsHost, IsMac, query_text, request_head_with, request_with};
 ghost use Rattle.oc_http.specs.declared.fault.HttpFault.{HttpFault};
 ghost use Rattle.oc_http.specs.declared.head.Head.{Head};
 ghost use Rattle.oc_http.specs.declared.reply.Reply.{Reply};
@@ -41,10 +44,18 @@ pub fn a_written_request_is_read()
         → (answer ≡ Ok (written_head mac (length body))) × (rest ≡ body) }
 {}
 
+/// What `put_path` writes of a path is read as that path, alone, and where a query follows it in a target.
+pub fn a_written_path_is_read()
+    ensures path { (path : List ℕ) → AreBytes path → decoded (path_text path) ≡ Some path }
+    ensures target { (rest : List ℕ) (query : Option (List ℕ)) → AreBytes (byte "/" ∷ rest)
+        → decoded (path_of (path_text (byte "/" ∷ rest) ++ query_text query)) ≡ Some (byte "/" ∷ rest) }
+{}
+
 /// Worked examples compute from the definitions.
 pub fn examples_compute()
     ensures refused { AreRefused }
     ensures replies { AreRepliesRefused }
     ensures parts { AreParts }
     ensures texts { AreTexts }
+    ensures paths { ArePaths }
 {}

@@ -8,17 +8,20 @@
 //! The contracts used above: where [`read_head`] gives a head, the bytes that came are a head that says
 //! so, and where it gives an [`HttpFault`], that is the first fault of the bytes that came; [`read_body`]
 //! gives the next bytes, as many as the head says; what is written is exactly the text. There is one
-//! answer to the bytes of a source, however they come ([`a_request_has_one_answer`]), and what
-//! [`write_request`] writes is read as that request ([`a_written_request_is_read`]).
+//! answer to the bytes of a source, however they come ([`a_request_has_one_answer`]); what
+//! [`write_request`] writes is read as that request ([`a_written_request_is_read`]), and what [`put_path`]
+//! writes as that path ([`a_written_path_is_read`]).
 //!
 //! `specs/Fields` says what the fields of a head say, `specs/Targets` what the path and the query of a
-//! target are, `specs/Requests` and `specs/Responses` what a head says and which fault it has first,
-//! `specs/Taking` which bytes are taken for each answer, and `specs/Writing` has the texts.
+//! target are, `specs/Escapes` which bytes a path stands for and how they are written, `specs/Requests`
+//! and `specs/Responses` what a head says and which fault it has first, `specs/Taking` which bytes are
+//! taken for each answer, and `specs/Writing` has the texts.
 #![tactic(auto)]
 
 mod body;
 mod byte;
 mod content_type;
+mod escapes;
 mod fault;
 mod field_line;
 mod field_match;
@@ -43,6 +46,7 @@ mod writing_requests;
 
 pub use byte::take_byte;
 pub use content_type::ContentType;
+pub use escapes::put_path;
 pub use fault::HttpFault;
 pub use field_match::FieldMatch;
 pub use fields::Fields;
@@ -51,14 +55,17 @@ pub use head::{Head, Method};
 pub use head_reader::HeadReader;
 pub use law::{
     a_request_has_one_answer, a_response_has_one_answer, a_response_head_has_one_answer,
-    a_written_request_is_read, examples_compute,
+    a_written_path_is_read, a_written_request_is_read, examples_compute,
 };
 pub use messages::{read_body, read_head, read_response, read_response_head};
 pub use oc_base::Text;
 pub use paths::{MESSAGE_PATH, PROBE_PATH};
 pub use reply::{Reply, ReplyHead};
+pub use requests::begins_with_head;
 pub use responses::body_length;
 pub use target::path_and_query;
 pub use text::length_of;
-pub use writing_replies::{write_reply_head, write_response, write_response_head};
+pub use writing_replies::{
+    write_reply_head, write_response, write_response_head, write_response_to_head,
+};
 pub use writing_requests::{write_follow, write_get, write_probe, write_request};

@@ -13,6 +13,9 @@ pub struct Reply {
     pub body: Bytes,
     /// The number of the access rule that denied the request.
     pub rule: Option<u32>,
+    /// The length in bytes of a content that ends before what was asked for begins: what the Content-Range of a 416 tells
+    /// (RFC 9110, section 14.4).
+    pub content_range: Option<u64>,
     /// How many bytes a group has: what the Overcast-Length field tells, where there is just one, of a number.
     pub group_length: Option<u64>,
     /// The MAC of the body: the value of the Overcast-Mac field, where there is just one.

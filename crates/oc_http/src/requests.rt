@@ -2,12 +2,14 @@
 
 ghost use Rattle.std.specs.Prelude.{◌≡◌, [], IfOk};
 ghost use Rattle.httparse.specs.Grammar.{ReadsRequest, RequestHead};
+ghost use Rattle.oc_http.specs.Escapes.{decoded};
 ghost use Rattle.oc_http.specs.Targets.{path_of, query_of};
-ghost use Rattle.oc_http.specs.Requests.{method_of, is_post, wanted_length, body_length, expects, read_request, read_request_parts};
+ghost use Rattle.oc_http.specs.Requests.{method_of, is_post, after_empty_lines, begins_with_head, wanted_length, body_length, expects, read_request, read_request_parts};
 ghost use Rattle.oc_http.specs.Lines.{IsRequestTaken};
 ghost use Rattle.oc_http.specs.Gives.{Gives};
 
 use crate::Fields;
+use crate::escapes::decoded;
 use crate::fault::HttpFault;
 use crate::head::{Head, Method};
 use crate::lengths::checked_length;
@@ -45,6 +47,7 @@ fn read_parts(
     let method = method_of(method);
     let length = body_length(method, minor, fields)?;
     let (path, query) = path_and_query(alloc, target)?;
+    let has_authorization = fields.is_present("authorization");
     let authorization = copy_some(alloc, fields.only("authorization"))?;
     let mac = copy_some(alloc, fields.only("overcast-mac"))?;
     Ok(Head {
@@ -55,17 +58,18 @@ fn read_parts(
         expects: expects(minor, fields),
         minor,
         closes: fields.closes(),
+        has_authorization,
         authorization,
         mac,
     })
 }
 
-/// The path of a target and its query, each as a text of its own.
-fn path_and_query(alloc: Global, target: &[u8]) -> Result<(Text, Text), Memory>
-    ensures { IfOk result (λ texts. (texts.0 ≡ path_of target.now) × (texts.1 ≡ query_of target.now)) }
+/// What the path of a target stands for, and its query as it is, each as a text of its own.
+fn path_and_query(alloc: Global, target: &[u8]) -> Result<(Option<Text>, Text), Memory>
+    ensures { IfOk result (λ texts. (texts.0 ≡ decoded (path_of target.now)) × (texts.1 ≡ query_of target.now)) }
 {
     let (path, query) = crate::path_and_query(target);
-    let path = copy(alloc, path)?;
+    let path = decoded(alloc, path)?;
     Ok((path, copy(alloc, query)?))
 }
 
@@ -111,4 +115,26 @@ fn expects(minor: u8, fields: &Fields) -> bool
     ensures { result ≡ expects minor fields.now }
 {
     minor == 1 && fields.has_only("expect", "100-continue")
+}
+
+/// Whether the bytes of a request, empty lines aside, begin with `HEAD`, whatever fault their head has: its reply then has
+/// no body.
+pub fn begins_with_head(bytes: &[u8]) -> bool
+    ensures { result ≡ begins_with_head bytes.now }
+{
+    let rest = after_empty_lines(bytes);
+    rest.len() >= 4 && &rest[..4] == b"HEAD".as_slice()
+}
+
+/// The bytes without the empty lines with which they begin (RFC 9112, section 2.2).
+fn after_empty_lines(bytes: &[u8]) -> &[u8]
+    ensures { result.now ≡ after_empty_lines bytes.now }
+{
+    let mut rest = bytes;
+    'lines: loop {
+        match rest {
+            [b'\n', others @ ..] | [b'\r', b'\n', others @ ..] => rest = others,
+            _ => return rest,
+        }
+    }
 }

@@ -2,7 +2,7 @@
 
 ghost use Rattle.std.specs.Prelude.{◌≡◌, IfOk};
 ghost use Rattle.oc_http.specs.Parts.{line_text};
-ghost use Rattle.oc_http.specs.Writing.{HasPhrase, phrase_text, head_text, response_text, location_line, allow_line, rule_line, content_type_line, group_length_line, content_line, connection_line, mac_line};
+ghost use Rattle.oc_http.specs.Writing.{HasPhrase, phrase_text, head_text, to_head_text, response_text, location_line, allow_line, challenge_line, rule_line, content_type_line, content_range_line, group_length_line, content_line, connection_line, mac_line};
 ghost use Rattle.oc_http.specs.declared.framing.Framing.TheVariants.{Length as OfLength};
 ghost use Rattle.oc_http.specs.declared.framing.Persistence.TheVariants.{Close as Closing};
 
@@ -20,14 +20,21 @@ pub fn write_response(alloc: Global, reply: &Reply) -> Result<Vec<u8>, Memory>
     requires { HasPhrase reply.now.status }
     ensures { IfOk result (λ text. text.items ≡ response_text reply.now) }
 {
-    let body = reply.body.items();
-    let mut out = write_response_head(alloc, reply, body.len() as u64)?;
-    out.extend_from_slice(body)?;
+    let mut out = write_response_to_head(alloc, reply)?;
+    out.extend_from_slice(reply.body.items())?;
     Ok(out)
 }
 
-/// The head of a reply with a content of this length in bytes, which ends the connection. A reply to HEAD
-/// begins with it, and so does one whose content is sent in pieces.
+/// The same reply to HEAD: its head, with the length of the body, and no body (RFC 9110, section 9.3.2).
+pub fn write_response_to_head(alloc: Global, reply: &Reply) -> Result<Vec<u8>, Memory>
+    requires { HasPhrase reply.now.status }
+    ensures { IfOk result (λ text. text.items ≡ to_head_text reply.now) }
+{
+    write_response_head(alloc, reply, reply.body.items().len() as u64)
+}
+
+/// The head of a reply with a content of this length in bytes, which ends the connection. A reply whose content is sent
+/// in pieces begins with it.
 pub fn write_response_head(alloc: Global, reply: &Reply, length: u64) -> Result<Vec<u8>, Memory>
     requires { HasPhrase reply.now.status }
     ensures { IfOk result (λ text. text.items ≡ head_text reply.now (OfLength length) Closing) }
@@ -48,11 +55,13 @@ pub fn write_reply_head(
 {
     let mut status = Buffer::new();
     let mut rule = Buffer::new();
+    let mut content_range = Buffer::new();
     let mut group_length = Buffer::new();
     let mut length = Buffer::new();
     let status = status.format(reply.status);
     let location = location_line(reply.status, &reply.location);
     let rule = rule_line(reply.rule, &mut rule);
+    let content_range = content_range_line(reply.content_range, &mut content_range);
     let group_length = group_length_line(reply.group_length, &mut group_length);
     let content = content_line(reply.status, framing, &mut length);
     let mac = body_mac_line(&reply.mac);
@@ -66,10 +75,14 @@ pub fn write_reply_head(
             location.value,
             location.end,
             allow_line(reply.status),
+            challenge_line(reply.status),
             rule.name,
             rule.value,
             rule.end,
             content_type_line(reply.content_type),
+            content_range.name,
+            content_range.value,
+            content_range.end,
             group_length.name,
             group_length.value,
             group_length.end,
@@ -95,14 +108,17 @@ fn phrase_of<'a>(status: u16) -> &'a str
         204 => " No Content\r\n",
         302 => " Found\r\n",
         400 => " Bad Request\r\n",
+        401 => " Unauthorized\r\n",
         403 => " Forbidden\r\n",
         404 => " Not Found\r\n",
         405 => " Method Not Allowed\r\n",
         409 => " Conflict\r\n",
         411 => " Length Required\r\n",
         413 => " Content Too Large\r\n",
+        416 => " Range Not Satisfiable\r\n",
         431 => " Request Header Fields Too Large\r\n",
         501 => " Not Implemented\r\n",
+        503 => " Service Unavailable\r\n",
         _ => unreachable!(),
     }
 }
@@ -138,6 +154,17 @@ fn allow_line<'a>(status: u16) -> &'a [u8]
     }
 }
 
+/// `WWW-Authenticate`, of a 401 (RFC 6750, section 3).
+fn challenge_line<'a>(status: u16) -> &'a [u8]
+    ensures { result.now ≡ challenge_line status }
+{
+    if status == 401 {
+        b"WWW-Authenticate: Bearer\r\n"
+    } else {
+        b""
+    }
+}
+
 /// `Overcast-Rule`, where a rule denied the request.
 fn rule_line(rule: Option<u32>, digits: &mut Buffer) -> FieldLine<'_>
     ensures { line_text result ≡ rule_line rule }
@@ -158,6 +185,17 @@ fn content_type_line<'a>(content_type: Option<ContentType>) -> &'a [u8]
         Some(ContentType::Json) => b"Content-Type: application/json\r\n",
         Some(ContentType::Metrics) => b"Content-Type: text/plain; version=0.0.4\r\n",
         Some(ContentType::Html) => b"Content-Type: text/html; charset=utf-8\r\n",
+        Some(ContentType::Text) => b"Content-Type: text/plain; charset=utf-8\r\n",
+    }
+}
+
+/// `Content-Range`, where a content ends before what was asked for begins.
+fn content_range_line(length: Option<u64>, digits: &mut Buffer) -> FieldLine<'_>
+    ensures { line_text result ≡ content_range_line length }
+{
+    match length {
+        Some(count) => field_line(b"Content-Range: bytes */", digits.format(count).as_bytes()),
+        None => no_line(),
     }
 }
 

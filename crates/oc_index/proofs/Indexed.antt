@@ -40,7 +40,7 @@ number_kept net more (suc k) within = get_kept net more k (omega (arith, within)
 
 -- An index, hash by hash
 
--- what a hash leads to: among that many first messages it is the least number of one with this hash
+-- the target of a hash: among the first messages it is the least number of one with this hash
 abbrev IsFirstWith : List Message → ℕ → ℕ → Option ℕ → Type 0
 IsFirstWith net count h None = (k : ℕ) (m : Message) → k ≤ count → message_at net k ≡ Some m → hash_of m ≡ h → ⊥
 IsFirstWith net count h (Some j) = (1 ≤ j) × (j ≤ count) × IsFirstFrom net h j

@@ -1,4 +1,4 @@
--- What an input and a start make of a node whose groups are in memory.
+-- The effect of an input and a start on a node whose groups are in memory.
 use Rattle.std.proofs.Common.{◌≡◌, ◌∙◌, ◌≤◌, ℕ, Bool, Option, List, [], length, refl, ap, sym, subst, arith}
 use Rattle.std.proofs.lemmas.List.{length-replicate}
 use Rattle.oc_base.specs.Groups.{shelf}
@@ -51,7 +51,7 @@ lines_fit groups lines is fit = subst IsShelf (sym is) fit
 made_of : (n : Control) (groups : List Group) (lines : List Shelf) (i : Input) (p : PlanView) → lines ≡ shelf groups → planned n p ≡ plan n lines i → planned n p ≡ plan n (shelf groups) i
 made_of n groups lines i p is made = made ∙ ap (λ (ls : List Shelf). plan n ls i) is
 
--- what a plan keeps can be kept
+-- the bytes that a plan keeps can be kept
 pub can_keep : (n : Control) (groups : List Group) (lines : List Shelf) (i : Input) (p : PlanView) (keeps : Option ℕ) (closes : Bool) → IsInput n.nodes n.me i → IsShelf (shelf groups) → lines ≡ shelf groups
     → planned n p ≡ plan n lines i → keeps ≡ p.keeps → closes ≡ p.seals → CanKeep (shelf groups) (piece_of i) keeps closes
 can_keep n groups lines i p keeps closes input fit is made here seals =

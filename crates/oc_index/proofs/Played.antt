@@ -1,4 +1,5 @@
--- What a merge plays goes on from world to world, and is left as it was where memory runs out.
+-- The events that a merge plays lead from world to world, and the world is unchanged if memory runs
+-- out.
 use Rattle.std.proofs.Common.{◌≡◌, sym, subst}
 use Rattle.oc_merge.specs.Records.{IsPlayed}
 use Rattle.oc_model.specs.declared.event.Event.{Event}

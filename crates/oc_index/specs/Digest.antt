@@ -1,4 +1,4 @@
--- The digits that stand for what the files of a node hold.
+-- The digest of a node's files.
 use Rattle.std.specs.Prelude.{ℕ, List}
 use Rattle.oc_base.specs.Groups.{shelf}
 use Rattle.oc_model.specs.Node.{Node}

@@ -27,11 +27,12 @@ pub record NumbersView : Type 0 where
 abbrev pub least_with : NumbersView → ℕ → Option ℕ
 least_with n h = lookup (nat_eq h) n.entries
 
--- no message of this hash comes before this number
+-- no message with this hash comes before this number
 abbrev pub IsFirstFrom : List Message → ℕ → ℕ → Type 0
 IsFirstFrom net h from = (k : ℕ) (m : Message) → k < from → message_at net k ≡ Some m → hash_of m ≡ h → ⊥
 
--- it is the index of that many first messages of a net: a hash leads to the least number of a message with it, and the others have none
+-- the index of the first messages of a net: it leads from a hash to the least number of a message
+-- with it, and has no entry for other hashes
 pub record IsIndex (net : List Message) (n : NumbersView) : Type 0 where
   pub few : n.count ≤ length net
   pub leads : (h j : ℕ) → least_with n h ≡ Some j → (1 ≤ j) × (j ≤ n.count) × IsFirstFrom net h j
@@ -42,11 +43,11 @@ abbrev pub or_number : Option ℕ → ℕ → Option ℕ
 or_number None number = Some number
 or_number (Some least) number = Some least
 
--- no message before this number is this one
+-- no message before this number is equal to this one
 abbrev pub IsNoneBefore : List Message → Message → ℕ → Type 0
 IsNoneBefore net m from = (k : ℕ) → k < from → message_at net k ≡ Some m → ⊥
 
--- one message more was indexed, which has this hash: other hashes lead where they did
+-- one more message with this hash was indexed: the entries of other hashes are unchanged
 pub record IsWith (old : NumbersView) (h : ℕ) (new : NumbersView) : Type 0 where
   pub count : new.count ≡ old.count + 1
   pub this : least_with new h ≡ or_number (least_with old h) (old.count + 1)

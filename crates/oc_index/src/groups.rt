@@ -11,7 +11,7 @@ use oc_keep::brought;
 use oc_model::Input;
 use std::alloc::Global;
 
-/// The line of a group: its length and its seal.
+/// The shelf line of a group: its length and its seal.
 fn line_of(group: &Group) -> Shelf
     ensures { result ≡ shelf_of group.now }
 {
@@ -22,7 +22,7 @@ fn line_of(group: &Group) -> Shelf
     }
 }
 
-/// The lines of groups, in their order.
+/// The shelf lines of groups, in order.
 pub(crate) fn lines_of(alloc: Global, groups: &[Group]) -> Result<Vec<Shelf>, Memory>
     ensures { IfOk result (λ lines. lines.items ≡ shelf groups.now) }
 {
@@ -33,7 +33,7 @@ pub(crate) fn lines_of(alloc: Global, groups: &[Group]) -> Result<Vec<Shelf>, Me
     Ok(lines)
 }
 
-/// The same group once more.
+/// A copy of a group.
 fn copy_of(alloc: Global, group: &Group) -> Result<Group, Memory>
     ensures { IfOk result (λ copy. copy ≡ group.now) }
 {
@@ -44,7 +44,7 @@ fn copy_of(alloc: Global, group: &Group) -> Result<Group, Memory>
     })
 }
 
-/// The same groups once more.
+/// A copy of groups.
 pub(crate) fn copied(alloc: Global, groups: &[Group]) -> Result<Vec<Group>, Memory>
     ensures { IfOk result (λ copy. copy.items ≡ groups.now) }
 {
@@ -55,8 +55,8 @@ pub(crate) fn copied(alloc: Global, groups: &[Group]) -> Result<Vec<Group>, Memo
     Ok(copy)
 }
 
-/// Keeps what a step keeps of the bytes of its input: those from this offset of their group on, and the seal where it
-/// closes. If memory runs out, the groups stay as they are.
+/// Keeps the part of an input's bytes that a step keeps: the bytes from this offset of their group
+/// on, and the seal if the input closes the group. If memory runs out, the groups are unchanged.
 #[tactic(auto, using(crate::proofs::GroupLists::kept_is, crate::proofs::GroupLists::kept_named))]
 pub(crate) fn keep(
     alloc: Global,
@@ -82,7 +82,8 @@ pub(crate) fn keep(
     }
 }
 
-/// Puts bytes from an offset of a group on, of which those that it holds are left out, and perhaps closes it.
+/// Adds bytes from an offset of a group on, without those that it has already, and closes the group
+/// if `closes`.
 #[tactic(auto, using(crate::proofs::GroupLists::put_found, crate::proofs::GroupLists::put_same, crate::proofs::GroupLists::put_free, crate::proofs::GroupLists::found_within, crate::proofs::GroupLists::free_within))]
 fn put(
     alloc: Global,
@@ -114,7 +115,7 @@ fn put(
     }
 }
 
-/// A group takes what is new of bytes from an offset on, and is perhaps closed.
+/// Appends the new part of bytes from an offset on to a group, and closes it if `closes`.
 fn grow(group: &mut Group, start: u64, bytes: &[u8], closes: bool) -> Result<(), Memory>
     ensures ok { OnOk result (group.new ≡ grown group.old start bytes.now closes) }
     ensures err { OnErr result (group.new ≡ group.old) }

@@ -1,4 +1,4 @@
-//! A world whose messages are found by what they say.
+//! A world with an index of its messages by content.
 
 ghost use Rattle.std.specs.Prelude.{◌≡◌, ◌↔◌, ◌≤◌, IsTrue, Some, IfOk, OnErr, OnOk, length};
 ghost use Rattle.oc_index.specs.Index.{IsFirstFrom, IsIndex, IsNoneBefore};
@@ -14,12 +14,12 @@ use crate::hash::hash_of;
 use crate::numbers::Numbers;
 use oc_base::{Bytes, Memory, NodeId};
 use oc_merge::Nodes;
-use oc_model::{Event, Message};
+use oc_model::{Event, Header, Message};
 use oc_wire::encode;
 use oc_world::World;
 use std::alloc::Global;
 
-/// A world, and an index of its messages. It is seen as a world of the model.
+/// A world, and an index of its messages. Contracts see a world of the model.
 #[derive(Drop)]
 pub struct IndexedWorld {
     alloc: Global,
@@ -30,31 +30,25 @@ pub struct IndexedWorld {
 
 impl IndexedWorld {
     /// The world of a header, where all nodes are down and nothing was sent.
-    pub fn new(
-        alloc: Global,
-        nodes: u32,
-        chain: u32,
-        chunk: u32,
-        areas: &[u8],
-    ) -> Result<IndexedWorld, Memory>
-        requires { IsHeader (record { nodes = nodes; chain = chain; chunk = chunk; areas = areas.now }) }
-        ensures { IfOk result (λ made. made.world.world ≡ new_world (record { nodes = nodes; chain = chain; chunk = chunk; areas = areas.now })) }
+    pub fn new(alloc: Global, header: &Header) -> Result<IndexedWorld, Memory>
+        requires { IsHeader header.now }
+        ensures { IfOk result (λ made. made.world.world ≡ new_world header.now) }
     {
         Ok(IndexedWorld {
             alloc,
-            world: World::new(alloc, nodes, chain, chunk, areas)?,
+            world: World::new(alloc, header)?,
             numbers: Numbers::new(alloc),
         })
     }
 
-    /// Whether the message of this number is this one, which is spelled so.
+    /// Whether the message of this number is equal to this one, which has this spelling.
     #[tactic(auto, using(crate::proofs::Same::has_spelling, crate::proofs::Same::same_spelled))]
     fn is_same(&self, number: u64, message: &Message, spelled: &[u8]) -> Result<bool, Memory>
         requires message { IsMessage (length (ids self.now.world.world)) message.now }
         requires spelled { spelled.now ≡ spelling message.now }
         ensures { IfOk result (λ same. IsTrue same ↔ (message_at self.now.world.world.net number ≡ Some message.now)) }
     {
-        // The clauses of this call say that there are few nodes, so lawful messages have spellings.
+        // This call has clauses by which there are few nodes, so lawful messages have spellings.
         let _nodes = self.world.count();
         match self.world.message(number)? {
             Some(found) => {
@@ -65,7 +59,8 @@ impl IndexedWorld {
         }
     }
 
-    /// The least number of a message that is this one, which is spelled so, where none before `from` is.
+    /// The least number of a message equal to this one, which has this spelling, if none before
+    /// `from` is.
     #[tactic(auto, using(crate::proofs::Same::none_before_next, crate::proofs::Same::found_first, crate::proofs::Same::found_none))]
     fn searched(&self, from: u64, message: &Message, spelled: &[u8]) -> Result<Option<u64>, Memory>
         requires message { IsMessage (length (ids self.now.world.world)) message.now }
@@ -81,12 +76,13 @@ impl IndexedWorld {
         Ok(None)
     }
 
-    /// From which number on a message is searched that has this hash.
+    /// The number from which a message with this hash is searched.
     #[tactic(auto, using(crate::proofs::Indexed::from_none, crate::proofs::Indexed::from_some))]
     fn first_with(&self, hash: u64) -> u64
         ensures { IsFirstFrom self.now.world.world.net hash result }
     {
-        // No more messages were indexed than were sent, and the clause of this call says that those are few.
+        // At most the messages that were sent are indexed, and this call has a clause by which
+        // those are few.
         let _sent = self.world.sent_count();
         match self.numbers.least(hash) {
             Some(number) => number,
@@ -95,13 +91,13 @@ impl IndexedWorld {
     }
 }
 
-/// Indexes the messages of a world that were not yet.
+/// Indexes the messages of a world that were not indexed yet.
 #[tactic(auto, using(crate::proofs::Same::has_spelling, crate::proofs::Indexed::with_next, crate::proofs::Indexed::with_none))]
 fn index_all(alloc: Global, world: &World, numbers: &mut Numbers) -> Result<(), Memory>
     requires { IsIndex world.now.world.net numbers.old }
     ensures { IsIndex world.now.world.net numbers.new }
 {
-    // The clauses of this call say that there are few nodes, so lawful messages have spellings.
+    // This call has clauses by which there are few nodes, so lawful messages have spellings.
     let _nodes = world.count();
     let sent = world.sent_count();
     for number in numbers.next()..sent + 1 {
@@ -114,7 +110,7 @@ fn index_all(alloc: Global, world: &World, numbers: &mut Numbers) -> Result<(), 
     Ok(())
 }
 
-/// Does what an event does, without its word. If memory runs out, the world is as `IsLeftBy` says.
+/// Performs an event, without its word. If memory runs out, `IsLeftBy` describes the world.
 fn play(world: &mut World, event: &Event) -> Result<(), Memory>
     requires event { IsEvent (length (ids world.old.world)) event.now }
     requires time { HasTimeFor world.old.world event.now }
@@ -142,7 +138,7 @@ impl Nodes for IndexedWorld {
 
     #[tactic(auto, using(crate::proofs::Same::has_spelling, crate::proofs::Same::none_of_hash))]
     fn number(&self, message: &Message) -> Result<Option<u64>, Memory> {
-        // The clauses of this call say that there are few nodes, so lawful messages have spellings.
+        // This call has clauses by which there are few nodes, so lawful messages have spellings.
         let _nodes = self.world.count();
         let spelled = encode(self.alloc, message)?;
         let from = self.first_with(hash_of(&spelled));

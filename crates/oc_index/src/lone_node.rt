@@ -12,20 +12,20 @@ use crate::groups::{copied, keep, lines_of};
 use oc_base::{Bytes, Group, MAX_BASE_ACKED, Memory, NodeId};
 use oc_keep::Node;
 use oc_merge::Alone;
-use oc_model::Input;
+use oc_model::{Header, Input};
 use oc_replay::put_digest;
 use std::alloc::Global;
 use std::marker::Model;
 
-/// One node alone, with its groups in memory in the place of its files: a start keeps what is durable of it, as its
-/// files would. It is seen as a node of the model.
+/// One node alone, with its groups in memory instead of files: a start keeps the durable part of
+/// it, as its files would. Contracts see a node of the model.
 #[derive(Drop)]
 pub struct LoneNode {
     alloc: Global,
     /// The area of each node, by its number.
     areas: Vec<u8>,
     node: Node,
-    /// Ascending by name.
+    /// The groups, ascending by name.
     groups: Vec<Group>,
 }
 
@@ -50,16 +50,17 @@ impl Alone for LoneNode {
     ghost digest = { digest };
 
     #[tactic(auto, using(crate::proofs::LoneSteps::header_copied, crate::proofs::LoneSteps::new_is, crate::proofs::LoneSteps::new_areas))]
-    fn new(
-        alloc: Global,
-        nodes: u32,
-        chain: u32,
-        chunk: u32,
-        areas: &[u8],
-        me: NodeId,
-    ) -> Result<LoneNode, Memory> {
-        let kept = areas.to_vec(alloc)?;
-        let node = Node::new(alloc, me, nodes, chain, chunk, areas.to_vec(alloc)?)?;
+    fn new(alloc: Global, header: &Header, me: NodeId) -> Result<LoneNode, Memory> {
+        let kept = header.areas.to_vec(alloc)?;
+        let sizes = header.sizes;
+        let node = Node::new(
+            alloc,
+            me,
+            sizes.nodes,
+            sizes.chain,
+            sizes.chunk,
+            header.areas.to_vec(alloc)?,
+        )?;
         Ok(LoneNode {
             alloc,
             areas: kept,
@@ -92,7 +93,8 @@ impl Alone for LoneNode {
     }
 }
 
-/// The node, except for its groups, that a start makes of what is durable of this one. These are its areas.
+/// The node, except for its groups, after a start from the durable part of this one. These are its
+/// areas.
 #[tactic(auto, using(crate::proofs::LoneSteps::header_again, crate::proofs::LoneSteps::me_again, crate::proofs::LoneSteps::new_kept, crate::proofs::LoneSteps::records_again, crate::proofs::LoneSteps::start_of_records, crate::proofs::LoneSteps::start_areas))]
 fn started_again(alloc: Global, node: &Node, areas: &[u8]) -> Result<Node, Memory>
     requires { areas.now ≡ node.now.control.areas }
@@ -102,7 +104,7 @@ fn started_again(alloc: Global, node: &Node, areas: &[u8]) -> Result<Node, Memor
     if !has_short_log(node) {
         return Err(Memory);
     }
-    // The clause of this call says that the node is one of a header.
+    // This call has a clause by which the node is one of a header.
     let nodes = node.nodes();
     let list = node.snapshot(1)?;
     let mut made = Node::new(
@@ -131,7 +133,7 @@ fn take_into(
     ensures shelf { IsShelf (shelf groups.new.items) }
     ensures areas { node.old.control.areas ≡ node.new.control.areas }
 {
-    // The clause of this call says that the node is lawful.
+    // This call has a clause by which the node is lawful.
     let _nodes = node.nodes();
     if !has_short_log(node) {
         return Err(Memory);
@@ -143,7 +145,8 @@ fn take_into(
     Ok(())
 }
 
-/// Whether the log of a node is no longer than a base may be. A longer one has more certificates than memory holds.
+/// Whether the log of a node is at most as long as a base may be. A longer log has more
+/// certificates than memory can hold.
 fn has_short_log(node: &Node) -> bool
     ensures { IsTrue result → node.now.control.kept.log.length ≤ MAX_BASE_ACKED }
 {

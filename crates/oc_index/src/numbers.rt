@@ -8,12 +8,13 @@ use std::alloc::Global;
 use std::collections::HashMap;
 use std::marker::Model;
 
-/// The least number of a message of each hash. Contracts see its entries, and how many messages were indexed.
+/// The least number of a message for each hash. Contracts see the entries, and the number of
+/// messages indexed.
 #[derive(Drop)]
 pub(crate) struct Numbers {
-    /// By the hash, the least number of a message with it.
+    /// The least number of a message, by its hash.
     least: HashMap<u64, u64>,
-    /// How many messages were indexed, those of the numbers from 1 to this one.
+    /// The number of messages indexed, which are those with the numbers from 1 to this one.
     count: u64,
 }
 
@@ -26,7 +27,7 @@ impl Model for Numbers {
 }
 
 impl Numbers {
-    /// An index of no message. It takes no memory.
+    /// An index without messages. Takes no memory.
     pub fn new(alloc: Global) -> Numbers
         ensures { IsIndex [] result }
     {
@@ -36,7 +37,7 @@ impl Numbers {
         }
     }
 
-    /// The next number: one more than the messages that were indexed.
+    /// The next number: one more than the number of messages indexed.
     pub fn next(&self) -> u64
         requires { self.now.count + 1 < 2 ^ 64 }
         ensures { result ≡ self.now.count + 1 }

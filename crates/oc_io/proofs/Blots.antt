@@ -1,4 +1,4 @@
--- What a crash leaves of a disk in memory is one of its images.
+-- The bytes that a crash leaves of a disk in memory are one of its images.
 use Rattle.std.proofs.Common.{◌≡◌, ◌⊎◌, inl, inr, ℕ, ◌+◌, ◌≤◌, List, [], ◌∷◌, ◌++◌, length, take, drop, refl, sym, ◌∙◌, ap, arith, length-append, Option, None, Some}
 use Rattle.std.proofs.lemmas.List.{take_at, drop_at, length-take-le, append_assoc, drop_all}
 use Rattle.oc_io.specs.Calls.{Call, Wrote, Synced, undone, IsWritten, Fits, blotted, crashed}
@@ -17,7 +17,7 @@ IsTorn-blotted at n p k byte d e torn = record {
   no_longer = omega (arith, length-blotted p k byte d, length-blotted p k byte e, torn.no_longer);
 }
 
--- and so where both lose what was not synced
+-- a torn write stays one after both sides lose their unsynced bytes
 IsTorn-crashed : (at n byte : ℕ) (past : List Call) (d e : List ℕ) → IsTorn at n d e → IsTorn at n (crashed byte past d) (crashed byte past e)
 IsTorn-crashed at n byte [] d e torn = torn
 IsTorn-crashed at n byte (Synced ∷ past) d e torn = torn
@@ -47,7 +47,7 @@ IsTorn-undone at n byte over bytes w =
         let long = length-undone at n over bytes w in
         past_the_end (at + n) (undone (Wrote at over n) bytes) bytes (omega (arith, long, w.fits)) (omega arith)
 
--- what a crash leaves is one of the images
+-- the bytes after a crash are one of the images
 pub crashed-image : (byte : ℕ) (past : List Call) (bytes : List ℕ) → Fits bytes past → MayLeave bytes past (crashed byte past bytes)
 crashed-image byte [] bytes fits = refl
 crashed-image byte (Synced ∷ past) bytes fits = refl

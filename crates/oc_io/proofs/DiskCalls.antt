@@ -1,4 +1,4 @@
--- What the calls of a disk in memory do to what is seen of it.
+-- The effects of the calls of a disk in memory on its view.
 use Rattle.std.proofs.Common.{◌≡◌, ◌⊎◌, inl, inr, ⊎_elim, ℕ, ◌+◌, ◌-◌, ◌≤◌, min, max, List, ◌∷◌, ◌++◌, length, take, drop, sym, ◌∙◌, ap, subst, arith, length-append, length-take, length-drop, append_assoc, take-append-drop}
 use Rattle.std.proofs.lemmas.List.{take_at, drop_at, drop-drop, length-take-le}
 use Rattle.oc_io.specs.DiskView.{IsTorn, Tears, Elapses}

@@ -11,7 +11,7 @@ LeavesOnly-start v P law here = record {
   before = λ t c earlier left. inl left;
 }
 
--- one call more, after which a crash leaves what has P
+-- one more call, after which each crash leaves a file with P
 pub LeavesOnly-on : (u v w : DiskView) (P : List ℕ → Type 0) → LeavesOnly u v P → Elapses v w → ((c : List ℕ) → w.may_leave c → P c) → LeavesOnly u w P
 LeavesOnly-on u v w P so_far time here = record {
   later = omega (arith, so_far.later, time.later);
@@ -27,7 +27,7 @@ LeavesOnly-then u v w P first second = record {
   before = λ t c earlier left. ⊎_elim (first.before t c earlier) (λ p. inr p) (second.before t c (omega (arith, first.later)) left);
 }
 
--- what is said of each image may be said less sharply
+-- a weaker property of each image holds too
 pub LeavesOnly-weaker : (u v : DiskView) (P Q : List ℕ → Type 0) → ((c : List ℕ) → P c → Q c) → LeavesOnly u v P → LeavesOnly u v Q
 LeavesOnly-weaker u v P Q weaker run = record {
   later = run.later;
@@ -35,7 +35,7 @@ LeavesOnly-weaker u v P Q weaker run = record {
   before = λ t c earlier left. ⊎_elim (λ was. inl was) (λ p. inr (weaker c p)) (run.before t c earlier left);
 }
 
--- what a crash after the run may leave
+-- the images of a crash after the run
 pub LeavesOnly-now : (u v : DiskView) (P : List ℕ → Type 0) → LeavesOnly u v P → IsConsistent v → (c : List ℕ) → v.may_leave c → P c
 LeavesOnly-now u v P run law c left = run.each c (law.counts_now u.moment c run.later left)
 

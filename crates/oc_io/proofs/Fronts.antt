@@ -1,9 +1,9 @@
--- Prefixes of lists, and what follows them.
+-- Prefixes of lists, and the rests after them.
 use Rattle.std.proofs.Common.{ℕ, ◌≡◌, ◌≤◌, ◌+◌, ◌-◌, List, ◌++◌, length, take, drop, sym, subst, ap, ◌∙◌, arith}
 use Rattle.std.proofs.lemmas.List.{length-drop, length-take-le, take-append-le, take-append-drop, drop-drop}
 use Rattle.std.proofs.Math.Seq.{take-add, take-length}
 
--- what a slice from an index to the end has
+-- the bytes of a slice from an index to the end
 pub rest-is : (done : ℕ) (bytes : List ℕ) → take (length bytes - done) (drop done bytes) ≡ drop done bytes
 rest-is done bytes =
     let rest = drop done bytes in
@@ -28,7 +28,7 @@ front_of-copied n xs behind fits =
     let long : n ≤ length (take n xs) = omega (arith, length-take-le n xs fits) in
     take-append-le n (take n xs) behind long ∙ subst (λ k. take k (take n xs) ≡ take n xs) (length-take-le n xs fits) (take-length (take n xs))
 
--- what is left is what was copied, and what is left after it
+-- the remaining bytes are the copied ones, and the rest after them
 pub left-copied : (at n : ℕ) (bytes copied behind : List ℕ) → n ≤ length bytes - at → copied ≡ take n (take (length bytes - at) (drop at bytes)) → drop at bytes ≡ take n (copied ++ behind) ++ drop (at + n) bytes
 left-copied at n bytes copied behind fits e =
     let left = drop at bytes in

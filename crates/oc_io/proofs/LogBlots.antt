@@ -1,4 +1,4 @@
--- What blotting makes of bytes, and how the steps of the record tell it.
+-- Blotted bytes, and how the steps of the record give them.
 use Rattle.std.proofs.Common.{◌≡◌, ℕ, zero, suc, ◌+◌, ◌-◌, ◌≤◌, List, [], ◌∷◌, ◌++◌, length, take, drop, replicate, refl, sym, ◌∙◌, ap, arith, length-append, take-append-drop}
 use Rattle.std.proofs.lemmas.List.{length-take-le, length-drop, drop-drop}
 use Rattle.oc_io.specs.Calls.{Wrote, undone, IsWritten, Fits, blotted, crashed}
@@ -42,7 +42,7 @@ drop-blotted_is (suc m) zero (suc n) byte (b ∷ bytes) =
 drop-blotted_is (suc m) zero zero byte (b ∷ bytes) =
     sym (blotted-none byte (drop m bytes)) ∙ same_blot zero (zero - suc m) zero (zero - (suc m - zero)) byte (drop m bytes) (omega arith) (omega arith)
 
--- what follows an offset depends on what followed it
+-- the bytes after an offset depend only on those that were after it
 pub drop-blotted : (m at n byte : ℕ) (a b : List ℕ) → drop m a ≡ drop m b → drop m (blotted at n byte a) ≡ drop m (blotted at n byte b)
 drop-blotted m at n byte a b same =
     drop-blotted_is m at n byte a ∙ ap (blotted (at - m) (n - (m - at)) byte) same ∙ sym (drop-blotted_is m at n byte b)
@@ -53,7 +53,7 @@ take-blotted_before zero n byte bytes = refl
 take-blotted_before (suc at) n byte [] = refl
 take-blotted_before (suc at) n byte (b ∷ bytes) = ap (λ (l : List ℕ). b ∷ l) (take-blotted_before at n byte bytes)
 
--- what is behind a blot stays
+-- the bytes after a blot do not change
 pub drop-blotted_behind : (m at n byte : ℕ) (bytes : List ℕ) → m ≡ at + n → drop m (blotted at n byte bytes) ≡ drop m bytes
 drop-blotted_behind m at n byte [] is = refl
 drop-blotted_behind zero (suc at) n byte (b ∷ bytes) is = absurd (omega arith)

@@ -1,4 +1,4 @@
--- How a disk in memory keeps the record of its calls: the calls in order, and the bytes that were written over in one pool.
+-- The record that a disk in memory keeps of its calls: the calls in order, and the replaced bytes in one pool.
 use Rattle.std.specs.Prelude.{ℕ, ◌-◌, List, [], ◌∷◌, length, take, drop}
 use Rattle.oc_io.specs.Calls.{Call, Wrote, Synced}
 use Rattle.oc_io.specs.declared.disk_log.LoggedCall.{LoggedCall}

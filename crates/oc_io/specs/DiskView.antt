@@ -1,17 +1,17 @@
--- What is known of a disk, and what its calls do to it.
+-- Disks, as the layers above see them, and the effects of their calls.
 use Rattle.std.specs.Prelude.{◌≡◌, ◌⊎◌, ℕ, ◌+◌, ◌<◌, ◌≤◌, max, Bool, IsTrue, List, ◌++◌, length, take, drop}
 use Rattle.oc_io.specs.declared.disk.TheConstants.{MAX_RELIABLE_BYTES}
 use Rattle.oc_io.specs.Faults.{NoFall, Rose}
 
--- a disk as the layers above see it
+-- the facts about a disk at one moment
 pub record DiskView : Type 1 where
-  -- what a read gives now
+  -- the bytes that a read gives now
   pub seen : List ℕ
-  -- what a crash now may leave: the images
+  -- the images that a crash now may leave
   pub may_leave : List ℕ → Type 0
-  -- how many calls of `write_at` and `sync` there were
+  -- the number of calls of `write_at` and `sync` so far
   pub moment : ℕ
-  -- what a crash at some moment since that one may have left
+  -- the images that a crash at some moment since that one may have left
   pub since : ℕ → List ℕ → Type 0
   -- the disk keeps the disk model
   pub honest : Bool
@@ -19,22 +19,22 @@ pub record DiskView : Type 1 where
   pub size : ℕ
   -- the spare room in bytes
   pub room : ℕ
-  -- the spare room in calls of `write_at` and `sync`
+  -- the spare room, in calls of `write_at` and `sync`
   pub calls : ℕ
-  -- how many calls failed
+  -- the number of failed calls
   pub faults : ℕ
-  -- no call that keeps within the size and the spare room fails
+  -- no call within the size and the spare room fails
   pub reliable : Bool
   -- the names of the borrows through which the disk is reached
   pub name : List ℕ
   -- the calls that were listed to fail, where the disk is one on which failures can be set
   pub listed : List ℕ
 
--- a crash leaves this and nothing else
+-- a crash leaves this image and no other
 abbrev pub Only : List ℕ → (List ℕ → Type 0) → Type 0
 Only bytes images = (c : List ℕ) → images c → c ≡ bytes
 
--- a crash leaves what a read gives
+-- a crash leaves the bytes that a read gives
 abbrev pub IsSafe : DiskView → Type 0
 IsSafe v = Only v.seen v.may_leave
 
@@ -42,28 +42,28 @@ IsSafe v = Only v.seen v.may_leave
 abbrev pub Holds : List ℕ → ℕ → List ℕ → List ℕ → Type 0
 Holds old at bytes new = new ≡ take at old ++ bytes ++ drop (at + length bytes) old
 
--- after a write of n bytes that a crash cuts short: any bytes in the range and past the old end, the same elsewhere
+-- an image after a crash in a write of n bytes: any bytes in the range and past the old end, the old bytes elsewhere
 pub record IsTorn (at n : ℕ) (old new : List ℕ) : Type 0 where
   pub before : take at new ≡ take at old
   pub after : drop (at + n) new ≡ drop (at + n) old
   pub no_shorter : length old ≤ length new
   pub no_longer : length new ≤ max (length old) (at + n)
 
--- each new image is an old one with a torn write
+-- each new image is an old image after a crash in this write
 abbrev pub Tears : ℕ → ℕ → DiskView → DiskView → Type 0
 Tears at n old new = (c : List ℕ) → new.may_leave c → (d : List ℕ) × old.may_leave d × IsTorn at n d c
 
--- each new image is an old one
+-- each new image is an old image
 abbrev pub AddsNoImage : DiskView → DiskView → Type 0
 AddsNoImage old new = (c : List ℕ) → new.may_leave c → old.may_leave c
 
--- Time goes on: a crash since t may have left what it may have left before, or what it may leave now.
+-- Time passes: a crash since t may have left an image that it may have left before, or one that it may leave now.
 pub record Elapses (old new : DiskView) : Type 0 where
   pub later : old.moment ≤ new.moment
   pub nothing_else : (t : ℕ) (c : List ℕ) → t ≤ old.moment → new.since t c → old.since t c ⊎ new.may_leave c
   pub keeps : (t : ℕ) (c : List ℕ) → t ≤ old.moment → old.since t c → new.since t c
 
--- the same disk at a later time: it is as honest and as reliable as before, reached in the same way, and what was set to fail still is
+-- the same disk at a later time: as honest and as reliable as before, reached by the same borrows, with the same calls listed to fail
 pub record GoesOn (old new : DiskView) : Type 0 where
   pub honest : new.honest ≡ old.honest
   pub reliable : new.reliable ≡ old.reliable
@@ -71,7 +71,7 @@ pub record GoesOn (old new : DiskView) : Type 0 where
   pub listed : new.listed ≡ old.listed
   pub count : NoFall old.faults new.faults
 
--- nothing was written: a read gives what it gave, no image was added, and the spare room is still there
+-- a call that writes nothing: a read gives the same bytes, no image was added, and the spare room is unchanged
 pub record StaysAsItWas (old new : DiskView) : Type 0 where
   pub goes_on : GoesOn old new
   pub time : IsTrue old.honest → Elapses old new
@@ -81,25 +81,25 @@ pub record StaysAsItWas (old new : DiskView) : Type 0 where
   pub room : old.room ≤ new.room
   pub calls : old.calls ≤ new.calls
 
--- at most this many bytes and calls of the spare room were taken, and at most as many moments went by
+-- at most this number of bytes and calls of the spare room were used, and at most this number of moments passed
 pub record Takes (bytes turns : ℕ) (old new : DiskView) : Type 0 where
   pub goes_on : GoesOn old new
   pub moment : IsTrue old.honest → new.moment ≤ old.moment + turns
   pub room : old.room ≤ new.room + bytes
   pub calls : old.calls ≤ new.calls + turns
 
--- Calls of `write_at` and `sync`, this many at most, that write this many bytes in all cannot fail: the disk is reliable, and has the room.
+-- Calls of `write_at` and `sync`, at most this number with this number of bytes, can't fail: the disk is reliable and has the room.
 pub record CannotFail (bytes turns : ℕ) (v : DiskView) : Type 0 where
   pub reliable : IsTrue v.reliable
   pub room : bytes ≤ v.room
   pub calls : turns ≤ v.calls
 
--- a call failed among such calls: its count of faults rose, and they were not ones that cannot fail
+-- one of these calls failed: the count of faults rose, and the calls were not ones that can't fail
 pub record Fails (bytes turns : ℕ) (old new : DiskView) : Type 0 where
   pub count : Rose old.faults new.faults
   pub unsure : ¬ CannotFail bytes turns old
 
--- a call that writes nothing failed, so the disk is not reliable
+-- a call without a write failed, so the disk is not reliable
 abbrev pub FailsToRead : DiskView → DiskView → Type 0
 FailsToRead old new = Fails 0 0 old new
 
@@ -111,20 +111,20 @@ HasNoFault old new = new.faults ≡ old.faults
 pub record LeavesOnly (old new : DiskView) (P : List ℕ → Type 0) : Type 0 where
   pub later : old.moment ≤ new.moment
   pub each : (c : List ℕ) → new.since old.moment c → P c
-  -- for a run that began earlier
+  -- the same for a run that began earlier
   pub before : (t : ℕ) (c : List ℕ) → t ≤ old.moment → new.since t c → old.since t c ⊎ P c
 
--- what each honest disk keeps
+-- the properties of every honest disk
 pub record IsConsistent (v : DiskView) : Type 0 where
   pub size : v.size ≡ length v.seen
-  -- what a read gives is one of the images
+  -- a read gives one of the images
   pub reads : v.may_leave v.seen
-  -- this moment is one of those since an earlier one
+  -- a crash at this moment counts as one since any earlier moment
   pub counts_now : (t : ℕ) (c : List ℕ) → t ≤ v.moment → v.may_leave c → v.since t c
-  -- since this moment there is no other
+  -- a crash since this moment is a crash at this moment
   pub only_now : (c : List ℕ) → v.since v.moment c → v.may_leave c
 
--- what each reliable disk keeps: it is honest, and what it holds and its spare room have a limit together
+-- the properties of every reliable disk: it is honest, and its content and spare room together have a limit
 pub record IsReliable (v : DiskView) : Type 0 where
   pub honest : IsTrue v.honest
   pub fits : 0 < v.room → v.size + v.room ≤ MAX_RELIABLE_BYTES

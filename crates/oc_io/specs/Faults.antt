@@ -1,4 +1,4 @@
--- How counts of faults go.
+-- Counts of faults.
 use Rattle.std.specs.Prelude.{◌≡◌, ℕ, ◌-◌, ◌^◌, ◌<◌, ◌≤◌, ◌⊎◌}
 
 -- the count did not fall

@@ -1,4 +1,4 @@
--- What came from a reader, from one moment to a later one.
+-- The bytes that came from a reader, between two moments.
 use Rattle.std.specs.Prelude.{◌≡◌, ℕ, IsTrue, Option, List, [], ◌++◌, length, refl}
 use Rattle.std.specs.Io.KnownBytes.{Consumes, IsAtEnd}
 use Rattle.std.proofs.Common.{◌∙◌, ap}
@@ -8,8 +8,8 @@ use Rattle.oc_io.specs.Known.{Consumes-none, Consumes-then}
 use Rattle.oc_io.specs.declared.reader_source.ReaderSource.{ReaderSource}
 
 module _ {R : Type 0} (remaining : R → Option (List ℕ)) where
-  -- these bytes came: the reader has lost them of what it had left, where it tells that, and the counter
-  -- rose by their number
+  -- these bytes came: a reader that tells its remaining bytes has lost them, and the counter rose by their
+  -- number
   pub record Passed (old : ReaderSource R) (bytes : List ℕ) (new : ReaderSource R) : Type 0 where
     pub known : Consumes (remaining old.reader) (remaining new.reader) bytes
     pub counts : Rises old.passed (length bytes) new.passed
@@ -24,7 +24,7 @@ module _ {R : Type 0} (remaining : R → Option (List ℕ)) where
     pub passed : Passed old bytes new
     pub faults : new.faults ≡ counted old.faults
 
-  -- the last read that had room found nothing, and nothing that is known is left
+  -- the last read with room found nothing, and the reader knows of no bytes left
   pub record HasEnded (source : ReaderSource R) : Type 0 where
     pub found_nothing : IsTrue source.at_end
     pub known : IsAtEnd (remaining source.reader)

@@ -1,20 +1,20 @@
--- A sink in memory: the text so far, how many bytes it can keep, and its calls.
+-- A sink in memory: its text, its room in bytes, and its calls.
 use Rattle.std.specs.Prelude.{◌≡◌, ℕ, ◌⊎◌, List, [], ◌++◌, Contains, length, refl}
 use Rattle.std.proofs.Common.{sym, subst, ◌∙◌, ap, inl, inr}
 use Rattle.std.proofs.lemmas.List.{append-nil, append_assoc}
 use Rattle.oc_io.specs.Tally.{Tally, Passes, Stops, Passes-none, Passes-then, Passes-stops, fresh}
 
--- the text, how many bytes can be kept, and the calls
+-- the text, the number of bytes that can be kept, and the calls
 pub record SinkView : Type 0 where
   pub text : List ℕ
   pub room : ℕ
   pub calls : Tally
 
--- a new sink with this room
+-- a new sink with this room in bytes
 abbrev pub sink_of : ℕ → List ℕ → SinkView
 sink_of room listed = record { text = []; room = room; calls = fresh listed }
 
--- no more bytes can be kept
+-- the room is full
 abbrev pub IsFull : SinkView → Type 0
 IsFull s = length s.text ≡ s.room
 
@@ -24,23 +24,23 @@ pub record TakesBehind (old : SinkView) (bytes : List ℕ) (new : SinkView) : Ty
   pub room : new.room ≡ old.room
   pub calls : Passes old.calls new.calls
 
--- these bytes were added after the text, and then a call failed: it is listed, or the room is full
+-- these bytes were added after the text, and then a call failed, which was listed or found the room full
 pub record FailsFull (old : SinkView) (bytes : List ℕ) (new : SinkView) : Type 0 where
   pub text : new.text ≡ old.text ++ bytes
   pub room : new.room ≡ old.room
   pub calls : Stops old.calls new.calls
   pub cause : Contains old.calls.listed new.calls.made ⊎ IsFull new
 
--- an addition after an addition
+-- two additions, one after another, are one
 adds : (a b c x y : List ℕ) → b ≡ a ++ x → c ≡ b ++ y → c ≡ a ++ (x ++ y)
 adds a b c x y e f = f ∙ ap (λ front. front ++ y) e ∙ append_assoc a x y
 
--- the cause of a failure, told from an earlier list of the same numbers
+-- the cause of a failure also holds for an earlier list of the same calls
 earlier_cause : (a b c : SinkView) → b.calls.listed ≡ a.calls.listed → Contains b.calls.listed c.calls.made ⊎ IsFull c → Contains a.calls.listed c.calls.made ⊎ IsFull c
 earlier_cause a b c same (inl listed) = inl (subst (λ xs. Contains xs c.calls.made) same listed)
 earlier_cause a b c same (inr full) = inr full
 
--- nothing was added
+-- no bytes were added
 pub TakesBehind-nothing : (s : SinkView) → TakesBehind s [] s
 TakesBehind-nothing s = record {
   text = sym (append-nil s.text);
@@ -48,7 +48,7 @@ TakesBehind-nothing s = record {
   calls = Passes-none s.calls;
 }
 
--- an addition after an addition
+-- two additions, one after another, are one
 pub TakesBehind-then : (a b c : SinkView) (x y : List ℕ) → TakesBehind a x b → TakesBehind b y c → TakesBehind a (x ++ y) c
 TakesBehind-then a b c x y p q = record {
   text = adds a.text b.text c.text x y p.text q.text;
@@ -56,7 +56,7 @@ TakesBehind-then a b c x y p q = record {
   calls = Passes-then a.calls b.calls c.calls p.calls q.calls;
 }
 
--- and then a failure
+-- an addition, and a failure after it
 pub TakesBehind-fails : (a b c : SinkView) (x y : List ℕ) → TakesBehind a x b → FailsFull b y c → FailsFull a (x ++ y) c
 TakesBehind-fails a b c x y p q = record {
   text = adds a.text b.text c.text x y p.text q.text;

@@ -1,4 +1,4 @@
--- What went to a writer, from one moment to a later one.
+-- The bytes that went to a writer, between two moments.
 use Rattle.std.specs.Prelude.{◌≡◌, ℕ, Option, List, [], ◌++◌, length, refl}
 use Rattle.std.specs.Io.KnownBytes.{Appends}
 use Rattle.std.proofs.Common.{◌∙◌, ap}
@@ -8,8 +8,8 @@ use Rattle.oc_io.specs.Known.{Appends-none, Appends-then}
 use Rattle.oc_io.specs.declared.writer_sink.WriterSink.{WriterSink}
 
 module _ {W : Type 0} (contents : W → Option (List ℕ)) where
-  -- these bytes went: the writer has grown by them, where it tells what it holds, and the counter rose by
-  -- their number
+  -- these bytes went: a writer that tells its content has grown by them, and the counter rose by their
+  -- number
   pub record Passed (old : WriterSink W) (bytes : List ℕ) (new : WriterSink W) : Type 0 where
     pub known : Appends (contents old.writer) (contents new.writer) bytes
     pub counts : Rises old.passed (length bytes) new.passed

@@ -5,7 +5,7 @@ ghost use Rattle.oc_io.specs.Tally.{called, faulted, fresh, IsListed, Passes, St
 use crate::fault::Failed;
 use std::marker::Model;
 
-/// The calls of an object in memory: which of them fail, how many were made and how many failed.
+/// The calls of an object in memory: the calls that are to fail, the number of calls, and the number of failures.
 /// A count that has reached the greatest `u64` stays there.
 #[derive(Debug, Drop)]
 pub struct CallTally {
@@ -23,7 +23,7 @@ impl Model for CallTally {
 }
 
 impl CallTally {
-    /// No calls yet. The calls with these numbers fail, counted from 1.
+    /// Starts with no calls. The calls with the numbers `listed` are to fail, counted from 1.
     pub fn new(listed: Vec<u64>) -> CallTally
         ensures { result ≡ fresh listed.items }
     {
@@ -34,7 +34,7 @@ impl CallTally {
         }
     }
 
-    /// From now on the calls with these numbers fail, counted from 1.
+    /// Starts the count of calls anew: the calls with these numbers are to fail, counted from 1.
     pub fn list(&mut self, calls: Vec<u64>)
         ensures { self.new ≡ record self.old { listed = calls.items; made = 0 } }
     {
@@ -42,7 +42,7 @@ impl CallTally {
         self.made = 0;
     }
 
-    /// Counts a call, and fails where it is listed.
+    /// Counts a call, which fails if it is listed.
     pub fn call(&mut self) -> Result<(), Failed>
         ensures passed { OnOk result (¬ IsListed self.old × (self.new ≡ called self.old)) }
         ensures listed { OnErr result (IsListed self.old × (self.new ≡ faulted (called self.old))) }
@@ -58,7 +58,7 @@ impl CallTally {
         Ok(())
     }
 
-    /// Counts a call, which fails where it is listed or cannot be done.
+    /// Counts a call, which fails if it is listed or `can` is false.
     pub fn call_if(&mut self, can: bool) -> Result<(), Failed>
         ensures passed { OnOk result ((can ≡ true) × ¬ IsListed self.old × (self.new ≡ called self.old)) }
         ensures failed { OnErr result (((can ≡ false) ⊎ IsListed self.old) × (self.new ≡ faulted (called self.old))) }
@@ -67,7 +67,7 @@ impl CallTally {
         if can { Ok(()) } else { Err(self.fault()) }
     }
 
-    /// Counts a fault of the call that was counted last.
+    /// Counts a fault of the last call.
     pub fn fault(&mut self) -> Failed
         ensures faulted { self.new ≡ faulted self.old }
         ensures count { NoFall self.old.faults self.new.faults }

@@ -10,13 +10,13 @@ pub const MAX_RELIABLE_BYTES: u64 = 281_474_976_710_656;
 
 /// A file of bytes that may crash at any moment.
 ///
-/// Between two syncs each written range, and the part past the old end, may hold any bytes after a
-/// crash, and other bytes stay. After a sync that succeeded a crash leaves what a read gives. A disk
-/// that keeps this is *honest*; what a clause says of bytes and crashes it says of an honest disk.
-/// Sizes, spare room and counts are kept by each disk. On a *reliable* disk, which is honest too, no
-/// call that keeps within the size and the spare room fails. Offsets and sizes are in bytes.
+/// Between two syncs, after a crash each written range and the part past the old end may hold any bytes, and
+/// the other bytes are unchanged. After a successful sync a crash leaves the bytes that a read gives. A disk
+/// that keeps this is *honest*; a clause about bytes and crashes speaks of honest disks only.
+/// Every disk keeps its size, spare room and counts. On a *reliable* disk, which is also honest, no
+/// call within the size and the spare room fails. Offsets and sizes are in bytes.
 pub trait Disk {
-    /// All that is known of the disk at one time.
+    /// The facts about the disk at one moment.
     ghost view: { Self → DiskView };
 
     /// The size in bytes.
@@ -27,8 +27,8 @@ pub trait Disk {
         ensures no_fault { OnOk result (HasNoFault (view self.old) (view self.new)) }
         ensures fails { OnErr result (FailsToRead (view self.old) (view self.new)) };
 
-    /// Fills the buffer from that offset on, as far as the size reaches, and answers how many bytes
-    /// it put there. Past the size it may fail.
+    /// Reads from that offset on into the buffer, up to the size, and answers the number of bytes read.
+    /// A read from an offset past the size may fail.
     fn read_at(&mut self, at: u64, buf: &mut [u8]) -> Result<usize, Failed>
         ensures count { IfOk result (λ n. n ≡ min (length buf.old) ((view self.old).size - at)) }
         ensures bytes { IfOk result
@@ -40,7 +40,7 @@ pub trait Disk {
         ensures fails { OnErr result
             (at ≤ (view self.old).size → FailsToRead (view self.old) (view self.new)) };
 
-    /// Makes the spare room at least this many bytes and sixteen calls of `write_at` and `sync`.
+    /// Makes the spare room at least `bytes` bytes and sixteen calls of `write_at` and `sync`.
     fn reserve(&mut self, bytes: u64) -> Result<(), AllocError>
         ensures room { OnOk result (bytes ≤ (view self.new).room) }
         ensures calls { OnOk result (16 ≤ (view self.new).calls) }
@@ -48,7 +48,7 @@ pub trait Disk {
         ensures stays { StaysAsItWas (view self.old) (view self.new) }
         ensures no_fault { HasNoFault (view self.old) (view self.new) };
 
-    /// Writes over what is there and past the end, from an offset within the size. Until a sync, a
+    /// Writes from an offset within the size on, over the old bytes and past the end. Until a sync, a
     /// crash may leave any bytes in the range.
     fn write_at(&mut self, at: u64, bytes: &[u8]) -> Result<(), Failed>
         requires { at ≤ (view self.old).size }
@@ -64,7 +64,7 @@ pub trait Disk {
         ensures no_fault { OnOk result (HasNoFault (view self.old) (view self.new)) }
         ensures fails { OnErr result (Fails (length bytes.now) 1 (view self.old) (view self.new)) };
 
-    /// After it a crash leaves what a read gives.
+    /// Makes all bytes durable: a crash then leaves the bytes that a read gives.
     fn sync(&mut self) -> Result<(), Failed>
         ensures takes { Takes 0 1 (view self.old) (view self.new) }
         ensures time { IsTrue (view self.old).honest → Elapses (view self.old) (view self.new) }
@@ -78,9 +78,9 @@ pub trait Disk {
         ensures no_fault { OnOk result (HasNoFault (view self.old) (view self.new)) }
         ensures fails { OnErr result (Fails 0 1 (view self.old) (view self.new)) };
 
-    /// What each honest disk keeps.
+    /// The properties of every honest disk.
     ghost consistent: { (disk : Self) → IsTrue (view disk).honest → IsConsistent (view disk) };
 
-    /// What each reliable disk keeps.
+    /// The properties of every reliable disk.
     ghost reliable_keeps: { (disk : Self) → IsTrue (view disk).reliable → IsReliable (view disk) };
 }

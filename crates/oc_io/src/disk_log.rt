@@ -4,11 +4,11 @@ ghost use Rattle.oc_io.specs.Calls.{Wrote, Synced, Fits, blotted, crashed};
 use std::alloc::{AllocError, Global};
 use std::marker::Model;
 
-/// A call of `write_at` or `sync` that worked, as it is kept.
+/// A successful call of `write_at` or `sync`, as the record keeps it.
 #[derive(Clone, Copy, Debug)]
 pub enum LoggedCall {
-    /// A write: its offset, how many bytes it wrote over, and how many it wrote. It wrote over fewer
-    /// than it wrote where it went past the end.
+    /// A write: its offset, the number of bytes replaced, and the number of bytes written. The first number
+    /// is smaller where the write went past the end.
     Write {
         at: usize,
         over: usize,
@@ -17,10 +17,10 @@ pub enum LoggedCall {
     Sync,
 }
 
-/// The calls of a disk in memory that worked, with the bytes that each wrote over. These bytes are kept
-/// in one pool, so that a call takes no memory for which `reserve` made room.
+/// The successful calls on a disk in memory, with the bytes that each replaced. One pool keeps these bytes,
+/// so that a call takes no memory beyond what `reserve` has taken.
 ///
-/// A contract sees the calls, newest first, and how many more bytes and calls there is room for.
+/// A contract sees the calls, newest first, and the numbers of further bytes and calls for which there is room.
 #[derive(Debug, Drop)]
 pub struct DiskLog {
     steps: Vec<LoggedCall>,
@@ -43,7 +43,7 @@ impl Model for DiskLog {
 }
 
 impl DiskLog {
-    /// No calls, and no room.
+    /// An empty record without room.
     pub fn new(alloc: Global) -> DiskLog
         ensures { result ≡ record { past = []; room = 0; calls = 0 } }
     {
@@ -55,21 +55,21 @@ impl DiskLog {
         }
     }
 
-    /// How many more bytes may be written.
+    /// The number of bytes that may still be written.
     pub fn room(&self) -> usize
         ensures { result ≡ self.now.room }
     {
         self.room
     }
 
-    /// How many more calls there may be.
+    /// The number of calls that may still be made.
     pub fn calls(&self) -> usize
         ensures { result ≡ self.now.calls }
     {
         self.calls
     }
 
-    /// Makes room for at least `bytes` more bytes and `calls` more calls; room that is there stays.
+    /// Makes room for at least `bytes` further bytes and `calls` further calls; it never makes the room smaller.
     pub fn reserve(&mut self, bytes: usize, calls: usize) -> Result<(), AllocError>
         ensures ok { OnOk result
             (self.new ≡ record self.old { room = max self.old.room bytes; calls = max self.old.calls calls }) }
@@ -82,8 +82,8 @@ impl DiskLog {
         Ok(())
     }
 
-    /// Notes a write of `count` bytes from the offset `at` on, where `over` was before. It is shorter
-    /// than `count` where the write goes past the end.
+    /// Notes a write of `count` bytes from the offset `at` on, which replaced the bytes `over`. These are
+    /// fewer than `count` where the write goes past the end.
     pub fn note_write(&mut self, at: usize, over: &[u8], count: usize)
         requires over { length over.now ≤ count }
         requires room { count ≤ self.old.room }
@@ -115,7 +115,7 @@ impl DiskLog {
         self.calls -= 1;
     }
 
-    /// Makes each byte that was written since the last sync the byte `image`.
+    /// Sets each byte that was written since the last sync to `image`.
     pub fn blot(self, bytes: &mut [u8], image: u8)
         requires { Fits bytes.old self.past }
         ensures { bytes.new ≡ crashed image self.past bytes.old }
@@ -130,7 +130,7 @@ impl DiskLog {
     }
 }
 
-/// Makes each of the `count` bytes from the offset `at` on the byte `image`.
+/// Sets each of the `count` bytes from the offset `at` on to `image`.
 fn fill(bytes: &mut [u8], at: usize, count: usize, image: u8)
     requires { at + count ≤ length bytes.old }
     ensures { bytes.new ≡ blotted at count image bytes.old }

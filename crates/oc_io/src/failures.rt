@@ -8,15 +8,15 @@ use crate::fault::Failed;
 use std::alloc::Global;
 use std::marker::Model;
 
-/// After `left` more calls of `write_at` and `sync` none works, and a crash leaves the byte `image`
-/// wherever something was written since the last sync.
+/// A stop: after `left` more calls of `write_at` and `sync` every such call fails, and a crash leaves the byte
+/// `image` in place of each byte that was written since the last sync.
 #[derive(Clone, Copy, Debug)]
 pub struct Stop {
     pub left: u8,
     pub image: u8,
 }
 
-/// Which calls of a disk in memory fail: those of a list, by their numbers, and those after a stop.
+/// The failing calls of a disk in memory: those with listed numbers, and all after a stop.
 #[derive(Debug, Drop)]
 pub struct Failures {
     calls: CallTally,
@@ -32,7 +32,7 @@ impl Model for Failures {
 }
 
 impl Failures {
-    /// No call fails.
+    /// No listed call and no stop.
     pub fn none(alloc: Global) -> Failures
         ensures { result ≡ no_failures }
     {
@@ -42,7 +42,7 @@ impl Failures {
         }
     }
 
-    /// From now on the calls with these numbers fail, counted from 1.
+    /// Lists the calls that are to fail, by their numbers from now on, counted from 1.
     pub fn list(&mut self, calls: Vec<u64>)
         ensures { self.new ≡ record self.old {
           calls = record self.old.calls { listed = calls.items; made = 0 };
@@ -58,14 +58,14 @@ impl Failures {
         self.stop = Some(stop);
     }
 
-    /// The stop, where one was set.
+    /// The stop, if one was set.
     pub fn stop_set(&self) -> Option<Stop>
         ensures { result ≡ self.now.stop }
     {
         self.stop
     }
 
-    /// Counts a call, and fails where it is listed.
+    /// Counts a call, which fails if it is listed.
     pub fn call(&mut self) -> Result<(), Failed>
         ensures passed { OnOk result
             (¬ IsListed self.old.calls × (self.new ≡ record self.old { calls = called self.old.calls })) }
@@ -77,7 +77,7 @@ impl Failures {
         self.calls.call()
     }
 
-    /// Counts a fault of the call that was counted last.
+    /// Counts a fault of the last call.
     pub fn fault(&mut self) -> Failed
         ensures faulted { self.new ≡ record self.old { calls = faulted self.old.calls } }
         ensures count { NoFall self.old.calls.faults self.new.calls.faults }
@@ -85,7 +85,7 @@ impl Failures {
         self.calls.fault()
     }
 
-    /// Whether no more call of `write_at` and `sync` works.
+    /// Whether every further call of `write_at` and `sync` fails.
     pub fn is_stopped(&self) -> bool
         ensures { IsTrue result ↔ IsStopped self.now.stop }
     {
@@ -95,7 +95,7 @@ impl Failures {
         }
     }
 
-    /// One call less until the stop.
+    /// Counts a successful call towards the stop.
     pub fn pass(&mut self)
         ensures { self.new ≡ record self.old { stop = passed self.old.stop } }
     {

@@ -1,3 +1,3 @@
-/// A call on something outside failed. Its count of faults rose, or is at its last value.
+/// The failure of a call on an outside object, as a file. The object's count of faults rose, or is the greatest `u64`.
 #[derive(Clone, Copy, Debug, PartialEq, Eq)]
 pub struct Failed;

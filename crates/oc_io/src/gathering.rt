@@ -5,21 +5,21 @@ use crate::read_fault::ReadFault;
 use crate::source::Source;
 use std::alloc::{AllocError, Global};
 
-/// The most bytes that one call of `read` is asked for.
+/// The greatest number of bytes that one call of `read` asks for.
 const PIECE: usize = 65_536;
 
-/// The bytes of a source up to its end, of which there may be `most`. It gives up as soon as more
-/// have come.
+/// Reads a source up to its end. It stops with `TooMany` as soon as more than `most` bytes have
+/// come.
 pub fn read_all<S: Source>(alloc: Global, source: &mut S, most: usize) -> Result<Vec<u8>, ReadFault>
-    // All that came up to the end.
+    // All bytes up to the end.
     ensures gives { IfOk result (λ bytes. S.gives source.old bytes.items source.new) }
     ensures end { OnOk result (S.ended source.new) }
     ensures within { IfOk result (λ bytes. vec_len bytes ≤ most) }
 
-    // It reads no more when it has found the end.
+    // No further read after the end was found.
     ensures calls { IfOk result (λ bytes. S.calls source.new ≤ S.calls source.old + length bytes.items + 1) }
 
-    // What came before the fault.
+    // The bytes before the fault.
     ensures failed { IsErrOf result ReadFault.Failed
         → (bytes : List ℕ) × S.fails source.old bytes source.new × (length bytes ≤ most) }
     ensures too_many { IsErrOf result ReadFault.TooMany

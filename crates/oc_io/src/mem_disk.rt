@@ -13,13 +13,13 @@ use crate::fault::Failed;
 use std::alloc::{AllocError, Global};
 use std::marker::Model;
 
-/// How many calls of `write_at` and `sync` a `reserve` makes room for.
+/// The number of calls of `write_at` and `sync` for which `reserve` makes room.
 const CALLS: usize = 16;
 
-/// A disk in memory, of which given calls fail and which can be stopped and crashed.
+/// A disk in memory, for tests and replays: listed calls fail, and it can be stopped and crashed.
 ///
-/// It keeps a record of its calls and the bytes that each wrote over. From these it tells what a
-/// crash at each moment may have left, and so a write costs what it writes.
+/// The disk records its calls with the bytes that each replaced, and tells from these the images that a
+/// crash at each moment may have left. So the cost of a write depends on the length of the write alone.
 #[derive(Debug, Drop)]
 pub struct MemDisk {
     bytes: Vec<u8>,
@@ -40,7 +40,7 @@ impl Model for MemDisk {
 }
 
 impl MemDisk {
-    /// A disk that holds these bytes, all of them safe.
+    /// A disk with these bytes, all of them durable.
     pub fn new(bytes: Vec<u8>) -> MemDisk
         ensures { result ≡ disk_of bytes.items }
     {
@@ -52,8 +52,8 @@ impl MemDisk {
         }
     }
 
-    /// The next `calls` calls of `write_at` and `sync` work, and later ones fail. From now on a
-    /// crash leaves the byte `image` wherever something was written since the last sync.
+    /// Sets a stop: the next `calls` calls of `write_at` and `sync` succeed, and later ones fail. From now on
+    /// a crash leaves the byte `image` in place of each byte that was written since the last sync.
     pub fn stop_after(&mut self, calls: u8, image: u8)
         ensures { self.new ≡ record self.old {
           failing = record self.old.failing { stop = Some (record { left = calls; image = image }) };
@@ -62,8 +62,8 @@ impl MemDisk {
         self.failures.stop(Stop { left: calls, image });
     }
 
-    /// From now on the calls of `size`, `read_at`, `write_at` and `sync` are counted together from 1,
-    /// and those with these numbers fail.
+    /// Lists calls that are to fail: from now on the calls of `size`, `read_at`, `write_at` and `sync` are
+    /// counted together from 1, and those with these numbers fail.
     pub fn fail_at(&mut self, calls: Vec<u64>)
         ensures { self.new ≡ record self.old {
           failing = record self.old.failing {
@@ -74,12 +74,12 @@ impl MemDisk {
         self.failures.list(calls);
     }
 
-    /// The disk after a crash: each byte written since the last sync is the byte of the stop, or
-    /// the written byte where no stop was set.
+    /// The disk after a crash: each byte that was written since the last sync is the byte of the stop, or
+    /// the written byte if no stop was set.
     pub fn crash(self) -> MemDisk
         ensures disk { result ≡ disk_of (crash_of self) }
 
-        // It is one of the images.
+        // The result is one of the images that a crash may leave.
         ensures image { MayLeave self.bytes self.past result.bytes }
     {
         let MemDisk {
@@ -90,14 +90,14 @@ impl MemDisk {
         MemDisk::new(leave(bytes, log, failures.stop_set()))
     }
 
-    /// A disk that holds the same bytes, all of them safe.
+    /// A disk with the same bytes, all of them durable.
     pub fn copy(&self) -> Result<MemDisk, AllocError>
         ensures { IfOk result (λ disk. disk ≡ disk_of self.now.bytes) }
     {
         Ok(MemDisk::new(self.bytes.clone()?))
     }
 
-    /// Counts a call of `size` or `read_at`; it fails where it is listed or `refuse` holds.
+    /// Counts a call of `size` or `read_at`, which fails if it is listed or `refuse` holds.
     fn look(&mut self, refuse: bool) -> Result<(), Failed>
         ensures ok { OnOk result
             (¬ IsListed self.old.failing.calls × ¬ IsTrue refuse × (self.new ≡ read self.old)) }
@@ -112,7 +112,7 @@ impl MemDisk {
         Ok(())
     }
 
-    /// Counts a call of `write_at` or `sync` that takes this room; it fails where there is too
+    /// Counts a call of `write_at` or `sync` that needs this room, in bytes; the call fails if there is too
     /// little or the disk was stopped.
     fn admit(&mut self, room: usize) -> Result<(), Failed>
         ensures ok { OnOk result (¬ Refuses self.old room × (self.new ≡ admitted self.old)) }
@@ -128,7 +128,7 @@ impl MemDisk {
         Ok(())
     }
 
-    /// Writes, and keeps what it writes over.
+    /// Writes bytes, and records the bytes that they replace.
     fn put(&mut self, at: usize, bytes: &[u8])
         requires within { at ≤ length self.old.bytes }
         requires room { length bytes.now ≤ self.old.room }
@@ -140,7 +140,7 @@ impl MemDisk {
     }
 }
 
-/// What a crash leaves of these bytes, with this stop or none.
+/// The bytes after a crash, with this stop or none.
 fn leave(mut bytes: Vec<u8>, log: DiskLog, stop: Option<Stop>) -> Vec<u8>
     requires { Fits bytes.items log.past }
     ensures { result.items ≡ crash_by stop log.past bytes.items }
@@ -152,7 +152,7 @@ fn leave(mut bytes: Vec<u8>, log: DiskLog, stop: Option<Stop>) -> Vec<u8>
     bytes
 }
 
-/// Notes a write of `count` bytes in the record, with those that it writes over.
+/// Records a write of `count` bytes, with the bytes that it replaces.
 fn keep(log: &mut DiskLog, bytes: &Vec<u8>, at: usize, count: usize)
     requires within { at ≤ vec_len bytes.now }
     requires room { count ≤ log.old.room }
@@ -167,7 +167,7 @@ fn keep(log: &mut DiskLog, bytes: &Vec<u8>, at: usize, count: usize)
     log.note_write(at, &left[..left.len().min(count)], count);
 }
 
-/// Writes over these bytes and past their end, for which there is memory.
+/// Writes over these bytes and past their end, without taking memory.
 fn overwrite(bytes: &mut Vec<u8>, at: usize, new: &[u8])
     requires within { at ≤ vec_len bytes.old }
     requires room { vec_len bytes.old + length new.now ≤ vec_capacity bytes.old }
@@ -180,7 +180,7 @@ fn overwrite(bytes: &mut Vec<u8>, at: usize, new: &[u8])
     bytes.extend_from_slice(&new[inside..]).unwrap();
 }
 
-/// Copies the bytes from an offset within them into the buffer, as many as there are and fit.
+/// Copies bytes from an offset on into the buffer, as many as there are and fit; answers their number.
 fn read_from(bytes: &[u8], at: usize, buf: &mut [u8]) -> usize
     requires { at ≤ length bytes.now }
     ensures count { result ≡ min (length buf.old) (length bytes.now - at) }
@@ -206,7 +206,7 @@ impl Disk for MemDisk {
         ensures no_fault { OnOk result (HasNoFault (view_of self.old) (view_of self.new)) }
         ensures fails { OnErr result (FailsToRead (view_of self.old) (view_of self.new)) }
 
-        // It fails exactly where it is listed.
+        // A failure exactly if the call is listed.
         ensures ok { OnOk result (¬ IsListed self.old.failing.calls × (self.new ≡ read self.old)) }
         ensures err { OnErr result (IsListed self.old.failing.calls × (self.new ≡ refused self.old)) }
     {
@@ -224,7 +224,7 @@ impl Disk for MemDisk {
         ensures fails { OnErr result
             (at ≤ length self.old.bytes → FailsToRead (view_of self.old) (view_of self.new)) }
 
-        // It fails exactly where it is listed or its offset is past the size.
+        // A failure exactly if the call is listed or its offset is past the size.
         ensures ok { OnOk result
             (¬ IsListed self.old.failing.calls × (at ≤ length self.old.bytes) × (self.new ≡ read self.old)) }
         ensures err { OnErr result
@@ -242,7 +242,7 @@ impl Disk for MemDisk {
         ensures stays { StaysAsItWas (view_of self.old) (view_of self.new) }
         ensures no_fault { HasNoFault (view_of self.old) (view_of self.new) }
 
-        // It works only where the bytes and the room together are at most `MAX_RELIABLE_BYTES`.
+        // Success only if the bytes and the room together are at most `MAX_RELIABLE_BYTES`.
         ensures ok { OnOk result (self.new ≡ reserved self.old bytes) }
         ensures err { OnErr result (self.new ≡ self.old) }
         ensures most { OnOk result (length self.old.bytes + bytes ≤ MAX_RELIABLE_BYTES) }
@@ -264,7 +264,7 @@ impl Disk for MemDisk {
         ensures torn { IsTrue true → Tears at (length bytes.now) (view_of self.old) (view_of self.new) }
         ensures fails { OnErr result (Fails (length bytes.now) 1 (view_of self.old) (view_of self.new)) }
 
-        // It fails exactly where it is listed, there is no room, or the disk was stopped.
+        // A failure exactly if the call is listed, there is no room, or the disk was stopped.
         ensures ok { OnOk result
             (¬ Refuses self.old (length bytes.now) × (self.new ≡ wrote self.old at bytes.now)) }
         ensures err { OnErr result (Refuses self.old (length bytes.now) × (self.new ≡ refused self.old)) }
@@ -281,7 +281,7 @@ impl Disk for MemDisk {
         ensures images { IsTrue true → AddsNoImage (view_of self.old) (view_of self.new) }
         ensures fails { OnErr result (Fails 0 1 (view_of self.old) (view_of self.new)) }
 
-        // It fails exactly where it is listed, the record has no room, or the disk was stopped.
+        // A failure exactly if the call is listed, the record has no room, or the disk was stopped.
         ensures ok { OnOk result (¬ Refuses self.old 0 × (self.new ≡ synced self.old)) }
         ensures err { OnErr result (Refuses self.old 0 × (self.new ≡ refused self.old)) }
     {

@@ -9,7 +9,7 @@ use crate::sink::Sink;
 use std::alloc::{AllocError, Global};
 use std::marker::Model;
 
-/// A sink that keeps its text in memory, of which given calls fail.
+/// A sink that keeps its text in memory; listed calls fail.
 #[derive(Debug, Drop)]
 pub struct MemSink {
     text: Vec<u8>,
@@ -29,8 +29,8 @@ impl Model for MemSink {
 }
 
 impl MemSink {
-    /// A sink that keeps `room` bytes, for which it takes the memory here. The calls with the
-    /// numbers `fails` fail, counted from 1, and so does one that finds the room full.
+    /// A sink with room for `room` bytes, whose memory is taken here. The calls with the numbers `fails`
+    /// fail, counted from 1, and so does a call that finds the room full.
     pub fn new(alloc: Global, room: usize, fails: Vec<u64>) -> Result<MemSink, AllocError>
         ensures { IfOk result (λ sink. sink ≡ sink_of room fails.items) }
     {
@@ -72,7 +72,7 @@ impl Sink for MemSink {
         ensures count { NoFall self.old.calls.faults self.new.calls.faults }
         ensures cause { OnErr result (Rose self.old.calls.faults self.new.calls.faults) }
 
-        // As much as there is room for, and a failure exactly where the call is listed or finds
+        // As many bytes as there is room for, and a failure exactly if the call is listed or finds
         // the room full.
         ensures most { IfOk result (λ n. n ≡ min (length bytes.now) (self.old.room - length self.old.text)) }
         ensures passed { IfOk result (λ _. ¬ IsListed self.old.calls × (self.new.calls ≡ called self.old.calls)) }

@@ -8,7 +8,7 @@ use crate::fault::Failed;
 use crate::source::Source;
 use std::marker::Model;
 
-/// A source over bytes in memory, of which given calls fail.
+/// A source over bytes in memory; listed calls fail.
 #[derive(Debug, Drop)]
 pub struct MemSource {
     bytes: Vec<u8>,
@@ -66,7 +66,7 @@ impl Source for MemSource {
         ensures count { NoFall self.old.calls.faults self.new.calls.faults }
         ensures cause { OnErr result (Rose self.old.calls.faults self.new.calls.faults) }
 
-        // As much as there is and fits, and a failure exactly where the call is listed.
+        // As many bytes as are left and fit, and a failure exactly if the call is listed.
         ensures most { IfOk result (λ n. n ≡ min (length buf.old) (length self.old.left)) }
         ensures passed { OnOk result (¬ IsListed self.old.calls × (self.new.calls ≡ called self.old.calls)) }
         ensures listed { OnErr result (IsListed self.old.calls × (self.new.calls ≡ faulted (called self.old.calls))) }

@@ -6,8 +6,8 @@ use crate::traffic::Traffic;
 use crate::{Failed, Source};
 use std::io::Read;
 
-/// A reader as a source. It counts the bytes that came and the calls that failed, and keeps whether the
-/// last read that had room found nothing.
+/// A reader as a source. It counts the bytes that came and the calls that failed, and notes whether the
+/// last read with room found nothing.
 #[derive(Drop)]
 pub struct ReaderSource<R> {
     reader: R,
@@ -19,7 +19,7 @@ pub struct ReaderSource<R> {
 impl<R> ReaderSource<R> {
     ghost use Rattle.std.specs.Prelude.{◌≡◌, false};
 
-    /// A source of what the reader gives from here on.
+    /// A source of all bytes that the reader gives from now on.
     pub fn new(reader: R) -> ReaderSource<R>
         ensures reader { result.reader ≡ reader }
         ensures passed { result.passed ≡ 0 }
@@ -34,7 +34,7 @@ impl<R> ReaderSource<R> {
         }
     }
 
-    /// What came so far.
+    /// The numbers of bytes and faults so far.
     pub fn traffic(&self) -> Traffic
         ensures bytes { result.bytes ≡ self.now.passed }
         ensures faults { result.faults ≡ self.now.faults }
@@ -74,7 +74,7 @@ impl<R: Read> Source for ReaderSource<R> {
         ensures count { NoFall self.old.faults self.new.faults }
         ensures cause { OnErr result (Rose self.old.faults self.new.faults) }
 
-        // It is at the end exactly where a read that has room finds nothing.
+        // The end exactly where a read with room finds nothing.
         ensures at_end { IfOk result (λ n. 0 < length buf.old → (IsTrue self.new.at_end ↔ (n ≡ 0))) }
     {
         match read_once(&mut self.reader, buf) {

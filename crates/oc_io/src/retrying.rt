@@ -1,4 +1,4 @@
-//! Calls that are made again as long as they are interrupted.
+//! Calls that are repeated as long as a signal interrupts them.
 
 ghost use Rattle.std.specs.Prelude.{◌≡◌, ◌<◌, ◌≤◌, length, IfOk};
 ghost use Rattle.std.specs.Io.KnownBytes.{ReadConsumes, WriteAppends};
@@ -6,10 +6,10 @@ ghost use Rattle.std.specs.Io.KnownBytes.{ReadConsumes, WriteAppends};
 use crate::Failed;
 use std::io::{ErrorKind, Read, Write};
 
-/// How often a call is made at most, as long as it is interrupted.
+/// The greatest number of attempts of a call that is interrupted.
 const MOST_TRIES: u32 = 1_000_000;
 
-/// Reads what one call gives.
+/// Reads the bytes of one call.
 pub(crate) fn read_once<R: Read>(reader: &mut R, buf: &mut [u8]) -> Result<usize, Failed>
     ensures within { IfOk result (λ n. n ≤ length buf.old) }
     ensures bytes { ReadConsumes (R.remaining reader.old) (R.remaining reader.new) result buf.new }
@@ -24,7 +24,7 @@ pub(crate) fn read_once<R: Read>(reader: &mut R, buf: &mut [u8]) -> Result<usize
     Err(Failed)
 }
 
-/// Writes what one call takes. A call that takes nothing of a piece that is not empty is a failed one.
+/// Writes the bytes that one call takes. A call that takes none of a non-empty piece counts as failed.
 pub(crate) fn write_once<W: Write>(writer: &mut W, bytes: &[u8]) -> Result<usize, Failed>
     ensures within { IfOk result (λ n. n ≤ length bytes.now) }
     ensures some { IfOk result (λ n. 0 < length bytes.now → 0 < n) }

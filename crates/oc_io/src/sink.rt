@@ -3,22 +3,22 @@ ghost use Rattle.oc_io.specs.Faults.{NoFall, Rose};
 
 use crate::fault::Failed;
 
-/// Where bytes go: a file, a connection, standard output, or a list in memory.
+/// A taker of bytes: a file, a connection, standard output, or a list in memory.
 pub trait Sink {
-    /// From the old sink to the new one these bytes were taken, and nothing else happened.
+    /// The step from the old sink to the new one took these bytes, and nothing else happened.
     ghost takes: { Self → List ℕ → Self → Type 0 };
 
-    /// From the old sink to the new one these bytes were taken, and then a call failed.
+    /// The step from the old sink to the new one took these bytes, and then a call failed.
     ghost fails: { Self → List ℕ → Self → Type 0 };
 
-    /// How many calls were made so far, where it tells them, and else 0.
+    /// The number of calls so far, or 0 for a sink that does not tell it.
     ghost calls: { Self → ℕ };
 
-    /// How many calls failed so far.
+    /// The number of failed calls so far.
     ghost faults: { Self → ℕ };
 
-    /// Takes a prefix of these bytes and answers its length in bytes. A sink that takes nothing of
-    /// a piece that is not empty counts that as a fault and answers `Failed`.
+    /// Takes a prefix of these bytes and answers its length in bytes. A sink that takes none of a
+    /// non-empty piece counts that as a fault and answers `Failed`.
     fn write(&mut self, bytes: &[u8]) -> Result<usize, Failed>
         ensures within { IfOk result (λ n. n ≤ length bytes.now) }
         ensures takes { IfOk result (λ n. takes self.old (take n bytes.now) self.new) }

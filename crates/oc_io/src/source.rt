@@ -3,25 +3,25 @@ ghost use Rattle.oc_io.specs.Faults.{NoFall, Rose};
 
 use crate::fault::Failed;
 
-/// Where bytes come from: a file, a connection, standard input, or a list in memory.
+/// A giver of bytes: a file, a connection, standard input, or a list in memory.
 pub trait Source {
-    /// From the old source to the new one these bytes came, and nothing else happened.
+    /// The step from the old source to the new one gave these bytes, and nothing else happened.
     ghost gives: { Self → List ℕ → Self → Type 0 };
 
-    /// From the old source to the new one these bytes came, and then a call failed.
+    /// The step from the old source to the new one gave these bytes, and then a call failed.
     ghost fails: { Self → List ℕ → Self → Type 0 };
 
-    /// Nothing more comes.
+    /// The end: no further bytes come.
     ghost ended: { Self → Type 0 };
 
-    /// How many calls were made so far, where it tells them, and else 0.
+    /// The number of calls so far, or 0 for a source that does not tell it.
     ghost calls: { Self → ℕ };
 
-    /// How many calls failed so far.
+    /// The number of failed calls so far.
     ghost faults: { Self → ℕ };
 
-    /// Fills a prefix of the buffer and answers its length in bytes. 0 for a buffer that is not
-    /// empty is the end.
+    /// Fills a prefix of the buffer and answers its length in bytes. 0 for a non-empty buffer means the
+    /// end.
     fn read(&mut self, buf: &mut [u8]) -> Result<usize, Failed>
         ensures within { IfOk result (λ n. n ≤ length buf.old) }
         ensures gives { IfOk result (λ n. gives self.old (take n buf.new) self.new) }

@@ -1,8 +1,8 @@
-/// What passed through an adapter. A count that has reached the greatest `u64` stays there.
+/// The traffic through an adapter. A count at the greatest `u64` stays there.
 #[derive(Clone, Copy, Debug, PartialEq, Eq)]
 pub struct Traffic {
-    /// How many bytes passed.
+    /// The number of bytes that passed.
     pub bytes: u64,
-    /// How many calls failed.
+    /// The number of calls that failed.
     pub faults: u64,
 }

@@ -14,7 +14,7 @@ pub struct WriterSink<W> {
 impl<W> WriterSink<W> {
     ghost use Rattle.std.specs.Prelude.{◌≡◌};
 
-    /// A sink that has the writer take what it takes.
+    /// A sink that passes its bytes to this writer.
     pub fn new(writer: W) -> WriterSink<W>
         ensures writer { result.writer ≡ writer }
         ensures passed { result.passed ≡ 0 }
@@ -27,7 +27,7 @@ impl<W> WriterSink<W> {
         }
     }
 
-    /// What went so far.
+    /// The numbers of bytes and faults so far.
     pub fn traffic(&self) -> Traffic
         ensures bytes { result.bytes ≡ self.now.passed }
         ensures faults { result.faults ≡ self.now.faults }
@@ -38,7 +38,7 @@ impl<W> WriterSink<W> {
         }
     }
 
-    /// The writer, with all that went.
+    /// Hands back the writer, after all bytes that went.
     pub fn into_writer(self) -> W
         ensures { result ≡ self.writer }
     {

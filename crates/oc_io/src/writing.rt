@@ -4,14 +4,14 @@ ghost use Rattle.oc_io.specs.Faults.{NoFall, Rose};
 use crate::fault::Failed;
 use crate::sink::Sink;
 
-/// Has the sink take all of these bytes. It takes no memory.
+/// Writes all of these bytes to the sink, without taking memory.
 pub fn write_all<K: Sink>(sink: &mut K, bytes: &[u8]) -> Result<(), Failed>
     ensures takes { OnOk result (K.takes sink.old bytes.now sink.new) }
 
-    // It writes no more when all were taken.
+    // No further write after all bytes were taken.
     ensures calls { OnOk result (K.calls sink.new ≤ K.calls sink.old + length bytes.now) }
 
-    // A prefix had been taken when a call failed.
+    // A prefix of the bytes before the failed call.
     ensures fails { OnErr result
         ((n : ℕ) × (n < length bytes.now) × K.fails sink.old (take n bytes.now) sink.new) }
 

@@ -1,4 +1,4 @@
--- What is left of a frame when the calls that append it are stopped.
+-- The frame after the calls that append it were stopped.
 use Rattle.std.proofs.Common.{◌≡◌, ◌≢◌, inl, inr, ℕ, ◌+◌, ◌-◌, ◌≤◌, Option, None, Some, IsSome, List, [], ◌∷◌, ◌++◌, length, drop, refl, sym, ◌∙◌, ap, subst, arith, length-append}
 use Rattle.std.proofs.lemmas.Bool.{cases_eq}
 use Rattle.std.proofs.lemmas.Bool.Decides.{nat_tests}
@@ -67,7 +67,7 @@ module _ (d : MemDiskView) (end : ℕ) (body : List ℕ) (settled : IsSettled (v
       let from = subst (λ (f : List ℕ). IsTorn (end + 1) (length (encoded body)) f r) (settled.safe torn.0 torn.1) torn.2 in
       kept_at 1 r one (journal_of r frames end (EndsAt-same_front d.bytes r frames end settled.ends from.before))
 
-  -- the disk with the frame after the gate, all of it safe
+  -- the disk with the frame after the gate, all bytes durable
   abbrev behind : MemDiskView
   behind = synced (wrote d (end + 1) (encoded body))
 
@@ -77,7 +77,7 @@ module _ (d : MemDiskView) (end : ℕ) (body : List ℕ) (settled : IsSettled (v
   left_behind : left_of behind.failing.stop ≡ left_of d.failing.stop - 2
   left_behind = omega (arith, left_of-passed (passed d.failing.stop), left_of-passed d.failing.stop)
 
-  -- and with the gate open
+  -- the disk with the gate open
   abbrev gated : MemDiskView
   gated = wrote behind end (1 ∷ [])
 

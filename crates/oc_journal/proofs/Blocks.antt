@@ -1,4 +1,4 @@
--- What files of frames mean.
+-- The meaning of files of frames.
 use Rattle.std.proofs.Common.{◌≡◌, ◌≢◌, inl, inr, ⊎_elim, ℕ, zero, suc, ◌+◌, ◌-◌, ◌*◌, ◌^◌, ◌<◌, ◌≤◌, Bool, true, false, cond, List, [], ◌∷◌, ◌++◌, length, take, drop, refl, sym, ◌∙◌, ap, arith, length-append, zero-add}
 use Rattle.std.proofs.lemmas.List.{append-nil, append_assoc, take_at, drop_at, nil_from_length}
 use Rattle.std.proofs.lemmas.Bool.{cases_lt, lt-ltb, le-ltb, false≢true}
@@ -50,7 +50,7 @@ is_broken_within-frame n body tail short more =
     ap (λ (w : Bool). cond w (is_broken_within n (next_gate rest)) true) (whole body tail short more)
     ∙ ap (is_broken_within n) (next_gate-written body tail short more)
 
--- one frame more before what follows
+-- one more frame before the rest
 blocks-cons : (body : List ℕ) (bodies : List (List ℕ)) (tail : List ℕ) → blocks (body ∷ bodies) ++ tail ≡ 1 ∷ (to_be_bytes w32 (length body) ++ (body ++ (blocks bodies ++ tail)))
 blocks-cons body bodies tail =
     ap (λ (l : List ℕ). 1 ∷ (to_be_bytes w32 (length body) ++ l)) (append_assoc body (blocks bodies) tail)
@@ -59,7 +59,7 @@ blocks-cons body bodies tail =
 more_behind : (bodies : List (List ℕ)) (tail : List ℕ) → 0 < length tail → 0 < length (blocks bodies ++ tail)
 more_behind bodies tail more = omega (arith, length-append (blocks bodies) tail)
 
--- frames, and then what follows them
+-- frames, and the bytes after them
 pub frames_within-blocks : (bodies : List (List ℕ)) (k : ℕ) (tail : List ℕ) → AreShort bodies → 0 < length tail → frames_within (length bodies + k) (blocks bodies ++ tail) ≡ bodies ++ frames_within k tail
 frames_within-blocks [] k tail short more = ap (λ (n : ℕ). frames_within n tail) (zero-add k)
 frames_within-blocks (body ∷ bodies) k tail short more =
@@ -84,7 +84,7 @@ pub length-blocks_least : (bodies : List (List ℕ)) → 5 * length bodies ≤ l
 length-blocks_least [] = omega arith
 length-blocks_least (body ∷ bodies) = omega (arith, length-append body (blocks bodies), length-blocks_least bodies)
 
--- one frame more, and what follows it
+-- one more frame, and the bytes after it
 pub blocks-push : (bodies : List (List ℕ)) (body rest : List ℕ) → blocks (bodies ++ body ∷ []) ++ rest ≡ blocks bodies ++ (1 ∷ (to_be_bytes w32 (length body) ++ (body ++ rest)))
 blocks-push [] body rest = blocks-cons body [] rest
 blocks-push (b ∷ bodies) body rest =
@@ -92,7 +92,7 @@ blocks-push (b ∷ bodies) body rest =
     ∙ ap (λ (l : List ℕ). 1 ∷ (to_be_bytes w32 (length b) ++ (b ++ l))) (blocks-push bodies body rest)
     ∙ sym (blocks-cons b bodies (1 ∷ (to_be_bytes w32 (length body) ++ (body ++ rest))))
 
--- and its length
+-- the length of the frames with one more
 pub length-blocks_push : (bodies : List (List ℕ)) (body : List ℕ) → length (blocks (bodies ++ body ∷ [])) ≡ length (blocks bodies) + 5 + length body
 length-blocks_push bodies body =
     let same : length (blocks (bodies ++ body ∷ []) ++ []) ≡ length (blocks bodies ++ (1 ∷ (to_be_bytes w32 (length body) ++ (body ++ [])))) = ap length (blocks-push bodies body []) in
@@ -156,7 +156,7 @@ frames_of-ended file bodies offset e =
     let more : 0 < length tail = omega arith in
     ap frames_of e.parts ∙ frames_of-file bodies tail e.short more (closed (left bodies tail e.short more) e.gate e.stale e.shut)
 
--- and it is a journal
+-- a file of these frames is a journal
 pub journal_ended : (file : List ℕ) (bodies : List (List ℕ)) (offset : ℕ) → EndsAt file bodies offset → ¬ IsNoJournal file
 journal_ended file bodies offset e bad =
     let tail = e.gate ∷ e.stale in

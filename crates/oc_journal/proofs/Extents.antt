@@ -12,7 +12,7 @@ at_extent-front : (file : List ℕ) (at len offset : ℕ) → at + len ≤ offse
 at_extent-front file at len offset within =
     sym (drop-take at len file) ∙ ap (λ (l : List ℕ). drop at l) (sym (take-take (at + len) offset file within))
 
--- so two files with the same prefix have the same bodies there
+-- two files with the same prefix have the same bodies within it
 pub at_extents-same_front : (a b : List ℕ) (extents : List Extent) (offset : ℕ) → take offset a ≡ take offset b → All (λ extent. (9 ≤ extent.at) × (extent.at + extent.len ≤ offset)) extents → at_extents a extents ≡ at_extents b extents
 at_extents-same_front a b [] offset same within = refl
 at_extents-same_front a b (extent ∷ extents) offset same within =
@@ -21,7 +21,7 @@ at_extents-same_front a b (extent ∷ extents) offset same within =
     ap (λ (l : List ℕ). l ∷ at_extents a extents) first
     ∙ ap (λ (l : List (List ℕ)). at_extent b extent ∷ l) (at_extents-same_front a b extents offset same (λ k d inside. within (suc k) d (omega arith)))
 
--- and so have two files with the same bytes after the first gate
+-- two files with the same bytes after the first gate have the same bodies there
 pub at_extents-same_back : (a b : List ℕ) (extents : List Extent) (offset : ℕ) → drop 9 a ≡ drop 9 b → All (λ extent. (9 ≤ extent.at) × (extent.at + extent.len ≤ offset)) extents → at_extents a extents ≡ at_extents b extents
 at_extents-same_back a b [] offset same within = refl
 at_extents-same_back a b (extent ∷ extents) offset same within =
@@ -51,7 +51,7 @@ at_extents-push v w extents extent offset body same within new =
     ∙ ap (λ (l : List (List ℕ)). l ++ at_extent w.seen extent ∷ []) (at_extents-same_front w.seen v.seen extents offset same within)
     ∙ ap (λ (b : List ℕ). at_extents v.seen extents ++ b ∷ []) new
 
--- a settled disk has the frames of what a read gives
+-- a settled disk has the frames that a read gives
 pub HasFrames-settled : (v : DiskView) (offset : ℕ) → IsSettled v offset → HasFrames v (frames_of v.seen)
 HasFrames-settled v offset settled = λ c left. ap frames_of (settled.safe c left)
 

@@ -1,4 +1,4 @@
--- What is read at a gate, and what scanning from gate to gate finds.
+-- The result of a read at a gate, and of a scan from gate to gate.
 use Rattle.std.proofs.Common.{◌≡◌, ◌⊎◌, inl, inr, ℕ, suc, ◌+◌, ◌-◌, ◌^◌, ◌<◌, ◌≤◌, min, IsTrue, Option, None, Some, List, [], ◌∷◌, ◌++◌, length, take, drop, get_or, refl, sym, ◌∙◌, ap, subst, arith, take-append-drop, add-zero}
 use Rattle.std.specs.Int.{w32, to_be_bytes}
 use Rattle.std.specs.List.{All}
@@ -121,7 +121,7 @@ IsNoJournal-broken v extents gate scanned law long h broken =
     let parts : v.seen ≡ (magic ++ blocks (at_extents v.seen extents)) ++ (1 ∷ broken.rest) = sym (take-append-drop gate v.seen) ∙ ap (λ (l : List ℕ). l ++ drop gate v.seen) (scanned.front h) ∙ ap (λ (l : List ℕ). (magic ++ blocks (at_extents v.seen extents)) ++ l) broken.gate_open in
     subst IsNoJournal (sym parts) (broken_file (at_extents v.seen extents) broken.rest (scanned.short h) broken.cut (omega (arith, ap length parts, law, long)))
 
--- what was read at a gate after other reads was so before them
+-- a gate that was read after other reads was the same before them
 pub IsGate-earlier : (u v : DiskView) (gate : ℕ) (found : Option ℕ) → StaysAsItWas u v → (IsTrue v.honest → IsGate v.seen gate found) → IsTrue u.honest → IsGate u.seen gate found
 IsGate-earlier u v gate found stays now h =
     subst (λ (file : List ℕ). IsGate file gate found) (stays.seen h) (now (still_honest u v stays.goes_on h))

@@ -19,11 +19,11 @@ no_error x y is = absurd cc
 pub disk_not_file : {T : Type 0} → IsErrOf {T = T} (Err Disk) NotJournal → ⊥
 disk_not_file is = absurd cc
 
--- nor is want of memory
+-- a lack of memory is not a file that is no journal
 pub memory_not_file : {T : Type 0} → IsErrOf {T = T} (Err Memory) NotJournal → ⊥
 memory_not_file is = absurd cc
 
--- nor is that a failed call
+-- a lack of memory is not a failed call
 pub memory_not_disk : {T : Type 0} → IsErrOf {T = T} (Err Memory) Disk → ⊥
 memory_not_disk is = absurd cc
 
@@ -45,18 +45,18 @@ write_fails_after u v w n j goes room calls failed = record {
   unsure = λ sure. failed.unsure (record { reliable = still_reliable u v goes sure.reliable; room = room; calls = calls });
 }
 
--- what is safe at the start is safe on the same disk later
+-- a disk that is durable at the start is durable later, if it is the same disk
 pub safe_later : (u v : DiskView) → GoesOn u v → (IsTrue u.honest → IsSafe v) → IsTrue v.honest → IsSafe v
 safe_later u v goes safe honest = safe (subst (λ b. IsTrue b) goes.honest honest)
 
--- reads leave what was safe at the start
+-- reads keep a disk durable
 pub stays_safely : (u v : DiskView) → (IsTrue u.honest → IsConsistent u) → StaysAsItWas u v → LoadsSafely u v
 stays_safely u v law stays = record {
   goes_on = stays.goes_on;
   any_moment = λ h. LeavesOnly-stays u v (IsLikeAnImage u) (law h) h stays (λ c left. (c, left, refl));
 }
 
--- and so does a sync after them
+-- a sync after reads keeps a disk durable
 pub synced_safely : (u v w : DiskView) → (IsTrue u.honest → IsConsistent u) → StaysAsItWas u v → GoesOn v w → (IsTrue v.honest → Elapses v w) → (IsTrue v.honest → AddsNoImage v w) → LoadsSafely u w
 synced_safely u v w law stays goes time images = record {
   goes_on = GoesOn-then u v w stays.goes_on goes;

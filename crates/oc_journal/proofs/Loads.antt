@@ -1,4 +1,4 @@
--- What loading finds, and what a crash in its course leaves.
+-- The result of loading, and the images of a crash in the course of it.
 use Rattle.std.proofs.Common.{◌≡◌, ℕ, Bool, false, IsTrue, List, sym, ◌∙◌, ap, subst, arith}
 use Rattle.oc_io.specs.DiskView.{DiskView, IsSafe, StaysAsItWas, LeavesOnly, IsConsistent}
 use Rattle.oc_io.proofs.DiskMoments.{LeavesOnly-then, LeavesOnly-weaker, LeavesOnly-now, GoesOn-then, still_honest}
@@ -14,7 +14,7 @@ use Rattle.oc_journal.proofs.Writes.{IsSettled-from}
 like_then : (u v : DiskView) → ((c : List ℕ) → v.may_leave c → IsLikeAnImage u c) → (c : List ℕ) → IsLikeAnImage v c → IsLikeAnImage u c
 like_then u v earlier c (d, left, same) = let first = earlier d left in (first.0, first.1, same ∙ first.2)
 
--- a run after one that left only what is like an image
+-- a run after one that left only files like an image
 like_run : (u v w : DiskView) → LeavesOnly u v (IsLikeAnImage u) → IsConsistent v → LeavesOnly v w (IsLikeAnImage v) → LeavesOnly u w (IsLikeAnImage u)
 like_run u v w first law second =
     LeavesOnly-then u v w (IsLikeAnImage u) first
@@ -27,12 +27,12 @@ LoadsSafely-then u v w first law second = record {
   any_moment = λ h. let k = still_honest u v first.goes_on h in like_run u v w (first.any_moment h) (law k) (second.any_moment k);
 }
 
--- reads leave a disk as safe as it was
+-- reads keep a disk durable
 pub IsSafe-stays : (u v : DiskView) → StaysAsItWas u v → IsTrue u.honest → IsSafe u → IsSafe v
 IsSafe-stays u v stays honest safe c left =
     safe c (stays.images honest c left) ∙ sym (stays.seen honest)
 
--- What was found, in what a read gives now.
+-- The frames that were found are those that a read gives now.
 module _ (v w : DiskView) (extents : List Extent) (offset : ℕ) (found : IsFound v extents offset) (honest : w.honest ≡ v.honest) (size : w.size ≡ v.size) (seen : IsTrue v.honest → w.seen ≡ v.seen) (safe : IsTrue v.honest → IsSafe w) where
   back : IsTrue w.honest → IsTrue v.honest
   back h = subst (λ (b : Bool). IsTrue b) honest h

@@ -13,7 +13,7 @@ use Rattle.oc_journal.proofs.Loads.{IsSafe-stays}
 pub disk_not_memory : {T : Type 0} → IsErrOf {T = T} (Err Disk) Memory → ⊥
 disk_not_memory is = absurd cc
 
--- nor is that a failed call
+-- a lack of memory is not a failed call
 pub memory_not_disk : {T : Type 0} → IsErrOf {T = T} (Err Memory) Disk → ⊥
 memory_not_disk is = absurd cc
 
@@ -28,7 +28,7 @@ module _ {D : Type 0} (view : D → DiskView) (d e : D) (extents : List Extent) 
     spare = omega arith;
   }
 
--- And the index is still that of the disk.
+-- The index is still that of the disk.
 module _ (v w : DiskView) (extents : List Extent) (offset : ℕ) (closed : Bool) (is : IsIndexed v extents offset closed) (stays : StaysAsItWas v w) (size : w.size ≡ v.size) where
   back : IsTrue w.honest → IsTrue v.honest
   back h = subst (λ (b : Bool). IsTrue b) stays.goes_on.honest h

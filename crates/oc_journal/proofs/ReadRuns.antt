@@ -44,7 +44,7 @@ LoadsSafely-reads u v w load law stays = record {
       LeavesOnly-then u v w (IsLikeAnImage u) (load.any_moment h) (LeavesOnly-stays v w (IsLikeAnImage u) (law k) k stays (λ c left. LeavesOnly-now u v (IsLikeAnImage u) (load.any_moment h) (law k) c left));
 }
 
--- and the journal is still that of the disk
+-- the journal is still that of the disk
 pub IsLoaded-reads : {D : Type 0} (view : D → DiskView) (disk : D) (u v : JournalView D) → IsLoaded view disk u → LoadsSafely (view disk) (view u.disk) → OnlyReads view u v → NoneFailed view u v → IsLoaded view disk v
 IsLoaded-reads view disk u v loaded load reads none = record {
   frames = λ h. reads.frames (later h) ∙ loaded.frames h;

@@ -1,4 +1,4 @@
--- What a call refuses, and what a journal keeps then.
+-- The refusals of a call, and the journal after them.
 use Rattle.std.proofs.Common.{◌≡◌, ℕ, Bool, false, IsTrue, IsErrOf, Err, List, refl, sym, subst, arith}
 use Rattle.oc_io.specs.DiskView.{DiskView, Takes, LeavesOnly}
 use Rattle.oc_journal.specs.JournalFile.{frames_of, IsBeforeOrAfter, IsAllOrNone}
@@ -20,15 +20,15 @@ closed_not_full is = absurd cc
 pub closed_not_disk : {T : Type 0} → IsErrOf {T = T} (Err AppendClosed) AppendDisk → ⊥
 closed_not_disk is = absurd cc
 
--- and is no other
+-- `Full` is not `Closed`
 pub full_not_closed : {T : Type 0} → IsErrOf {T = T} (Err Full) AppendClosed → ⊥
 full_not_closed is = absurd cc
 
--- and is no other
+-- `Full` is not `Disk`
 pub full_not_disk : {T : Type 0} → IsErrOf {T = T} (Err Full) AppendDisk → ⊥
 full_not_disk is = absurd cc
 
--- and is no other
+-- `Disk` is not `Closed`
 pub disk_not_closed : {T : Type 0} → IsErrOf {T = T} (Err AppendDisk) AppendClosed → ⊥
 disk_not_closed is = absurd cc
 
@@ -36,7 +36,7 @@ disk_not_closed is = absurd cc
 pub shut_not_failed : {T : Type 0} → IsErrOf {T = T} (Err RestartClosed) RestartDisk → ⊥
 shut_not_failed is = absurd cc
 
--- and is no other
+-- `Disk` is not `Closed`, of a restart
 pub failed_not_shut : {T : Type 0} → IsErrOf {T = T} (Err RestartDisk) RestartClosed → ⊥
 failed_not_shut is = absurd cc
 

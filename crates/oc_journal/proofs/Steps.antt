@@ -1,4 +1,4 @@
--- What a write, whole or torn, makes of a file of frames.
+-- A file of frames after a write, complete or torn.
 use Rattle.std.proofs.Common.{◌≡◌, ◌≢◌, cond, Bool, inl, inr, ℕ, ◌+◌, ◌^◌, ◌<◌, ◌≤◌, List, [], ◌∷◌, ◌++◌, length, get_or, take, drop, refl, sym, ◌∙◌, ap, arith, length-append, take-append-drop}
 use Rattle.std.proofs.lemmas.List.{append_assoc, take_at, drop_at, drop_all, drop_more}
 use Rattle.std.proofs.lemmas.Bool.{cases_eq, le-ltb}
@@ -7,22 +7,22 @@ use Rattle.oc_io.specs.DiskView.{Holds, IsTorn}
 use Rattle.oc_journal.specs.JournalFile.{magic, header, frames_of, frames_within, encoded, blocks, AreShort, EndsAt, IsBeforeOrAfter, IsAllOrNone}
 use Rattle.oc_journal.proofs.Blocks.{frames_of-ended, blocks-push, length-blocks_push, AreShort-push}
 
--- a prefix, one byte, and what follows it
+-- a prefix, one byte, and the rest
 at_byte : (c p q : List ℕ) (n : ℕ) → length p ≡ n → n < length c → take n c ≡ p → drop (n + 1) c ≡ q → c ≡ p ++ (get_or c n 0 ∷ q)
 at_byte c p q n long inside front back =
     sym (take-append-drop n c) ∙ ap (λ (l : List ℕ). l ++ drop n c) front
     ∙ ap (λ (l : List ℕ). p ++ l) (drop_more c n 0 inside ∙ ap (λ (l : List ℕ). get_or c n 0 ∷ l) back)
 
--- the byte of a list with such parts, and what is before and after it
+-- the byte of a list with these parts, and the parts before and after it
 pub front_of : (p q : List ℕ) (x n : ℕ) → length p ≡ n → take n (p ++ (x ∷ q)) ≡ p
 front_of p q x n long = take_at p (x ∷ q) n long
 
--- what follows a byte
+-- the rest after a byte
 pub back_of : (p q : List ℕ) (x n : ℕ) → length p ≡ n → drop (n + 1) (p ++ (x ∷ q)) ≡ q
 back_of p q x n long =
     ap (λ (l : List ℕ). drop (n + 1) l) (sym (append_assoc p (x ∷ []) q)) ∙ drop_at (p ++ (x ∷ [])) q (n + 1) (omega (arith, length-append p (x ∷ [])))
 
--- what is before a byte, and the byte
+-- the part before a byte, and the byte
 front_with : (p q : List ℕ) (x n : ℕ) → length p ≡ n → take (n + 1) (p ++ (x ∷ q)) ≡ p ++ (x ∷ [])
 front_with p q x n long =
     ap (λ (l : List ℕ). take (n + 1) l) (sym (append_assoc p (x ∷ []) q)) ∙ take_at (p ++ (x ∷ [])) q (n + 1) (omega (arith, length-append p (x ∷ [])))
@@ -49,7 +49,7 @@ pub EndsAt-within : (file : List ℕ) (bodies : List (List ℕ)) (offset : ℕ) 
 EndsAt-within file bodies offset e =
     omega (arith, e.end, ap length e.parts, length-append (magic ++ blocks bodies) (e.gate ∷ e.stale))
 
--- and at the end of the frames before the last gate
+-- the file ends at the same offset of the frames before the last gate
 pub EndsAt-same_front : (file c : List ℕ) (bodies : List (List ℕ)) (offset : ℕ) → EndsAt file bodies offset → take (offset + 1) c ≡ take (offset + 1) file → EndsAt c bodies offset
 EndsAt-same_front file c bodies offset e same =
     let base = magic ++ blocks bodies in

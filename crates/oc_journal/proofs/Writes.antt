@@ -1,4 +1,4 @@
--- What the writes of a journal do to a disk that was safe.
+-- The effect of the writes of a journal on a durable disk.
 use Rattle.std.proofs.Common.{◌≡◌, inl, ℕ, ◌+◌, ◌<◌, ◌≤◌, ◌^◌, List, [], ◌∷◌, ◌++◌, length, take, drop, sym, ◌∙◌, ap, subst, arith, Result, Ok, Err, OnOk}
 use Rattle.std.proofs.lemmas.List.{drop_all}
 use Rattle.oc_base.specs.declared.limits.TheConstants.{MAX_FRAME_BYTES}
@@ -14,7 +14,7 @@ pub both : {T E P Q R : Type 0} → (r : Result T E) → (P → Q → R) → OnO
 both (Ok x) f p q = f p q
 both (Err e) f p q = tt
 
--- and their pair
+-- both facts, if the result is Ok
 pub ok_pair : {T E : Type 0} → (P Q : Type 0) → (r : Result T E) → OnOk r P → OnOk r Q → OnOk r (P × Q)
 ok_pair P Q (Ok x) p q = (p, q)
 ok_pair P Q (Err e) p q = tt
@@ -36,14 +36,14 @@ module _ (v w : DiskView) (end : ℕ) (settled : IsSettled v end) (some : 0 < le
 
 -- A new file gets its header.
 module _ (v w : DiskView) (small : length v.seen ≤ 9) where
-  -- each image has no frame, as what a read gave
+  -- each image has no frame, as the file that a read gave
   pub header_torn : IsConsistent v → (c : List ℕ) → IsTorn 0 9 v.seen c → IsLikeAnImage v c
   header_torn law c torn = (v.seen, law.reads, torn_header v.seen c small torn ∙ sym (frames_of-small v.seen small))
 
   pub header_seen : Holds v.seen 0 header w.seen → w.seen ≡ header
   header_seen holds = holds ∙ ap (λ (l : List ℕ). header ++ l) (drop_all 9 v.seen small)
 
--- what a read gives after a write, whole or torn
+-- the bytes that a read gives after a write, complete or torn
 pub torn_seen : (v w : DiskView) (at n : ℕ) → LeavesOnly v w (IsTorn at n v.seen) → IsConsistent w → IsTorn at n v.seen w.seen
 torn_seen v w at n run law = LeavesOnly-now v w (IsTorn at n v.seen) run law w.seen law.reads
 

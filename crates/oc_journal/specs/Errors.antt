@@ -1,4 +1,4 @@
--- Why a file was not loaded, by why its journal was not, or a frame of it.
+-- The reason why a file was not loaded, from the reason of its journal or of a frame.
 use Rattle.oc_journal.specs.declared.errors.FileError.{FileError}
 use Rattle.oc_journal.specs.declared.errors.FileError.TheVariants as files
 use Rattle.oc_journal.specs.declared.errors.FrameError.{FrameError}

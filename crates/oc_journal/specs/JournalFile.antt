@@ -1,8 +1,8 @@
--- What the bytes of a journal file mean.
+-- The meaning of the bytes of a journal file.
 use Rattle.std.specs.Prelude.{◌≡◌, ◌≢◌, ◌⊎◌, ℕ, zero, suc, ◌+◌, ◌^◌, ◌<◌, Bool, true, false, ◌&&◌, List, [], ◌∷◌, ◌++◌, length, take, drop, if◌then◌else◌, ◌==◌, nat_lt}
 use Rattle.std.specs.Int.{w32, to_be_bytes, from_be_bytes}
 
--- `OVERCST1`
+-- the magic bytes, `OVERCST1`
 abbrev pub magic : List ℕ
 magic = 79 ∷ 86 ∷ 69 ∷ 82 ∷ 67 ∷ 83 ∷ 84 ∷ 49 ∷ []
 
@@ -14,7 +14,7 @@ header = magic ++ 0 ∷ []
 abbrev pub length_in : List ℕ → ℕ
 length_in behind_gate = from_be_bytes w32 behind_gate
 
--- the length, the body and the next gate are within the file
+-- whether the length, the body and the next gate are within the file
 abbrev pub is_whole : List ℕ → Bool
 is_whole behind_gate = nat_lt (4 + length_in behind_gate) (length behind_gate)
 
@@ -22,11 +22,11 @@ is_whole behind_gate = nat_lt (4 + length_in behind_gate) (length behind_gate)
 abbrev pub body_in : List ℕ → List ℕ
 body_in behind_gate = take (length_in behind_gate) (drop 4 behind_gate)
 
--- the next gate, and what follows it
+-- the bytes from the next gate on
 abbrev pub next_gate : List ℕ → List ℕ
 next_gate behind_gate = drop (4 + length_in behind_gate) behind_gate
 
--- the bodies of those whose gates are open, of at most n frames from a gate on
+-- the bodies of the frames with open gates, at most n, from a gate on
 abbrev pub frames_within : ℕ → List ℕ → List (List ℕ)
 frames_within zero bytes = []
 frames_within (suc n) [] = []
@@ -37,37 +37,37 @@ frames_within (suc n) (gate ∷ rest) =
 abbrev pub frames_of : List ℕ → List (List ℕ)
 frames_of file = if nat_lt 9 (length file) then frames_within (length file) (drop 8 file) else []
 
--- one of at most n frames from a gate on has an open gate and is not whole
+-- one of at most n frames from a gate on has an open gate, but is cut off
 abbrev pub is_broken_within : ℕ → List ℕ → Bool
 is_broken_within zero bytes = false
 is_broken_within (suc n) [] = false
 is_broken_within (suc n) (gate ∷ rest) =
     if gate == 1 then (if is_whole rest then is_broken_within n (next_gate rest) else true) else false
 
--- a file that is longer than a header, and does not begin with the magic or has an open gate with no whole frame after it
+-- a file longer than a header that does not begin with the magic, or has an open gate without a full frame after it
 abbrev pub IsNoJournal : List ℕ → Type 0
 IsNoJournal file =
     (9 < length file) × ((take 8 file ≢ magic) ⊎ (is_broken_within (length file) (drop 8 file) ≡ true))
 
--- what is written after the closed gate: the length, the body and the next gate
+-- the bytes that are written after the closed gate: the length, the body and the next gate
 abbrev pub encoded : List ℕ → List ℕ
 encoded body = to_be_bytes w32 (length body) ++ (body ++ 0 ∷ [])
 
--- open gates, and a frame of each of these bodies after its gate
+-- these bodies as frames, each after an open gate
 abbrev pub blocks : List (List ℕ) → List ℕ
 blocks [] = []
 blocks (body ∷ bodies) = 1 ∷ (to_be_bytes w32 (length body) ++ (body ++ blocks bodies))
 
--- the offset where the frames of these bodies end, which is that of the gate after them
+-- the offset of the end of the frames with these bodies, which is that of the gate after them
 abbrev pub end_of : List (List ℕ) → ℕ
 end_of bodies = length (magic ++ blocks bodies)
 
--- the length of each body has four bytes
+-- the length of each body fits four bytes
 abbrev pub AreShort : List (List ℕ) → Type 0
 AreShort [] = Unit {0}
 AreShort (body ∷ bodies) = (length body < 2 ^ 32) × AreShort bodies
 
--- the file is frames of these bodies, which end at this offset, and a gate that is not open
+-- the file has the frames of these bodies, which end at this offset, and then a gate that is not open
 pub record EndsAt (file : List ℕ) (bodies : List (List ℕ)) (offset : ℕ) : Type 0 where
   pub gate : ℕ
   pub stale : List ℕ
@@ -81,10 +81,10 @@ pub record IsJournalOf (bodies : List (List ℕ)) (file : List ℕ) : Type 0 whe
   pub journal : ¬ IsNoJournal file
   pub frames : frames_of file ≡ bodies
 
--- the file has the frames, with one more or without it
+-- the file has the frames, with or without one more
 abbrev pub IsBeforeOrAfter : List (List ℕ) → List ℕ → List ℕ → Type 0
 IsBeforeOrAfter frames body file = (frames_of file ≡ frames) ⊎ (frames_of file ≡ frames ++ body ∷ [])
 
--- the file has the frames or none
+-- the file has these frames, or none
 abbrev pub IsAllOrNone : List (List ℕ) → List ℕ → Type 0
 IsAllOrNone frames file = (frames_of file ≡ frames) ⊎ (frames_of file ≡ [])

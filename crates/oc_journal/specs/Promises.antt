@@ -1,4 +1,4 @@
--- What the calls of a journal promise.
+-- The promises of the calls of a journal.
 use Rattle.std.specs.Prelude.{◌≡◌, ℕ, ◌+◌, ◌<◌, ◌≤◌, false, true, IsTrue, List, [], ◌∷◌, ◌++◌, length}
 use Rattle.oc_base.specs.declared.limits.TheConstants.{MAX_JOURNAL_BYTES}
 use Rattle.oc_io.specs.DiskView.{DiskView, GoesOn, StaysAsItWas, Takes, Fails, FailsToRead, HasNoFault, LeavesOnly}
@@ -9,7 +9,7 @@ use Rattle.oc_journal.specs.declared.errors.LoadError.TheVariants.{Disk, NotJour
 
 -- Loading
 
--- the journal of a disk: its frames are those of what a read gave, every crash now leaves them, and a new file has its header
+-- the journal of a disk: its frames are those that a read gave, every crash now leaves them, and a new file has its header
 pub record IsLoaded {D : Type 0} (view : D → DiskView) (disk : D) (new : JournalView D) : Type 0 where
   pub frames : IsTrue (view disk).honest → new.frames ≡ frames_of (view disk).seen
   pub kept : IsTrue (view disk).honest → HasFrames (view new.disk) new.frames
@@ -18,12 +18,12 @@ pub record IsLoaded {D : Type 0} (view : D → DiskView) (disk : D) (new : Journ
   pub unclosed : new.closed ≡ false
   pub no_fault : HasNoFault (view disk) (view new.disk)
 
--- a load of a disk: at every moment a crash leaves the frames that a crash at its start would have left
+-- a load of a disk: at every moment a crash leaves the frames that a crash at the start of the load would have left
 pub record LoadsSafely (old new : DiskView) : Type 0 where
   pub goes_on : GoesOn old new
   pub any_moment : IsTrue old.honest → LeavesOnly old new (IsLikeAnImage old)
 
--- why a disk was not loaded: a call failed, or its file is no journal
+-- the reason why a disk was not loaded: a call failed, or its file is no journal
 abbrev pub RefusesLoad : DiskView → DiskView → LoadError → Type 0
 RefusesLoad old new Disk = FailsToRead old new
 RefusesLoad old new NotJournal = IsTrue old.honest → IsNoJournal old.seen
@@ -31,7 +31,7 @@ RefusesLoad old new Memory = Unit {0}
 
 -- Reading
 
--- a call that read or reserved: the frames are as they were, and all room is still there
+-- a call that reads or reserves: the frames and all room are unchanged
 pub record OnlyReads {D : Type 0} (view : D → DiskView) (old new : JournalView D) : Type 0 where
   pub disk : StaysAsItWas (view old.disk) (view new.disk)
   pub frames : IsTrue (view old.disk).honest → new.frames ≡ old.frames
@@ -39,7 +39,7 @@ pub record OnlyReads {D : Type 0} (view : D → DiskView) (old new : JournalView
   pub end : new.end ≡ old.end
   pub spare : old.spare ≤ new.spare
 
--- no call of the disk failed, so the journal is as open as it was
+-- no call of the disk failed, so the journal is open if it was open before
 pub record NoneFailed {D : Type 0} (view : D → DiskView) (old new : JournalView D) : Type 0 where
   pub closed : new.closed ≡ old.closed
   pub no_fault : HasNoFault (view old.disk) (view new.disk)
@@ -51,18 +51,18 @@ pub record ClosesByRead {D : Type 0} (view : D → DiskView) (old new : JournalV
 
 -- Appending
 
--- the room that `append` of a body of n bytes needs, and one more byte for a `restart`
+-- the room for an `append` of a body of n bytes, and one more byte for a `restart`
 pub record HasRoom {D : Type 0} (view : D → DiskView) (journal : JournalView D) (n : ℕ) : Type 0 where
   pub spare : 0 < journal.spare
   pub room : n + 7 ≤ (view journal.disk).room
   pub calls : 16 ≤ (view journal.disk).calls
   pub within : journal.end < (view journal.disk).size
 
--- with one more frame, of a body of n bytes, the file would pass its limit
+-- one more frame, with a body of n bytes, would take the file past its limit
 abbrev pub IsFullFor : {D : Type 0} → ℕ → JournalView D → Type 0
 IsFullFor n journal = MAX_JOURNAL_BYTES < journal.end + 6 + n
 
--- a frame was added at the end by four calls of an open journal, every crash leaves it, and it took the memory for one
+-- an open journal got one more frame by four calls; every crash leaves the frame, and the call used the memory for one frame
 pub record Appends {D : Type 0} (view : D → DiskView) (body : List ℕ) (old new : JournalView D) : Type 0 where
   pub frames : IsTrue (view old.disk).honest → new.frames ≡ old.frames ++ body ∷ []
   pub kept : IsTrue (view old.disk).honest → HasFrames (view new.disk) new.frames
@@ -73,7 +73,7 @@ pub record Appends {D : Type 0} (view : D → DiskView) (body : List ℕ) (old n
   pub unclosed : new.closed ≡ false
   pub no_fault : HasNoFault (view old.disk) (view new.disk)
 
--- an append to an open journal: at every moment each image has the old frames, or those and the new one
+-- an append to an open journal: at every moment each image has the old frames, with or without the new one
 pub record AppendsSafely {D : Type 0} (view : D → DiskView) (body : List ℕ) (old new : JournalView D) : Type 0 where
   pub any_moment : old.closed ≡ false → IsTrue (view old.disk).honest → LeavesOnly (view old.disk) (view new.disk) (IsBeforeOrAfter old.frames body)
   pub takes : Takes (length body + 6) 4 (view old.disk) (view new.disk)
@@ -86,7 +86,7 @@ pub record ClosesByAppend {D : Type 0} (view : D → DiskView) (body : List ℕ)
 
 -- Restarting
 
--- an open journal was begun again without frames, and every crash leaves none; without a frame nothing was done, and else two calls were made
+-- an open journal was emptied, and every crash leaves no frame; it takes two calls, or none where there was no frame
 pub record Restarts {D : Type 0} (view : D → DiskView) (old new : JournalView D) : Type 0 where
   pub frames : new.frames ≡ []
   pub kept : IsTrue (view old.disk).honest → HasFrames (view new.disk) []
@@ -98,7 +98,7 @@ pub record Restarts {D : Type 0} (view : D → DiskView) (old new : JournalView 
   pub unclosed : new.closed ≡ false
   pub no_fault : HasNoFault (view old.disk) (view new.disk)
 
--- a restart of an open journal: at every moment each image has the old frames or none
+-- a restart of an open journal: at every moment each image has the old frames, or none
 pub record RestartsSafely {D : Type 0} (view : D → DiskView) (old new : JournalView D) : Type 0 where
   pub any_moment : old.closed ≡ false → IsTrue (view old.disk).honest → LeavesOnly (view old.disk) (view new.disk) (IsAllOrNone old.frames)
   pub takes : Takes 1 2 (view old.disk) (view new.disk)

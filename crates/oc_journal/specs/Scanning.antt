@@ -1,4 +1,4 @@
--- What is found of a file from gate to gate.
+-- The frames that a load has found in a file so far, from gate to gate.
 use Rattle.std.specs.Prelude.{◌≡◌, ◌≢◌, ℕ, ◌+◌, ◌<◌, ◌≤◌, false, IsTrue, List, [], ◌∷◌, ◌++◌, take, drop, get_or, Option, None, Some}
 use Rattle.std.specs.Int.{w32, to_be_bytes}
 use Rattle.std.specs.List.{All}
@@ -7,7 +7,7 @@ use Rattle.oc_journal.specs.JournalFile.{magic, blocks, is_whole, AreShort, Ends
 use Rattle.oc_journal.specs.JournalView.{at_extents}
 use Rattle.oc_journal.specs.declared.extent.Extent.{Extent}
 
--- These extents were found before a gate. Each is after the first gate and before this one, which is the first where there is none.
+-- The extents found before a gate. Each is after the first gate and before this one; without extents this gate is the first one.
 pub record IsScanned (v : DiskView) (extents : List Extent) (gate : ℕ) : Type 0 where
   pub within : All (λ extent. (9 ≤ extent.at) × (extent.at + extent.len ≤ gate)) extents
   pub start : 8 ≤ gate
@@ -16,7 +16,7 @@ pub record IsScanned (v : DiskView) (extents : List Extent) (gate : ℕ) : Type 
   pub front : IsTrue v.honest → take gate v.seen ≡ magic ++ blocks (at_extents v.seen extents)
   pub short : IsTrue v.honest → AreShort (at_extents v.seen extents)
 
--- the file is the frames at these extents and a gate that is not open
+-- the file has the frames at these extents, and then a gate that is not open
 pub record IsFound (v : DiskView) (extents : List Extent) (end : ℕ) : Type 0 where
   pub within : All (λ extent. (9 ≤ extent.at) × (extent.at + extent.len ≤ end)) extents
   pub start : 8 ≤ end
@@ -24,12 +24,12 @@ pub record IsFound (v : DiskView) (extents : List Extent) (end : ℕ) : Type 0 w
   pub size : end < v.size
   pub ends : IsTrue v.honest → EndsAt v.seen (at_extents v.seen extents) end
 
--- what is read at a gate: it is not open, or it is open and a frame with a body of this length is whole after it
+-- the result of reading a gate: it is not open, or open with a full frame after it, whose body has this length
 abbrev pub IsGate : List ℕ → ℕ → Option ℕ → Type 0
 IsGate file gate None = get_or file gate 0 ≢ 1
 IsGate file gate (Some len) = drop gate file ≡ 1 ∷ (to_be_bytes w32 len ++ drop (gate + 5) file)
 
--- the gate is open, and no frame is whole after it
+-- the gate is open, but the frame after it is cut off
 pub record IsBrokenAt (file : List ℕ) (gate : ℕ) : Type 0 where
   pub rest : List ℕ
   pub gate_open : drop gate file ≡ 1 ∷ rest

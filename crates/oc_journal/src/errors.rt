@@ -23,13 +23,13 @@ pub enum LoadError {
 pub enum AppendError {
     /// A call on the disk failed earlier.
     Closed,
-    /// The file would have more than `MAX_JOURNAL_BYTES`.
+    /// The file would be longer than `MAX_JOURNAL_BYTES`.
     Full,
     /// A call on the disk failed.
     Disk,
 }
 
-/// Why a journal was not begun again.
+/// Why a journal was not restarted.
 #[derive(Clone, Copy, Debug, PartialEq, Eq)]
 pub enum RestartError {
     /// A call on the disk failed earlier.
@@ -47,14 +47,14 @@ pub enum FrameError {
     Memory,
 }
 
-/// Why a file of frames was not loaded, whose frames have a form of their own.
+/// Why a file was not loaded whose frames have a form of their own, as control records.
 #[derive(Clone, Copy, Debug, PartialEq, Eq)]
 pub enum FileError {
     /// A call on the disk failed.
     Disk,
     /// The file is no journal.
     NotJournal,
-    /// The frame of this number, counted from 0, is the first that does not belong there.
+    /// The number of the first frame with a bad form, counted from 0.
     BadFrame(u64),
     /// Memory ran out.
     Memory,

@@ -29,7 +29,7 @@ impl Model for Frame {
 /// Why a body is no frame.
 #[derive(Clone, Copy, Debug, PartialEq, Eq)]
 pub enum FrameFault {
-    /// It is longer than `MAX_FRAME_BYTES`.
+    /// The body is longer than `MAX_FRAME_BYTES`.
     TooLong,
     /// Memory ran out.
     Memory,
@@ -53,7 +53,7 @@ impl Frame {
         Frame::joined(alloc, &[], body)
     }
 
-    /// A frame of the body that is these bytes, one after the other. Each byte is copied once.
+    /// A frame whose body is these bytes, one after the other. Each byte is copied once.
     pub fn joined(alloc: Global, front: &[u8], rest: &[u8]) -> Result<Frame, FrameFault>
         ensures body { IfOk result (λ frame. frame ≡ front.now ++ rest.now) }
         ensures short { IfOk result (λ _. length front.now + length rest.now ≤ MAX_FRAME_BYTES) }
@@ -67,7 +67,7 @@ impl Frame {
         })
     }
 
-    /// How many bytes the body has.
+    /// The length of the body, in bytes.
     pub fn body_len(&self) -> u32
         ensures len { result ≡ length self.now }
         ensures short { length self.now ≤ MAX_FRAME_BYTES }
@@ -75,7 +75,7 @@ impl Frame {
         (self.bytes.len() - 5) as u32
     }
 
-    /// What is written after the closed gate: the length, the body and a closed gate.
+    /// The bytes that are written after the closed gate: the length, the body and a closed gate.
     pub fn bytes(&self) -> &[u8]
         ensures bytes { result.now ≡ encoded self.now }
         ensures short { length self.now ≤ MAX_FRAME_BYTES }
@@ -84,7 +84,7 @@ impl Frame {
     }
 }
 
-/// The length of a body that is these bytes, the body and a closed gate.
+/// Encodes a body of two parts: its length, the body and a closed gate.
 fn encode(alloc: Global, front: &[u8], rest: &[u8]) -> Result<Vec<u8>, AllocError>
     requires { length front.now + length rest.now ≤ MAX_FRAME_BYTES }
     ensures { IfOk result (λ bytes. bytes.items ≡ encoded (front.now ++ rest.now)) }

@@ -17,9 +17,9 @@ use oc_io::{Disk, Failed, MemDisk};
 use std::alloc::Global;
 use std::marker::Model;
 
-/// A journal on a disk. A contract sees its disk, the bodies of its frames, where they end in the
-/// file, how many more frames its index has memory for, and whether it is closed since the disk
-/// failed.
+/// A journal on a disk. A contract sees its disk, the bodies of its frames, the offset of their end in
+/// the file, the number of further frames for which its index has memory, and whether it is closed since
+/// the disk failed.
 #[derive(Drop)]
 pub struct Journal<D: Disk> {
     disk: D,
@@ -64,24 +64,24 @@ impl<D: Disk> Journal<D> {
         }
     }
 
-    /// How many frames there are.
+    /// The number of frames.
     pub fn count(&self) -> u64
         ensures count { result ≡ length self.now.frames }
 
-        // While no call failed, every crash leaves them.
+        // Every crash leaves them, unless a call has failed.
         ensures kept { self.now.closed ≡ false → IsTrue (D.view self.now.disk).honest
             → HasFrames (D.view self.now.disk) self.now.frames }
     {
         self.extents.len() as u64
     }
 
-    /// The offset in the file where the frames end, which is that of the gate after them.
+    /// The offset of the end of the frames in the file, which is that of the gate after them.
     pub fn end(&self) -> u64
         ensures end { result ≡ self.now.end }
         ensures within { self.now.end < (D.view self.now.disk).size }
         ensures first { self.now.frames ≡ [] → self.now.end ≡ 8 }
 
-        // While no call failed, they are what the file has before it.
+        // The file has exactly these frames before it, unless a call has failed.
         ensures offset { self.now.closed ≡ false → IsTrue (D.view self.now.disk).honest
             → self.now.end ≡ end_of self.now.frames }
     {
@@ -92,14 +92,14 @@ impl<D: Disk> Journal<D> {
     pub fn into_disk(self) -> D
         ensures disk { result ≡ self.disk }
 
-        // While no call failed, every crash leaves a journal with these frames.
+        // Every crash leaves a journal with these frames, unless a call has failed.
         ensures holds { self.closed ≡ false → IsTrue (D.view self.disk).honest
             → HoldsJournal D.view self }
     {
         self.disk
     }
 
-    /// Makes the room that `append` of this frame needs, and one more byte for a `restart`.
+    /// Makes the room for an `append` of this frame, and one more byte for a `restart`.
     pub fn reserve(&mut self, frame: &Frame) -> Result<(), Memory>
         ensures room { OnOk result (HasRoom D.view self.new (length frame.now)) }
         ensures same { OnlyReads D.view self.old self.new }
@@ -117,7 +117,7 @@ impl<D: Disk> Journal<D> {
         ensures appends { OnOk result (Appends D.view frame.now self.old self.new) }
         ensures safely { AppendsSafely D.view frame.now self.old self.new }
 
-        // When it refuses, and what it leaves then.
+        // The refusals, and the journal after each.
         ensures closed { IsErrOf result AppendError.Closed ↔ IsTrue self.old.closed }
         ensures full { IsErrOf result AppendError.Full
             ↔ ((self.old.closed ≡ false) × IsFullFor (length frame.now) self.old) }
@@ -125,7 +125,7 @@ impl<D: Disk> Journal<D> {
         ensures disk { IsErrOf result AppendError.Disk
             → ClosesByAppend D.view frame.now self.old self.new }
 
-        // An open journal on a reliable disk with the room takes it.
+        // On a reliable disk with the room, an open journal takes the frame.
         ensures works { self.old.closed ≡ false
             → CannotFail (length frame.now + 6) 4 (D.view self.old.disk) → IsOk result }
     {
@@ -148,18 +148,18 @@ impl<D: Disk> Journal<D> {
         Ok(())
     }
 
-    /// Begins the journal again without frames. With a frame it makes two calls of `write_at` and
-    /// `sync`, and with none it makes no call. It takes no memory. After `Disk` the journal is closed.
+    /// Removes all frames. With a frame in the journal it makes two calls of `write_at` and `sync`, and
+    /// otherwise none. It takes no memory. After `Disk` the journal is closed.
     pub fn restart(&mut self) -> Result<(), RestartError>
         ensures restarts { OnOk result (Restarts D.view self.old self.new) }
         ensures safely { RestartsSafely D.view self.old self.new }
 
-        // When it refuses, and what it leaves then.
+        // The refusals, and the journal after each.
         ensures closed { IsErrOf result RestartError.Closed ↔ IsTrue self.old.closed }
         ensures unchanged { IsErrOf result RestartError.Closed → self.new ≡ self.old }
         ensures disk { IsErrOf result RestartError.Disk → ClosesByRestart D.view self.old self.new }
 
-        // An open journal on a reliable disk with the room is begun again.
+        // On a reliable disk with the room, the restart of an open journal succeeds.
         ensures works { self.old.closed ≡ false → CannotFail 1 2 (D.view self.old.disk) → IsOk result }
     {
         if self.closed {
@@ -177,9 +177,9 @@ impl<D: Disk> Journal<D> {
         Ok(())
     }
 
-    /// Puts the body of a frame in place of what `into` holds, and answers whether there is such a
-    /// frame; frames are numbered from 0. After `Disk` the journal is closed, and what `into` holds
-    /// is left open.
+    /// Reads the body of a frame into `into`, in place of its old content, and answers whether the journal
+    /// has that frame; frames are numbered from 0. After `Disk` the journal is closed, and the content of
+    /// `into` is open.
     pub fn frame(&mut self, index: u64, into: &mut Vec<u8>) -> Result<bool, FrameError>
         ensures found { IfOk result (λ found. IsTrue found ↔ (index < length self.old.frames)) }
         ensures body { IfOk result (λ found. IsTrue found → IsTrue (D.view self.old.disk).honest
@@ -190,7 +190,7 @@ impl<D: Disk> Journal<D> {
         ensures none_failed { ¬ IsErrOf result FrameError.Disk → NoneFailed D.view self.old self.new }
         ensures same { OnlyReads D.view self.old self.new }
 
-        // On a reliable disk it is read.
+        // On a reliable disk the read succeeds.
         ensures works { IsTrue (D.view self.old.disk).reliable
             → IfErr result (λ error. error ≡ FrameError.Memory) }
     {
@@ -209,8 +209,8 @@ impl<D: Disk> Journal<D> {
         Ok(true)
     }
 
-    /// Copies the body of a frame from the offset `skip` on into the buffer, as many bytes as fit,
-    /// and answers how many. It takes no memory. After `Failed` the journal is closed.
+    /// Copies the body of a frame from the offset `skip` on into the buffer, as many bytes as fit, and
+    /// answers their number. It takes no memory. After `Failed` the journal is closed.
     pub fn peek(&mut self, index: u64, skip: u64, buf: &mut [u8]) -> Result<usize, Failed>
         ensures within { IfOk result (λ n. n ≤ length buf.old) }
         ensures count { IfOk result (λ n. IsTrue (D.view self.old.disk).honest
@@ -221,7 +221,7 @@ impl<D: Disk> Journal<D> {
         ensures none_failed { OnOk result (NoneFailed D.view self.old self.new) }
         ensures same { OnlyReads D.view self.old self.new }
 
-        // On a reliable disk they are read.
+        // On a reliable disk the read succeeds.
         ensures works { IsTrue (D.view self.old.disk).reliable → IsOk result }
     {
         if index >= self.extents.len() as u64 {
@@ -243,15 +243,15 @@ impl<D: Disk> Journal<D> {
 }
 
 impl Journal<MemDisk> {
-    /// Makes the four calls of `append` with a stop after `calls` of them, crashes, and hands back
-    /// what is left. It takes no memory.
+    /// Makes the four calls of `append` with a stop after `calls` of them, crashes, and hands back the
+    /// disk. It takes no memory.
     pub fn append_stopped(self, frame: &Frame, calls: u8, image: u8) -> MemDisk
         requires calls { calls ≤ 4 }
         requires open { self.closed ≡ false }
         requires room { CanStop (length frame.now) self }
 
-        // The old frames, and the new one exactly after four calls, or after three with an image
-        // that opens the gate. All of it is safe, and nothing is set on the disk.
+        // The old frames, and the new one exactly after four calls, or after three with an image that
+        // opens the gate. All bytes are durable, and no failure is set on the disk.
         ensures frames { frames_of result.bytes ≡ frames_after calls image self.frames frame.now }
         ensures journal { ¬ IsNoJournal result.bytes }
         ensures fresh { result ≡ disk_of result.bytes }
@@ -267,7 +267,7 @@ impl Journal<MemDisk> {
     }
 }
 
-/// Reads `count` bytes from an offset within the size on into the front of the buffer.
+/// Reads `count` bytes from an offset within the size into the front of the buffer.
 fn read_part<D: Disk>(disk: &mut D, at: u64, count: usize, buf: &mut [u8]) -> Result<usize, Failed>
     requires count { count ≤ length buf.old }
     requires within { at ≤ (D.view disk.old).size }

@@ -12,16 +12,16 @@ use crate::safely::{FIRST_GATE, write_header};
 use oc_io::{Disk, Failed};
 use std::alloc::Global;
 
-/// What every journal file begins with.
+/// The magic bytes at the beginning of every journal file.
 const MAGIC: [u8; 8] = *b"OVERCST1";
 
-/// The byte of an open gate: every other byte is that of a gate that is not open.
+/// The byte of an open gate; with any other byte a gate is not open.
 const OPEN: u8 = 1;
 
 /// The length of a header in bytes.
 const HEADER_LEN: u64 = 9;
 
-/// Where the bodies of the frames are, and where the frames end.
+/// The extents of the bodies of the frames, and the end of the frames.
 #[derive(Debug, Drop)]
 pub struct FrameIndex {
     pub extents: Vec<Extent>,
@@ -54,7 +54,7 @@ pub fn find<D: Disk>(alloc: Global, disk: &mut D) -> Result<FrameIndex, LoadErro
     find_frames(alloc, disk, size)
 }
 
-/// Makes all that a read gives safe, with room for a header, and answers the size.
+/// Makes all bytes durable that a read gives, with room for a header, and answers the size in bytes.
 fn make_safe<D: Disk>(disk: &mut D) -> Result<u64, LoadError>
     ensures size { IfOk result (λ size. size ≡ (D.view disk.new).size) }
     ensures room { OnOk result (9 ≤ (D.view disk.new).room) }
@@ -85,7 +85,7 @@ fn sync_with_room<D: Disk>(disk: &mut D) -> Result<(), LoadError>
     Ok(disk.sync()?)
 }
 
-/// The size of a file that is safe.
+/// The size in bytes of a file that is durable.
 fn size_of<D: Disk>(disk: &mut D) -> Result<u64, Failed>
     requires safe { IsTrue (D.view disk.old).honest → IsSafe (D.view disk.old) }
     ensures size { IfOk result (λ size. size ≡ (D.view disk.new).size) }
@@ -96,7 +96,7 @@ fn size_of<D: Disk>(disk: &mut D) -> Result<u64, Failed>
     disk.size()
 }
 
-/// Reads the magic of a safe file that is longer than a header.
+/// Checks the magic of a durable file that is longer than a header.
 fn check_magic<D: Disk>(disk: &mut D) -> Result<(), LoadError>
     requires safe { IsTrue (D.view disk.old).honest → IsSafe (D.view disk.old) }
     requires long { 9 < (D.view disk.old).size }
@@ -116,7 +116,7 @@ fn check_magic<D: Disk>(disk: &mut D) -> Result<(), LoadError>
     Ok(())
 }
 
-/// Finds the frames of a safe file of this size, from the first gate on, by a read at each gate.
+/// Finds the frames of a durable file of this size in bytes, from the first gate on, by a read at each gate.
 fn find_frames<D: Disk>(alloc: Global, disk: &mut D, size: u64) -> Result<FrameIndex, LoadError>
     requires safe { IsTrue (D.view disk.old).honest → IsSafe (D.view disk.old) }
     requires size { size ≡ (D.view disk.old).size }
@@ -140,8 +140,8 @@ fn find_frames<D: Disk>(alloc: Global, disk: &mut D, size: u64) -> Result<FrameI
     Ok(FrameIndex { extents, end: gate })
 }
 
-/// Reads a gate and the length after it: `None` where the gate is not open, and else the length of
-/// the body of a whole frame.
+/// Reads a gate and the length after it: `None` if the gate is not open, and otherwise the length of
+/// the body of a complete frame.
 fn read_gate<D: Disk>(disk: &mut D, gate: u64, size: u64) -> Result<Option<u32>, LoadError>
     requires size { size ≡ (D.view disk.old).size }
     requires within { gate < size }
@@ -167,7 +167,7 @@ fn read_gate<D: Disk>(disk: &mut D, gate: u64, size: u64) -> Result<Option<u32>,
     Ok(Some(len))
 }
 
-/// The length after the byte of a gate.
+/// The length of the body, from the gate's byte and the four bytes after it.
 fn len_in(head: &[u8; 5]) -> u32
     ensures { drop 1 head.now ≡ to_be_bytes w32 result }
 {

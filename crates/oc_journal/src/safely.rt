@@ -14,7 +14,7 @@ pub const HEADER: [u8; 9] = *b"OVERCST1\0";
 /// The offset of the first gate.
 pub const FIRST_GATE: u64 = 8;
 
-/// Writes a frame after the frames, which end at that offset, and opens the gate before it.
+/// Writes a frame after the present frames, which end at that offset, and opens the gate before it.
 pub fn write_frame<D: Disk>(disk: &mut D, end: u64, frame: &Frame) -> Result<(), Failed>
     requires size { end < (D.view disk.old).size }
     requires settled { IsTrue (D.view disk.old).honest → IsSettled (D.view disk.old) end }
@@ -23,7 +23,7 @@ pub fn write_frame<D: Disk>(disk: &mut D, end: u64, frame: &Frame) -> Result<(),
     ensures adds { OnOk result (AddsFrame frame.now end (D.view disk.old) (D.view disk.new)) }
     ensures size { OnOk result (end + 5 + length frame.now < (D.view disk.new).size) }
 
-    // What is before the gate stays.
+    // The bytes before the gate do not change.
     ensures front { IsTrue (D.view disk.old).honest
         → take end (D.view disk.new).seen ≡ take end (D.view disk.old).seen }
     ensures no_smaller { (D.view disk.old).size ≤ (D.view disk.new).size }
@@ -44,7 +44,7 @@ pub fn close_first_gate<D: Disk>(disk: &mut D) -> Result<(), Failed>
     ensures takes { Takes 1 2 (D.view disk.old) (D.view disk.new) }
     ensures clears { OnOk result (ClearsFrames (D.view disk.old) (D.view disk.new)) }
 
-    // What follows the gate stays.
+    // The bytes after the gate do not change.
     ensures behind { IsTrue (D.view disk.old).honest
         → drop 9 (D.view disk.new).seen ≡ drop 9 (D.view disk.old).seen }
     ensures no_smaller { (D.view disk.old).size ≤ (D.view disk.new).size }
@@ -56,7 +56,7 @@ pub fn close_first_gate<D: Disk>(disk: &mut D) -> Result<(), Failed>
     write_safely(disk, FIRST_GATE, &[0])
 }
 
-/// Writes the header of a new file, whose size is at most that of the header. The room was reserved.
+/// Writes the header of a new file, whose size is at most that of the header. The room must be reserved.
 pub fn write_header<D: Disk>(disk: &mut D) -> Result<(), Failed>
     requires size { (D.view disk.old).size ≤ 9 }
     requires safe { IsTrue (D.view disk.old).honest → IsSafe (D.view disk.old) }

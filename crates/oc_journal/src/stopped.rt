@@ -7,8 +7,8 @@ ghost use Rattle.oc_journal.specs.Stopped.{IsCut, frames_after, left_of, image_o
 use crate::frame::Frame;
 use oc_io::{Disk, Failed, MemDisk};
 
-/// Writes a frame after the frames, which end at that offset, and opens the gate before it, by the
-/// calls of `append`; stops where the disk does, and crashes.
+/// Makes the calls of `append` up to the stop of the disk: writes a frame after the present frames, which
+/// end at that offset, and opens the gate before it. Then it crashes the disk.
 pub fn write_until_stop(mut disk: MemDisk, end: u64, frame: &Frame) -> MemDisk
     requires stop { IsSome disk.failing.stop }
     requires left { left_of disk.failing.stop ≤ 4 }

@@ -1,8 +1,8 @@
 ghost use Rattle.std.specs.Prelude.{◌≡◌};
 ghost use Rattle.oc_base.specs.Stops.{is_kept_new};
 
-/// Whether a frame is kept whose append stopped once `calls` of its four calls of the disk had worked; a crash then leaves
-/// the byte `image` wherever something was not synced, and so as its gate.
+/// Whether a frame is kept, if its append stopped after `calls` of its four calls of the disk and a crash then leaves
+/// the byte `image` in every unsynced byte, the gate among them.
 pub fn is_kept_new(calls: u8, image: u8) -> bool
     ensures { result ≡ is_kept_new calls image }
 {

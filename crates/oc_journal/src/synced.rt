@@ -3,9 +3,9 @@ ghost use Rattle.oc_io.specs.DiskView.{Holds, IsTorn, IsSafe, Takes, Fails, HasN
 
 use oc_io::{Disk, Failed};
 
-/// Writes at an offset within the size, and syncs. A journal writes everything in this way: on
-/// a disk that was safe a crash leaves at every moment only what a torn write leaves, and after Ok
-/// the disk is safe again.
+/// Writes at an offset within the size, and syncs. A journal writes in no other way: on a durable disk a
+/// crash leaves at every moment only an image with this one write torn, and after Ok the disk is durable
+/// again.
 pub fn write_safely<D: Disk>(disk: &mut D, at: u64, bytes: &[u8]) -> Result<(), Failed>
     requires { at ≤ (D.view disk.old).size }
     ensures takes { Takes (length bytes.now) 2 (D.view disk.old) (D.view disk.new) }

@@ -20,7 +20,6 @@ use Rattle.oc_io.specs.DiskView.{DiskView}
 use Rattle.oc_record.specs.Spelling.{records_bytes}
 use Rattle.oc_store.specs.ControlFiles.{records_of, recovered_frames}
 use Rattle.oc_store.specs.StoreView.{StoreView, first_disk, second_disk, AreGood, Recovers}
-use Rattle.oc_keep.specs.declared.seat.Seat.{Seat}
 use Rattle.oc_keep.specs.Files.{Disks, AreHonest, AlwaysLeaves, MayLeave, Survives}
 use Rattle.oc_keep.specs.Puts.{entry_for}
 
@@ -34,10 +33,6 @@ pub record KeptView (D : Type 0) : Type 0 where
 -- among `nodes` nodes, with a chain of this length, chunks of at most that many bytes, and these areas
 abbrev pub header : ℕ → ℕ → ℕ → List ℕ → Header
 header nodes chain chunk areas = record { nodes = nodes; chain = chain; chunk = chunk; areas = areas }
-
--- the same for a seat
-abbrev pub header_in : Seat → Header
-header_in s = header s.nodes s.chain s.chunk s.areas.items
 
 -- one of these parts
 abbrev pub kept_of : {D : Type 0} → NodeView → StoreView D → ContentView D → Bool → KeptView D

@@ -6,7 +6,7 @@ ghost use Rattle.oc_base.specs.Stops.{is_kept_new};
 ghost use Rattle.oc_base.specs.declared.limits.TheConstants.{DUE_BYTES, MAX_LOG_LENGTH};
 ghost use Rattle.oc_keep.specs.Errors.{IsOutOfMemory};
 ghost use Rattle.oc_keep.specs.Files.{AllGoOn, AreReliable, SameAsEither, disks_in, SameDurable, Survives, disks};
-ghost use Rattle.oc_keep.specs.KeptView.{AtAnyMoment, IsFullAt, IsFullOn, IsHonest, IsKept, IsRipe, NodeSurvives, disks_of, header_in, header_of, node_of};
+ghost use Rattle.oc_keep.specs.KeptView.{AtAnyMoment, IsFullAt, IsFullOn, IsHonest, IsKept, IsRipe, NodeSurvives, disks_of, header_of, node_of};
 ghost use Rattle.oc_keep.specs.Promises.{ChangesNothing, Closes, HoldFiles, IsNodeOf, IsSameNode, IsTurnedOver, LeavesFiles, LoadsSafely, RefusesNode};
 ghost use Rattle.oc_keep.specs.ReadyView.{AreLeftAs, CanCommit, CanStopWrite, IsFullToWrite, OthersStay, is_written, outcome_of, told_of};
 ghost use Rattle.oc_laws_step.specs.LawfulNode.{IsLawfulNode};
@@ -61,29 +61,29 @@ impl<D: Disk> Kept<D> {
     /// the next; one of at most 9 bytes is new, and its header is written. On a refusal the disks come
     /// back.
     pub fn load(alloc: Global, files: Files<D>, seat: Seat) -> Result<Kept<D>, (Files<D>, KeepLoad)>
-        requires header { IsHeader (header_in seat) }
-        requires id { IsNode seat.nodes seat.id }
+        requires header { IsHeader seat.header }
+        requires id { IsNode seat.header.nodes seat.id }
 
         // The node is the one that the files recover, and every crash now leaves it.
-        ensures loaded { IfOk result (λ kept. IsNodeOf D.view (header_in seat) seat.id (disks_in files) kept) }
+        ensures loaded { IfOk result (λ kept. IsNodeOf D.view seat.header seat.id (disks_in files) kept) }
 
         // At every moment a crash leaves what a crash at the start would have left.
-        ensures safely { IfOk result (λ kept. LoadsSafely D.view (header_in seat) seat.id (disks_in files) (disks_of kept)) }
-        ensures safely_err { IfErr result (λ refused. LoadsSafely D.view (header_in seat) seat.id (disks_in files) (disks_in refused.0)) }
+        ensures safely { IfOk result (λ kept. LoadsSafely D.view seat.header seat.id (disks_in files) (disks_of kept)) }
+        ensures safely_err { IfErr result (λ refused. LoadsSafely D.view seat.header seat.id (disks_in files) (disks_in refused.0)) }
 
         // When it refuses.
-        ensures refuses { IfErr result (λ refused. RefusesNode D.view seat.nodes (disks_in files) (disks_in refused.0) refused.1) }
+        ensures refuses { IfErr result (λ refused. RefusesNode D.view seat.header.nodes (disks_in files) (disks_in refused.0) refused.1) }
 
         // The files of a node on reliable disks are loaded.
         ensures works { IfErr result (λ refused. AreReliable D.view (disks_in files)
-            → HoldFiles D.view seat.nodes (disks_in files) → IsOutOfMemory refused.1) }
+            → HoldFiles D.view seat.header.nodes (disks_in files) → IsOutOfMemory refused.1) }
     {
         let Files {
             control,
             alternate,
             content,
         } = files;
-        let (store, list) = match Store::load(alloc, control, alternate, seat.nodes) {
+        let (store, list) = match Store::load(alloc, control, alternate, seat.header.sizes.nodes) {
             Ok(loaded) => loaded,
             Err((control, alternate, error)) => {
                 return Err((

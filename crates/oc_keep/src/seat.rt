@@ -1,15 +1,29 @@
-use oc_base::NodeId;
+ghost use Rattle.std.specs.Prelude.{◌≡◌, IfOk};
+
+use oc_base::{Memory, NodeId};
+use oc_model::Header;
+use std::alloc::Global;
 
 /// Which node of which network it is.
 #[derive(Drop)]
 pub struct Seat {
     pub id: NodeId,
-    /// The number of nodes.
-    pub nodes: u32,
-    /// The length of the chain: its members are the nodes from 1 to this one.
-    pub chain: u32,
-    /// The greatest number of bytes of a chunk that the node sends.
-    pub chunk: u32,
-    /// The area of each node, by its number.
-    pub areas: Vec<u8>,
+    pub header: Header,
+}
+
+impl Seat {
+    /// The seat of this id, in a network with a copy of this header.
+    pub fn new(alloc: Global, id: NodeId, header: &Header) -> Result<Seat, Memory>
+        ensures id { IfOk result (λ seat. seat.id ≡ id) }
+        ensures header { IfOk result (λ seat. seat.header ≡ header.now) }
+    {
+        let areas = header.areas.to_vec(alloc)?;
+        Ok(Seat {
+            id,
+            header: Header {
+                sizes: header.sizes,
+                areas,
+            },
+        })
+    }
 }

@@ -3,7 +3,7 @@ ghost use Rattle.std.specs.List.{AllByRecursion};
 ghost use Rattle.oc_base.specs.Lawful.{IsNode};
 ghost use Rattle.oc_keep.specs.declared.errors.KeepError.TheVariants.{Full};
 ghost use Rattle.oc_keep.specs.Files.{AllGoOn, AreHonest, AreReliable, disks_in};
-ghost use Rattle.oc_keep.specs.KeptView.{IsFullOn, IsHonest, NodeSurvives, disks_of, header_in, header_of, node_of};
+ghost use Rattle.oc_keep.specs.KeptView.{IsFullOn, IsHonest, NodeSurvives, disks_of, header_of, node_of};
 ghost use Rattle.oc_keep.specs.Promises.{HoldFiles};
 ghost use Rattle.oc_keep.specs.Trials.{BeginsWith, EndsFull, EndsSurely, HasCause, HasRunCause, IsCounted, LeavesAfter, RunLeaves, after_inputs, first_node};
 ghost use Rattle.oc_model.specs.Lawful.{IsHeader, IsInput};
@@ -24,28 +24,28 @@ pub fn trial<D: Disk>(
     seat: Seat,
     inputs: Vec<Input>,
 ) -> (Files<D>, Trial)
-    requires header { IsHeader (header_in seat) }
-    requires id { IsNode seat.nodes seat.id }
-    requires inputs { AllByRecursion (IsInput seat.nodes seat.id) inputs.items }
+    requires header { IsHeader seat.header }
+    requires id { IsNode seat.header.nodes seat.id }
+    requires inputs { AllByRecursion (IsInput seat.header.nodes seat.id) inputs.items }
 
     // Every crash leaves the node after the inputs that were taken, or where a disk failed after one more;
     // where the node was not loaded, what some crash at the start would have left.
     ensures leaves { AreHonest D.view (disks_in files)
-        → LeavesAfter D.view (header_in seat) seat.id (disks_in files) inputs.items (disks_in result.0) result.1 }
+        → LeavesAfter D.view seat.header seat.id (disks_in files) inputs.items (disks_in result.0) result.1 }
 
     // How many were taken, and why it ended.
     ensures counted { IsCounted inputs.items result.1 }
-    ensures cause { HasCause D.view seat.nodes (disks_in files) (disks_in result.0) result.1.end }
+    ensures cause { HasCause D.view seat.header.nodes (disks_in files) (disks_in result.0) result.1.end }
     ensures goes_on { AllGoOn D.view (disks_in files) (disks_in result.0) }
 
     // Where an input was refused since its file is full: with it, the file would pass its limit.
     ensures full { AreHonest D.view (disks_in files) → result.1.end ≡ TrialEnd.Take Full
         → BeginsWith (IsFullOn D.view (disks_in result.0)
-        (after_inputs (first_node D.view (header_in seat) seat.id (disks_in files)) (take result.1.done inputs.items)))
+        (after_inputs (first_node D.view seat.header seat.id (disks_in files)) (take result.1.done inputs.items)))
         (drop result.1.done inputs.items) }
 
     // The files of a node on reliable disks take all inputs, if there is the memory.
-    ensures works { AreReliable D.view (disks_in files) → HoldFiles D.view seat.nodes (disks_in files) → EndsSurely result.1.end }
+    ensures works { AreReliable D.view (disks_in files) → HoldFiles D.view seat.header.nodes (disks_in files) → EndsSurely result.1.end }
 {
     let mut kept = match Kept::load(alloc, files, seat) {
         Ok(kept) => kept,

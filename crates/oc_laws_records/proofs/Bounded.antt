@@ -123,7 +123,7 @@ module _ (digest : Node → List ℕ) (bytes : List ℕ) (r : Records) (s : Scri
   begins : (x : ℕ) → IsBeginning (entries_of x merge.taken) (entries_of x there.lines)
   begins = taken_within there [] merge.taken (λ x. (entries_of x there.lines, refl)) (order_taking there [] merge.taken merge.in_order)
 
-  -- what was taken adds up to no more than what was told
+  -- the sum over the lines taken is at most that over the lines told
   most : (f : Line → ℕ) → sum_by f merge.taken ≤ sum_by (λ l. f (line_of r.header.nodes l)) r.lines
   most f = omega (arith, taken_least f merge.taken there.lines begins, sum_map f (line_of r.header.nodes) (records_there digest r).lines, picked_least (λ l. f (line_of r.header.nodes l)) (are_there digest r 0 r.lines) r.lines)
 

@@ -31,7 +31,7 @@ pub and_false : (b : Bool) → (b && false) ≡ false
 and_false true = refl
 and_false false = refl
 
--- such a line was not cut off
+-- a line of this kind was not cut off
 pub not_cut_off : (line : List ℕ) → IsClear line → is_cut_off line ≡ false
 not_cut_off line h =
     ap (λ b. not (slice_index line 0 == 35) && b) (clear_at line (length line - 1) h) ∙ and_false (not (slice_index line 0 == 35))

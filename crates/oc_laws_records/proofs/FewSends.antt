@@ -37,17 +37,17 @@ use Rattle.oc_model.specs.Shelves.{limit, line_at}
 use Rattle.oc_model.specs.Table.{is_news}
 use Rattle.oc_model.specs.Step.{filled, plan, received, step, taken}
 
--- so far the node x sent at most so many messages
+-- so far the node x sent at most this number of messages
 record Few (x most : ℕ) (o : Plan) : Type 0 where
   sent : length o.sends ≤ most
   me : o.node.me ≡ x
 
 module _ {x k : ℕ} where
-  -- what does not send
+  -- a step that sends no message
   quiet : (o p : Plan) → p.sends ≡ o.sends → p.node.me ≡ o.node.me → Few x k o → Few x k p
   quiet o p sends me f = let e = ap length sends in record { sent = omega (arith, f.sent, e); me = me ∙ f.me }
 
-  -- what sends one message
+  -- a step that sends one message
   more : (o : Plan) (p : ℕ) (b : Body) → Few x k o → Few x (k + 1) (send o p b)
   more o p b f = record { sent = omega (arith, f.sent, length-append o.sends (record { from = o.node.me; to = p; body = b } ∷ [])); me = f.me }
 

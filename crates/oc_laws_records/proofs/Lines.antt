@@ -37,8 +37,8 @@ use Rattle.oc_schedule.proofs.ActsBack.{act_are_words, act_back, node_back, node
 use Rattle.oc_schedule.proofs.FieldsBack.{bytes_word}
 use Rattle.oc_schedule.specs.Acts.{PublishesBytes, act_words, input_fields, input_word}
 use Rattle.oc_schedule.specs.Texts.{line_text}
-use Rattle.oc_server.specs.Deeds.{note_line}
-use Rattle.oc_server.specs.Recorded.{RecordLine, Taken, Noted, inputs_in, record_text}
+use Rattle.oc_deeds.specs.Deeds.{note_line}
+use Rattle.oc_deeds.specs.Recorded.{RecordLine, Taken, Noted, inputs_in, record_text}
 use Rattle.oc_wire.specs.Spelling.{spelling}
 use Rattle.oc_laws_records.specs.Lawful.{IsLine, IsOneLine, IsTaken}
 use Rattle.oc_laws_records.specs.Runs.{told_input}
@@ -185,7 +185,7 @@ module _ (ended : Bool) (h : Header) (few : h.nodes ≤ MAX_NODES) (me : ℕ) (n
 
   -- Notes
 
-  -- what begins so has words, of which the first begins so
+  -- a line that begins with this byte has words, of which the first begins with it
   marked_words : (t : List ℕ) → (p : List ℕ) × (ps : List (List ℕ)) × (words (33 ∷ t) ≡ (33 ∷ p) ∷ ps)
   marked_words t = by_parts (slice_split (λ b. b == 32) t) refl where
     by_parts : (parts : List (List ℕ)) → slice_split (λ b. b == 32) t ≡ parts → (p : List ℕ) × (ps : List (List ℕ)) × (words (33 ∷ t) ≡ (33 ∷ p) ∷ ps)

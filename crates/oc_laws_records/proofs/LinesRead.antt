@@ -28,7 +28,7 @@ use Rattle.oc_laws_records.proofs.ScheduleCosts.{entry_cost}
 use Rattle.oc_laws_records.proofs.Totals.{deliver_bytes, total}
 use Rattle.oc_laws_records.proofs.WordsRead.{IsPrintedIn, act_printed, decoded_long, node_length, same_length, two_total, without_fault}
 
--- what a line publishes is bytes
+-- the content that a line publishes is bytes
 abbrev pub IsOfBytes : ℕ → Told → Type 0
 IsOfBytes x (Took i) = PublishesBytes (At x i)
 IsOfBytes x told = Unit {0}
@@ -41,7 +41,7 @@ received_long nodes x bytes some to = by_result (decoded nodes bytes) refl to wh
   by_result (Err fault) e to = let none : 0 ≡ x = to in absurd (omega (arith, none, some))
 
 module _ (price : ℕ → ℕ) (more : (a b : ℕ) → a ≤ b → price a ≤ price b) (nodes : ℕ) where
-  -- it costs no more than so many bytes, and what it publishes is bytes
+  -- the line costs at most this number of bytes, and its content is bytes
   pub record Costs (x n : ℕ) (t : Told) : Type 0 where
     pub cost : entry_cost price x (entry_of nodes t) ≤ price n
     pub bytes : IsOfBytes x t

@@ -20,7 +20,7 @@ not_true : (b : Bool) → not b ≡ true → b ≡ false
 not_true true h = absurd (cc h)
 not_true false h = refl
 
--- what begins with a zero is one digit
+-- a number that begins with a zero is one digit
 no_zero_before : (long nought : Bool) → not (long && nought) ≡ true → nought ≡ true → long ≡ false
 no_zero_before false nought h z = refl
 no_zero_before true true h z = absurd (cc h)

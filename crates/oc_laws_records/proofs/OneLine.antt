@@ -1,4 +1,4 @@
--- What is noted is one line.
+-- A note is one line.
 use Rattle.std.proofs.Common.{◌≡◌, ◌≢◌, ℕ, zero, suc, ◌+◌, ◌/◌, ◌%◌, Bool, true, false, not, ◌==◌, List, [], ◌∷◌, ◌++◌, refl, arith, codes, decimal}
 use Rattle.std.specs.Prelude.{if◌then◌else◌, nat_lt}
 use Rattle.std.specs.Fmt.{digit_glyph, digits, digits_onto}
@@ -11,7 +11,7 @@ use Rattle.oc_probe.specs.declared.fault.ProbeFault.TheVariants as faults
 use Rattle.oc_routes.specs.Refusals.{why_text}
 use Rattle.oc_routes.specs.declared.refused.Refused.{Refused}
 use Rattle.oc_routes.specs.declared.refused.Refused.TheVariants as refusals
-use Rattle.oc_server.specs.Turns.{fault_word, probe_note}
+use Rattle.oc_deeds.specs.Turns.{fault_word, probe_note}
 use Rattle.oc_laws_records.specs.Lawful.{IsOneLine}
 
 one_then : (a c : List ℕ) → IsOneLine a → IsOneLine c → IsOneLine (a ++ c)

@@ -10,6 +10,7 @@ use Rattle.oc_link.specs.declared.event.Coming.{Coming}
 use Rattle.oc_link.specs.declared.event.Coming.TheVariants.{Open, Ended, Failed}
 use Rattle.oc_link.specs.declared.event.LinkEvent.{LinkEvent}
 use Rattle.oc_link.specs.declared.event.LinkEvent.TheVariants as events
+use Rattle.oc_http.specs.Requests.{begins_with_head}
 use Rattle.oc_http.specs.declared.fault.HttpFault.{HttpFault}
 use Rattle.oc_http.specs.declared.head.Head.{Head}
 use Rattle.oc_http.specs.declared.reply.Reply.{Reply}
@@ -24,13 +25,14 @@ use Rattle.oc_routes.specs.Connections.{awaits_continue, is_last}
 use Rattle.oc_routes.specs.Hints.{asked_with_hint}
 use Rattle.oc_routes.specs.Macs.{is_forged}
 use Rattle.oc_routes.specs.Routes.{input_asked}
-use Rattle.oc_routes.specs.Verdicts.{IsVerdict, NodeTerms, answered, fault_met, input_for, is_none, routed, unfinished, unread, verdict_for, whole, with_body}
+use Rattle.oc_routes.specs.Verdicts.{IsVerdict, NodeTerms, answered, fault_met, input_for, is_head, is_none, refuse, routed, taken, unfinished, unread, verdict_for, whole, with_body}
 use Rattle.oc_routes.specs.declared.fault.RouteFault.{RouteFault}
 use Rattle.oc_routes.specs.declared.fault.RouteFault.TheVariants as faults
 use Rattle.oc_routes.specs.declared.hint.Asked.{Asked}
 use Rattle.oc_routes.specs.declared.hint.Hint.{Hint}
 use Rattle.oc_routes.specs.declared.hint.Hint.TheVariants as hints
 use Rattle.oc_routes.specs.declared.refused.Refused.{Refused}
+use Rattle.oc_routes.specs.declared.verdict.Refusal.{Refusal}
 use Rattle.oc_routes.specs.declared.refused.Refused.TheVariants as refusals
 use Rattle.oc_routes.specs.declared.routes.Operation.{Operation}
 use Rattle.oc_routes.specs.declared.routes.Operation.TheVariants as asks
@@ -39,29 +41,29 @@ use Rattle.oc_routes.specs.declared.verdict.Verdict.{Verdict}
 use Rattle.oc_routes.specs.declared.verdict.Verdict.TheVariants as verdicts
 use Rattle.oc_routes.specs.declared.waiting.Prospect.{Prospect}
 use Rattle.oc_routes.specs.declared.waiting.Prospect.TheVariants as prospects
-use Rattle.oc_server.specs.Asks.{has_to_wait, obeys, refuses_or, responds, takes_on, takes_up, waiting}
-use Rattle.oc_server.specs.Brought.{comes_back, delivered_or, fault_of, input_of, input_of_reply, message_in}
-use Rattle.oc_server.specs.Choices.{next_to_dial, prospect_of, wait_for}
-use Rattle.oc_server.specs.Deeds.{Deed, Reads, Running, Says, Sees, Setting, Takes, Tells, Waits, after, after_all, errand_in}
-use Rattle.oc_server.specs.Hurries.{came_hurries}
-use Rattle.oc_server.specs.Pace.{has_passed, wait_until}
-use Rattle.oc_server.specs.Parts.{nothing, one, ◌>>◌}
-use Rattle.oc_server.specs.Records.{told_ahead}
-use Rattle.oc_server.specs.Rooms.{moves, room_for}
-use Rattle.oc_server.specs.Rooms as rooms
-use Rattle.oc_server.specs.Sends.{dials_at, dials_it, dials_next, sends}
-use Rattle.oc_server.specs.Turns.{Means, MeansBack, Observation, brought, deals, happens, measures, next_peer, probes_it, quickened, takes_at, takes_due, ticked, ticks, ticks_and_sends, ticks_if}
-use Rattle.oc_server.specs.Works.{client_input, pending, work_on}
-use Rattle.oc_server.specs.declared.came.Came.{Came}
-use Rattle.oc_server.specs.declared.came.Came.TheVariants as comes
-use Rattle.oc_server.specs.declared.choosing.TheConstants.{MAX_DIALS}
-use Rattle.oc_server.specs.declared.dials.Errand.{Errand}
-use Rattle.oc_server.specs.declared.dials.Errand.TheVariants as errands
-use Rattle.oc_server.specs.declared.pace.Pace.{Pace}
-use Rattle.oc_server.specs.declared.work.Pending.{Pending}
-use Rattle.oc_server.specs.declared.work.Transfer.{Transfer}
-use Rattle.oc_server.specs.declared.work.Work.{Work}
-use Rattle.oc_server.specs.declared.work.Work.TheVariants as works
+use Rattle.oc_deeds.specs.Asks.{has_to_wait, obeys, refuses_or, responds, takes_on, takes_up, waiting}
+use Rattle.oc_deeds.specs.Brought.{comes_back, delivered_or, fault_of, input_of, input_of_reply, message_in}
+use Rattle.oc_deeds.specs.Choices.{next_to_dial, prospect_of, wait_for}
+use Rattle.oc_deeds.specs.Deeds.{Deed, Reads, Running, Says, Sees, Setting, Takes, Tells, Waits, after, after_all, errand_in}
+use Rattle.oc_deeds.specs.Hurries.{came_hurries}
+use Rattle.oc_deeds.specs.Pace.{has_passed, wait_until}
+use Rattle.oc_deeds.specs.Parts.{nothing, one, ◌>>◌}
+use Rattle.oc_deeds.specs.Records.{told_ahead}
+use Rattle.oc_deeds.specs.Rooms.{moves, room_for}
+use Rattle.oc_deeds.specs.Rooms as rooms
+use Rattle.oc_deeds.specs.Sends.{dials_at, dials_it, dials_next, sends}
+use Rattle.oc_deeds.specs.Turns.{Means, MeansBack, Observation, brought, deals, happens, measures, next_peer, probes_it, quickened, takes_at, takes_due, ticked, ticks, ticks_and_sends, ticks_if}
+use Rattle.oc_deeds.specs.Works.{client_input, pending, work_on}
+use Rattle.oc_deeds.specs.declared.came.Came.{Came}
+use Rattle.oc_deeds.specs.declared.came.Came.TheVariants as comes
+use Rattle.oc_deeds.specs.declared.choosing.TheConstants.{MAX_DIALS}
+use Rattle.oc_deeds.specs.declared.dials.Errand.{Errand}
+use Rattle.oc_deeds.specs.declared.dials.Errand.TheVariants as errands
+use Rattle.oc_deeds.specs.declared.pace.Pace.{Pace}
+use Rattle.oc_deeds.specs.declared.work.Pending.{Pending}
+use Rattle.oc_deeds.specs.declared.work.Transfer.{Transfer}
+use Rattle.oc_deeds.specs.declared.work.Work.{Work}
+use Rattle.oc_deeds.specs.declared.work.Work.TheVariants as works
 use Rattle.oc_service.proofs.BorneOut.{due_or_none, front_of_few}
 use Rattle.oc_service.specs.WhatNodeDoes.{Machine, begins, begun, behind_turn, due_at, node_behind, node_deeds, own_measure, own_measures, turn_deeds, turns_deeds}
 use Rattle.oc_service.specs.WhatNodeHears.{AreHeard, MayHear, calls_behind}
@@ -123,9 +125,9 @@ kept_for hints.Plain input is = is
 kept_for (hints.Of n) input is = is
 kept_for hints.Known input is = is
 
-answered_plain : (request : Request) (input : Result (Option Input) Refused) → IfOk input (λ (o : Option Input). IfSome o IsOfRecord) → AsksPlainly (answered request input)
-answered_plain request (Ok input) is = kept_for request.hint input is
-answered_plain request (Err why) is = tt
+answered_plain : (head : Head) (request : Request) (input : Result (Option Input) Refused) → IfOk input (λ (o : Option Input). IfSome o IsOfRecord) → AsksPlainly (answered head request input)
+answered_plain head request (Ok input) is = kept_for request.asked.hint input is
+answered_plain head request (Err why) is = tt
 
 -- an input of a request is of a kind that records have
 of_request : (i : Input) → IsOfRequest i → IsOfRecord i
@@ -155,8 +157,7 @@ body_plain t x came head rest said = by_permit (awaits_continue head && not x.pe
     request : Request
     request = record {
       count = came - length rest + head.length;
-      operation = said.operation;
-      hint = said.hint;
+      asked = said;
       input = None;
       last = is_last head x.number;
     }
@@ -164,9 +165,9 @@ body_plain t x came head rest said = by_permit (awaits_continue head && not x.pe
     body : List ℕ
     body = take head.length rest
 
-    by_mac : (b : Bool) → AsksPlainly (if b then verdicts.Refuse refusals.Mac else answered request (input_asked t.nodes t.me said.operation body))
+    by_mac : (b : Bool) → AsksPlainly (if b then refuse (is_head head.method) refusals.Mac else answered head request (input_asked t.nodes t.me said.operation body))
     by_mac true = tt
-    by_mac false = answered_plain request (input_asked t.nodes t.me said.operation body) (asked_plain t.nodes t.me said.operation body)
+    by_mac false = answered_plain head request (input_asked t.nodes t.me said.operation body) (asked_plain t.nodes t.me said.operation body)
 
     by_length : (b : Bool) → AsksPlainly (if b then unfinished x.coming false else whole t head request body)
     by_length true = unfinished_plain x.coming false
@@ -180,14 +181,14 @@ routed_plain : (t : NodeTerms) (x : Arrival) (came : ℕ) (head : Head) (rest : 
 routed_plain t x came head rest (Ok said) = body_plain t x came head rest said
 routed_plain t x came head rest (Err why) = tt
 
-unread_plain : (coming : Coming) (none : Bool) (fault : Option RouteFault) → AsksPlainly (unread coming none fault)
-unread_plain coming none None = unfinished_plain coming none
-unread_plain coming none (Some (faults.Refused why)) = tt
-unread_plain coming none (Some faults.Memory) = tt
+unread_plain : (coming : Coming) (none head_alone : Bool) (fault : Option RouteFault) → AsksPlainly (unread coming none head_alone fault)
+unread_plain coming none head_alone None = unfinished_plain coming none
+unread_plain coming none head_alone (Some (faults.Refused why)) = tt
+unread_plain coming none head_alone (Some faults.Memory) = tt
 
 verdict_plain : (t : NodeTerms) (x : Arrival) (bytes rest : List ℕ) (answer : Result Head HttpFault) → AsksPlainly (verdict_for t x bytes rest answer)
 verdict_plain t x bytes rest (Ok head) = routed_plain t x (length bytes) head rest (asked_with_hint head t.rules)
-verdict_plain t x bytes rest (Err fault) = unread_plain x.coming (is_none bytes) (fault_met fault)
+verdict_plain t x bytes rest (Err fault) = unread_plain x.coming (is_none bytes) (begins_with_head (taken bytes rest)) (fault_met fault)
 
 read_plain : (t : NodeTerms) (x : Arrival) (bytes : List ℕ) (v : Verdict) → IsVerdict t x bytes v → AsksPlainly v
 read_plain t x bytes v is = subst (λ (w : Verdict). AsksPlainly w) (sym is.verdict) (verdict_plain t x bytes is.rest is.answer)
@@ -199,13 +200,13 @@ plain_responds r None now s a is = (tt, tt)
 plain_responds r (Some i) now s a is = (tt, (is, (tt, (tt, tt))))
 
 taken_on : (c : ℕ) (request : Request) (now : ℕ) (s : Setting) (a : Running) → IfSome request.input IsOfRecord → ArePlain (takes_on c request now s a)
-taken_on c request now s a is = by_condition (unmet request.operation a.node.control.me (shelf a.node.groups))
+taken_on c request now s a is = by_condition (unmet request.asked.operation a.node.control.me (shelf a.node.groups))
   where
     by_test : (b : Bool) → ArePlain (if b then Waits (waiting c request now) ∷ [] else responds (pending c request (is_some request.input) false) request.input now s a)
     by_test true = (tt, tt)
     by_test false = plain_responds (pending c request (is_some request.input) false) request.input now s a is
 
-    by_condition : (why : Option Refused) → ArePlain (refuses_or why c request now s a)
+    by_condition : (why : Option Refusal) → ArePlain (refuses_or why c request now s a)
     by_condition (Some why) = (tt, tt)
     by_condition None = by_test (has_to_wait request a.node)
 
@@ -242,7 +243,7 @@ plain_probe : (peer : Option ℕ) (started : ℕ) (s : Setting) (a : Running) �
 plain_probe None started s a = tt
 plain_probe (Some peer) started s a = (tt, (tt, tt))
 
--- what results from a message's reply
+-- the deeds for a message's reply
 delivered_plain : (peer : ℕ) (message : Option Message) → IsOfRecord (delivered_or peer message)
 delivered_plain peer None = tt
 delivered_plain peer (Some message) = tt
@@ -258,7 +259,7 @@ input_plain : (me nodes : ℕ) (key : Option (List ℕ)) (peer : ℕ) (reading :
 input_plain me nodes key peer (Ok reply) = reply_plain me nodes key peer reply
 input_plain me nodes key peer (Err fault) = tt
 
--- what came back on a dial
+-- the reply on a dial
 back_plain : (t : NodeTerms) (errand : Errand) (reading : Result Reply HttpFault) (probing : Option Probing) (now median started : ℕ) (s : Setting) (a : Running)
     → ArePlain (happens probing (comes_back t.me t.nodes t.key errand reading) now median started s a)
 back_plain t (errands.Message to fetch) reading probing now median started s a = plain_brought (input_of t.me t.nodes t.key to reading) s a (input_plain t.me t.nodes t.key to reading)
@@ -274,7 +275,7 @@ back_means t lent None coming came means probing now median started s a =
 back_means t lent (Some errand) coming came means probing now median started s a =
     subst (λ (x : Came). ArePlain (happens probing x now median started s a)) (sym (means.3)) (back_plain t errand (means.0) probing now median started s a)
 
--- what is done with what an event means
+-- the deeds for the meaning of an event
 happened : (t : NodeTerms) (lent : List ℕ) (errand : Option Errand) (event : LinkEvent) (came : Came) → Means t lent errand event came
     → (probing : Option Probing) (now median started : ℕ) (s : Setting) (a : Running) → ArePlain (happens probing came now median started s a)
 happened t lent errand (events.Request x) came means probing now median started s a =
@@ -300,8 +301,8 @@ taken_up None now s a = tt
 taken_up (Some (works.Content p)) now s a = tt
 taken_up (Some (works.Aside p)) now s a = plain_moves p now (prospect_of p (shelf a.node.groups) now)
 taken_up (Some (works.Waits w)) now s a =
-    plain_responds (pending w.connection w.request (is_some (client_input w.request.operation w.request.hint)) true) (client_input w.request.operation w.request.hint) now s a
-    (client_plain w.request.operation w.request.hint)
+    plain_responds (pending w.connection w.request (is_some (client_input w.request.asked.operation w.request.asked.hint)) true) (client_input w.request.asked.operation w.request.asked.hint) now s a
+    (client_plain w.request.asked.operation w.request.asked.hint)
 
 plain_due : (pace : Pace) (o : Option Work) (before seconds : ℕ) (s : Setting) (a : Running) → ArePlain (takes_due pace o before seconds s a)
 plain_due pace o before seconds s a =

@@ -1,4 +1,5 @@
--- What the text of a schedule costs. A price tells what a line of so many bytes costs: its bytes, or one, where lines are counted.
+-- The cost of the text of a schedule. A price gives the cost of a line of this number of bytes: its
+-- bytes, or one, if lines are counted.
 use Rattle.std.proofs.Common.{◌≡◌, ℕ, zero, suc, ◌+◌, ◌<◌, ◌≤◌, ◌^◌, Bool, true, false, ◌==◌, if◌then◌else◌, List, [], ◌∷◌, ◌++◌, length, refl, ap, arith, codes, decimal, append_assoc, replicate, length-append}
 use Rattle.std.specs.Prelude.{slice_set}
 use Rattle.std.specs.List.{AllByRecursion}

@@ -1,4 +1,4 @@
--- Runs one after another are read as what they tell.
+-- Runs one after another are read with their meaning.
 use Rattle.std.proofs.Common.{◌≡◌, ◌≢◌, ℕ, ◌+◌, ◌-◌, ◌^◌, ◌<◌, ◌≤◌, Bool, true, false, cond, not, ◌&&◌, ◌||◌, ◌==◌, if◌then◌else◌, nat_lt, Option, Some, Result, Ok, Err, List, [], ◌∷◌, ◌++◌, length, map, refl, ap, sym, subst, ◌∙◌, arith, codes, decimal, append_assoc, length-append, replicate}
 use Rattle.std.specs.Prelude.{slice_index, take}
 use Rattle.std.specs.List.{AllByRecursion, sum_by}
@@ -39,8 +39,8 @@ use Rattle.oc_schedule.specs.Lines.{header_words}
 use Rattle.oc_schedule.specs.Printing.{areas_text}
 use Rattle.oc_schedule.specs.Texts.{line_text, spaced}
 use Rattle.oc_wire.specs.Spelling.{spelling}
-use Rattle.oc_server.specs.Recorded.{RecordLine, Taken, Noted, inputs_in, record_text}
-use Rattle.oc_server.specs.Records.{network_text, record_head, up_line}
+use Rattle.oc_deeds.specs.Recorded.{RecordLine, Taken, Noted, inputs_in, record_text}
+use Rattle.oc_deeds.specs.Records.{network_text, record_head, up_line}
 use Rattle.oc_laws_records.specs.Lawful.{AreRuns, IsCut, IsLine, IsOneLine, IsRun, published_by_runs}
 use Rattle.oc_laws_records.specs.Read.{AreRead}
 use Rattle.oc_laws_records.specs.Runs.{told_by_run, Run, network_of, number_of, run_text, runs_text, told_by, told_input, told_start}
@@ -68,7 +68,7 @@ last_is bs c =
     let count : length (bs ++ c ∷ []) - 1 ≡ length bs = omega (arith, length-append bs (c ∷ [])) in
     ap (slice_index (bs ++ c ∷ [])) count ∙ at_end bs c
 
--- what a kill left ends with the byte with which the next record begins
+-- the rest of a line after a kill ends with the byte with which the next record begins
 cut_ended : (cut rest : List ℕ) → IsOneLine cut → lines (cut ++ 35 ∷ 10 ∷ rest) ≡ (cut ++ 35 ∷ []) ∷ lines rest
 cut_ended cut rest one =
     let line : List ℕ = cut ++ 35 ∷ [] in
@@ -101,7 +101,7 @@ regrouped a b c d e f r =
     ∙ (append_assoc ((a ++ b) ++ c) d (e ++ (f ++ r))
     ∙ (append_assoc (a ++ b) c (d ++ (e ++ (f ++ r))) ∙ append_assoc a b (c ++ (d ++ (e ++ (f ++ r))))))))
 
--- what comes in the text of a run after its first byte, up to what a kill left
+-- the text of a run after its first byte, up to the rest of a line after a kill
 abbrev behind_mark : Header → Run → List ℕ → List ℕ
 behind_mark h run rest =
     10 ∷ (line_text (header_words h.nodes h.chain h.chunk)
@@ -138,7 +138,7 @@ rest_read ended i h areas place told (c ∷ cs) one ends fits =
     ∙ (ap (λ e. read_line i (e || false) r (c ∷ cs) >>= λ next. read_lines (i + 1) e next []) ends
     ∙ ap (λ t. cond t (Err (Limit limits.Lines)) (Ok r) >>= λ next. read_lines (i + 1) false next []) no_more)
 
--- a line before what follows a run's lines is whole
+-- a line before the text after a run's lines is whole
 ends_follow : (ended : Bool) (cut : List ℕ) (runs : List Run) → EndsSo ended cut runs → Follows ended (cut ++ runs_text runs)
 ends_follow ended [] [] ends = ap (λ e. e || false) ends
 ends_follow ended (c ∷ cs) runs ends = follows_cons ended c (cs ++ runs_text runs)
@@ -146,7 +146,8 @@ ends_follow ended [] (run ∷ runs) ends = subst (Follows ended) (sym (run_parts
 
 -- Runs
 
--- what is read of the rest of a text is the network, and what these runs tell after what was told before
+-- the reading of the rest of a text is the network, and the statements of these runs after the
+-- earlier ones
 record IsTold (h : Header) (runs : List Run) (told : List ToldLine) (read : Result Records RecordsFault) : Type 0 where
   more : List ToldLine
   is : read ≡ Ok (record { header = h; lines = told ++ more })
@@ -193,7 +194,7 @@ module _ (ended : Bool) (h : Header) (is : IsHeader h) where
       let second = has_leads ended h told i (i + 1) me run.node.control.kept (shelf run.node.groups) rest small (fits_after ended i (i + 1) _ _ _ _ first fits) follows in
       leads_then ended i (i + 1) (i + 1 + 1) _ _ _ _ _ _ first second
 
-  -- what is read of a run from its start on, which the line i tells
+  -- the reading of a run from its start on, which is in line i
   record BodyRead (run : Run) (i : ℕ) (before : Reading) (told : List ToldLine) (text rest : List ℕ) : Type 0 where
     at : ℕ
     more : List ToldLine

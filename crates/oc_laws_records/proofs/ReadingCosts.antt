@@ -1,4 +1,4 @@
--- What was read of a text may cost no more than its lines.
+-- The records read from a text may cost no more than its lines.
 use Rattle.std.proofs.Common.{◌≡◌, ℕ, suc, ◌+◌, ◌-◌, ◌≤◌, Bool, true, false, cond, not, ◌&&◌, ◌||◌, ◌==◌, nat_lt, Option, Some, None, Result, Ok, Err, List, [], ◌∷◌, ◌++◌, ◌⊎◌, length, inl, inr, refl, sym, subst, arith, codes, slice_set}
 use Rattle.std.specs.List.{AllByRecursion, sum_by}
 use Rattle.std.specs.Str.{bytes_eq}
@@ -43,7 +43,7 @@ abbrev pub LineOfBytes : ToldLine → Type 0
 LineOfBytes l = IsOfBytes l.node l.told
 
 module _ (price : ℕ → ℕ) (nodes : ℕ) where
-  -- what a line that was told may cost
+  -- the greatest cost of a line that was read
   abbrev pub told_cost : ToldLine → ℕ
   told_cost l = entry_cost price l.node (entry_of nodes l.told)
 
@@ -347,7 +347,7 @@ module _ (price : ℕ → ℕ) (more : (a b : ℕ) → a ≤ b → price a ≤ p
 
   -- All lines
 
-  -- what was read costs no more, but for one crash
+  -- the records read cost no more, except for one crash
   pub record Costly (c : ℕ) (found : Records) : Type 0 where
     pub cost : opening_cost price nodes found.header + (told_costs price nodes found.lines - price crash_bytes) ≤ c
     pub bytes : AllByRecursion LineOfBytes found.lines

@@ -22,7 +22,7 @@ use Rattle.oc_laws_records.specs.Replayed.{AreReplayed, entries_there}
 use Rattle.oc_laws_records.specs.Runs.{Run, runs_text, told_by}
 use Rattle.oc_laws_records.proofs.There.{AreReadBack, picked_map, runs_entries, there_own}
 
--- the entries of x in such records are those of its runs, without those that are left out
+-- the entries of x in these records are those of its runs, without those that are left out
 entries_left : (digest : Node → List ℕ) (h : Header) (runs : List Run) (r : Records) (x : ℕ) → AreRuns h runs → AreReadBack h.nodes → r.header ≡ h → own_told x r.lines ≡ told_by x runs
     → entries_of x (map (line_of r.header.nodes) (records_there digest r).lines) ≡ entries_there digest h x runs
 entries_left digest h runs r x are back header own =

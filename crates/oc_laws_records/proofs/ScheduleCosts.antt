@@ -42,7 +42,8 @@ abbrev pub IsOwnLine : ℕ → Line → Type 0
 IsOwnLine nodes l = IsNode nodes l.node × IsOwn nodes l.node l.entry
 
 module _ (price : ℕ → ℕ) where
-  -- what an entry of x may cost: a start and a crash before it, a message by its number; one to another node is never taken
+  -- the greatest cost of an entry of x: a start and a crash before it, a message by its number; one
+  -- to another node is never taken
   abbrev pub entry_cost : ℕ → Entry → ℕ
   entry_cost x Starts = words_cost price (event_words (Up x)) + price crash_bytes
   entry_cost x (Takes (Delivered m)) = if m.to == x then price deliver_bytes else 0
@@ -69,7 +70,7 @@ crashed_net w p = by_test p.up where
 abbrev pub most_sends : ℕ
 most_sends = MAX_NODES + 3
 
--- whoever it comes to is one of so many nodes
+-- the receiver is one of this number of nodes
 abbrev ComesTo : ℕ → Option Arrival → Type 0
 ComesTo nodes None = Unit {0}
 ComesTo nodes (Some a) = a.at ≤ nodes

@@ -17,7 +17,7 @@ use Rattle.oc_model.specs.declared.message.Body.{Body}
 use Rattle.oc_model.specs.declared.message.Body.TheVariants.{Look, LookIs, Ask, Yes, No, CheckIn, CheckAck, Rejoin, Fetch, Chunk}
 use Rattle.oc_model.specs.declared.message.Message.{Message}
 use Rattle.oc_model.specs.Lawful.{IsBody, IsMessage}
-use Rattle.oc_server.specs.Within.{HasBytes}
+use Rattle.oc_deeds.specs.Within.{HasBytes}
 use Rattle.oc_wire.specs.Spelling.{certs_bytes, child_bytes, children_bytes, chunk_code, code_of, fields_bytes, is_large, length_bytes, line_bytes, name_bytes, parent_bytes, rank_or_none_bytes, spelling, text_bytes, why_bytes}
 use Rattle.oc_laws_records.proofs.Clear.{name_short, name_small}
 

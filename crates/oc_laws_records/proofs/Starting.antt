@@ -34,7 +34,7 @@ use Rattle.oc_schedule.proofs.ActsBack.{node_back, node_word}
 use Rattle.oc_schedule.proofs.FieldsBack.{decimal_word}
 use Rattle.oc_schedule.proofs.LineBack.{AreWords, is_word, line_back, words_back}
 use Rattle.oc_schedule.specs.Texts.{line_text, spaced}
-use Rattle.oc_server.specs.Records.{up_line}
+use Rattle.oc_deeds.specs.Records.{up_line}
 use Rattle.oc_laws_records.proofs.Clear.{decimal_clear, letters_clear}
 use Rattle.oc_laws_records.proofs.Opening.{header_behind, nodes_behind, reading}
 use Rattle.oc_laws_records.proofs.Step.{Fits, Follows, Leads, few_lines, leads_as, one_line, whole_line, words_lead}

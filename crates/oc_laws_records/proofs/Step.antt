@@ -84,7 +84,7 @@ cut_line i r line few cut =
     ap (λ b. cond b (Err (Limit limits.Lines)) (cond (is_cut_off line) (Ok r) (read_words i r line (words line)))) no_more
     ∙ ap (λ b. cond b (Ok r) (read_words i r line (words line))) cut
 
--- what a line says, where it passes no limit
+-- the reading of a line, if no limit is exceeded
 pub said_line : (i : ℕ) (r s : Reading) (line w : List ℕ) (ws : List (List ℕ)) → words line ≡ w ∷ ws → is_comment w ≡ false → after_words r.place r i w ws ≡ Ok s → published_in s.lines ≤ MAX_RECORD_PUBLISHED
     → read_words i r line (words line) ≡ Ok s
 said_line i r s line w ws are plain says within =

@@ -1,4 +1,4 @@
--- What a kill leaves of a run is the text of a run.
+-- The part of a run that a kill leaves is the text of a run.
 use Rattle.std.proofs.Common.{◌≡◌, ◌≢◌, ℕ, ◌≤◌, ◌==◌, nat_lt, true, false, List, [], ◌∷◌, ◌++◌, ◌⊎◌, inl, inr, length, refl, ap, sym, subst, ◌∙◌, arith, codes, decimal, append_assoc}
 use Rattle.std.specs.Prelude.{slice_index}
 use Rattle.std.specs.List.{AllByRecursion, list_all}
@@ -19,7 +19,7 @@ use Rattle.oc_schedule.proofs.FieldsBack.{bytes_word}
 use Rattle.oc_schedule.proofs.LineBack.{AreWords}
 use Rattle.oc_schedule.specs.Acts.{PublishesBytes, act_words}
 use Rattle.oc_schedule.specs.Texts.{fields_text, spaced}
-use Rattle.oc_server.specs.Recorded.{RecordLine, Taken, Noted, record_line_text, record_text}
+use Rattle.oc_deeds.specs.Recorded.{RecordLine, Taken, Noted, record_line_text, record_text}
 use Rattle.oc_wire.specs.Spelling.{spelling}
 use Rattle.oc_laws_records.specs.Lawful.{IsCut, IsLine, IsOneLine, IsRun, IsTaken}
 use Rattle.oc_laws_records.specs.Runs.{Run, number_of, run_text}
@@ -59,7 +59,7 @@ spaced_one : (ws : List (List ℕ)) → AreWords ws → IsOneLine (spaced ws)
 spaced_one [] h = tt
 spaced_one (w ∷ ws) h = one_append w _ (word_one w (and_parts (nat_lt 0 (length w)) _ h.0).1) (fields_one ws h.1)
 
--- a line of a record: what it has before its end begins no comment
+-- a line of a record: its part before the line end begins no comment
 record IsBody (body : List ℕ) : Type 0 where
   one : IsOneLine body
   other : slice_index body 0 ≢ 35
@@ -114,7 +114,7 @@ module _ (nodes me : ℕ) (few : nodes ≤ MAX_NODES) (node : IsNode nodes me) w
         | inr second ↦ inr (second.0, second.1, ap (λ (z : ℕ). z ∷ a) head ∙ ap (λ (t : List ℕ). y ∷ t) second.2, second.3)
       ]
 
-  -- a front of a line without its last byte is one of what the line has before its end
+  -- a prefix of a line without its last byte is a prefix of the part before the line end
   front_in : (body left : List ℕ) (x : ℕ) (more : List ℕ) → body ++ 10 ∷ [] ≡ left ++ x ∷ more → (lost : List ℕ) × (body ≡ left ++ lost)
   front_in body [] x more same = (body, refl)
   front_in [] (b ∷ []) x more same = absurd (cc same)

@@ -1,4 +1,4 @@
--- What is left of the record of what happened at a node, as a merge and as the laws of missed inputs say it.
+-- The rest of a node's record, as a merge and the laws of missed inputs define it.
 use Rattle.std.proofs.Common.{◌≡◌, ℕ, Bool, true, false, not, ◌&&◌, ◌==◌, if◌then◌else◌, None, List, [], ◌∷◌, ◌++◌, map, refl, ap, sym, ◌∙◌}
 use Rattle.std.specs.List.{AllByRecursion}
 use Rattle.std.specs.Str.{bytes_eq}
@@ -90,7 +90,7 @@ module _ (digest : Node → List ℕ) (nodes x : ℕ) (back : AreReadBack nodes)
       whole ∙ (ap (λ b. picked (if b then message_flags n ms m else true ∷ map (λ t. true) (map told_of ms)) (Takes (inputs.Delivered m) ∷ map (entry_of nodes) (map told_of ms))) (eq-eqb m.to x lawful.1)
       ∙ input_left n (inputs.Delivered m) ms (story_left n ms all.1) (story_left (step n (inputs.Delivered m)).node ms all.1))
 
--- the entries of a node of which it is known what happened to it
+-- the entries of a node with a known history
 pub story_entries : (digest : Node → List ℕ) (h : Header) (x : ℕ) (runs : List Run) (deeds : List missed.Deed) → AreRuns h runs → AreReadBack h.nodes → IsStoryOf digest h x runs deeds
     → entries_there digest h x runs ≡ without_missed digest (new_node h x) (missed.record_of digest (new_node h x) (deeds ++ missed.Started ∷ []))
 story_entries digest h x runs deeds are back of =

@@ -1,4 +1,4 @@
--- What a node writes as its record is the text of a lawful run.
+-- The record that a node writes is the text of a lawful run.
 use Rattle.std.proofs.Common.{◌≡◌, ◌∙◌, ℕ, Bool, true, false, IfSome, Option, Some, None, List, [], ◌∷◌, ◌++◌, refl, sym, ap, subst, arith, codes, append-nil, length}
 use Rattle.std.specs.List.{AllByRecursion}
 use Rattle.oc_base.proofs.Each.{all_append}
@@ -14,14 +14,14 @@ use Rattle.oc_link.specs.declared.counts.LinkCounts.{LinkCounts}
 use Rattle.oc_model.specs.declared.input.Input.{Input}
 use Rattle.oc_model.specs.declared.input.Input.TheVariants as inputs
 use Rattle.oc_model.specs.Node.{Header, Node}
-use Rattle.oc_server.specs.Brief.{told_first}
-use Rattle.oc_server.specs.Deeds.{Accepts, Deed, Drops, Notes, Refuses, Says, Setting, Takes, inputs_of, lines, with_input}
-use Rattle.oc_server.specs.Recorded.{IsNext, IsRecorded, IsRecordOf, RecordLine, inputs_in, line_of_next, record_lines, record_text}
-use Rattle.oc_server.specs.Records.{record_head}
-use Rattle.oc_server.specs.Scenes.{Under}
-use Rattle.oc_server.specs.Within.{IsWithin}
+use Rattle.oc_deeds.specs.Brief.{told_first}
+use Rattle.oc_deeds.specs.Deeds.{Accepts, Deed, Drops, Notes, Refuses, Says, Setting, Takes, inputs_of, lines, with_input}
+use Rattle.oc_deeds.specs.Recorded.{IsNext, IsRecorded, IsRecordOf, RecordLine, inputs_in, line_of_next, record_lines, record_text}
+use Rattle.oc_deeds.specs.Records.{record_head}
+use Rattle.oc_deeds.specs.Under.{Under}
+use Rattle.oc_deeds.specs.Within.{IsWithin}
 use Rattle.oc_server.specs.declared.ends.TurnEnd.{TurnEnd}
-use Rattle.oc_server.specs.declared.log.Log.TheVariants.{Record}
+use Rattle.oc_deeds.specs.declared.log.Log.TheVariants.{Record}
 use Rattle.oc_service.specs.OnSite.{DidOn, StoppedOn, header_of_settings, heard_before, machine_on, setting_of, terms_in}
 use Rattle.oc_service.specs.WhatNodeDoes.{Machine, begun, own_measures, turns_deeds}
 use Rattle.oc_service.specs.WhatNodeHears.{all_calls_behind}
@@ -63,7 +63,7 @@ module _ (nodes me : ℕ) where
   lines_of (Takes i ∷ ds) within plain = (taken_within i within.0 plain.0, lines_of ds within.1 plain.1)
   lines_of (Accepts i ∷ ds) within plain = (taken_within i within.0 plain.0, lines_of ds within.1 plain.1)
   lines_of (Notes why ∷ ds) within plain = ((why, refl, plain.0), lines_of ds within plain.1)
-  lines_of (Refuses c count why ∷ ds) within plain = ((why_text why, refl, why_one why), lines_of ds within plain.1)
+  lines_of (Refuses c count refusal ∷ ds) within plain = ((why_text refusal.why, refl, why_one refusal.why), lines_of ds within plain.1)
   lines_of (Drops c told ∷ ds) within plain = dropped told ds (lines_of ds within plain.1)
   lines_of (d ∷ ds) within plain = lines_of ds within plain.1
 

@@ -35,7 +35,7 @@ without_here l ls x same = ap (λ b. if b then ls else l ∷ without x ls) same
 without_later : (l : Line) (ls : List Line) (x : ℕ) → (l.node == x) ≡ false → without x (l ∷ ls) ≡ l ∷ without x ls
 without_later l ls x other = ap (λ b. if b then ls else l ∷ without x ls) other
 
--- an entry that is first of x, and what is left
+-- an entry that is first of x, and the rest
 record Left (f : Line → ℕ) (x : ℕ) (e : Entry) (rest : List Entry) (ls : List Line) : Type 0 where
   sum : sum_by f ls ≡ f (line x e) + sum_by f (without x ls)
   own : entries_of x (without x ls) ≡ rest
@@ -62,7 +62,7 @@ left_of f x e rest (l ∷ ls) is = elim (cases_Bool (l.node == x)) [
       }
 ]
 
--- what is left of another node
+-- the rest for another node
 left_other : (x y : ℕ) (ls : List Line) → (x ≡ y → ⊥) → entries_of y (without x ls) ≡ entries_of y ls
 left_other x y [] apart = refl
 left_other x y (l ∷ ls) apart = elim (cases_Bool (l.node == x)) [
@@ -77,7 +77,7 @@ left_other x y (l ∷ ls) apart = elim (cases_Bool (l.node == x)) [
   by_test true e = ap (λ es. l.entry ∷ es) e
   by_test false e = e
 
--- lines that have of each node a beginning of what these have add up to no more
+-- lines that have for each node a beginning of these lines have at most the same sum
 pub taken_least : (f : Line → ℕ) (ls all : List Line) → ((x : ℕ) → IsBeginning (entries_of x ls) (entries_of x all)) → sum_by f ls ≤ sum_by f all
 taken_least f [] all begins = omega arith
 taken_least f (l ∷ ls) all begins =
@@ -96,7 +96,7 @@ taken_least f (l ∷ ls) all begins =
             let other : (l.node == x) ≡ false = ne_eqb l.node x apart in
             ((begins x).0, left_other l.node x all apart ∙ ((begins x).1 ∙ ap (λ (es : List Entry). es ++ (begins x).0) (entries_later l ls x other)))
 
--- what holds of each holds of the one at a place
+-- a property of each is one of the item at a place
 pub all_at : {A : Type 0} (P : A → Type 0) (xs : List A) (i : ℕ) (x : A) → AllByRecursion P xs → slice_get xs i ≡ Some x → P x
 all_at P [] i x all at = absurd (cc at)
 all_at P (y ∷ ys) zero x all at = let same : y ≡ x = cc at in subst P same all.0

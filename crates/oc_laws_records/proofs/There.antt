@@ -15,7 +15,7 @@ use Rattle.oc_model.specs.declared.message.Message.{Message}
 use Rattle.oc_model.specs.Lawful.{IsMessage}
 use Rattle.oc_model.specs.Node.{Node, new_node, restarted}
 use Rattle.oc_model.specs.Step.{step}
-use Rattle.oc_server.specs.Recorded.{RecordLine, Taken, Noted, inputs_in}
+use Rattle.oc_deeds.specs.Recorded.{RecordLine, Taken, Noted, inputs_in}
 use Rattle.oc_wire.specs.MessageReading.{decoded}
 use Rattle.oc_wire.specs.Spelling.{spelling}
 use Rattle.oc_model.specs.Node.{Header}
@@ -120,7 +120,7 @@ module _ (digest : Node → List ℕ) (r : Records) (x : ℕ) where
             ∙ (later ∙ (ap (λ (n : ℕ). picked (drop n flags) (own ls)) same_count ∙ ap (picked (drop (length (own front)) flags)) (sym (own_other l ls other))))
       ]
 
-  -- what the lines of x tell that are there
+  -- the statements of those lines of x that are kept
   pub there_own : own (records_there digest r).lines ≡ picked flags (own r.lines)
   there_own = picked_own [] r.lines refl
 
@@ -159,7 +159,7 @@ map_append : {A B : Type 0} (f : A → B) (xs ys : List A) → map f (xs ++ ys) 
 map_append f [] ys = refl
 map_append f (x ∷ xs) ys = ap (λ zs. f x ∷ zs) (map_append f xs ys)
 
--- the entries of the runs of x are what they tell
+-- the entries of the runs of x are their statements
 pub runs_entries : (h : Header) (x : ℕ) (runs : List Run) → AreReadBack h.nodes → AllByRecursion (IsRun h) runs → map (entry_of h.nodes) (told_by x runs) ≡ entries_by x runs
 runs_entries h x [] back all = refl
 runs_entries h x (run ∷ runs) back all = by_test (number_of run == x) (runs_entries h x runs back all.1) where

@@ -53,12 +53,12 @@ is_last [] = true
 is_last (line ∷ rest) = false
 
 module _ (price : ℕ → ℕ) where
-  -- what a line costs: nothing where it is not whole
+  -- the cost of a line: none if it is not whole
   abbrev pub cost : Bool → List ℕ → ℕ
   cost true line = price (suc (length line))
   cost false line = 0
 
-  -- what these lines cost, of which the last may not be whole
+  -- the cost of these lines, of which the last may not be whole
   abbrev pub spent : Bool → List (List ℕ) → ℕ
   spent ended [] = 0
   spent ended (line ∷ rest) = cost (ended || not (is_last rest)) line + spent ended rest

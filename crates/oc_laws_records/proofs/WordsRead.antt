@@ -1,4 +1,4 @@
--- What words say, printed, is as long as they are.
+-- The meaning of words, printed, is as long as they are.
 use Rattle.std.proofs.Common.{◌≡◌, ℕ, ◌+◌, ◌*◌, ◌<◌, ◌≤◌, ◌^◌, Bool, true, false, cond, ◌==◌, nat_lt, min, Option, Some, None, Result, Ok, Err, List, [], ◌∷◌, length, take, drop, inl, inr, refl, ap, sym, subst, ◌∙◌, arith, codes, decimal}
 use Rattle.std.specs.Int.{from_be_bytes, w32}
 use Rattle.std.specs.Str.{bytes_eq}
@@ -23,7 +23,7 @@ use Rattle.oc_model.specs.declared.message.Message.{Message}
 use Rattle.oc_model.specs.Node.{Header}
 use Rattle.oc_model.specs.Numbers.{number_end}
 use Rattle.oc_schedule.proofs.Steps.{behind_guard, steps, within_guard}
-use Rattle.oc_schedule.specs.declared.lines.Sizes.{Sizes}
+use Rattle.oc_model.specs.declared.header.Sizes.{Sizes}
 use Rattle.oc_schedule.specs.Acts.{PublishesBytes, act_in, act_words, check_in, client_in, deliver_in, delivered_in, fail_in, measure_in, most_byte, move_in, pair_in, publish_in, pull_in, seal_in, tick_in, ticked_in}
 use Rattle.oc_schedule.specs.Fields.{bytes_in, bytes_text, group_in}
 use Rattle.oc_schedule.specs.Lines.{area_in, area_words, chunk_in, chunk_words, header_in, header_words, named_in, node_alone_in, opening_in, sizes_in, with_sizes}
@@ -112,7 +112,7 @@ bytes_length field bytes h = elim (cases_Bool (bytes_eq field (codes "-"))) [
 
 -- Acts
 
--- the words of the act are this long, and what it publishes is bytes; it is no message
+-- the words of the act are this long, and its content is bytes; the act is no message
 abbrev pub IsPrintedIn : ℕ → Act → Type 0
 IsPrintedIn n (At x (Delivered m)) = ⊥
 IsPrintedIn n act = (total (act_words act) ≡ n) × PublishesBytes act

@@ -4,10 +4,10 @@ use Rattle.std.proofs.lemmas.List.{append-nil}
 use Rattle.oc_base.specs.Groups.{shelf}
 use Rattle.oc_model.specs.declared.input.Input.{Input}
 use Rattle.oc_model.specs.Node.{Node}
-use Rattle.oc_server.specs.Deeds.{Deed, Setting, inputs_of, with_input}
-use Rattle.oc_server.specs.Recorded.{IsRecordOf, RecordLine, Taken, Noted, inputs_in, line_of_next, record_lines, record_text}
-use Rattle.oc_server.specs.Records.{record_head}
-use Rattle.oc_server.specs.declared.log.Log.TheVariants.{Record}
+use Rattle.oc_deeds.specs.Deeds.{Deed, Setting, inputs_of, with_input}
+use Rattle.oc_deeds.specs.Recorded.{IsRecordOf, RecordLine, Taken, Noted, inputs_in, line_of_next, record_lines, record_text}
+use Rattle.oc_deeds.specs.Records.{record_head}
+use Rattle.oc_deeds.specs.declared.log.Log.TheVariants.{Record}
 use Rattle.oc_laws_records.specs.Written.{IsRunOf}
 
 pub inputs_append : (ls more : List RecordLine) → inputs_in (ls ++ more) ≡ inputs_in ls ++ inputs_in more

@@ -8,8 +8,8 @@ use Rattle.oc_model.specs.declared.message.Body.TheVariants.{Look}
 use Rattle.oc_model.specs.declared.message.Message.{Message}
 use Rattle.oc_model.specs.Node.{Header, Node, new_node}
 use Rattle.oc_replay.specs.Digests.{digest_text}
-use Rattle.oc_server.specs.Deeds.{note_line}
-use Rattle.oc_server.specs.Recorded.{Taken, Noted, record_text}
+use Rattle.oc_deeds.specs.Deeds.{note_line}
+use Rattle.oc_deeds.specs.Recorded.{Taken, Noted, record_text}
 use Rattle.oc_laws_records.specs.Replayed.{entries_there}
 use Rattle.oc_laws_records.specs.Runs.{Run, told_by}
 
@@ -34,7 +34,7 @@ second = record { node = new_node two 2; lines = Taken (Tick 7) ∷ []; cut = []
 abbrev both : List Run
 both = first ∷ second ∷ []
 
--- the lengths of all groups stand for the files
+-- the lengths of all groups serve as the digest of the files
 abbrev lengths : Node → List ℕ
 lengths n = map (λ l. l.held) (shelf n.groups)
 

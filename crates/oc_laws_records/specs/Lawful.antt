@@ -14,8 +14,8 @@ use Rattle.oc_model.specs.declared.input.Input.TheVariants.{Delivered}
 use Rattle.oc_model.specs.Lawful.{IsGiven, IsHeader, IsInput}
 use Rattle.oc_model.specs.Node.{Header}
 use Rattle.oc_schedule.specs.Acts.{PublishesBytes, input_word}
-use Rattle.oc_server.specs.Deeds.{note_line}
-use Rattle.oc_server.specs.Recorded.{RecordLine, Taken, Noted}
+use Rattle.oc_deeds.specs.Deeds.{note_line}
+use Rattle.oc_deeds.specs.Recorded.{RecordLine, Taken, Noted}
 use Rattle.oc_wire.specs.Spelling.{spelling}
 use Rattle.oc_laws_records.specs.Runs.{Run, network_of, number_of, runs_text, told_by_run}
 
@@ -28,7 +28,7 @@ abbrev pub IsTaken : ℕ → ℕ → Input → Type 0
 IsTaken nodes me (Delivered message) = IsInput nodes me (Delivered message) × IsBytes (spelling message)
 IsTaken nodes me i = (is_recorded (input_word i) ≡ true) × IsGiven nodes me i × PublishesBytes (At me i)
 
--- a note, as it is written
+-- a note, as text
 abbrev pub IsNote : List ℕ → Type 0
 IsNote text = (why : List ℕ) × (text ≡ note_line why) × IsOneLine why
 
@@ -36,7 +36,7 @@ abbrev pub IsLine : ℕ → ℕ → RecordLine → Type 0
 IsLine nodes me (Taken i) = IsTaken nodes me i
 IsLine nodes me (Noted text) = IsNote text
 
--- what a kill leaves of a line: no end of it, and no comment; perhaps nothing
+-- the rest of a line after a kill: no line end, and no comment; perhaps nothing
 abbrev pub IsCut : List ℕ → Type 0
 IsCut cut = IsOneLine cut × (slice_index cut 0 ≢ byte "#")
 

@@ -1,4 +1,4 @@
--- What a merge reads of the records of running nodes, and what a replay of the merge leads to.
+-- The reading of running nodes' records by a merge, and the result of a replay of the merge.
 use Rattle.std.specs.Prelude.{◌≡◌, ℕ, Ok, List}
 use Rattle.oc_merge.specs.Reading.{records_of}
 use Rattle.oc_merge.specs.Recorded.{own_told}
@@ -6,7 +6,8 @@ use Rattle.oc_merge.specs.Told.{Records}
 use Rattle.oc_model.specs.Node.{Header}
 use Rattle.oc_laws_records.specs.Runs.{Run, runs_text, told_by}
 
--- the records of this network that the texts of the runs are: of each node they tell what its runs tell, in their order
+-- the texts of the runs are records of this network: for each node they have the statements of its
+-- runs, in order
 pub record AreRead (h : Header) (runs : List Run) : Type 0 where
   pub records : Records
   pub read : records_of (runs_text runs) ≡ Ok records

@@ -1,4 +1,4 @@
--- Runs of nodes: what each of them writes as its record, and what the lines of a record tell.
+-- Runs of nodes: the record that each of them writes, and the meaning of its lines.
 use Rattle.std.specs.Prelude.{ℕ, ◌==◌, if◌then◌else◌, Some, List, [], ◌∷◌, ◌++◌, map}
 use Rattle.oc_base.specs.Groups.{shelf}
 use Rattle.oc_keep.specs.KeptView.{header_of}
@@ -8,11 +8,12 @@ use Rattle.oc_model.specs.declared.input.Input.{Input}
 use Rattle.oc_model.specs.declared.input.Input.TheVariants.{Delivered}
 use Rattle.oc_model.specs.Node.{Header, Node}
 use Rattle.oc_replay.specs.Digests.{digest_text}
-use Rattle.oc_server.specs.Recorded.{RecordLine, inputs_in, record_text}
-use Rattle.oc_server.specs.Records.{record_head}
+use Rattle.oc_deeds.specs.Recorded.{RecordLine, inputs_in, record_text}
+use Rattle.oc_deeds.specs.Records.{record_head}
 use Rattle.oc_wire.specs.Spelling.{spelling}
 
--- A run of a node: the node as its files had it when it began, the lines of its inputs and its notes, and what a kill left of a further line.
+-- A run of a node: the node in its files at the beginning, the lines of its inputs and its notes,
+-- and the rest of a line after a kill.
 pub record Run : Type 0 where
   pub node : Node
   pub lines : List RecordLine
@@ -21,15 +22,15 @@ pub record Run : Type 0 where
 abbrev pub number_of : Run → ℕ
 number_of run = run.node.control.me
 
--- among which nodes it is
+-- the header of the run's network
 abbrev pub network_of : Run → Header
 network_of run = header_of run.node.control
 
--- what it writes
+-- the text of a run
 abbrev pub run_text : Run → List ℕ
 run_text run = record_head run.node.control (shelf run.node.groups) ++ record_text (number_of run) run.lines ++ run.cut
 
--- what some runs write, one after another, as `cat` gives it
+-- the texts of some runs, one after another, as `cat` gives them
 abbrev pub runs_text : List Run → List ℕ
 runs_text [] = []
 runs_text (run ∷ runs) = run_text run ++ runs_text runs

@@ -1,4 +1,4 @@
--- Runs that tell what happened at a node.
+-- Runs that tell the history of a node.
 use Rattle.std.specs.Prelude.{◌≡◌, ℕ, Some, List, [], ◌∷◌, ◌++◌, map}
 use Rattle.std.specs.List.{AllByRecursion}
 use Rattle.oc_laws_world.specs.Missed.{Deed, Started, Finds, IsStory, Tells, record_of}
@@ -18,7 +18,8 @@ abbrev pub IsToldOf : ℕ → ℕ → missed.Told → Type 0
 IsToldOf nodes x (Finds digits) = Unit {0}
 IsToldOf nodes x (Tells i) = IsTaken nodes x i
 
--- what happened at x up to its last start: its runs tell the record of that, and each start tells the digest of the node as it was
+-- the history of x up to its last start: its runs tell the record of it, and each start tells the
+-- digest of the node in its state then
 pub record IsStoryOf (digest : Node → List ℕ) (h : Header) (x : ℕ) (runs : List Run) (deeds : List Deed) : Type 0 where
   pub story : IsStory digest (new_node h x) deeds
   pub inputs : AllByRecursion (IsToldOf h.nodes x) (record_of digest (new_node h x) (deeds ++ Started ∷ []))

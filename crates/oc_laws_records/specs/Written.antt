@@ -1,16 +1,16 @@
--- What a running node writes as its record is the text of a run.
+-- The record that a running node writes is the text of a run.
 use Rattle.std.specs.Prelude.{◌≡◌, ℕ, IfSome, Option, List, [], ◌++◌}
 use Rattle.oc_base.specs.Groups.{shelf}
 use Rattle.oc_model.specs.declared.input.Input.{Input}
 use Rattle.oc_model.specs.Node.{Header, Node}
-use Rattle.oc_server.specs.Deeds.{Deed, Setting, inputs_of, lines, with_input}
-use Rattle.oc_server.specs.Recorded.{IsNext, RecordLine, inputs_in, line_of_next}
-use Rattle.oc_server.specs.Records.{record_head}
+use Rattle.oc_deeds.specs.Deeds.{Deed, Setting, inputs_of, lines, with_input}
+use Rattle.oc_deeds.specs.Recorded.{IsNext, RecordLine, inputs_in, line_of_next}
+use Rattle.oc_deeds.specs.Records.{record_head}
 use Rattle.oc_laws_records.specs.Lawful.{IsRun, IsTaken}
 use Rattle.oc_laws_records.specs.Runs.{Run, run_text}
 
--- A run of this node, whose text is what these deeds wrote: its inputs are those that they took, and perhaps one more, with which the deeds
--- after them begin.
+-- A run of this node, whose text was written by these deeds: its inputs are those that the deeds
+-- took, and perhaps one more, with which the next deeds begin.
 pub record IsRunOf (s : Setting) (n : Node) (deeds behind : List Deed) : Type 0 where
   pub run : Run
   pub next : Option Input
@@ -25,7 +25,7 @@ pub record IsLawfulRunOf (h : Header) (s : Setting) (n : Node) (deeds : List Dee
   pub lawful : IsRun h is.run
   pub all : inputs_in is.run.lines ≡ inputs_of deeds
 
--- with the line of the input that is taken next, where it was written
+-- the run with the line of the next input, if that was written
 abbrev pub with_next : Run → Option Input → Run
 with_next run next = record run { lines = run.lines ++ line_of_next next }
 
@@ -41,11 +41,12 @@ pub record IsCutRunOf (h : Header) (s : Setting) (n : Node) (deeds behind : List
   pub follows : IsNext next behind
   pub whole : IfSome next (IsTaken h.nodes s.me) → IsRun h (with_next run next)
 
--- how the record of a run begins
+-- the beginning of the record of a run
 abbrev pub head_of : Run → List ℕ
 head_of run = record_head run.node.control (shelf run.node.groups)
 
--- What a kill leaves of a run, whose text is then this: the same node, its lines up to one of them, and perhaps the front of that.
+-- The part of a run that a kill leaves, with this text: the same node, its lines up to some line,
+-- and perhaps a prefix of that line.
 pub record IsStopped (h : Header) (run : Run) (left : List ℕ) : Type 0 where
   pub stopped : Run
   pub lawful : IsRun h stopped

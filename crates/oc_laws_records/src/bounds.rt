@@ -9,7 +9,7 @@ ghost use Rattle.oc_schedule.specs.Printing.{script_text};
 ghost use Rattle.oc_schedule.specs.Script.{Script};
 ghost use Rattle.oc_laws_records.specs.Bounds.{IsNoLonger};
 
-/// The schedule of a merge, as it is printed, has no more bytes and no more lines than the records had.
+/// The schedule of a merge, as text, has no more bytes and no more lines than the records.
 pub fn merges_are_no_longer()
     ensures { (digest : Node → List ℕ) (bytes : List ℕ) (r : Records) (s : Script) (end : MergeEnd) → records_of bytes ≡ Ok r
         → IsMergeOf digest (records_there digest r) s end → IsNoLonger (script_text s) bytes }

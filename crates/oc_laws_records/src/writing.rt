@@ -5,11 +5,11 @@ ghost use Rattle.oc_keep.specs.Files.{AreHonest, Disks};
 ghost use Rattle.oc_keep.specs.Trials.{first_node};
 ghost use Rattle.oc_link.specs.declared.call.Call.{Call};
 ghost use Rattle.oc_routes.specs.Verdicts.{NodeTerms};
-ghost use Rattle.oc_server.specs.Deeds.{Deed, Setting};
-ghost use Rattle.oc_server.specs.Scenes.{Under};
-ghost use Rattle.oc_server.specs.Turns.{Observation};
+ghost use Rattle.oc_deeds.specs.Deeds.{Deed, Setting};
+ghost use Rattle.oc_deeds.specs.Under.{Under};
+ghost use Rattle.oc_deeds.specs.Turns.{Observation};
 ghost use Rattle.oc_server.specs.declared.ends.TurnEnd.{TurnEnd};
-ghost use Rattle.oc_server.specs.declared.log.Log.TheVariants.{Record as RecordLog};
+ghost use Rattle.oc_deeds.specs.declared.log.Log.TheVariants.{Record as RecordLog};
 ghost use Rattle.oc_service.specs.OnSite.{DidOn, StoppedOn, header_of_settings, setting_of};
 ghost use Rattle.oc_service.specs.WhatNodeDoes.{Machine, begun, node_deeds};
 ghost use Rattle.oc_service.specs.WhatNodeHears.{AreHeard};
@@ -21,16 +21,17 @@ ghost use Rattle.oc_laws_records.specs.Written.{IsCutRunOf, IsLawfulRunOf};
 use oc_io::{Disk, Sink};
 use oc_link::Link;
 
-/// Whatever its link tells, a running node takes inputs of the kinds that records have, ticks no later than they
-/// may have, and notes no more than a line.
+/// A running node, whatever its link reports, takes inputs of the kinds that records can have,
+/// ticks no later than records can, and notes no more than a line.
 pub fn nodes_take_inputs_of_records()
     ensures { (s : Setting) (terms : NodeTerms) (calls : Option (List Call)) (ms : List Measure) (ts : List Observation) (m : Machine)
         → AreHeard s terms calls ts (begun s ms m) → ArePlain (node_deeds s ms ts m) }
 {}
 
-/// A node that keeps a record on honest disks and made all its turns has written the text of a lawful run of its
-/// network: of the node that its files held, with the inputs that it took. Where it ended before, that is so of the
-/// deeds that it did, with perhaps the line of one more input at the end, which was to be taken next.
+/// A node that keeps a record on honest disks and made all its turns has written the text of a
+/// lawful run of its network: of the node in its files, with the inputs that it took. If it ended
+/// early, the same is true of the deeds that it did, perhaps with the line of one more input at the
+/// end, which was to be taken next.
 pub fn nodes_write_lawful_runs<D: Disk, L: Link, K: Sink>()
     ensures whole { (c : Settings) (task : Task) (deeds : List Deed) (old new : Disks D) (link after : L) (sink written : K)
         → IsNode (length c.addresses) task.me → task.log ≡ RecordLog → AreHonest D.view old

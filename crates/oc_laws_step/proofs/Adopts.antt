@@ -1,4 +1,4 @@
--- The rule Answer an ask writes an epoch and an entry at most.
+-- Rule 7, answer an ask, writes at most an epoch and an entry.
 use Rattle.std.proofs.Common.{ℕ, not, ◌&&◌, ◌==◌, if◌then◌else◌, Option, Some, None, refl, length-set}
 use Rattle.oc_base.specs.declared.rank.Rank.{Rank}
 use Rattle.oc_base.specs.declared.refusal.Refusal.{Refusal}

@@ -40,7 +40,7 @@ later_fact k f (inl more) = inl (omega (arith, dead_most f.dead))
 later_fact k f (inr (inl death)) = inl (let d : dead_as k.dead ≡ 1 = ap dead_as death.1 in let e : dead_as f.dead ≡ 0 = ap dead_as death.2 in omega (arith, death.0))
 later_fact k f (inr (inr same)) = inr (let d : dead_as k.dead ≡ dead_as f.dead = ap dead_as same.1 in omega (arith, same.0), same.2)
 
--- and back
+-- the reverse
 pub fact_later : (k f : Cert) → Later k f → Outranks k f
 fact_later k f h = by_seq (cases_order k.seq f.seq) h where
   by_seq : (k.seq ≡ f.seq) ⊎ ((k.seq < f.seq) ⊎ (f.seq < k.seq)) → Later k f → Outranks k f
@@ -66,7 +66,7 @@ died true true h = absurd (true≢false (sym h))
 died true false h = (refl, refl)
 died false e h = absurd (true≢false (sym h))
 
--- what the test says is the fact
+-- the test passes only for the fact
 pub outranks_fact : (k f : Cert) → outranks k f ≡ true → Outranks k f
 outranks_fact k f h = by_case (or_cases (nat_lt f.seq k.seq) (k.seq == f.seq && rest) h) where
   rest : Bool
@@ -84,7 +84,7 @@ outranks_fact k f h = by_case (or_cases (nat_lt f.seq k.seq) (k.seq == f.seq && 
       let parts = and_parts (k.seq == f.seq) rest both in
       by_state (eqb-true k.seq f.seq parts.0) (or_cases (k.dead && not f.dead) (same_state k.dead f.dead && nat_lt f.number k.number) parts.1)
 
--- and back
+-- the reverse
 pub fact_outranks : (k f : Cert) → Outranks k f → outranks k f ≡ true
 fact_outranks k f (inl more) = or_left (nat_lt f.seq k.seq) _ (lt-ltb f.seq k.seq more)
 fact_outranks k f (inr (inl death)) =
@@ -100,7 +100,7 @@ outranks_irreflexive k h = by_case (later_fact k k h) where
   by_case (inl less) = omega arith
   by_case (inr same) = omega (arith, same.1)
 
--- what outranks one that outranks a third outranks that
+-- outranking is transitive
 pub outranks_transitive : (a b c : Cert) → Outranks a b → Outranks b c → Outranks a c
 outranks_transitive a b c h k = fact_later a c (by_case (later_fact a b h) (later_fact b c k)) where
   by_case : Later a b → Later b c → Later a c

@@ -1,4 +1,4 @@
--- The rules Check now, Tick and Check-ins write an entry for each change of the table, and few other records.
+-- Rules 5 (check now), 6 (tick) and 13 (check-ins) write an entry for each change of the table, and few other records.
 use Rattle.std.proofs.Common.{◌≡◌, ℕ, ◌+◌, ◌≤◌, max, Bool, true, false, not, ◌&&◌, ◌==◌, nat_lt, if◌then◌else◌, Option, Some, None, List, [], ◌∷◌, length, filter, refl, ◌∙◌, arith, length-set}
 use Rattle.std.proofs.lemmas.List.{length-map}
 use Rattle.oc_base.specs.declared.cert.Cert.{Cert}
@@ -167,7 +167,7 @@ goes_fetches_as m o shelf = goes_itself o
 abbrev timed : Plan → ℕ → Plan
 timed o t = starts_leases (at_time o t)
 
--- those whose leases have ended then
+-- the children whose leases have ended then
 abbrev over : Plan → ℕ → List ℕ
 over o t = ended o.node.kept.table o.node.me (timed o t).node.leases (timed o t).node.soft.clock
 

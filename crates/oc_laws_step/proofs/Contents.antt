@@ -1,4 +1,4 @@
--- The rule Content writes no record: it leaves the control state as it is.
+-- Rule 14, content, writes no record: it does not change the control state.
 use Rattle.std.proofs.Common.{◌≡◌, ℕ, ◌+◌, Bool, true, false, ◌&&◌, ◌==◌, nat_lt, if◌then◌else◌, Option, Some, None, List, length, refl}
 use Rattle.oc_base.specs.declared.shelf.Shelf.{Shelf}
 use Rattle.oc_model.specs.declared.answer.Answer.{Answer}

@@ -1,4 +1,4 @@
--- What the rules write keeps what is durable sound.
+-- The records that rules write keep the durable state sound.
 use Rattle.std.proofs.Common.{◌≡◌, ℕ, zero, suc, ◌+◌, ◌-◌, ◌<◌, ◌≤◌, Bool, true, false, ◌==◌, nat_lt, nat_le, if◌then◌else◌, Some, List, [], ◌∷◌, ◌++◌, length, drop, refl, ◌∙◌, arith, eq-eqb, ne_eqb, length-append, length-drop, length-set, ltb-true, leb-true}
 use Rattle.std.specs.List.{AllByRecursion}
 use Rattle.std.proofs.lemmas.Bool.{cond_both, eqb-false, and_parts, false_from_ne_true}
@@ -32,7 +32,7 @@ rows_found (j ∷ js) is = (rw (eq-eqb j.subject j.subject refl) refl, all_both 
 pub rows_known : (t : List Cert) → IsTable t → AllByRecursion (λ k. is_news t k ≡ false) t
 rows_known t up = rows_from t t (rows_found t up)
 
--- what holds of each holds of those that are left
+-- a property of each item holds of each that is left
 pub all_drop : {X : Type 0} (P : X → Type 0) (n : ℕ) (xs : List X) → AllByRecursion P xs → AllByRecursion P (drop n xs)
 all_drop P zero xs all = all
 all_drop P (suc n) [] all = tt
@@ -100,7 +100,7 @@ sound_joined nodes d p r sound =
       measures = sound.measures;
     })
 
--- each record that a rule writes keeps what is durable sound
+-- each record that a rule writes keeps the durable state sound
 pub sound_fold_one : (nodes : ℕ) (d : Durable) (r : Record) → IsSoundRecord r → IsSoundDurable nodes d → IsSoundDurable nodes (fold_one d r)
 sound_fold_one nodes d (records.Ask s p) ok sound = record { table = sound.table; mode = (ok, refl); own = sound.own; ancestors = sound.ancestors; measures = sound.measures }
 sound_fold_one nodes d (records.Joined p r) ok sound = sound_joined nodes d p r sound
@@ -135,7 +135,7 @@ sound_fold_one nodes d (records.Info number clients) ok sound = record {
   measures = sound.measures;
 }
 
--- and so do many
+-- many records keep the durable state sound
 pub sound_folded : (nodes : ℕ) (d : Durable) (rs : List Record) → AllByRecursion IsSoundRecord rs → IsSoundDurable nodes d → IsSoundDurable nodes (folded d rs)
 sound_folded nodes d [] ok sound = sound
 sound_folded nodes d (r ∷ rs) ok sound = sound_folded nodes (fold_one d r) rs ok.1 (sound_fold_one nodes d r ok.0 sound)

@@ -1,4 +1,4 @@
--- A step under way that goes on by the records that it writes: what each rule is made of.
+-- A step under way that goes on by its records: the parts of each rule.
 use Rattle.std.proofs.Common.{◌≡◌, ℕ, ◌+◌, ◌≤◌, Bool, true, false, if◌then◌else◌, List, [], ◌∷◌, ◌++◌, length, refl, ap, sym, ◌∙◌, arith, append_assoc, append-nil}
 use Rattle.std.specs.List.{AllByRecursion}
 use Rattle.oc_model.specs.declared.answer.Answer.{Answer}
@@ -15,12 +15,12 @@ use Rattle.oc_laws_step.specs.Sound.{IsSoundRecord}
 
 -- Choices between steps
 
--- what holds of both steps holds of the one that a test chooses
+-- a property of both steps holds of the one that a test chooses
 pub either : (b : Bool) (P : Plan → Type 0) (o q : Plan) → P o → P q → P (if b then o else q)
 either true P o q h k = h
 either false P o q h k = k
 
--- the same, where each is looked at only if the test chooses it
+-- the same, where a step is looked at only if the test chooses it
 pub either_by : (b : Bool) (P : Plan → Type 0) (o q : Plan) → (b ≡ true → P o) → (b ≡ false → P q) → P (if b then o else q)
 either_by true P o q h k = h refl
 either_by false P o q h k = k refl
@@ -51,7 +51,7 @@ folded-append d (r ∷ rs) qs = folded-append (fold_one d r) rs qs
 
 -- The relation
 
--- who the node is, and that its lists have as many items as they had
+-- the same node, whose lists have as many items as before
 pub record IsSame (n m : Control) : Type 0 where
   pub me : m.me ≡ n.me
   pub nodes : m.nodes ≡ n.nodes
@@ -77,7 +77,7 @@ same_then a b c h k = record {
   counts = k.counts ∙ h.counts;
 }
 
--- from o to q these records are written, which lead from what was durable to what is
+-- from o to q these records are written, which lead from the durable state before to the one after
 pub record GoesBy (o q : Plan) (rs : List Record) : Type 0 where
   pub records : q.records ≡ o.records ++ rs
   pub kept : q.node.kept ≡ folded o.node.kept rs
@@ -93,7 +93,7 @@ pub record Goes (entries others : ℕ) (o q : Plan) : Type 0 where
   pub few : total as_entry written ≤ entries
   pub rest : total as_other written ≤ others
 
--- no record, and the same content: a change of what a start clears, messages, an answer
+-- no record and no kept bytes: a change of the part that a start clears, messages, or an answer
 pub goes_still : (o q : Plan) → q.records ≡ o.records → q.node.kept ≡ o.node.kept → IsSame o.node q.node → q.keeps ≡ o.keeps → q.wants ≡ o.wants → Goes 0 0 o q
 goes_still o q records kept same keeps wants = record {
   written = [];

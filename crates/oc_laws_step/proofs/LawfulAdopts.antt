@@ -1,4 +1,4 @@
--- The rule Answer an ask keeps a node lawful, and writes and sends what is lawful.
+-- Rule 7, answer an ask, keeps a node lawful, and its records and messages are lawful.
 use Rattle.std.proofs.Common.{ℕ, arith, not, ◌&&◌, ◌==◌, nat_le, if◌then◌else◌, Option, Some, None}
 use Rattle.oc_base.specs.declared.rank.Rank.{Rank}
 use Rattle.oc_base.specs.declared.refusal.Refusal.{Refusal}

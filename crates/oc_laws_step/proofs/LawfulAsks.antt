@@ -1,4 +1,4 @@
--- The rules by which a node comes by a parent keep it lawful, and write and send what is lawful.
+-- The rules by which a node gets a parent keep it lawful, and their records and messages are lawful.
 use Rattle.std.proofs.Common.{◌≡◌, ℕ, ◌+◌, ◌<◌, Bool, true, false, not, ◌&&◌, ◌||◌, ◌==◌, nat_lt, if◌then◌else◌, Option, Some, None, List, [], ◌∷◌, arith, ltb-true}
 use Rattle.std.proofs.lemmas.Bool.{and_parts, eqb-false}
 use Rattle.oc_base.specs.declared.rank.Rank.{Rank}

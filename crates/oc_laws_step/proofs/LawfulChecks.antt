@@ -1,4 +1,4 @@
--- The rules Check now, Tick and Check-ins keep a node lawful, and write and send what is lawful.
+-- Rules 5 (check now), 6 (tick) and 13 (check-ins) keep a node lawful, and their records and messages are lawful.
 use Rattle.std.proofs.Common.{◌≡◌, ℕ, ◌+◌, ◌-◌, ◌<◌, ◌≤◌, min, max, true, false, not, ◌&&◌, ◌==◌, nat_lt, if◌then◌else◌, Option, Some, None, List, [], ◌∷◌, length, filter, refl, sym, subst, arith, ltb-true, length-take}
 use Rattle.std.proofs.lemmas.Bool.{and_parts}
 use Rattle.oc_base.specs.declared.cert.Cert.{Cert}

@@ -1,4 +1,4 @@
--- The rule Content keeps a node lawful, and sends what is lawful.
+-- Rule 14, content, keeps a node lawful, and its messages are lawful.
 use Rattle.std.proofs.Common.{ℕ, ◌+◌, ◌≤◌, Bool, true, false, ◌&&◌, ◌==◌, nat_lt, if◌then◌else◌, Option, Some, None, List, [], length, arith}
 use Rattle.std.proofs.lemmas.Bool.{cond_both}
 use Rattle.oc_base.specs.declared.shelf.Shelf.{Shelf}

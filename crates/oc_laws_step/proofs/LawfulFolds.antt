@@ -1,4 +1,4 @@
--- A lawful record leaves what is durable within its ranges, and so does each change of a step under way.
+-- A lawful record keeps the durable state within its ranges, and so does each change of a step under way.
 use Rattle.std.proofs.Common.{◌≡◌, ℕ, zero, suc, ◌+◌, ◌-◌, ◌<◌, ◌≤◌, true, ◌==◌, nat_lt, nat_le, Option, Some, List, [], ◌∷◌, length, drop, refl, arith, ltb-true, leb-true, length-append, length-drop}
 use Rattle.std.specs.List.{AllByRecursion}
 use Rattle.std.proofs.lemmas.Bool.{cond_both, eqb-false, and_parts}
@@ -27,7 +27,7 @@ use Rattle.oc_laws_step.proofs.Folds.{all_drop}
 use Rattle.oc_laws_step.proofs.Ranges.{all_set, certs_merge, rows_few}
 use Rattle.oc_laws_step.proofs.Tables.{table_merge}
 
--- What a record does
+-- The effect of a record
 
 waiting_noted : (nodes : ℕ) (m : Mode) (l : Log) (c : Cert) → IsCert nodes c → AreCerts nodes l.waiting → AreCerts nodes (noted m l c).waiting
 waiting_noted nodes (modes.Joined p) l c here all = all_append (IsCert nodes) l.waiting (c ∷ []) all (here, tt)
@@ -73,7 +73,7 @@ lawful_log nodes d l waiting whole ok = record {
   measures = ok.measures;
 }
 
--- an acknowledgement leaves a whole log of what waits
+-- an acknowledgement leaves a whole log of the certificates that still wait
 acked_ahead : (nodes : ℕ) (d : Durable) (upto : ℕ) → is_ahead d.log upto ≡ true → IsLawfulDurable nodes d
     → IsLawfulDurable nodes (record d { log = record { length = d.log.length; acked = upto; waiting = drop (upto - d.log.acked) d.log.waiting } })
 acked_ahead nodes d upto ahead ok =
@@ -224,7 +224,7 @@ log_folded nodes d (records.Snapshot g) n few r ok long = omega arith
 log_folded nodes d (records.Entry c) n few r ok long = omega (arith, long, length_noted d.mode d.log c)
 log_folded nodes d (records.Info number clients) n few r ok long = omega (arith, long)
 
--- What a change of a step under way does
+-- The effect of a change of a step under way
 
 pub lawful_begun : (nodes : ℕ) (n : Control) → n.kept.log.length ≤ MAX_LOG_LENGTH → IsLawfulControl nodes n → IsLawfulPlan nodes (begun n)
 lawful_begun nodes n short ok = record { node = ok; log = omega (arith, short); records = λ _. tt; sends = λ _. tt; wants = tt }
@@ -283,7 +283,7 @@ lawful_soft nodes o s here ok = record {
 pub lawful_searching : (nodes : ℕ) (o : Plan) (s : Option Search) → IsLawfulSearch nodes s → IsLawfulPlan nodes o → IsLawfulPlan nodes (searching o s)
 lawful_searching nodes o s here ok = lawful_soft nodes o (record o.node.soft { search = s }) (record { clock = ok.node.soft.clock; tries = ok.node.soft.tries; search = here }) ok
 
--- what a start clears is other than it was in one part that is no number of a node
+-- a change of one small part that a start clears and that is no id of a node
 pub lawful_due : (nodes : ℕ) (o : Plan) (due : Option ℕ) → IsLawfulPlan nodes o → IsLawfulPlan nodes (with_soft o (record o.node.soft { due = due }))
 lawful_due nodes o due ok = lawful_soft nodes o (record o.node.soft { due = due }) (record { clock = ok.node.soft.clock; tries = ok.node.soft.tries; search = ok.node.soft.search }) ok
 

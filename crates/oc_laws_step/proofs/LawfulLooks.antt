@@ -1,4 +1,4 @@
--- The rule Look keeps a node lawful, and writes and sends what is lawful.
+-- Rule 12, look, keeps a node lawful, and its records and messages are lawful.
 use Rattle.std.proofs.Common.{ℕ, ◌+◌, ◌-◌, ◌<◌, Bool, not, ◌&&◌, ◌||◌, ◌==◌, nat_lt, nat_le, if◌then◌else◌, Option, Some, None, List, [], ◌∷◌, map, filter, arith}
 use Rattle.std.specs.List.{AllByRecursion}
 use Rattle.std.proofs.lemmas.Bool.{cond_both}

@@ -1,4 +1,4 @@
--- The rules Client and Measured keep a node lawful.
+-- Rules 15 (client) and 16 (measured) keep a node lawful.
 use Rattle.std.proofs.Common.{ℕ, ◌+◌, ◌-◌, ◌≤◌, ◌==◌, if◌then◌else◌, Option, Some, None, List}
 use Rattle.oc_base.specs.declared.shelf.Shelf.{Shelf}
 use Rattle.oc_model.specs.declared.answer.Answer.TheVariants as words

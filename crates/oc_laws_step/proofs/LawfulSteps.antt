@@ -1,4 +1,4 @@
--- A lawful input leaves a lawful node lawful, and what it writes and sends is lawful.
+-- A lawful input leaves a lawful node lawful, and its records and messages are lawful.
 use Rattle.std.proofs.Common.{◌≡◌, ℕ, zero, suc, replicate, ◌≤◌, Bool, Option, Some, None, List, [], ◌∷◌, length, drop, ◌⊎◌, inl, inr, ⊎_elim, refl, ap, sym, subst, arith, length-take}
 use Rattle.std.specs.List.{AllByRecursion}
 use Rattle.oc_base.specs.declared.shelf.Shelf.{Shelf}
@@ -153,7 +153,7 @@ few_lawful : (nodes me : ℕ) (i : Input) → IsInput nodes me i → IsFew i
 few_lawful nodes me (inputs.Delivered m) fair = few_body nodes m.body fair.0.body
 few_lawful nodes me i fair = tt
 
--- so what a lawful input writes fits a frame
+-- the records of a lawful input fit a frame
 pub lawful_fits : (nodes : ℕ) (n : Node) (i : Input) → IsInput nodes n.control.me i → IsLawfulNode nodes n → FitsFrame (step n i).records
 lawful_fits nodes n i fair ok = fits n i (small_lawful nodes n.control ok.control) (few_lawful nodes n.control.me i fair)
 
@@ -172,7 +172,7 @@ lawful_stepped nodes n i fair short ok =
       sends = sends_filled nodes (plan n.control (shelf n.groups) i).wants n.groups (plan n.control (shelf n.groups) i).sends planned.wants (planned.sends few);
     }
 
--- Where it begins
+-- The beginning of a step
 
 all_replicate : {X : Type 0} (P : X → Type 0) (n : ℕ) (x : X) → P x → AllByRecursion P (replicate n x)
 all_replicate P zero x here = tt

@@ -58,7 +58,7 @@ above_line g l (k ∷ ks) h all = by_order (above_line g l ks h all.1) (slice_cm
   by_order rest Equal e = rw e (h, all.1)
   by_order rest Greater e = rw e (all.0, rest)
 
--- what is above a name is above a lesser one
+-- lines above a name are above a lesser name
 above_lower : (a b : List ℕ) (ls : List Shelf) → slice_cmp nat_cmp a b ≡ Less → LinesAbove b ls → LinesAbove a ls
 above_lower a b ls h all = all_weaker (λ k. slice_cmp nat_cmp b k.group ≡ Less) (λ k. slice_cmp nat_cmp a k.group ≡ Less) (λ k e. names_rise a b k.group h e) ls all
 
@@ -95,7 +95,7 @@ HasRoom ls g = line_of g ls ≡ None → length ls < MAX_GROUPS
 pub shelf_put : (l : Shelf) (ls : List Shelf) → IsLine l → HasRoom ls l.group → IsShelf ls → IsShelf (with_line l ls)
 shelf_put l ls here room ok = (lines_put l ls here ok.0, ⊎_elim (λ same. omega (arith, same, ok.1)) (λ more. omega (arith, more.1, room more.0)) (count_put l ls ok.0))
 
--- what holds of both refusals, and of the rest if neither limit is passed, holds within the limits
+-- a property of both refusals, and of the rest where neither limit is exceeded, holds of the result
 pub within : (P : Plan → Type 0) (o : Plan) (ls : List Shelf) (g : List ℕ) (end : ℕ) (q : Plan) → P (answers o words.Groups) → P (answers o words.TooLong)
     → (HasRoom ls g → end ≤ MAX_GROUP_BYTES → P q) → P (unless (limit ls g end) o q)
 within P o ls g end q many long fits = by_tests (not (is_some (line_of g ls)) && nat_le MAX_GROUPS (length ls)) (nat_lt MAX_GROUP_BYTES end) refl refl where
@@ -141,6 +141,6 @@ lines_of : (ks : List Group) → IsAscending ks → AllByRecursion IsShort ks �
 lines_of [] up short named = tt
 lines_of (k ∷ ks) up short named = ((named.0, short.0), lines_above k.name ks up.0, lines_of ks up.1 short.1 named.1)
 
--- and back, where they have names
+-- the reverse, for groups with names
 pub limits_shelf : (ks : List Group) → AreWithinLimits ks → AreNamed ks → IsShelf (shelf ks)
 limits_shelf ks ok named = (lines_of ks ok.0 ok.2 named, omega (arith, ok.1, length-shelf ks))

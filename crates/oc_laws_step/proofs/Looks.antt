@@ -1,4 +1,4 @@
--- The rule Look writes what an ask or a root writes, if anything.
+-- Rule 12, look, writes the records of an ask or of a root, if any.
 use Rattle.std.proofs.Common.{ℕ, ◌+◌, ◌-◌, not, ◌&&◌, ◌==◌, nat_lt, nat_le, if◌then◌else◌, Option, Some, None, arith}
 use Rattle.oc_model.specs.declared.answer.Answer.TheVariants as words
 use Rattle.oc_model.specs.declared.mode.Mode.{Mode}

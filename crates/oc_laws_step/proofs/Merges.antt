@@ -43,7 +43,7 @@ takes_news cs c was old news = record { among = among_last c cs; subject = refl;
   by_case None old news f below (inl h) = old f h (sym below.0)
   by_case (Some k) old news f below (inl h) = old.last f h (old.subject ∙ below.0, outranks_transitive f c k below.1 (outranks_fact c k news))
 
--- where it is no news the old word stays the last
+-- without news the old word stays the last
 keeps_word : (cs : List Cert) (c k : Cert) → IsNewest cs c.subject k → outranks c k ≡ false → IsNewest (cs ++ c ∷ []) c.subject k
 keeps_word cs c k old none = record {
   among = among_left k cs (c ∷ []) old.among;
@@ -51,7 +51,7 @@ keeps_word cs c k old none = record {
   last = λ f h below. ⊎_elim (λ before. old.last f before below) (λ e. true≢false (sym (fact_outranks c k (subst (λ g. Outranks g k) (sym e) below.1)) ∙ none)) (among_split f c cs h);
 }
 
--- of another subject the word stays
+-- the last word on another subject stays
 other_word : (cs : List Cert) (c : Cert) (x : ℕ) (was : Option Cert) → (c.subject ≡ x → ⊥) → IsLastWord cs x was → IsLastWord (cs ++ c ∷ []) x was
 other_word cs c x None apart old = λ f h e. ⊎_elim (λ before. old f before e) (λ is. apart (ap (λ g. g.subject) is ∙ e)) (among_split f c cs h)
 other_word cs c x (Some k) apart old = record {

@@ -1,4 +1,4 @@
--- What the small decisions give is within the ranges of what they are given.
+-- The results of the small decisions are within the ranges of their arguments.
 use Rattle.std.proofs.Common.{◌≡◌, ℕ, zero, suc, ◌+◌, ◌-◌, ◌*◌, ◌<◌, ◌≤◌, min, Bool, true, false, not, ◌&&◌, ◌||◌, ◌==◌, nat_lt, nat_le, if◌then◌else◌, Option, Some, None, option_map, unwrap_or, List, [], ◌∷◌, ◌++◌, length, map, filter, find, take, set, get_or, refl, arith, option_to_list}
 use Rattle.std.specs.List.{AllByRecursion, range_with_len}
 use Rattle.std.specs.Option.{option_or}
@@ -25,7 +25,7 @@ use Rattle.oc_laws_step.specs.Sound.{AreAbove, IsTable}
 
 -- Lists
 
--- what holds of each holds of those that pass a test
+-- a property of each item holds of each that passes the test
 pub all_filter : {X : Type 0} (P : X → Type 0) (test : X → Bool) (xs : List X) → AllByRecursion P xs → AllByRecursion P (filter test xs)
 all_filter P test [] all = tt
 all_filter P test (x ∷ xs) all = cond_both (test x) (x ∷ filter test xs) (filter test xs) (AllByRecursion P) (λ _. (all.0, all_filter P test xs all.1)) (λ _. all_filter P test xs all.1)
@@ -49,7 +49,7 @@ all_at P [] i d here all = here
 all_at P (y ∷ ys) zero d here all = all.0
 all_at P (y ∷ ys) (suc i) d here all = all_at P ys i d here all.1
 
--- what holds of each holds of the one that is found
+-- a property of each item holds of the one that is found
 abbrev pub IfFound : {X : Type 0} → (X → Type 0) → Option X → Type 0
 IfFound P None = Unit {0}
 IfFound P (Some x) = P x
@@ -108,7 +108,7 @@ raise_lawful e h = by_end (e == number_end) refl where
   by_end true is = tt
   by_end false is = let other : e ≡ number_end → ⊥ = eqb-false e number_end is in omega (arith, h, other)
 
--- and so has the one that stays where there is none
+-- the next epoch, or the last one, is within its range
 pub next_lawful : (e : ℕ) → IsLong e → IsLong (unwrap_or (raise e) e)
 next_lawful e h = by_next (raise e) (raise_lawful e h) where
   by_next : (next : Option ℕ) → IfFound IsLong next → IsLong (unwrap_or next e)

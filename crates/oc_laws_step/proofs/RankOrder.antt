@@ -9,14 +9,14 @@ use Rattle.oc_base.specs.declared.limits.TheConstants.{MAX_DEPTH}
 
 -- Ranks
 
--- what the test says is the fact
+-- the test passes only for the fact
 pub precedes_fact : (a b : Rank) → precedes a b ≡ true → Precedes a b
 precedes_fact a b h = ⊎_elim
     (λ more. inl (ltb-true b.epoch a.epoch more))
     (λ both. let parts = and_parts (a.epoch == b.epoch) (nat_lt a.depth b.depth) both in inr (eqb-true a.epoch b.epoch parts.0, ltb-true a.depth b.depth parts.1))
     (or_cases (nat_lt b.epoch a.epoch) (a.epoch == b.epoch && nat_lt a.depth b.depth) h)
 
--- and the reverse
+-- the reverse
 pub fact_precedes : (a b : Rank) → Precedes a b → precedes a b ≡ true
 fact_precedes a b (inl more) = or_left (nat_lt b.epoch a.epoch) (a.epoch == b.epoch && nat_lt a.depth b.depth) (lt-ltb b.epoch a.epoch more)
 fact_precedes a b (inr same) =
@@ -28,7 +28,7 @@ pub precedes_irreflexive : (a : Rank) → Precedes a a → ⊥
 precedes_irreflexive a (inl more) = omega arith
 precedes_irreflexive a (inr same) = omega (arith, same.1)
 
--- what precedes one that precedes a third precedes that
+-- precedence is transitive
 pub precedes_transitive : (a b c : Rank) → Precedes a b → Precedes b c → Precedes a c
 precedes_transitive a b c (inl h) (inl k) = inl (omega arith)
 precedes_transitive a b c (inl h) (inr k) = inl (omega (arith, k.0))
@@ -38,7 +38,7 @@ precedes_transitive a b c (inr h) (inr k) = inr (omega (arith, h.0, k.0), omega 
 abbrev rank_by : ℕ → ℕ → Rank
 rank_by e d = record { epoch = e; depth = d }
 
--- of two ranks one precedes, or they are one
+-- of two ranks one precedes, or they are equal
 pub precedes_total : (a b : Rank) → Precedes a b ⊎ (Precedes b a ⊎ (a ≡ b))
 precedes_total a b = by_epoch (cases_order a.epoch b.epoch) (cases_order a.depth b.depth) where
   by_epoch : (a.epoch ≡ b.epoch) ⊎ ((a.epoch < b.epoch) ⊎ (b.epoch < a.epoch)) → (a.depth ≡ b.depth) ⊎ ((a.depth < b.depth) ⊎ (b.depth < a.depth)) → Precedes a b ⊎ (Precedes b a ⊎ (a ≡ b))
@@ -53,7 +53,7 @@ no_worse_itself : (own : Option Rank) → IsNoWorse own own
 no_worse_itself None = tt
 no_worse_itself (Some o) = inl refl
 
--- what is better than the own rank is no worse
+-- a rank that is better than the node's own is no worse
 better_no_worse : (own : Option Rank) (told : Rank) → is_better own told ≡ true → IsNoWorse own (Some (beneath_of told))
 better_no_worse None told h = tt
 better_no_worse (Some o) told h = inr (precedes_fact (beneath_of told) o (and_parts (nat_lt told.depth MAX_DEPTH) (precedes (beneath_of told) o) h).1)

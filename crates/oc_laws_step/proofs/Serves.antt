@@ -1,4 +1,4 @@
--- The rule Client writes nothing, and the rule Measured one record at most.
+-- Rule 15, client, writes no record, and rule 16, measured, at most one.
 use Rattle.std.proofs.Common.{ℕ, ◌+◌, ◌-◌, ◌==◌, if◌then◌else◌, Option, Some, None, List, refl, length-set}
 use Rattle.oc_base.specs.declared.shelf.Shelf.{Shelf}
 use Rattle.oc_model.specs.declared.answer.Answer.TheVariants as words

@@ -1,4 +1,4 @@
--- A new node is sound, and stays so; what it writes fits a frame.
+-- A new node is sound and stays sound; its records fit a frame.
 use Rattle.std.proofs.Common.{◌≡◌, ℕ, ◌+◌, ◌*◌, ◌≤◌, None, List, [], ◌∷◌, length, refl, sym, ◌∙◌, arith}
 use Rattle.std.specs.List.{AllByRecursion}
 use Rattle.std.proofs.lemmas.List.{length-replicate}
@@ -88,7 +88,7 @@ few_entries n (inputs.Tick t) small few = omega (arith, small.nodes, small.table
 few_entries n (inputs.Delivered m) small few = few_received m.body few
 few_entries n i small few = omega arith
 
--- so its records fit a frame
+-- the records of a step fit a frame
 pub fits : (n : Node) (i : Input) → IsSmall n.control → IsFew i → FitsFrame (step n i).records
 fits n i small few =
     let w = writes n.control (shelf n.groups) i in

@@ -1,4 +1,4 @@
--- What each step writes: records that lead from what was durable to what is, or content.
+-- The records of each step, which lead from the durable state before to the one after, or its content.
 use Rattle.std.proofs.Common.{◌≡◌, ℕ, ◌+◌, ◌≤◌, ◌==◌, None, List, [], length, ◌⊎◌, inl, inr, sym, ◌∙◌, ap, arith}
 use Rattle.std.specs.List.{AllByRecursion}
 use Rattle.oc_base.specs.declared.shelf.Shelf.{Shelf}
@@ -33,7 +33,7 @@ most_entries n (inputs.Tick t) = length n.kept.table
 most_entries n (inputs.Delivered m) = most_entries_of m.body
 most_entries n i = 0
 
--- what a step writes is sound, and leads from what was durable to what is; it writes records or keeps content, not both
+-- the records of a step are sound, and lead from the durable state before to the one after; it writes records or keeps content, not both
 pub record Writes (e : ℕ) (n : Control) (q : Plan) : Type 0 where
   pub kept : q.node.kept ≡ folded n.kept q.records
   pub sound : AllByRecursion IsSoundRecord q.records
@@ -82,7 +82,7 @@ writes_received n shelf p (bodies.Rejoin seq) = writes_going 0 1 n _ (omega arit
 writes_received n shelf p (bodies.Fetch have) = writes_staying n _ (stays_fetched (begun n) shelf p have)
 writes_received n shelf p (bodies.Chunk g start bytes last) = writes_staying n _ (stays_took_chunk (begun n) shelf p g start bytes last)
 
--- each step writes what leads from what was durable to what is
+-- the records of each step lead from the durable state before to the one after
 pub writes : (n : Control) (shelf : List Shelf) (i : Input) → Writes (most_entries n i) n (plan n shelf i)
 writes n shelf (inputs.Tick t) = writes_going (length n.kept.table) 2 n _ (omega arith) (goes_tick (begun n) shelf t)
 writes n shelf inputs.CheckNow = writes_going 0 2 n _ (omega arith) (goes_checks (begun n))

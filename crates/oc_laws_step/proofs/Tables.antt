@@ -1,4 +1,4 @@
--- Tables: what is found after a row was put or a certificate merged, and that a table stays one.
+-- Tables: the row found after a put or a merge, and that the result is a table.
 use Rattle.std.proofs.Common.{◌≡◌, ℕ, ◌<◌, ◌≤◌, Bool, true, false, ◌==◌, nat_lt, if◌then◌else◌, Option, Some, None, List, [], ◌∷◌, ◌⊎◌, inl, inr, refl, ap, ap₂, sym, ◌∙◌, arith, eqb-true, eq-eqb, ne_eqb, ltb-true, ltb-false}
 use Rattle.std.proofs.lemmas.Bool.{eqb-false, cond_both, cases_eq, cases_order, false_from_ne_true, true≢false}
 use Rattle.oc_base.specs.declared.cert.Cert.{Cert}
@@ -10,11 +10,11 @@ use Rattle.oc_laws_step.proofs.CertOrder.{outranks_fact, fact_outranks, outranks
 
 -- Putting a row
 
--- what is found at x once the row c was put
+-- the row found at x after the row c was put
 abbrev FindsPut : List Cert → Cert → ℕ → Type 0
 FindsPut t c x = newest (put t c) x ≡ (if c.subject == x then Some c else newest t x)
 
--- at its own subject the row, at others what was there
+-- at its own subject the new row, at others the row before
 pub newest-put : (t : List Cert) (c : Cert) (x : ℕ) → FindsPut t c x
 newest-put [] c x = refl
 newest-put (k ∷ ks) c x = by_test (k.subject == c.subject) (nat_lt c.subject k.subject) (newest-put ks c x) refl where
@@ -42,7 +42,7 @@ newest-put_same t c x e = let same : (c.subject == x) ≡ true = eq-eqb c.subjec
 pub newest-put_other : (t : List Cert) (c : Cert) (x : ℕ) → (c.subject ≡ x → ⊥) → newest (put t c) x ≡ newest t x
 newest-put_other t c x apart = let other : (c.subject == x) ≡ false = ne_eqb c.subject x apart in newest-put t c x ∙ rw other refl
 
--- a row that is found is about what was asked
+-- a row that is found is about the subject asked for
 pub newest-subject : (t : List Cert) (x : ℕ) (k : Cert) → newest t x ≡ Some k → k.subject ≡ x
 newest-subject [] x k h = absurd cc
 newest-subject (j ∷ js) x k h = by_test (j.subject == x) (newest-subject js x k) refl h where
@@ -52,14 +52,14 @@ newest-subject (j ∷ js) x k h = by_test (j.subject == x) (newest-subject js x 
 
 -- Merging
 
--- what is merged is no news any more, and what was no news is none
+-- a merged certificate is no news any more, and one that was no news stays so
 pub merge_takes : (t : List Cert) (c : Cert) → is_news (merge t c) c ≡ false
 merge_takes t c = by_test (is_news t c) refl where
   by_test : (b : Bool) → is_news t c ≡ b → is_news (if b then put t c else t) c ≡ false
   by_test true e = rw (newest-put_same t c c.subject refl) (false_from_ne_true (outranks c c) (λ h. outranks_irreflexive c (outranks_fact c c h)))
   by_test false e = e
 
--- what outranks nothing known, after a later word came
+-- a certificate that outranks nothing known, after a later word came
 outdated : (c d : Cert) (was : Option Cert) → is_news_to was c ≡ true → is_news_to was d ≡ false → outranks d c ≡ false
 outdated c d None news old = absurd (true≢false old)
 outdated c d (Some k) news old =
@@ -86,7 +86,7 @@ above_put x (k ∷ ks) c less all = by_test (k.subject == c.subject) (nat_lt c.s
   by_test false true rest = (less, all)
   by_test false false rest = (all.0, rest)
 
--- what is above a subject is above a lesser one
+-- rows above a subject are above a lesser one
 pub above_lower : (x y : ℕ) (t : List Cert) → x ≤ y → AreAbove y t → AreAbove x t
 above_lower x y t less all = all_weaker (λ k. y < k.subject) (λ k. x < k.subject) (λ k h. omega arith) t all
 

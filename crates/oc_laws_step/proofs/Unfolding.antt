@@ -1,4 +1,4 @@
--- Folding a snapshot gives the state of which it is one.
+-- Folding a snapshot gives the state from which it was made.
 use Rattle.std.proofs.Common.{◌≡◌, ℕ, ◌+◌, ◌-◌, ◌<◌, Bool, true, false, ◌==◌, nat_lt, if◌then◌else◌, Option, Some, None, List, [], ◌∷◌, ◌++◌, length, length-append, map, set, replicate, refl, ap, ap₂, sym, ◌∙◌, arith, append_assoc, append-nil, eqb-true, ne_eqb}
 use Rattle.std.specs.List.{AllByRecursion}
 use Rattle.std.proofs.lemmas.Bool.{and_parts}
@@ -100,7 +100,7 @@ rank_part : (rank : Option Rank) (seq : ℕ) (mode : Mode) (number clients : ℕ
 rank_part None seq mode number clients t l ms = refl
 rank_part (Some r) seq mode number clients t l ms = refl
 
--- what waits is noted again, and changes the table no more
+-- the waiting certificates are noted again, and do not change the table
 log_part : (cs : List Cert) (seq p : ℕ) (rank : Option Rank) (number clients : ℕ) (t : List Cert) (l : Log) (ms : List Reading) → AllByRecursion (λ c. is_news t c ≡ false) cs
     → folded (state seq (modes.Joined p) rank number clients t l [] ms) (entries cs)
     ≡ state seq (modes.Joined p) rank number clients t (record { length = l.length + length cs; acked = l.acked; waiting = l.waiting ++ cs }) [] ms
@@ -191,7 +191,7 @@ rates_part : (rest front : List Reading) (x : ℕ) (d : Durable) → x ≡ lengt
     → folded (measured_to d (front ++ replicate (length rest) no_reading)) (rates_from x rest) ≡ measured_to d (front ++ rest)
 rates_part [] front x d at = refl
 rates_part (r ∷ rest) front x d at = by_test (same_reading r no_reading) (rates_part rest (front ++ r ∷ []) (x + 1) d (omega (arith, at, length-append front (r ∷ [])))) refl where
-  -- nothing was measured: all as it was
+  -- without a measurement nothing changes
   silent : r ≡ no_reading → folded (measured_to d ((front ++ r ∷ []) ++ replicate (length rest) no_reading)) (rates_from (x + 1) rest) ≡ measured_to d ((front ++ r ∷ []) ++ rest)
       → folded (measured_to d (front ++ no_reading ∷ replicate (length rest) no_reading)) (rates_from (x + 1) rest) ≡ measured_to d (front ++ r ∷ rest)
   silent e h =
@@ -230,7 +230,7 @@ unread n = replicate n no_reading
 abbrev bare : Durable → List Reading → Durable
 bare d ms = state d.seq d.mode d.rank d.number d.clients d.table d.log [] ms
 
--- of those the records of mode and rank do not speak
+-- the records of mode and rank do not change the measures
 mode_aside : (m : Mode) (d : Durable) (ms : List Reading) → mode_records m (bare d ms) ≡ mode_records m d
 mode_aside modes.Idle d ms = refl
 mode_aside (modes.Asking p) d ms = refl
@@ -249,7 +249,7 @@ upto_pair nodes n d sound =
     ap (λ s. folded s (own_pair d)) (table_part d.table [] (unread n) ∙ ap (λ t. with_table t (unread n)) (table_again d.table sound.table))
     ∙ pair_part d d.table (unread n) sound.own
 
--- and up to the rank
+-- the records up to the rank
 upto_rank : (nodes n : ℕ) (d : Durable) → IsSoundDurable nodes d
     → folded (folded (folded (folded (folded (new_durable n) (entries d.table)) (own_pair d)) (last_ask d)) (mode_records d.mode d)) (rank_records d.mode d) ≡ bare d (unread n)
 upto_rank nodes n d sound =

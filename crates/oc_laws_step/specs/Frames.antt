@@ -8,9 +8,9 @@ use Rattle.oc_base.specs.declared.limits.TheConstants.{MAX_NODES, MAX_CHECK_IN_C
 use Rattle.oc_model.specs.Node.{Control}
 use Rattle.oc_laws_step.specs.Sizes.{total, size_of}
 
--- Whether the records of one input fit one frame.
+-- The bound on the records of one input: they fit one frame.
 
--- a check-in has no more certificates than it may have
+-- a check-in has at most as many certificates as one may have
 abbrev pub HasFewCerts : Body → Type 0
 HasFewCerts (CheckIn seq upto rate number clients certs) = length certs ≤ MAX_CHECK_IN_CERTS
 HasFewCerts body = Unit {0}
@@ -19,12 +19,12 @@ abbrev pub IsFew : Input → Type 0
 IsFew (Delivered m) = HasFewCerts m.body
 IsFew i = Unit {0}
 
--- a table with no more rows than there are nodes
+-- the table has at most as many rows as there are nodes
 pub record IsSmall (n : Control) : Type 0 where
   pub nodes : n.nodes ≤ MAX_NODES
   pub table : length n.kept.table ≤ n.nodes
 
--- no more records than one input may write, and no more bytes than a frame has
+-- at most as many records as one input may write, and as many bytes as a frame may have
 pub record FitsFrame (rs : List Record) : Type 0 where
   pub records : length rs ≤ MAX_FRAME_RECORDS
   pub bytes : total size_of rs ≤ MAX_FRAME_BYTES

@@ -16,9 +16,9 @@ use Rattle.oc_model.specs.Node.{Control, Durable, Node, Outcome}
 use Rattle.oc_model.specs.Plan.{Plan}
 use Rattle.oc_laws_step.specs.Sound.{IsTable}
 
--- A node whose numbers are within their ranges.
+-- Nodes whose numbers are within their ranges.
 
--- a mode with its peer: a node that has one has asked
+-- a mode with its peer: a node with a peer has asked at least once
 abbrev pub IsLawfulMode : ℕ → ℕ → Mode → Type 0
 IsLawfulMode nodes seq (Asking p) = (1 ≤ seq) × IsNode nodes p
 IsLawfulMode nodes seq (Joined p) = (1 ≤ seq) × IsNode nodes p
@@ -28,7 +28,7 @@ IsLawfulMode nodes seq mode = Unit {0}
 abbrev pub IsReading : Reading → Type 0
 IsReading r = IsRate r.rate × (r.hops ≤ MAX_HOPS)
 
--- what is durable of a node among this many; the change log is whole, and its length has a limit of its own
+-- the durable state of a node in a network of `nodes` nodes; the change log is whole, and its length has a limit of its own
 pub record IsLawfulDurable (nodes : ℕ) (d : Durable) : Type 0 where
   pub seq : IsLong d.seq
   pub mode : IsLawfulMode nodes d.seq d.mode
@@ -46,13 +46,13 @@ abbrev pub IsLawfulSearch : ℕ → Option Search → Type 0
 IsLawfulSearch nodes (Some (Descend p)) = IsNode nodes p
 IsLawfulSearch nodes s = Unit {0}
 
--- what a start clears
+-- the state that a start clears
 pub record IsLawfulSoft (nodes : ℕ) (s : Soft) : Type 0 where
   pub clock : s.clock ≤ LAST_SECOND
   pub tries : AreNodes nodes s.tries
   pub search : IsLawfulSearch nodes s.search
 
--- the control state of a node among this many
+-- the control state of a node in a network of `nodes` nodes
 pub record IsLawfulControl (nodes : ℕ) (n : Control) : Type 0 where
   pub few : nodes ≤ MAX_NODES
   pub among : n.nodes ≡ nodes
@@ -63,13 +63,13 @@ pub record IsLawfulControl (nodes : ℕ) (n : Control) : Type 0 where
   pub soft : IsLawfulSoft nodes n.soft
   pub rates : AllByRecursion IsRate n.rates
 
--- no more bytes than a chunk has
+-- the bytes wanted for a chunk are at most those of a chunk
 abbrev pub IsLawfulWant : Option Want → Type 0
 IsLawfulWant None = Unit {0}
 IsLawfulWant (Some w) = w.count ≤ MAX_CHUNK_BYTES
 
--- a step under way, of a lawful node: each record lengthens the change log by one certificate at most, and while there are no more of them
--- than a frame may have, they and the messages are lawful
+-- a step under way of a lawful node: each record lengthens the change log by at most one certificate, and as long as the records are at
+-- most those of a frame, they and the messages are lawful
 pub record IsLawfulPlan (nodes : ℕ) (o : Plan) : Type 0 where
   pub node : IsLawfulControl nodes o.node
   pub log : o.node.kept.log.length ≤ MAX_LOG_LENGTH + length o.records
@@ -77,12 +77,12 @@ pub record IsLawfulPlan (nodes : ℕ) (o : Plan) : Type 0 where
   pub sends : length o.records ≤ MAX_FRAME_RECORDS → AllByRecursion (IsMessage nodes) o.sends
   pub wants : IsLawfulWant o.wants
 
--- a node: its control state and its shelf
+-- a node: its control state, and the lines of its groups
 pub record IsLawfulNode (nodes : ℕ) (n : Node) : Type 0 where
   pub control : IsLawfulControl nodes n.control
   pub shelf : IsShelf (shelf n.groups)
 
--- what a step leaves, writes and sends
+-- the outcome of a step: the node, the records and the messages
 pub record IsLawfulOutcome (nodes : ℕ) (o : Outcome) : Type 0 where
   pub node : IsLawfulNode nodes o.node
   pub records : AreRecords nodes o.records

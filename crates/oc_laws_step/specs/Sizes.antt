@@ -2,14 +2,14 @@ use Rattle.std.specs.Prelude.{ℕ, ◌+◌, ◌*◌, List, [], ◌∷◌, length
 use Rattle.oc_model.specs.declared.record.Record.{Record}
 use Rattle.oc_model.specs.declared.record.Record.TheVariants as records
 
--- The bytes that records take in a frame.
+-- The lengths of records in a frame, in bytes.
 
 -- the sum of f over these records
 abbrev pub total : (Record → ℕ) → List Record → ℕ
 total f [] = 0
 total f (r ∷ rs) = f r + total f rs
 
--- the bytes of a record: its kind and its fields
+-- the length of a record: its kind and its fields
 abbrev pub size_of : Record → ℕ
 size_of (records.Ask s p) = 13
 size_of (records.Joined p r) = 17

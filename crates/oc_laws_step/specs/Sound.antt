@@ -10,9 +10,9 @@ use Rattle.oc_base.specs.declared.limits.TheConstants.{MAX_ANCESTORS}
 use Rattle.oc_model.specs.Node.{Control, Durable, empty_log}
 use Rattle.oc_model.specs.Table.{is_news}
 
--- What holds of each node that is reached, whatever its inputs.
+-- The properties of every node that any inputs lead to.
 
--- all these rows are about greater subjects
+-- all these rows have greater subjects
 abbrev pub AreAbove : ℕ → List Cert → Type 0
 AreAbove x ks = AllByRecursion (λ k. x < k.subject) ks
 
@@ -21,8 +21,8 @@ abbrev pub IsTable : List Cert → Type 0
 IsTable [] = Unit {0}
 IsTable (k ∷ ks) = AreAbove k.subject ks × IsTable ks
 
--- the log and what else a mode has: a joined node has asked, has a rank, and has in its log what its table knows; the others
--- have an empty log
+-- the log and the other parts that fit a mode: a joined node has asked, has a rank, and its table knows all that waits in its log; a node
+-- in another mode has an empty log
 abbrev pub IsSoundAs : Mode → Durable → Type 0
 IsSoundAs (Joined p) d =
     (d.seq ≡ 0 → ⊥) × ((r : Rank) × (d.rank ≡ Some r)) × (d.log.length ≡ d.log.acked + length d.log.waiting)
@@ -30,7 +30,7 @@ IsSoundAs (Joined p) d =
 IsSoundAs (Asking p) d = (d.seq ≡ 0 → ⊥) × (d.log ≡ empty_log)
 IsSoundAs mode d = d.log ≡ empty_log
 
--- what is durable of a node among `nodes` nodes
+-- the durable state of a node in a network of `nodes` nodes
 pub record IsSoundDurable (nodes : ℕ) (d : Durable) : Type 0 where
   pub table : IsTable d.table
   pub mode : IsSoundAs d.mode d
@@ -38,14 +38,14 @@ pub record IsSoundDurable (nodes : ℕ) (d : Durable) : Type 0 where
   pub ancestors : length d.ancestors ≤ MAX_ANCESTORS
   pub measures : length d.measures ≡ nodes
 
--- the control state of a node: the lists by number have an item for each node
+-- the control state of a node: each list by number has an item for each node
 pub record IsSound (n : Control) : Type 0 where
   pub kept : IsSoundDurable n.nodes n.kept
   pub leases : length n.leases ≡ n.nodes
   pub rates : length n.rates ≡ n.nodes
   pub counts : length n.counts ≡ n.nodes
 
--- what the rules write: an ask has a number, an own number was counted, and no node has too many ancestors; nothing of a snapshot
+-- a record that rules may write: an ask has a number above 0, own numbers were counted, ancestors are within the limit; no snapshot records
 abbrev pub IsSoundRecord : Record → Type 0
 IsSoundRecord (records.Ask s p) = s ≡ 0 → ⊥
 IsSoundRecord (records.Info n c) = n ≡ 0 → ⊥

@@ -5,11 +5,10 @@ ghost use Rattle.oc_model.specs.Node.{Node};
 ghost use Rattle.oc_model.specs.Records.{folded};
 ghost use Rattle.oc_model.specs.Step.{plan, step};
 
-/// Folding is stepping, at every node and for every input.
-///
-/// The records that a step writes, folded over what was durable, give what is durable after it. So a
-/// step that writes no record changes nothing durable of the control state, and one that keeps no
-/// content leaves the groups; and a step writes records or keeps content, never both.
+/// Folding the records of a step gives the durable state after it, at every node and for every input.
+/// The records that a step writes, folded over the durable state before it, give the durable state after
+/// it. So a step without records does not change the durable control state, and a step that keeps no
+/// content does not change the groups; and a step writes records or keeps content, never both.
 pub fn folding_is_stepping()
     ensures folds { (n : Node) (i : Input) → (step n i).node.control.kept ≡ folded n.control.kept (step n i).records }
     ensures no_record { (n : Node) (i : Input) → (step n i).records ≡ [] → (step n i).node.control.kept ≡ n.control.kept }

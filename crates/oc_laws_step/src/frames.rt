@@ -3,10 +3,10 @@ ghost use Rattle.oc_model.specs.Node.{Node};
 ghost use Rattle.oc_model.specs.Step.{step};
 ghost use Rattle.oc_laws_step.specs.Frames.{IsFew, IsSmall, FitsFrame};
 
-/// What one input writes fits one frame: at most 4,096 records, and at most 1,048,576 bytes.
+/// The records of one input fit one frame: at most 4,096 records, and at most 1,048,576 bytes.
 ///
-/// This is so among at most 1,024 nodes, where the table has no more rows than there are nodes and a
-/// check-in has at most 64 certificates.
+/// This holds for at most 1,024 nodes, a table with at most as many rows as there are nodes, and check-ins
+/// with at most 64 certificates.
 pub fn steps_fit_a_frame()
     ensures { (n : Node) (i : Input) → IsSmall n.control → IsFew i → FitsFrame (step n i).records }
 {}

@@ -12,10 +12,10 @@ ghost use Rattle.oc_laws_step.specs.LawfulNode.{IsLawfulDurable, IsLawfulControl
 
 /// A lawful input leaves a lawful node lawful, and every record that it writes and every message that it
 /// sends is lawful: ids are those of nodes, numbers have 64 bits, ranks, rates, hops and times are within
-/// their ranges, lists no longer than they may be. The length of the change log has a condition of its
-/// own. What one such input writes fits a frame.
+/// their ranges, and lists within their limits. The length of the change log has a condition of its
+/// own. The records of such an input fit one frame.
 ///
-/// A new node is lawful, and so is one that starts from lawful records.
+/// A new node is lawful, and so is a node that starts from lawful records.
 pub fn lawful_nodes_stay_lawful()
     ensures step { (nodes : ℕ) (n : Node) (i : Input) → IsInput nodes n.control.me i → n.control.kept.log.length ≤ MAX_LOG_LENGTH → IsLawfulNode nodes n → IsLawfulOutcome nodes (step n i) }
     ensures frame { (nodes : ℕ) (n : Node) (i : Input) → IsInput nodes n.control.me i → IsLawfulNode nodes n → FitsFrame (step n i).records }

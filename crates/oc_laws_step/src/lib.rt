@@ -1,14 +1,13 @@
-//! What holds of one step of a node, whatever the node and the input: laws of the definitions of
-//! `oc_model`.
+//! Laws of one step of a node, for every node and every input, about the definitions of `oc_model`.
 //!
-//! A law is a public function with an empty body; code that relies on it calls it, and then knows its
-//! clauses. [`folding_is_stepping`] says that the records a step writes are all that is durable in it,
-//! so that "the state after the input" and "the state after a crash and a restart" are one fold of one
-//! list. [`snapshots_stand_for_all`] says that a snapshot may take the place of all records before
-//! it. [`steps_fit_a_frame`] says that what one input writes fits one frame. [`reached_nodes_are_sound`]
-//! has what all this needs of a node, and that a new node has it and keeps it, whatever its inputs.
+//! A law is a public function with an empty body; code that relies on the law calls it, and may then use
+//! its clauses. [`folding_is_stepping`] says that the records of a step hold its whole durable change, so
+//! that "the state after the input" and "the state after a crash and a restart" are one fold of one list.
+//! [`snapshots_stand_for_all`] says that a snapshot may replace all records before it.
+//! [`steps_fit_a_frame`] says that the records of one input fit one frame. [`reached_nodes_are_sound`] has
+//! the property of nodes that all this needs: a new node has it, and keeps it for any inputs.
 //! [`lawful_nodes_stay_lawful`] says that lawful inputs lead to lawful nodes, records and messages. The
-//! rest is about the orders that decide in a step: of ranks, and of certificates.
+//! other laws are about the orders that decide in a step: of ranks, and of certificates.
 #![tactic(auto)]
 
 mod folding;

@@ -9,7 +9,7 @@ ghost use Rattle.oc_model.specs.Table.{newest, merge_all};
 ghost use Rattle.oc_laws_step.specs.Merging.{AreConsistent, IsLastWord, AreSameCerts};
 ghost use Rattle.oc_laws_step.specs.Order.{AreEven, IsNoWorse};
 
-/// To precede is a strict order of all ranks, and `precedes` decides it.
+/// Precedence is a strict order of all ranks, and `precedes` decides it.
 pub fn ranks_are_ordered()
     ensures decides { (a b : Rank) → (precedes a b ≡ true) ↔ Precedes a b }
     ensures irreflexive { (a : Rank) → Precedes a a → ⊥ }
@@ -22,8 +22,8 @@ pub fn ranks_never_worsen()
     ensures { (own : Option Rank) (told : Rank) → IsNoWorse own (take_rank own told) }
 {}
 
-/// To outrank is a strict order, and `outranks` decides it. Two certificates of which neither outranks
-/// the other are even: equal in the number of the ask, the state and the own number.
+/// Outranking is a strict order, and `outranks` decides it. Two certificates of which neither outranks the
+/// other are even: equal in ask number, state and own number.
 pub fn certificates_are_ordered()
     ensures decides { (k f : Cert) → (outranks k f ≡ true) ↔ Outranks k f }
     ensures irreflexive { (k : Cert) → Outranks k k → ⊥ }
@@ -31,11 +31,11 @@ pub fn certificates_are_ordered()
     ensures total { (k f : Cert) → Outranks k f ⊎ (Outranks f k ⊎ AreEven k f) }
 {}
 
-/// Merging finds the newest: after any certificates were merged into an empty table, each row is the
-/// last word of them on its subject, and each of their subjects has a row.
+/// Merging finds the newest certificates: after certificates were merged into an empty table, each row is
+/// the last word on its subject among them, and each subject has a row.
 ///
-/// Where one ask has one parent, and one own number in one state counts one number of clients, the table
-/// is the same in whatever order they come and however often.
+/// If each ask has one parent, and each own number at one ask and state names one count of clients, the
+/// table is the same for any order and any repetitions of the certificates.
 pub fn merging_finds_the_newest()
     ensures newest { (cs : List Cert) (x : ℕ) → IsLastWord cs x (newest (merge_all [] cs) x) }
     ensures any_order { (cs ds : List Cert) → AreConsistent cs → AreSameCerts cs ds → merge_all [] cs ≡ merge_all [] ds }

@@ -6,8 +6,8 @@ ghost use Rattle.oc_laws_step.specs.Sound.{IsSound, IsSoundDurable};
 
 /// A new node is sound, and every input and every start leaves a sound node sound.
 ///
-/// Sound means: the table has one row per subject, ascending; a joined node has asked and has a rank, and
-/// its table knows what waits in its log; every other node has an empty log; an own count has an own
+/// A node is sound if its table has one row per subject, ascending; a joined node has asked and has a rank,
+/// and its table knows all that waits in its log; any other node has an empty log; an own count has an own
 /// number; there are at most 1,000 ancestors; and each list by number has an item for each node.
 pub fn reached_nodes_are_sound()
     ensures new { (h : Header) (x : ℕ) → IsSound (new_node h x).control }

@@ -1,4 +1,4 @@
--- What a move, its ask and the yes do, each to the node that takes it.
+-- The effect of a move, of its ask and of the yes, each on the node that takes it.
 use Rattle.std.proofs.Common.{◌≡◌, ℕ, ◌+◌, ◌≤◌, ◌<◌, Bool, true, false, not, ◌&&◌, ◌||◌, ◌==◌, nat_lt, nat_le, if◌then◌else◌, Option, Some, None, List, [], ◌∷◌, ◌++◌, refl, ap, sym, subst, ◌∙◌, arith, eq-eqb, ne_eqb, lt-ltb}
 use Rattle.std.specs.Option.{option_or}
 use Rattle.oc_base.specs.declared.cert.Cert.{Cert}

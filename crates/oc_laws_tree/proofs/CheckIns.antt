@@ -1,4 +1,4 @@
--- What one check-in does between a node and its parent: three acts, or two where it is not acknowledged.
+-- The effect of one check-in on a node and its parent: three acts, or two if it is not acknowledged.
 use Rattle.std.proofs.Common.{◌≡◌, ℕ, suc, true, false, Option, Some, None, List, [], ◌∷◌, ◌++◌, ◌⊎◌, inl, inr, slice_get, length, refl, ap, ap₂, sym, subst, ◌∙◌, arith, length-append, eq-eqb}
 use Rattle.std.proofs.lemmas.Bool.{cond_both, cases_eq}
 use Rattle.oc_base.specs.declared.cert.Cert.{Cert}

@@ -1,4 +1,4 @@
--- What a check of a joined node, its check-in and the acknowledgement do, each to the node that takes it.
+-- The effect of a check of a joined node, of its check-in and of the acknowledgement, each on the node that takes it.
 use Rattle.std.proofs.Common.{◌≡◌, ℕ, ◌+◌, Bool, true, false, ◌&&◌, ◌==◌, if◌then◌else◌, Option, Some, None, List, [], ◌∷◌, ◌++◌, refl, ap, ap₂, sym, subst, ◌∙◌, eqb-true, eq-eqb}
 use Rattle.std.proofs.lemmas.Bool.{and_parts}
 use Rattle.oc_base.specs.declared.cert.Cert.{Cert}

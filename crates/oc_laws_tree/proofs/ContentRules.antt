@@ -1,4 +1,4 @@
--- The rule Content leaves a node as it is: what holds of one goes on through it.
+-- Rule 14, content, does not change the control state, so its properties hold after the rule.
 use Rattle.std.proofs.Common.{ℕ, ◌+◌, Bool, true, false, ◌&&◌, ◌==◌, nat_lt, if◌then◌else◌, Option, Some, None, List, length}
 use Rattle.oc_base.specs.declared.shelf.Shelf.{Shelf}
 use Rattle.oc_model.specs.declared.answer.Answer.{Answer}

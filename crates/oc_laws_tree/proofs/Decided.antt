@@ -1,4 +1,4 @@
--- What the explanations speak of is so or is not: each is decided.
+-- The terms of the explanations are decidable.
 use Rattle.std.proofs.Common.{◌≡◌, ℕ, Bool, true, false, Option, Some, None, List, [], ◌∷◌, ◌⊎◌, inl, inr, refl, ap, ◌∙◌, ⊎_elim}
 use Rattle.std.proofs.lemmas.Bool.{cases_eq}
 use Rattle.oc_base.specs.declared.cert.Cert.{Cert}

@@ -1,4 +1,4 @@
--- How a root's new rank is told down a chain: each node of it checks in, from the top down.
+-- How a root's new rank is told down a chain: each node of the chain checks in, from the top down.
 use Rattle.std.proofs.Common.{◌≡◌, ℕ, zero, suc, ◌+◌, ◌-◌, ◌*◌, ◌≤◌, ◌<◌, Bool, true, false, ◌&&◌, ◌||◌, ◌==◌, nat_lt, if◌then◌else◌, Option, Some, None, List, [], ◌∷◌, ◌++◌, inl, inr, drop, take, reverse, length, refl, ap, sym, subst, ◌∙◌, arith, lt-ltb, ltb-false, ne_eqb, eq-eqb, length-append}
 use Rattle.std.proofs.lemmas.List.{reverse-append, length-reverse}
 use Rattle.std.proofs.lemmas.Bool.{or_left, or_right, and_from, true≢false}

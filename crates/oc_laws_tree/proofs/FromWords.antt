@@ -1,4 +1,4 @@
--- What explains the listings follows from what the laws say of covered facts.
+-- The explanations of the listings follow from the laws on covered facts.
 use Rattle.std.proofs.Common.{◌≡◌, ℕ, Some, List, ◌⊎◌, inl, inr, sym, subst, ⊎_elim}
 use Rattle.std.proofs.lemmas.Bool.{false_from_ne_true}
 use Rattle.oc_base.specs.declared.cert.Cert.{Cert}

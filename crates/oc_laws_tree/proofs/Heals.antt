@@ -1,4 +1,4 @@
--- An able world heals: what holds after each of the four steps.
+-- An able world heals: the properties of the world after each of the four steps.
 use Rattle.std.proofs.Common.{◌≡◌, ℕ, ◌+◌, ◌*◌, ◌≤◌, ◌<◌, Bool, true, false, not, nat_lt, Some, List, [], ◌∷◌, ◌++◌, ◌⊎◌, inl, inr, filter, length, refl, ap, sym, subst, ◌∙◌, ⊎_elim, arith, lt-ltb, length-append}
 use Rattle.std.proofs.lemmas.List.FromFn.{length-range_with_len}
 use Rattle.std.proofs.lemmas.Bool.{cases_eq, cases_order, not-true, true≢false}

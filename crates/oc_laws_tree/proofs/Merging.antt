@@ -1,4 +1,4 @@
--- What merging certificates leaves of the leases of a node: none that it does not know is made, and none is ended of which it knows all.
+-- Merging certificates into a node's table: it makes no lease that the node does not know, and ends none of which it knows all.
 use Rattle.std.proofs.Common.{◌≡◌, ℕ, zero, suc, Bool, true, false, not, ◌==◌, if◌then◌else◌, Some, None, List, [], ◌∷◌, inl, inr, take, refl, ap, sym, subst, ◌∙◌, ⊎_elim, eqb-true, eq-eqb}
 use Rattle.std.proofs.lemmas.Bool.{cases_eq, true≢false, and_parts}
 use Rattle.oc_base.specs.declared.cert.Cert.{Cert}

@@ -1,4 +1,4 @@
--- A node that is not placed is put under the chain member before it: what that needs of the world, and what it keeps.
+-- Moving a node that is not in place below the chain member before it: the conditions, and the properties that it keeps.
 use Rattle.std.proofs.Common.{◌≡◌, ℕ, ◌+◌, ◌-◌, ◌≤◌, ◌<◌, Bool, true, false, not, ◌&&◌, ◌||◌, ◌==◌, nat_lt, nat_le, if◌then◌else◌, Option, Some, None, List, [], ◌∷◌, inl, inr, length, refl, ap, sym, subst, ◌∙◌, ⊎_elim, arith, leb-true, lt-ltb, ltb-true, eqb-true}
 use Rattle.std.proofs.lemmas.Bool.{cases_eq, and_parts, and_from, le-leb, or_right, or_cases, false_from_ne_true}
 use Rattle.oc_base.specs.declared.refusal.Refusal.TheVariants as refusals

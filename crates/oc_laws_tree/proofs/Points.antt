@@ -1,4 +1,4 @@
--- What the laws say of the one world to which events lead.
+-- The laws, for the one world to which events lead.
 use Rattle.std.proofs.Common.{ℕ, List}
 use Rattle.oc_model.specs.declared.event.Act.{Act}
 use Rattle.oc_model.specs.declared.event.Event.{Event}

@@ -1,4 +1,4 @@
--- Rows of tables: what a leased child and a parent in a table say of a row, and when one row has left another behind.
+-- Rows of tables: the row of a leased child and of a parent, and when one row makes another one obsolete.
 use Rattle.std.proofs.Common.{◌≡◌, ℕ, ◌<◌, ◌≤◌, Bool, true, false, not, ◌==◌, Option, Some, None, List, ◌⊎◌, inl, inr, if◌then◌else◌, refl, sym, ◌∙◌, arith, eqb-true, eq-eqb}
 use Rattle.std.proofs.lemmas.Bool.{true≢false, and_parts, not-true}
 use Rattle.oc_base.specs.declared.cert.Cert.{Cert}
@@ -47,7 +47,7 @@ parent_row t x p parent = by_found (newest t x) refl parent where
 pub row_parent : (t : List Cert) (x p s n : ℕ) (k : Cert) → IsLiveRow t x p s n k → parent_in t x ≡ Some p
 row_parent t x p s n k row = rw (row.found, row.alive, row.parent) refl
 
--- the word k has left the life of e behind: it is of a later ask, or the death of the same
+-- the word k makes the life of e obsolete: k is of a later ask, or the death of the same
 abbrev pub IsPast : Cert → Cert → Type 0
 IsPast k e = (e.seq < k.seq) ⊎ ((k.seq ≡ e.seq) × (k.dead ≡ true))
 

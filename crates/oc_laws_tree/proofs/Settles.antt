@@ -1,4 +1,4 @@
--- A ready world settles: what holds after all six steps, and how many acts they take.
+-- A ready world settles: the properties of the world after all six steps, and the number of their acts.
 use Rattle.std.proofs.Common.{◌≡◌, ℕ, inl, inr, Option, Some, None, List, [], ◌∷◌, length, refl, ap, sym, subst, ◌∙◌, arith, length-append}
 use Rattle.oc_base.specs.declared.cert.Cert.{Cert}
 use Rattle.oc_model.specs.declared.event.Event.TheVariants.{Settle}

@@ -1,4 +1,4 @@
--- Each node of every world is sound, so a snapshot of it stands for it.
+-- Each node of every world is sound, so a snapshot of the node can replace its records.
 use Rattle.std.proofs.Common.{ℕ, true, List, [], ◌∷◌, length, ap, sym, subst}
 use Rattle.std.specs.List.{range_with_len}
 use Rattle.oc_model.specs.declared.event.Act.{Act}

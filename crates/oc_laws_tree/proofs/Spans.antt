@@ -1,4 +1,4 @@
--- The ids of the nodes of a world that is reached, from 1 to their number; and that whoever is told of in a table is one of them.
+-- The ids of the nodes of a world are 1 up to their number; and each node that a table tells of is one of them.
 use Rattle.std.proofs.Common.{◌≡◌, ℕ, zero, suc, ◌+◌, ◌≤◌, ◌<◌, List, [], ◌∷◌, ◌⊎◌, inl, inr, ap, sym, subst, ◌∙◌, arith}
 use Rattle.std.specs.List.{AllByRecursion, range_with_len}
 use Rattle.std.proofs.lemmas.Bool.{cases_order}

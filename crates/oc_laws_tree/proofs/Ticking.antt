@@ -1,4 +1,4 @@
--- A tick in a world: what it keeps, and which leases it ends.
+-- A tick in a world: the properties that it keeps, and the leases that it ends.
 use Rattle.std.proofs.Common.{◌≡◌, ℕ, ◌+◌, ◌-◌, ◌<◌, ◌≤◌, max, false, nat_le, Option, Some, None, ◌⊎◌, inl, inr, length, refl, ap, sym, subst, ◌∙◌, ⊎_elim, arith}
 use Rattle.std.proofs.lemmas.Bool.{cases_eq, false_from_ne_true}
 use Rattle.std.proofs.Common.{leb-true}

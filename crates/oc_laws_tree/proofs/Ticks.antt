@@ -1,4 +1,4 @@
--- What a tick does to a node: leases that are over end, and no other; leased children without an end get one.
+-- The effect of a tick on a node: it ends exactly the leases that are over, and sets the ends of leased children without one.
 use Rattle.std.proofs.Common.{◌≡◌, ℕ, zero, suc, ◌+◌, ◌-◌, ◌<◌, max, Bool, true, false, if◌then◌else◌, Option, Some, None, List, [], ◌∷◌, ◌⊎◌, inl, inr, get_or, set, length, refl, ap, sym, subst, ◌∙◌, ⊎_elim, arith}
 use Rattle.std.proofs.lemmas.Bool.{cases_eq, true≢false}
 use Rattle.oc_base.specs.declared.cert.Cert.{Cert}

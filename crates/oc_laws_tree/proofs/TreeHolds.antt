@@ -1,4 +1,4 @@
--- What the laws of the tree say of a world, from which its listings are explained.
+-- The laws of the tree, for one world, from which its listings are explained.
 use Rattle.std.proofs.Common.{ℕ, ◌⊎◌}
 use Rattle.oc_base.specs.declared.cert.Cert.{Cert}
 use Rattle.oc_model.specs.Chains.{IsJoined}

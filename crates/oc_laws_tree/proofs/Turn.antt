@@ -1,4 +1,4 @@
--- The turn of a node in step 3 of heal: what it needs, what it brings about, and that it does where the member before is the root.
+-- The turn of a node in step 3 of heal: its conditions and its effect, which is proved where the member before is the root.
 use Rattle.std.proofs.Common.{◌≡◌, ℕ, ◌+◌, ◌≤◌, ◌<◌, nat_le, if◌then◌else◌, Option, Some, None, [], ◌∷◌, length, refl, ap, sym, subst, ◌∙◌, ⊎_elim, arith, ne_eqb}
 use Rattle.std.proofs.lemmas.Bool.{cases_eq}
 use Rattle.oc_base.specs.declared.rank.Rank.{Rank}

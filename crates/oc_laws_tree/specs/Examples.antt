@@ -11,9 +11,9 @@ use Rattle.oc_model.specs.NextWorld.{world_after}
 use Rattle.oc_model.specs.Table.{newest, table_line}
 use Rattle.oc_model.specs.World.{World, new_world, node}
 
--- Worlds in which the causes occur that explain lines and counts.
+-- Worlds in which each cause occurs that explains a wrong line or count.
 
--- A parent with three children fails, and they go beneath their grandparent. Before the world settles the root still lists the parent.
+-- A parent with three children fails, and they join their grandparent. Before the world settles the root still lists the parent.
 
 abbrev failing : List Event
 failing =
@@ -23,7 +23,7 @@ failing =
 abbrev failed : World
 failed = world_after (new_world (header 5 1 (0 ∷ 0 ∷ 0 ∷ 0 ∷ 0 ∷ []))) failing
 
--- that line has its cause
+-- the wrong line has its cause
 abbrev pub WrongCauseOccurs : Type 0
 WrongCauseOccurs = (table_line (table_of failed 1) 1 2 ≡ Some 1) × HasWrongCause failed 1 2
 
@@ -35,11 +35,11 @@ serving =
     ++ (Do (At 2 CheckNow) ∷ Do (Deliver 5) ∷ Do (Deliver 6) ∷ Do (At 1 (Publish (codes "/a") [])) ∷ Do (At 3 (Pull 1)) ∷ Do (Deliver 7) ∷ Do (Deliver 8) ∷ Do (At 3 (Client 0 0 (codes "/a")))
     ∷ Do (At 3 CheckNow) ∷ [])
 
--- it has counted the client
+-- the world after the node counted the client
 abbrev counted : World
 counted = world_after (new_world (header 3 1 (0 ∷ 0 ∷ 0 ∷ []))) serving
 
--- its parent knows it too
+-- the world after the parent knows the count
 abbrev told : World
 told = world_after counted (Do (Deliver 9) ∷ [])
 
@@ -50,14 +50,14 @@ number_of w x = (node w x).control.kept.number
 abbrev HasOldCount : World → ℕ → ℕ → Type 0
 HasOldCount w y x = (e : Cert) × (newest (table_of w y) x ≡ Some e) × (e.number < number_of w x)
 
--- the root's line of node 3 is right, and its count is old
+-- the root's line of node 3 is right, but its count is old
 abbrev IsBehind : World → Type 0
 IsBehind w = IsRoot w 1 × (table_line (table_of w 1) 1 3 ≡ Some 2) × (true_line w 1 3 ≡ Some 2) × HasOldCount w 1 3
 
--- because the parent was not told
+-- the count is old since the parent was not told
 abbrev pub UntoldOccurs : Type 0
 UntoldOccurs = IsBehind counted × HasOldCount counted 2 3
 
--- or because a certificate waits at it
+-- the count is old since a certificate waits at the parent
 abbrev pub WaitingOccurs : Type 0
 WaitingOccurs = IsBehind told × HasMissingCause told 1 3

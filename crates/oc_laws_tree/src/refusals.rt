@@ -7,8 +7,8 @@ ghost use Rattle.oc_model.specs.Ready.{IsReady};
 ghost use Rattle.oc_model.specs.Settle.{settles};
 ghost use Rattle.oc_model.specs.World.{World};
 
-/// Settle is refused exactly where the world is not ready, and then nothing changes. In a ready world it
-/// does its steps, and tells the number of their acts.
+/// Settle is refused exactly if the world is not ready, and then nothing changes. In a ready world it plays
+/// its steps, and tells the number of their acts.
 pub fn unready_worlds_refuse_settle()
     ensures refused { (w : World) → (word_of w Settle ≡ Unready) ↔ (IsReady w → ⊥) }
     ensures unchanged { (w : World) → (IsReady w → ⊥) → next_world w Settle ≡ w }
@@ -16,9 +16,8 @@ pub fn unready_worlds_refuse_settle()
     ensures tells { (w : World) → IsReady w → word_of w Settle ≡ Settled (length (settles w).acts) }
 {}
 
-/// Heal is refused exactly where the world is not able, and then nothing changes. An able world has a
-/// leader, the first chain member that is up; there heal does its steps, and tells the number of their
-/// acts.
+/// Heal is refused exactly if the world is not able, and then nothing changes. An able world has a leader, the
+/// least chain member that is up; there heal plays its steps, and tells the number of their acts.
 pub fn unable_worlds_refuse_heal()
     ensures refused { (w : World) → (word_of w Heal ≡ Unready) ↔ (IsAble w → ⊥) }
     ensures unchanged { (w : World) → (IsAble w → ⊥) → next_world w Heal ≡ w }

@@ -7,9 +7,9 @@ ghost use Rattle.oc_laws_tree.specs.Settling.{SettleSettles, SettleTells, Settle
 
 /// Settle settles a ready world: after any events, from any new world.
 ///
-/// After it the leases that nodes hold are those of the live tree and no others, nothing waits to be
-/// told, and each parent knows its children's last numbers. So the one root, which is the same as before,
-/// lists exactly the live tree, with each node's own number and client count.
+/// After settle all leases are those of the live tree, nothing waits to be told, and each parent knows its
+/// children's last own numbers. So the one root, which is the same as before, lists exactly the live tree,
+/// with each node's own number and client count.
 pub fn ready_worlds_settle()
     ensures settled { (h : Header) (events : List Event) → SettleSettles (world_after (new_world h) events) }
     ensures told { (h : Header) (events : List Event) → SettleTells (world_after (new_world h) events) }
@@ -17,10 +17,10 @@ pub fn ready_worlds_settle()
     ensures listed { (h : Header) (events : List Event) → SettleLists (world_after (new_world h) events) }
 {}
 
-/// The number that settle tells: three acts for each node that is up, six more for each of these that has
-/// a parent, and three for each 64 certificates, or part of 64, that wait at a node when its turn in step
-/// 6 comes. So each check-in is acknowledged. Without step 6 it is nine acts at most for each node that
-/// is up, also in a world that is not ready.
+/// The number of acts that settle tells: three for each node that is up, six more for each of these with a
+/// parent, and three for each 64 certificates, or part of 64, that wait at a node at its turn in step 6. So
+/// each check-in is acknowledged. Without step 6 it is at most nine acts for each node that is up, also in a
+/// world that is not ready.
 pub fn settle_takes_few_acts()
     ensures number { (h : Header) (events : List Event) → SettleTakes (world_after (new_world h) events) }
     ensures five_steps { (h : Header) (events : List Event) → FiveStepsTakeFew (world_after (new_world h) events) }

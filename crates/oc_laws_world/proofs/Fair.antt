@@ -1,4 +1,4 @@
--- What a step may do to groups, messages and the source: the changes of which each rule is made.
+-- The changes of groups, messages and the source that a step may make, of which each rule consists.
 use Rattle.std.proofs.Common.{◌≡◌, ℕ, List, [], refl, sym, subst, ◌∙◌}
 use Rattle.std.specs.List.{AllByRecursion}
 use Rattle.oc_base.specs.declared.group.Group.{Group}

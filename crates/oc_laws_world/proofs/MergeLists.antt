@@ -1,4 +1,4 @@
--- The entries of one node in a merge that goes on, their fold, and what their steps send.
+-- The entries of one node in a merge that goes on, their fold, and the messages of their steps.
 use Rattle.std.proofs.Common.{◌≡◌, ℕ, suc, Bool, true, false, ◌==◌, if◌then◌else◌, Some, List, [], ◌∷◌, ◌++◌, slice_get, inl, inr, ⊎_elim, refl, ap, sym, ◌∙◌, append_assoc, append-nil, eq-eqb, ne_eqb}
 use Rattle.oc_model.specs.declared.message.Message.{Message}
 use Rattle.oc_model.specs.Node.{Node}

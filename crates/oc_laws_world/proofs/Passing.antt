@@ -1,4 +1,4 @@
--- What each act and each event leaves so holds after a list of events, and of each world on the way.
+-- A property that each act and each event keeps holds after a list of events, and in each world on the way.
 use Rattle.std.proofs.Common.{Option, Some, None, List, [], ◌∷◌}
 use Rattle.oc_model.specs.declared.event.Act.{Act}
 use Rattle.oc_model.specs.declared.event.Event.{Event}

@@ -1,4 +1,4 @@
--- The nodes of a new world, and what is found at an id that is there.
+-- The nodes of a new world, and the process found at the id of a node.
 use Rattle.std.proofs.Common.{◌≡◌, ℕ, zero, suc, ◌+◌, ◌≤◌, ◌<◌, Bool, true, false, ◌==◌, List, [], ◌∷◌, inl, inr, map, if◌then◌else◌, ap, sym, subst, ⊎_elim, refl, arith, eqb-true, eq-eqb}
 use Rattle.std.specs.List.{range_with_len}
 use Rattle.std.proofs.lemmas.Bool.{cases_eq, eqb-false}

@@ -1,4 +1,4 @@
--- Each input keeps content true: the control rules leave it alone, the others change it by the rule Content.
+-- Each input keeps content true: the control rules don't touch it, and rule 14, content, changes it for the others.
 use Rattle.std.proofs.Common.{ℕ, List, refl}
 use Rattle.oc_base.specs.declared.group.Group.{Group}
 use Rattle.oc_model.specs.declared.input.Input.{Input}

@@ -1,4 +1,4 @@
--- What the laws on content speak of, over lists of groups: those of the source and those of one node.
+-- The terms of the laws on content, over lists of groups: those of the source and those of one node.
 use Rattle.std.proofs.Common.{◌≡◌, ℕ, ◌+◌, Bool, true, false, ◌&&◌, ◌-◌, ◌≤◌, ◌==◌, List, [], ◌∷◌, Some, length, take, drop, if◌then◌else◌, refl, ap, sym, subst, ◌∙◌, arith, le_refl, eqb-true, length-take, length-drop}
 use Rattle.std.specs.List.{AllByRecursion}
 use Rattle.std.proofs.lemmas.Bool.{and_parts}

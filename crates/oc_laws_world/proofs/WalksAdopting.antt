@@ -1,4 +1,4 @@
--- The rule Answer an ask is made of the small changes.
+-- Rule 7, answer an ask, consists of the small changes.
 use Rattle.std.proofs.Common.{◌≡◌, ℕ, ◌+◌, ◌<◌, Bool, true, false, not, ◌&&◌, ◌||◌, ◌==◌, nat_lt, if◌then◌else◌, Option, Some, None, List, refl, ap, ◌∙◌, arith, eq-eqb, ltb-false}
 use Rattle.std.proofs.lemmas.Bool.{cond_both, and_parts}
 use Rattle.oc_base.specs.declared.rank.Rank.{Rank}

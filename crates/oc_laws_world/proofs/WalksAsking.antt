@@ -1,5 +1,5 @@
--- How a node comes by a parent, or becomes a root: the rules Ask, Next try, Round, Become acting, Take a yes, Take a no,
--- Unreachable and Relocate are made of the small changes.
+-- How a node gets a parent or becomes a root: rules 1 to 4 (ask, next try, round, become acting), 8 (take a yes), 9 (take a no),
+-- 10 (unreachable) and 11 (relocate) consist of the small changes.
 use Rattle.std.proofs.Common.{◌≡◌, ℕ, ◌+◌, Bool, true, false, not, ◌&&◌, ◌||◌, ◌==◌, nat_lt, if◌then◌else◌, Option, Some, None, List, [], ◌∷◌, refl, ap, subst, eqb-true}
 use Rattle.std.proofs.lemmas.Bool.{cond_both, and_parts}
 use Rattle.oc_base.specs.declared.rank.Rank.{Rank}

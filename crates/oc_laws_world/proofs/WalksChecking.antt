@@ -1,4 +1,4 @@
--- How leases are kept up and changes are told: the rules Check now, Tick and Check-ins are made of the small changes.
+-- How leases are kept up and changes are told: rules 5 (check now), 6 (tick) and 13 (check-ins) consist of the small changes.
 use Rattle.std.proofs.Common.{◌≡◌, ℕ, ◌+◌, max, true, false, not, ◌&&◌, ◌==◌, nat_lt, if◌then◌else◌, Option, Some, None, List, [], ◌∷◌, inl, inr, filter, refl, sym, ◌∙◌, subst, eqb-true}
 use Rattle.std.specs.List.{AllByRecursion}
 use Rattle.std.proofs.lemmas.Bool.{cond_both, and_parts}

@@ -1,4 +1,4 @@
--- The rule Content changes nothing of the tree part: it sends chunks and fetches at most.
+-- Rule 14, content, does not change the tree part: it sends chunks and fetches at most.
 use Rattle.std.proofs.Common.{◌≡◌, ℕ, ◌+◌, Bool, true, false, ◌&&◌, ◌==◌, nat_lt, if◌then◌else◌, Option, Some, None, List, [], length}
 use Rattle.std.proofs.lemmas.Bool.{cond_both}
 use Rattle.oc_base.specs.declared.shelf.Shelf.{Shelf}

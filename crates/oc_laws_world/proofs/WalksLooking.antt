@@ -1,4 +1,4 @@
--- The rules Look, Client and Measured are made of the small changes.
+-- Rules 12 (look), 15 (client) and 16 (measured) consist of the small changes.
 use Rattle.std.proofs.Common.{ℕ, ◌+◌, ◌-◌, Bool, not, ◌&&◌, ◌==◌, nat_lt, nat_le, if◌then◌else◌, Option, Some, None, List}
 use Rattle.std.proofs.lemmas.Bool.{cond_both}
 use Rattle.oc_base.specs.declared.shelf.Shelf.{Shelf}

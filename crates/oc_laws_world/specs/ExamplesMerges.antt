@@ -12,7 +12,7 @@ use Rattle.oc_model.specs.World.{new_world}
 use Rattle.oc_laws_world.specs.Merges.{Entry, Line, line, Starts, Takes, IsMerge, IsScheduleOf, entries_of, own_fold}
 use Rattle.oc_laws_world.specs.Missed.{Deed, Started, Took, Missed, record_of, without_missed}
 
--- Two records: node 1 publishes, and node 2 copies it and is started again.
+-- Two records: node 1 publishes, and node 2 copies the group and is started again.
 
 abbrev two : Header
 two = header 2 1 (0 ∷ 0 ∷ [])
@@ -34,7 +34,7 @@ copying =
     ∷ line 2 Starts
     ∷ []
 
--- each message was sent before it is delivered
+-- each message was sent before its delivery
 abbrev pub Copying : Type 0
 Copying = IsMerge two copying
 
@@ -47,16 +47,16 @@ abbrev pub CopyingScheduled : Type 0
 CopyingScheduled = IsScheduleOf (new_world two) copying
     (Up 2 ∷ Do (At 2 (Pull 1)) ∷ Up 1 ∷ Do (At 1 (Publish (codes "/a") (codes "hello"))) ∷ Do (Deliver 1) ∷ Do (Deliver 2) ∷ Crash 2 ∷ Up 2 ∷ [])
 
--- by its own record node 2 holds what was published
+-- by its own record node 2 holds the published bytes
 abbrev pub CopyingHeld : Type 0
 CopyingHeld = shelf (own_fold two copying 2).groups ≡ record { group = codes "/a"; held = 5; sealed = false } ∷ []
 
--- A record whose second publish was not taken, since the node stopped, and one whose first was.
+-- A record whose second publish was not taken, since the node stopped, and a record whose first publish was taken.
 
 abbrev adds : List ℕ → Input
 adds bytes = Publish (codes "/a") bytes
 
--- the lengths of all groups, which tell these files apart
+-- the lengths of all groups, in which these files differ
 abbrev lengths : Node → List ℕ
 lengths n = map (λ l. l.held) (shelf n.groups)
 

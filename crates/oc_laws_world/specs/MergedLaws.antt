@@ -7,7 +7,7 @@ use Rattle.oc_laws_world.specs.Numbers.{HaveOnePeer, AskNumbersAreBelow}
 use Rattle.oc_laws_world.specs.Ranks.{NoRankWorsens, InTreeAreRanked, ToldRanksHold, ParentsPrecede}
 use Rattle.oc_laws_world.specs.Throughout.{Throughout}
 
--- What the laws of this crate say of each world on the way of some events.
+-- The statement of this crate's laws for each world on the way of some events.
 pub record AllHold (w : World) (es : List Event) : Type 0 where
   pub prefixes : Throughout HoldPrefixes w es
   pub acknowledged : Throughout HoldAcknowledged w es

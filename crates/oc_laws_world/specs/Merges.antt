@@ -12,14 +12,14 @@ use Rattle.oc_model.specs.Numbers.{IsAmong}
 use Rattle.oc_model.specs.Step.{step}
 use Rattle.oc_model.specs.World.{World, is_up, message_at}
 
--- What running nodes record, and how their records make one schedule.
+-- The records of running nodes, and the schedule that they make together.
 
--- an entry of a node's record: it started, or took an input
+-- an entry of a node's record: a start, or an input
 pub data Entry : Type 0 where
   Starts : Entry
   Takes : Input → Entry
 
--- an entry, and the node whose record has it
+-- an entry, with the node whose record it is from
 pub record Line : Type 0 where
   pub node : ℕ
   pub entry : Entry
@@ -29,7 +29,7 @@ line x e = record { node = x; entry = e }
 
 -- One node
 
--- what an entry makes of a node, and what the node sends by it
+-- the node after an entry
 abbrev pub after_entry : Node → Entry → Node
 after_entry n Starts = restarted n
 after_entry n (Takes i) = (step n i).node
@@ -38,7 +38,7 @@ abbrev pub sent_by : Node → Entry → List Message
 sent_by n Starts = []
 sent_by n (Takes i) = (step n i).sends
 
--- the same for its entries one after another: the fold of them
+-- the node after its entries, one after another
 abbrev pub after_entries : Node → List Entry → Node
 after_entries n [] = n
 after_entries n (e ∷ es) = after_entries (after_entry n e) es
@@ -62,7 +62,7 @@ abbrev pub is_any : List Entry → Bool
 is_any [] = false
 is_any (e ∷ es) = true
 
--- x has an entry in these lines, of which the first is a start
+-- x has an entry in these lines, the first of which is a start
 abbrev pub HasStarted : List Line → ℕ → Type 0
 HasStarted ls x = is_any (entries_of x ls) ≡ true
 
@@ -70,17 +70,17 @@ HasStarted ls x = is_any (entries_of x ls) ≡ true
 abbrev pub WasSent : Header → List Line → Message → Type 0
 WasSent h ls m = (x : ℕ) × IsNode h.nodes x × IsAmong m (sent_by_all (new_node h x) (entries_of x ls))
 
--- an input can come to x after these lines: a message was sent to it before
+-- an input can come to x after these lines: a message only if it was sent to x before
 abbrev pub CanCome : Header → List Line → ℕ → Input → Type 0
 CanCome h ls x (Delivered m) = (m.to ≡ x) × WasSent h ls m
 CanCome h ls x i = Unit {0}
 
--- an entry of x can come after these lines: a start always, an input once x has started and it can come
+-- an entry of x can come after these lines: a start always, an input only after a start of x and if it can come
 abbrev pub CanFollow : Header → List Line → ℕ → Entry → Type 0
 CanFollow h ls x Starts = Unit {0}
 CanFollow h ls x (Takes i) = HasStarted ls x × CanCome h ls x i
 
--- each of these lines is one of a node, and can come after those before it and the lines `past`
+-- each of these lines belongs to a node, and can come after those before it and the lines `past`
 abbrev pub GoOn : Header → List Line → List Line → Type 0
 GoOn h past [] = Unit {0}
 GoOn h past (l ∷ ls) = IsNode h.nodes l.node × CanFollow h past l.node l.entry × GoOn h (past ++ l ∷ []) ls
@@ -90,18 +90,18 @@ IsMerge h ls = GoOn h [] ls
 
 -- The schedule of a merge
 
--- a start, with a crash before it where the node is up
+-- the events of a start: with a crash before it if the node is up
 abbrev pub start_events : ℕ → Bool → List Event
 start_events x false = Up x ∷ []
 start_events x true = Crash x ∷ Up x ∷ []
 
--- these are the events of an entry of x in this world: a message is delivered by its place in the net
+-- the events of an entry of x in this world; a delivery names the message by its place in the net
 abbrev pub AreEventsOf : World → ℕ → Entry → List Event → Type 0
 AreEventsOf w x Starts es = es ≡ start_events x (is_up w x)
 AreEventsOf w x (Takes (Delivered m)) es = (k : ℕ) × (message_at w.net k ≡ Some m) × (es ≡ Do (Deliver k) ∷ [])
 AreEventsOf w x (Takes i) es = es ≡ Do (At x i) ∷ []
 
--- these are the events of these lines, one after another, from this world on
+-- the events of these lines, one after another, from this world on
 abbrev pub IsScheduleOf : World → List Line → List Event → Type 0
 IsScheduleOf w [] es = es ≡ []
 IsScheduleOf w (l ∷ ls) es =

@@ -10,17 +10,17 @@ use Rattle.oc_model.specs.ClaimsTree.{table_of, seq_of}
 use Rattle.oc_model.specs.Numbers.{IsAmong}
 use Rattle.oc_model.specs.World.{World, node, mode_of}
 
--- Each ask number has one peer, wherever it is told.
+-- Each ask number has one peer, in every table, log and message.
 
 -- an ask of x with this number went to p, among these messages
 abbrev pub HasAskedIn : List Message → ℕ → ℕ → ℕ → Type 0
 HasAskedIn net x s p = (r : Option Rank) × IsAmong (record { from = x; to = p; body = Ask s r }) net
 
--- among all that were ever sent
+-- an ask of x with this number went to p, among all messages
 abbrev pub HasAsked : World → ℕ → ℕ → ℕ → Type 0
 HasAsked w x s p = HasAskedIn w.net x s p
 
--- a node in this mode asks p to be its parent, or has it as that
+-- a node in this mode asks p, or is joined to p
 abbrev pub IsPeer : Mode → ℕ → Type 0
 IsPeer mode p = (mode ≡ Asking p) ⊎ (mode ≡ Joined p)
 
@@ -29,20 +29,20 @@ abbrev pub Tells : Body → Cert → Type 0
 Tells (CheckIn seq upto rate number clients certs) f = IsAmong f certs
 Tells body f = ⊥
 
--- this fact is in a table, in a log, or in a message that was ever sent
+-- this fact is in a table, in a log, or in a message
 abbrev pub IsAnywhere : World → Cert → Type 0
 IsAnywhere w f =
     ((y : ℕ) × IsAmong f (table_of w y)) ⊎ (((y : ℕ) × IsAmong f (node w y).control.kept.log.waiting) ⊎ ((m : Message) × IsAmong m w.net × Tells m.body f))
 
--- ask number s of x goes with the peer p: it is that of its present ask or parent, of an ask that was ever sent, or of a fact anywhere
+-- ask number s of x goes with the peer p: as its present ask or parent, by an ask that was ever sent, or by a fact anywhere
 abbrev pub GoesWith : World → ℕ → ℕ → ℕ → Type 0
 GoesWith w x s p =
     ((seq_of w x ≡ s) × IsPeer (mode_of w x) p) ⊎ (HasAsked w x s p ⊎ ((f : Cert) × IsAnywhere w f × (f.subject ≡ x) × (f.seq ≡ s) × (f.parent ≡ p)))
 
--- one ask number of a node goes with one peer at most
+-- one ask number of a node goes with at most one peer
 abbrev pub HaveOnePeer : World → Type 0
 HaveOnePeer w = (x s p q : ℕ) → GoesWith w x s p → GoesWith w x s q → p ≡ q
 
--- no ask number is above the node's own
+-- no ask number of a node is above its present one
 abbrev pub AskNumbersAreBelow : World → Type 0
 AskNumbersAreBelow w = (x s p : ℕ) → GoesWith w x s p → s ≤ seq_of w x

@@ -12,13 +12,13 @@ use Rattle.oc_model.specs.NextWorld.{next_world}
 use Rattle.oc_model.specs.World.{World, node, mode_of}
 use Rattle.oc_laws_step.specs.Order.{IsNoWorse}
 
--- What holds of the ranks of all nodes.
+-- Properties of the ranks of all nodes.
 
--- the rank of a node, or none
+-- the rank of a node, if it has one
 abbrev pub own_rank : World → ℕ → Option Rank
 own_rank w x = (node w x).control.kept.rank
 
--- the rank of a node, or the last of all where it has none
+-- the rank of a node, or for a node without one the last of all ranks
 abbrev pub rank_of : World → ℕ → Rank
 rank_of w x = rank_or_last (own_rank w x)
 
@@ -30,7 +30,7 @@ IsRanked own = (r : Rank) × (own ≡ Some r)
 abbrev pub IsAtLeast : Rank → Rank → Type 0
 IsAtLeast a b = (a ≡ b) ⊎ Precedes a b
 
--- an event leaves each node its rank, or gives it a better one
+-- an event leaves each node's rank unchanged, or makes it better
 abbrev pub NoRankWorsens : World → Event → Type 0
 NoRankWorsens w e = (x : ℕ) → IsNoWorse (own_rank w x) (own_rank (next_world w e) x)
 
@@ -38,13 +38,13 @@ NoRankWorsens w e = (x : ℕ) → IsNoWorse (own_rank w x) (own_rank (next_world
 abbrev pub InTreeAreRanked : World → Type 0
 InTreeAreRanked w = (x : ℕ) → in_tree (mode_of w x) ≡ true → IsRanked (own_rank w x)
 
--- what a message says of its sender's rank is that or a worse one; who becomes a parent has a rank
+-- a rank in a message is its sender's rank or a worse one; the sender of a yes has a rank
 abbrev pub IsBacked : World → ℕ → Body → Type 0
 IsBacked w y (Yes seq rank ancestors) = IsRanked (own_rank w y) × IsAtLeast (rank_of w y) rank
 IsBacked w y (CheckAck seq upto rank ancestors) = IsAtLeast (rank_of w y) rank
 IsBacked w y body = Unit {0}
 
--- this holds of each message that was ever sent
+-- each message that was ever sent keeps to this
 abbrev pub ToldRanksHold : World → Type 0
 ToldRanksHold w = AllByRecursion (λ m. IsBacked w m.from m.body) w.net
 

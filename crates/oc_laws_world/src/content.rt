@@ -4,9 +4,9 @@ ghost use Rattle.oc_laws_world.specs.Throughout.{Always};
 
 /// Content stays true: after any events, in any order, from any new world.
 ///
-/// Each node holds beginnings of what the source published, all that it ever said that it holds, and
-/// the whole of what it has sealed; each chunk that was ever sent brings what the source published;
-/// and no further event changes what is sealed in the source.
+/// Each node holds prefixes of the content that the source published, all bytes that it ever told it holds,
+/// and the whole of each group that it has sealed; each chunk that was ever sent has bytes of the source;
+/// and no further event changes a sealed group of the source.
 pub fn content_stays_true()
     ensures prefixes { Always HoldPrefixes }
     ensures acknowledged { Always HoldAcknowledged }

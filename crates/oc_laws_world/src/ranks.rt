@@ -3,11 +3,11 @@ ghost use Rattle.oc_model.specs.Chains.{HasNoCycle};
 ghost use Rattle.oc_laws_world.specs.Ranks.{NoRankWorsens, InTreeAreRanked, ToldRanksHold, ParentsPrecede};
 ghost use Rattle.oc_laws_world.specs.Throughout.{Always};
 
-/// Ranks, after any events, in any order, from any new world.
+/// The ranks after any events, in any order, from any new world.
 ///
-/// No event worsens a rank. Each node that is joined or acting has one. Whoever said yes to an asker has
-/// a rank, and it is the one that was told or a better one; the same holds for whoever acknowledged a
-/// check-in, where having no rank counts as the last of all. And a parent's rank precedes its child's.
+/// No event makes a rank worse. Each node that is joined or acting has a rank. The sender of a yes has the
+/// rank that it told or a better one; the same holds for the sender of an acknowledgement of a check-in, where
+/// a node without a rank counts as the last of all. And a parent's rank precedes its child's.
 pub fn ranks_hold()
     ensures never_worse { Always (λ w. (e : Event) → NoRankWorsens w e) }
     ensures placed { Always InTreeAreRanked }

@@ -18,17 +18,16 @@ use crate::{
     ask_numbers_have_one_peer, content_stays_true, parent_links_form_no_cycle, ranks_hold,
 };
 
-/// Records of running nodes are a schedule.
+/// The records of running nodes are a schedule.
 ///
-/// A merge has the entries of each node in their order, starts and inputs, the first of them a start;
-/// and each message comes where it was sent before, to that node, by a step of the merge. Then there is
-/// a schedule of it: its inputs, with each delivery named by its place in the net, and its starts, with a
-/// crash before each but the first of a node. Whatever that schedule is, it leads to a world in which
-/// each node is the fold of its own entries, and the net has exactly what their steps sent.
+/// A merge has the entries of each node in their order, starts and inputs, the first of them a start; and
+/// each message comes after it was sent, to its receiver, by a step of the merge. Every merge has a
+/// schedule: its inputs, with each delivery named by its place in the net, and its starts, with a crash
+/// before each but the first of a node. Every schedule of a merge leads to a world in which each node is the
+/// fold of its own entries, and the net has exactly the messages that their steps sent.
 ///
-/// So all that holds throughout every run holds of a recorded network: the laws of this crate in each
-/// world on the way, and so every other law about lists of events. A merge goes on line by line, and its
-/// schedule with it.
+/// So every law about lists of events holds for a recorded network: the laws of this crate hold in each
+/// world on the way. A merge goes on line by line, and its schedule with it.
 pub fn records_are_schedules()
     ensures scheduled { (h : Header) (ls : List Line) → IsMerge h ls → (es : List Event) × IsScheduleOf (new_world h) ls es }
     ensures folds { (h : Header) (ls : List Line) (es : List Event) → IsMerge h ls → IsScheduleOf (new_world h) ls es → (x : ℕ) → IsNode h.nodes x → node (world_after (new_world h) es) x ≡ own_fold h ls x }
@@ -44,7 +43,7 @@ pub fn records_are_schedules()
     ask_numbers_have_one_peer();
 }
 
-/// Two records, their merge and its schedule, and what is left of a record with a missed input, worked out.
+/// Checks worked examples: two records, their merge and its schedule, and a record with a missed input.
 pub fn merges_compute()
     ensures merge { Copying }
     ensures entries { CopyingAt2 }
@@ -54,12 +53,12 @@ pub fn merges_compute()
     ensures taken { TakenKept }
 {}
 
-/// A merge that takes lines of records until no further line can be taken has taken the most of each
-/// record, whatever order it tried.
+/// A merge that takes lines of records until no more line can be taken has taken the greatest part of each
+/// record, in any order of attempts.
 ///
-/// To take a line forbids none of another node. What was taken of each node is a beginning of its record,
-/// and all of it is a merge, as [`records_are_schedules`] wants it. Of those that always take the first line
-/// of the input that can be taken there is one.
+/// Taking a line never prevents a line of another node. The lines taken of each node are a prefix of its
+/// record, and together they are a merge for [`records_are_schedules`]. Exactly one of these merges always
+/// takes the first line of the input that can be taken.
 pub fn merging_takes_the_most()
     ensures stays { (r : Records) (taken : List Line) (x y : ℕ) (d e : Entry) → (x ≡ y → ⊥) → CanBeTaken r taken y e → CanBeTaken r (taken ++ line x d ∷ []) y e }
     ensures front { (r : Records) (taken : List Line) → IsTaking r taken → (x : ℕ) → IsBeginning (entries_of x taken) (entries_of x r.lines) }
@@ -71,12 +70,12 @@ pub fn merging_takes_the_most()
     ensures one_order { (r : Records) (a b : List Line) → IsInOrder r a → IsFull r a → IsInOrder r b → IsFull r b → a ≡ b }
 {}
 
-/// Of a record whose last lines before a stop may tell of inputs that were not taken, these lines are
-/// found from the lines of its node alone.
+/// The lines of inputs that were not taken, each the last before a stop, are found in a record from the
+/// lines of its node alone.
 ///
-/// What is left folds, at each start, to what the node was that had taken the others, and each start finds
-/// the files that its line tells. Only a line stays whose input would have left the control part, the
-/// lengths and the seals, and then the start finds the same.
+/// The remaining record folds, at each start, to the state of the node that took the other inputs, and each
+/// start finds the files of its line. A line of an input that was not taken stays only if the input would
+/// not have changed the control part, the lengths and the seals; the start then finds the same files.
 pub fn missed_inputs_are_found()
     ensures folds { (digest : Node → List ℕ) (n : Node) (ds : List Deed) → IsStory digest n ds
         → after_entries n (without_missed digest n (record_of digest n (ds ++ Started ∷ []))) ≡ after_deeds n (ds ++ Started ∷ []) }

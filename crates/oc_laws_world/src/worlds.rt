@@ -10,9 +10,9 @@ ghost use Rattle.oc_model.specs.Ready.{IsReady, is_ready, IsSettled, is_settled}
 ghost use Rattle.oc_model.specs.World.{World, ids};
 ghost use Rattle.oc_model.specs.WorldBounds.{IsDistinct, IsLater, IsWithinLimits, AreBefore};
 
-/// How a world goes on, whatever the event: the ids stay, what was sent stays sent, no node comes to
-/// hold more groups or bytes than it may, and no clock goes more than 60 seconds past the latest one
-/// or the latest that a tick may tell.
+/// The changes of a world by any event: the ids stay, sent messages stay sent, no node exceeds its limits of
+/// groups and bytes, and no clock goes more than 60 seconds past the latest clock or the latest time that a
+/// tick may tell.
 pub fn events_go_on()
     ensures ids { (w : World) (e : Event) → ids (next_world w e) ≡ ids w }
     ensures net { (w : World) (e : Event) → IsLater w (next_world w e) }
@@ -20,14 +20,14 @@ pub fn events_go_on()
     ensures clocks { (w : World) (e : Event) (nodes t : ℕ) → IsDistinct (ids w) → IsEvent nodes e → MAX_RATE ≤ t → AreBefore t w → AreBefore (t + 60) (next_world w e) }
 {}
 
-/// There is at most one true chain of a node, and it is the one that is computed.
+/// A node has at most one true chain, and the definitions compute it.
 pub fn chains_are_computed()
     ensures computed { (w : World) (x r : ℕ) (c : List ℕ) → (chain_to w r x ≡ Some c) ↔ IsTrueChain w x r c }
     ensures one { (w : World) (x r s : ℕ) (c d : List ℕ) → IsTrueChain w x r c → IsTrueChain w x s d → c ≡ d }
 {}
 
-/// The tests by which settle, heal and a stop decide what to do, and that of a settled world, say what the
-/// definitions say.
+/// The tests by which settle, heal and a stop decide, and the test of a settled world, agree with their
+/// definitions.
 pub fn tests_decide()
     ensures ready { (w : World) → (is_ready w ≡ true) ↔ IsReady w }
     ensures able { (w : World) → (is_able w ≡ true) ↔ IsAble w }

@@ -37,7 +37,7 @@ connections_of-more (t ∷ past) (b ∷ given) [] more some = absurd (omega (ari
 connections_of-more (t ∷ past) (b ∷ given) (w ∷ strings) more some =
     ap (λ (cs : List Connection). connection_of b t w ∷ cs) (connections_of-more past given strings more (omega (arith, some)))
 
--- nor does the last string, if it comes later
+-- a longer last string, of a connection that comes later, does not change these connections
 connections_of-grown : (past : List ConnectionProgress) (given strings : List (List ℕ)) (more : List ℕ) → length past < length strings → connections_of past given (grown strings more) ≡ connections_of past given strings
 connections_of-grown [] given strings more some = refl
 connections_of-grown (t ∷ past) given [] more some = absurd (omega (arith, some))
@@ -107,7 +107,7 @@ length-grown [] more = refl
 length-grown (w ∷ []) more = refl
 length-grown (w ∷ next ∷ strings) more = ap (λ (n : ℕ). suc n) (length-grown (next ∷ strings) more)
 
--- what was written on each
+-- the bytes written on each connection
 pub written_at : (past : List ConnectionProgress) (given strings : List (List ℕ)) (current : Option ConnectionProgress) (k : ℕ) → length strings ≡ length past + count_of current → length strings ≤ length given → slice_get strings k ≡ option_map (λ (c : Connection). c.written) (slice_get (connections_of past given strings ++ option_to_list (current_of given (length past) current strings)) k)
 written_at [] given [] None k full some = refl
 written_at [] given (w ∷ strings) None k full some = absurd (omega (arith, full))
@@ -122,12 +122,12 @@ written_at (t ∷ past) (b ∷ given) (w ∷ strings) (Some progress) zero full 
 written_at (t ∷ past) (b ∷ given) (w ∷ strings) None (suc k) full some = written_at past given strings None k (omega (arith, full)) (omega (arith, some))
 written_at (t ∷ past) (b ∷ given) (w ∷ strings) (Some progress) (suc k) full some = written_at past given strings (Some progress) k (omega (arith, full)) (omega (arith, some))
 
--- what is left of the current connection was read
+-- a read took bytes from the front of the current connection's remaining ones
 pub record Reads (given : List (List ℕ)) (past : List ConnectionProgress) (progress : ConnectionProgress) (strings : List (List ℕ)) (room : ℕ) (old : ConnectionsView) (n : ℕ) : Type 0 where
   pub current : old.current ≡ Some (connection_of (at given (length past)) progress (at strings (length past)))
   pub after : view given past (Some (record { read = progress.read + n; failed = progress.failed })) strings room ≡ record old { current = Some (further n (connection_of (at given (length past)) progress (at strings (length past)))) }
 
--- and its view
+-- the view of the connections after the read
 pub read_view : (given : List (List ℕ)) (past : List ConnectionProgress) (current : Option ConnectionProgress) (progress : ConnectionProgress) (strings : List (List ℕ)) (room : ℕ) (old : ConnectionsView) (n : ℕ) → current ≡ Some progress → view given past current strings room ≡ old → Reads given past progress strings room old n
 read_view given past current progress strings room old n is same =
     let now : view given past (Some progress) strings room ≡ old = ap (λ (o : Option ConnectionProgress). view given past o strings room) (sym is) ∙ same in

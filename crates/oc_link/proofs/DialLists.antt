@@ -36,7 +36,7 @@ dials_of-more (d ∷ cs) [] more some = absurd (omega (arith, some))
 dials_of-more (d ∷ cs) (a ∷ strings) more some =
     ap (λ (ds : List Dial). record { address = a; connection = d } ∷ ds) (dials_of-more cs strings more (omega (arith, some)))
 
--- nor does the last address, if it comes later
+-- a longer last address, of a dial that comes later, does not change these dials
 dials_of-grown : (cs : List Connection) (strings : List (List ℕ)) (more : List ℕ) → length cs < length strings → dials_of cs (grown strings more) ≡ dials_of cs strings
 dials_of-grown [] strings more some = refl
 dials_of-grown (d ∷ cs) [] more some = absurd (omega (arith, some))
@@ -87,7 +87,7 @@ replicate-end : (n : ℕ) → replicate n nowhere ++ nowhere ∷ [] ≡ replicat
 replicate-end zero = refl
 replicate-end (suc n) = ap (λ (ds : List Dial). nowhere ∷ ds) (replicate-end n)
 
--- what a new dial keeps true
+-- the properties that a new dial keeps
 pub record Keeps (connections : ConnectionsView) (strings : List (List ℕ)) (string_room refused : ℕ) (address bytes : List ℕ) : Type 0 where
   pub full : length (grown (strings ++ [] ∷ []) address) ≡ length (connections.past ++ option_to_list connections.current) + 1
   pub fewer : string_room - 1 ≡ length (drop 1 connections.waiting)
@@ -101,7 +101,7 @@ begin_keeps connections strings string_room refused address bytes full as_many s
   none = λ some_refused. absurd (omega (arith, none some_refused, some));
 }
 
--- what a dial's connection does, the dial does
+-- a change of a dial's connection is the same change of the dial
 outgoing-through : (k : ℕ) (f : Connection → Connection) (o : Option Connection) (strings : List (List ℕ)) → outgoing_of k (option_map f o) strings ≡ option_map (through f) (outgoing_of k o strings)
 outgoing-through k f None strings = refl
 outgoing-through k f (Some c) strings = refl
@@ -142,7 +142,7 @@ get-nowhere zero j within = absurd (omega (arith, within))
 get-nowhere (suc n) zero within = refl
 get-nowhere (suc n) (suc j) within = get-nowhere n j (omega (arith, within))
 
--- what was written on the dial at a place, and on its connection
+-- the bytes written on the dial at an index, and on its connection
 written-at : (cs : List Connection) (strings : List (List ℕ)) (k : ℕ) → length strings ≡ length cs → option_map (λ (d : Dial). d.connection.written) (slice_get (dials_of cs strings) k) ≡ option_map (λ (c : Connection). c.written) (slice_get cs k)
 written-at [] strings k full = refl
 written-at (c ∷ cs) [] k full = absurd (omega (arith, full))
@@ -162,7 +162,7 @@ pub record Placed (old : DialsView) (cs : List Connection) (strings : List (List
   pub full : length strings ≡ length cs
   pub many : length (dials_of cs strings) ≡ length strings
 
--- and they are so placed
+-- the connections and dials are at the same indices
 pub placed : (connections : ConnectionsView) (strings : List (List ℕ)) (refused room : ℕ) (old : DialsView) → length strings ≡ length connections.past + length (option_to_list connections.current) → (0 < refused → length connections.waiting + length (option_to_list connections.current) ≡ 0) → view connections strings refused room ≡ old → Placed old (connections.past ++ option_to_list connections.current) strings refused
 placed connections strings refused room old full none same =
     let as_many : length strings ≡ length (connections.past ++ option_to_list connections.current) = omega (arith, length-append connections.past (option_to_list connections.current), full) in
@@ -172,7 +172,7 @@ placed connections strings refused room old full none same =
       many = length-dials_of (connections.past ++ option_to_list connections.current) strings as_many;
     }
 
--- what was written on a dial that took a reply
+-- the bytes written on a dial that took a reply
 pub written-first : (old : DialsView) (cs : List Connection) (strings : List (List ℕ)) (refused k : ℕ) → Placed old cs strings refused → k < length strings → option_map (λ (d : Dial). d.connection.written) (slice_get (all_dials old) k) ≡ option_map (λ (c : Connection). c.written) (slice_get cs k)
 written-first old cs strings refused k p within =
     rw (p.all, get-front (dials_of cs strings) (replicate refused nowhere) k (omega (arith, p.many, within))) (written-at cs strings k p.full)
@@ -182,7 +182,7 @@ pub written-refused : (old : DialsView) (cs : List Connection) (strings : List (
 written-refused old cs strings refused k p past within =
     rw (p.all, get-behind (dials_of cs strings) (replicate refused nowhere) k (k - length strings) (omega (arith, p.many, past)), get-nowhere refused (k - length strings) within) refl
 
--- and past the last
+-- no bytes were written past the last dial with a reply
 pub written-nowhere : (old : DialsView) (cs : List Connection) (strings : List (List ℕ)) (refused k : ℕ) → Placed old cs strings refused → length strings ≤ k → refused ≤ k - length strings → None ≡ option_map (λ (d : Dial). d.connection.written) (slice_get (all_dials old) k)
 written-nowhere old cs strings refused k p past over =
     rw (p.all, slice_get_past (dials_of cs strings ++ replicate refused nowhere) k (omega (arith, length-append (dials_of cs strings) (replicate refused nowhere), length-replicate refused nowhere, p.many, past, over))) refl

@@ -1,4 +1,4 @@
--- What the calls of a link in memory do to the story that it tells.
+-- The effect of the calls of a dialler in memory on its story.
 use Rattle.std.proofs.Common.{◌≡◌, ◌≤◌, ◌<◌, ◌^◌, ◌-◌, ℕ, Bool, true, false, Option, None, Some, List, [], refl, arith, nat_lt, if◌then◌else◌}
 use Rattle.std.proofs.lemmas.Bool.{ltb-true, lt-ltb}
 use Rattle.std.specs.Option.{option_map}
@@ -15,14 +15,14 @@ told_if R b false s t before step = tt
 told_if R true true s t before step = step refl
 told_if R false true s t before step = let clash : false ≡ true = before refl in absurd (cc clash)
 
--- what becomes of the story, while the calls that fail are counted
+-- the change of the story, while failed calls are counted
 pub tells : (R : Story → Story → Type 0) (v w : MemDiallerView) → v.calls.faults ≤ w.calls.faults → (CountsFaults w → R v.story w.story) → Told R (told v) (told w)
 tells R v w grows step =
     told_if R (nat_lt v.calls.faults (2 ^ 64 - 1)) (nat_lt w.calls.faults (2 ^ 64 - 1)) v.story w.story
     (λ h. let below : w.calls.faults < 2 ^ 64 - 1 = ltb-true w.calls.faults (2 ^ 64 - 1) h in lt-ltb v.calls.faults (2 ^ 64 - 1) (omega (arith, below, grows)))
     (λ h. step (ltb-true w.calls.faults (2 ^ 64 - 1) h))
 
--- the same, of a call that did not fail
+-- the same for a call that did not fail
 tells_same : (R : Story → Story → Type 0) (v w x : MemDiallerView) → w ≡ x → x.calls.faults ≡ v.calls.faults → R v.story x.story → Told R (told v) (told w)
 tells_same R v w x is same step =
     rw is (tells R v x (omega (arith, same)) (λ _. step))

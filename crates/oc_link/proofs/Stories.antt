@@ -8,22 +8,22 @@ use Rattle.oc_link.specs.Stands.{stands, stands_after}
 use Rattle.oc_link.specs.Told.{AddsAll}
 use Rattle.oc_link.specs.Traffic.{came_on, given, given_by, read, taken}
 
--- what a connection was given, one after another
+-- the bytes that a connection was given by calls, and by further calls
 pub given-then : (c : ℕ) (old more : List Call) → given c (old ++ more) ≡ given c old ++ given c more
 given-then c [] more = refl
 given-then c (call ∷ old) more = ap (λ (bytes : List ℕ). given_by c call ++ bytes) (given-then c old more) ∙ sym (append_assoc (given_by c call) (given c old) (given c more))
 
--- what came on it
+-- the bytes that came on a connection
 pub read-then : (c : ℕ) (old more : List Call) → read c (old ++ more) ≡ read c old ++ read c more
 read-then c [] more = refl
 read-then c (call ∷ old) more = ap (λ (bytes : List ℕ). came_on c call ++ bytes) (read-then c old more) ∙ sym (append_assoc (came_on c call) (read c old) (read c more))
 
--- how much of it was taken
+-- the number of bytes of a connection that were taken
 pub taken-then : (c : ℕ) (old more : List Call) → taken c (old ++ more) ≡ taken c old + taken c more
 taken-then c [] more = omega arith
 taken-then c (call ∷ old) more = omega (arith, taken-then c old more)
 
--- how it stands
+-- the state of a connection
 pub stands-then : (c : ℕ) (old more : List Call) (s : Standing) → stands_after c (old ++ more) s ≡ stands_after c more (stands_after c old s)
 stands-then c [] more s = refl
 stands-then c (call ∷ old) more s = stands-then c old more (stands c call s)

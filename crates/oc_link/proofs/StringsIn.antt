@@ -84,7 +84,7 @@ strings_in-first bytes [] long = absurd (omega (arith, long))
 strings_in-first bytes (a ∷ []) long = absurd (omega (arith, long))
 strings_in-first bytes (a ∷ b ∷ starts) long = refl
 
--- where it begins and ends
+-- the begin and the end of the first string
 pub first_ordered : (n : ℕ) (starts : List ℕ) → 2 ≤ length starts → AreStarts n starts → (get_or starts 0 0 ≤ get_or starts 1 0) × (get_or starts 1 0 ≤ n)
 first_ordered n [] long h = absurd (omega (arith, long))
 first_ordered n (a ∷ []) long h = absurd (omega (arith, long))

@@ -1,4 +1,4 @@
--- What a link in memory tells of an event.
+-- The story of a link in memory after an event.
 use Rattle.std.proofs.Common.{◌≡◌, ℕ, false, Option, None, Some, List, drop, sym, ap, ◌∙◌, subst}
 use Rattle.std.specs.List.{slice_get}
 use Rattle.oc_link.specs.declared.call.Call.{Call}
@@ -8,18 +8,18 @@ use Rattle.oc_link.specs.declared.script.Step.{Step}
 use Rattle.oc_link.specs.Plays.{IsPlayed, bytes_at, event_at, fails_at}
 use Rattle.oc_link.specs.Told.{Adds, IfTold, Told}
 
--- the next step of what is left of a script
+-- the next step of the rest of a script
 pub next_step : (steps kept left : List Step) (at : ℕ) (step : Option Step) → drop at kept ≡ left → steps ≡ kept → step ≡ slice_get (drop at steps) 0 → slice_get left 0 ≡ step
 next_step steps kept left at step view same is =
     ap (λ (xs : List Step). slice_get xs 0) (sym view) ∙ ap (λ (xs : List Step). slice_get (drop at xs) 0) (sym same) ∙ sym is
 
--- it is the event that the step asks for
+-- the event is the one that the step asks for
 plays : (step : Option Step) (event : LinkEvent) (old new : Option (List Call)) → IfTold old (λ calls. event ≡ event_at step calls) → Adds (acts.Next event (bytes_at step event)) old new → Told (IsPlayed step event) old new
 plays step event old None is made = tt
 plays step event None (Some new) is made = made
 plays step event (Some old) (Some new) is made = record { event_is = is; made = made }
 
--- the same for a step that is seen in two ways
+-- the same for a step with two views
 pub plays_as : (shown step : Option Step) (event : LinkEvent) (bytes : List ℕ) (old calls new : Option (List Call)) → shown ≡ step → calls ≡ old → fails_at step ≡ false → IfTold calls (λ told. event ≡ event_at step told) → bytes ≡ bytes_at step event → Adds (acts.Next event bytes) calls new → (fails_at shown ≡ false) × Told (IsPlayed shown event) old new
 plays_as shown step event bytes old calls new same told passes is brought made =
     let P : Option Step → Type 0 = λ s. (fails_at s ≡ false) × Told (IsPlayed s event) old new in

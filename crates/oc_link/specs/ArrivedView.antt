@@ -7,24 +7,24 @@ use Rattle.oc_link.specs.declared.event.Coming.{Coming}
 use Rattle.oc_link.specs.Failures.{has_failed}
 
 pub record ArrivedView : Type 0 where
-  -- the bytes that are left
+  -- the remaining bytes
   pub left : List ℕ
-  -- whether a call fails after them
+  -- whether a call fails at their end
   pub fails : Bool
-  -- how many calls failed
+  -- the number of failed calls
   pub faults : ℕ
 
--- nothing was read of these bytes yet
+-- the source before its first read
 abbrev pub arrived : List ℕ → Coming → ArrivedView
 arrived bytes coming = record { left = bytes; fails = has_failed coming; faults = 0 }
 
--- these bytes came from the front of what was left
+-- these bytes came from the front of the remaining ones
 pub record GivesFront (old : ArrivedView) (bytes : List ℕ) (new : ArrivedView) : Type 0 where
   pub front : old.left ≡ bytes ++ new.left
   pub fails : new.fails ≡ old.fails
   pub faults : new.faults ≡ old.faults
 
--- these bytes, which were all that was left, came, and then a call failed
+-- all remaining bytes came, and then a call failed
 pub record FailsBehind (old : ArrivedView) (bytes : List ℕ) (new : ArrivedView) : Type 0 where
   pub whole : old.left ≡ bytes
   pub none : new.left ≡ []
@@ -32,7 +32,7 @@ pub record FailsBehind (old : ArrivedView) (bytes : List ℕ) (new : ArrivedView
   pub same : new.fails ≡ old.fails
   pub faults : new.faults ≡ counted old.faults
 
--- nothing is left, and no call fails there
+-- no bytes are left, and no call is to fail
 pub record IsAtEnd (s : ArrivedView) : Type 0 where
   pub none : s.left ≡ []
   pub passes : s.fails ≡ false

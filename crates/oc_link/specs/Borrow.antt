@@ -1,4 +1,4 @@
--- A link that is borrowed: what a view of its outgoing connection does to it.
+-- Borrowed links: the effects on a link of the calls on its outgoing connection.
 use Rattle.std.specs.Prelude.{◌≡◌, ℕ, Option, None, Some, List, [], ◌++◌, refl}
 use Rattle.std.proofs.Common.{◌∙◌, ap, arith}
 use Rattle.oc_io.specs.Faults.{NoFall}
@@ -6,33 +6,33 @@ use Rattle.oc_link.specs.Exchange.{Hears, HearsThenBreaks, Hears-nothing, Hears-
 use Rattle.oc_link.specs.Calls.{Told, OnOutgoing, connection_of}
 use Rattle.oc_link.specs.Story.{Connection, Story}
 
--- a borrowed link: the name of the borrow, and what is known of the link
+-- a borrowed link: the name of the borrow, and the facts about the link
 pub record BorrowView : Type 0 where
   pub name : ℕ
   pub story : Option Story
   pub faults : ℕ
 
--- through this borrow the outgoing connection changed in this way, and nothing else did but the count of failed calls
+-- through this borrow the outgoing connection changed in this way; besides, only the count of failed calls may have changed
 pub record ChangesOutgoing (R : Option Connection → Option Connection → Type 0) (old new : BorrowView) : Type 0 where
   pub name : new.name ≡ old.name
   pub story : Told (OnOutgoing R) old.story new.story
   pub count : NoFall old.faults new.faults
 
--- One after another
+-- Changes one after another
 
--- a story that stays, if it is told
+-- a relation that holds of each story and itself holds of a story that does not change, if it is told
 pub Told-same : (R : Story → Story → Type 0) → ((s : Story) → R s s) → (o : Option Story) → Told R o o
 Told-same R same None = tt
 Told-same R same (Some s) = same s
 
--- a story that goes on twice, if it is told
+-- two changes of a story are one, if the story is told
 pub Told-then : (R Q P : Story → Story → Type 0) → ((a b c : Story) → R a b → Q b c → P a c) → (a b c : Option Story) → Told R a b → Told Q b c → Told P a c
 Told-then R Q P both a b None p q = tt
 Told-then R Q P both a None (Some c) p q = absurd q
 Told-then R Q P both None (Some b) (Some c) p q = absurd p
 Told-then R Q P both (Some a) (Some b) (Some c) p q = both a b c p q
 
--- two changes of the outgoing connection
+-- two changes of the outgoing connection are one
 pub OnOutgoing-then : (R Q P : Option Connection → Option Connection → Type 0) → ((a b c : Option Connection) → R a b → Q b c → P a c) → (a b c : Story) → OnOutgoing R a b → OnOutgoing Q b c → OnOutgoing P a c
 OnOutgoing-then R Q P both a b c p q = record {
   outgoing = both (connection_of a.outgoing) (connection_of b.outgoing) (connection_of c.outgoing) p.outgoing q.outgoing;
@@ -40,7 +40,7 @@ OnOutgoing-then R Q P both a b c p q = record {
   rest = q.rest ∙ ap (λ (s : Story). record s { outgoing = c.outgoing }) p.rest;
 }
 
--- two changes through one borrow
+-- two changes through one borrow are one
 pub ChangesOutgoing-then : (R Q P : Option Connection → Option Connection → Type 0) → ((a b c : Option Connection) → R a b → Q b c → P a c) → (a b c : BorrowView) → ChangesOutgoing R a b → ChangesOutgoing Q b c → ChangesOutgoing P a c
 ChangesOutgoing-then R Q P both a b c p q = record {
   name = q.name ∙ p.name;

@@ -4,14 +4,14 @@ use Rattle.std.specs.Option.{option_map}
 use Rattle.oc_link.specs.Connection.{Connection, unused}
 use Rattle.oc_link.specs.declared.connections.ConnectionProgress.{ConnectionProgress}
 
--- the bytes of the connections that wait, the connections that ended, the current one, and the bytes that can still be written
+-- the bytes of the waiting connections, the ended connections, the current one, and the number of bytes that may still be written
 pub record ConnectionsView : Type 0 where
   pub waiting : List (List ℕ)
   pub past : List Connection
   pub current : Option Connection
   pub room : ℕ
 
--- a connection that gives these bytes, how far it has come, and what was written on it
+-- a connection that gives these bytes, with its progress and the bytes written on it
 abbrev pub connection_of : List ℕ → ConnectionProgress → List ℕ → Connection
 connection_of bytes progress written = record {
   read = take progress.read bytes;
@@ -26,37 +26,37 @@ connections_of [] given strings = []
 connections_of (progress ∷ connections) (bytes ∷ given) (string ∷ strings) = connection_of bytes progress string ∷ connections_of connections given strings
 connections_of (progress ∷ connections) given strings = []
 
--- one is current, or none
+-- the number of current connections: one or none
 abbrev pub count_of : Option ConnectionProgress → ℕ
 count_of None = 0
 count_of (Some progress) = 1
 
--- the string at a place, and none past the end
+-- the string at an index, or an empty one past the end
 abbrev pub at : List (List ℕ) → ℕ → List ℕ
 at xs k = slice_index_or xs k []
 
--- the current connection, which comes after those that ended
+-- the current connection, which comes after the ended ones
 abbrev pub current_of : List (List ℕ) → ℕ → Option ConnectionProgress → List (List ℕ) → Option Connection
 current_of given k progress strings = option_map (λ t. connection_of (at given k) t (at strings k)) progress
 
--- how far the current connection has come is within its bytes
+-- the progress of the current connection is within its bytes
 abbrev pub IsWithinBytes : List ℕ → Option ConnectionProgress → Type 0
 IsWithinBytes bytes None = Unit {0}
 IsWithinBytes bytes (Some progress) = progress.read ≤ length bytes
 
--- the current connection ended
+-- the connections after the current one ended
 abbrev pub ended : ConnectionsView → ConnectionsView
 ended v = record v { past = v.past ++ option_to_list v.current; current = None }
 
--- the oldest that waits is current, and the one before ended
+-- the connections after the oldest waiting one became current
 abbrev pub begun : ConnectionsView → ConnectionsView
 begun v = record (ended v) { waiting = drop 1 v.waiting; current = Some (unused (at v.waiting 0)) }
 
--- this many more bytes of a connection were read
+-- the connection after this number of further bytes were read
 abbrev pub further : ℕ → Connection → Connection
 further n c = record c { read = c.read ++ take n c.left; left = drop n c.left }
 
--- what a connection will still give, and nothing where there is none
+-- the remaining bytes of a connection; none where there is no connection
 abbrev pub left_of : Option Connection → List ℕ
 left_of None = []
 left_of (Some c) = c.left

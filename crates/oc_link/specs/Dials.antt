@@ -1,4 +1,4 @@
--- The dials of a link and where it listens, by its calls.
+-- The dials of a link and the address at which it listens, by its calls.
 use Rattle.std.specs.Prelude.{ℕ, Bool, true, false, ◌==◌, if◌then◌else◌, Option, None, Some, List, [], ◌∷◌}
 use Rattle.std.specs.Option.{option_map}
 use Rattle.oc_link.specs.declared.call.Call.{Call}
@@ -6,18 +6,18 @@ use Rattle.oc_link.specs.declared.call.Call.TheVariants as acts
 use Rattle.oc_link.specs.declared.event.Coming.{Coming}
 use Rattle.oc_link.specs.declared.event.LinkEvent.TheVariants as events
 
--- what came back on a dial, and how it ended
+-- the reply on a dial, and how the bytes ended
 pub record Reply : Type 0 where
   pub bytes : List ℕ
   pub coming : Coming
 
--- a dial: its address, what was sent, and its reply, once it came
+-- a dial: its address, the bytes sent, and its reply, if it has come
 pub record Dial : Type 0 where
   pub address : List ℕ
   pub sent : List ℕ
   pub reply : Option Reply
 
--- a dial after its reply came
+-- the dial after its reply came
 abbrev pub replied : List ℕ → Coming → Dial → Dial
 replied bytes coming dial = record dial { reply = Some (record { bytes = bytes; coming = coming }) }
 
@@ -27,7 +27,7 @@ dials d (acts.Dial e address bytes) dial = if e == d then Some (record { address
 dials d (acts.Next (events.Reply e coming) bytes) dial = if e == d then option_map (replied bytes coming) dial else dial
 dials d call dial = dial
 
--- the dial d after further calls
+-- the dial d after these calls
 abbrev pub dials_after : ℕ → List Call → Option Dial → Option Dial
 dials_after d [] dial = dial
 dials_after d (call ∷ calls) dial = dials_after d calls (dials d call dial)
@@ -42,25 +42,25 @@ dialling d (acts.Dial e address bytes) was = if e == d then true else was
 dialling d (acts.Next (events.Reply e coming) bytes) was = if e == d then false else was
 dialling d call was = was
 
--- and after further ones
+-- whether a dial is under way after these calls
 abbrev pub dialling_after : ℕ → List Call → Bool → Bool
 dialling_after d [] was = was
 dialling_after d (call ∷ calls) was = dialling_after d calls (dialling d call was)
 
--- a dial with the number d is under way
+-- whether the dial d is under way
 abbrev pub is_dialling : ℕ → List Call → Bool
 is_dialling d calls = dialling_after d calls false
 
--- where it listened after one more call
+-- the address at which the link listens, after one more call
 abbrev pub listens : Call → Option (List ℕ) → Option (List ℕ)
 listens (acts.Listen address) was = Some address
 listens call was = was
 
--- and after further ones
+-- the address at which the link listens, after these calls
 abbrev pub listens_after : List Call → Option (List ℕ) → Option (List ℕ)
 listens_after [] was = was
 listens_after (call ∷ calls) was = listens_after calls (listens call was)
 
--- the address at which it listens
+-- the address at which the link listens
 abbrev pub address_of : List Call → Option (List ℕ)
 address_of calls = listens_after calls None

@@ -4,8 +4,8 @@ use Rattle.std.specs.Option.{option_map}
 use Rattle.oc_link.specs.Story.{Connection, Dial, unused, broken}
 use Rattle.oc_link.specs.ConnectionsView.{at}
 
--- the replies of the dials to come, the dials that ended, the outgoing one, how many were refused after the last reply was taken,
--- and the bytes that can still be written
+-- the replies of the dials to come, the ended dials, the outgoing one, the number of dials refused after the last reply was taken,
+-- and the number of bytes that may still be written
 pub record DialsView : Type 0 where
   pub replies : List (List ℕ)
   pub past : List Dial
@@ -13,21 +13,21 @@ pub record DialsView : Type 0 where
   pub refused : ℕ
   pub room : ℕ
 
--- the dials of these connections to these addresses, one by one
+-- the dials with these connections to these addresses, in order
 abbrev pub dials_of : List Connection → List (List ℕ) → List Dial
 dials_of [] addresses = []
 dials_of (c ∷ cs) (a ∷ addresses) = record { address = a; connection = c } ∷ dials_of cs addresses
 dials_of (c ∷ cs) [] = []
 
--- a dial that failed, of which nothing was kept but the reply that it took
+-- a failed dial, of which only its reply was kept
 abbrev pub cut_dial : List ℕ → Dial
 cut_dial reply = record { address = []; connection = broken (unused reply) }
 
--- a dial that failed when no reply was left
+-- a dial that failed since no reply was left
 abbrev pub nowhere : Dial
 nowhere = cut_dial []
 
--- the outgoing dial, which comes after those that ended
+-- the outgoing dial, which comes after the ended ones
 abbrev pub outgoing_of : ℕ → Option Connection → List (List ℕ) → Option Dial
 outgoing_of k current addresses = option_map (λ c. record { address = at addresses k; connection = c }) current
 
@@ -35,11 +35,11 @@ outgoing_of k current addresses = option_map (λ c. record { address = at addres
 abbrev pub all_dials : DialsView → List Dial
 all_dials v = v.past ++ option_to_list v.outgoing
 
--- the outgoing dial ended
+-- the dials after the outgoing one ended
 abbrev pub over : DialsView → DialsView
 over v = record v { past = all_dials v; outgoing = None }
 
--- another dial that failed, in the place of the outgoing one
+-- the dials after another one failed, in place of the outgoing one
 abbrev pub with_failed : DialsView → DialsView
 with_failed v = record (over v) {
   replies = drop 1 v.replies;

@@ -11,11 +11,11 @@ use Rattle.oc_link.specs.Dials.{address_of, dial_of, is_dialling}
 use Rattle.oc_link.specs.Stands.{may, standing_of}
 use Rattle.oc_link.specs.Traffic.{asked, given, held}
 
--- more of the request with this number of the connection 7, which had leave to send a body or not
+-- a further part of the request with this number on connection 7, which was permitted to send a body or not
 abbrev asks : ℕ → Bool → LinkEvent
 asks number permitted = events.Request (record { connection = 7; number = number; permitted = permitted; coming = comings.Open })
 
--- A request of two bytes comes in two cuts, and its reply is given in two pieces. The link listens at an address of one byte.
+-- A request of two bytes comes in two parts, and its reply is given in two pieces. The link listens at an address of one byte.
 abbrev pub two_cuts : List Call
 two_cuts =
     acts.Listen (58 ∷ [])
@@ -40,18 +40,18 @@ two_cuts-given = refl
 pub two_cuts-phase : (standing_of 7 two_cuts).phase ≡ phases.Whole
 two_cuts-phase = refl
 
--- its reply may still be lost, and it wants no more
+-- the reply may still be lost, and there is no room for more
 pub two_cuts-lost : may (events.Gone 7 losses.Failed) two_cuts ≡ true
 two_cuts-lost = refl
 
 pub two_cuts-full : may (events.Room 7) two_cuts ≡ false
 two_cuts-full = refl
 
--- Another connection had nothing of it.
+-- Another connection had no part in these calls.
 pub two_cuts-other : given 8 two_cuts ≡ []
 two_cuts-other = refl
 
--- Two requests of a byte each come at once. The connection is kept after the first reply.
+-- Two requests of one byte each come at once. The connection stays open after the first reply.
 abbrev pub two_at_once : List Call
 two_at_once =
     acts.Next (asks 1 false) (97 ∷ 98 ∷ [])
@@ -69,7 +69,7 @@ two_at_once-next = refl
 pub two_at_once-first : may (asks 1 false) two_at_once ≡ false
 two_at_once-first = refl
 
--- A connection was given leave to send its body. Its request comes again, and says that it had leave.
+-- A connection was permitted to send its body. Its request comes again, marked as permitted.
 abbrev pub with_leave : List Call
 with_leave = acts.Next (asks 1 false) (97 ∷ []) ∷ acts.Give 7 (120 ∷ []) ∷ []
 
@@ -79,7 +79,7 @@ with_leave-again = refl
 pub with_leave-anew : may (asks 1 false) with_leave ≡ false
 with_leave-anew = refl
 
--- A follower waits: its request was taken, and nothing was given. It wants nothing, and may go.
+-- A follower waits: its request was taken, and no bytes were given. It has no room event to come, and may be lost.
 abbrev pub waiting : List Call
 waiting = acts.Next (asks 1 false) (97 ∷ []) ∷ acts.Take 7 1 ∷ []
 
@@ -89,7 +89,7 @@ waiting-wants = refl
 pub waiting-goes : may (events.Gone 7 losses.GaveWay) waiting ≡ true
 waiting-goes = refl
 
--- A dial, its reply, and the clock read directly before and after.
+-- A dial, its reply, and the clock, read just before and after.
 abbrev pub probed : List Call
 probed =
     acts.Millis 100

@@ -1,4 +1,4 @@
--- A link in memory: its story, the replies of the dials to come, its room and its calls.
+-- A dialler in memory: its story, the replies of the dials to come, its room and its calls.
 use Rattle.std.specs.Prelude.{ℕ, ◌+◌, ◌-◌, ◌^◌, ◌<◌, nat_lt, if◌then◌else◌, Option, None, Some, List, [], ◌∷◌, ◌++◌, length, drop}
 use Rattle.std.specs.Option.{option_map}
 use Rattle.oc_link.specs.DialsView.{cut_dial}
@@ -10,14 +10,14 @@ use Rattle.oc_io.specs.Tally.{Tally, fresh, called, faulted}
 pub record MemDiallerView : Type 0 where
   pub story : Story
   pub replies : List (List ℕ)
-  -- the bytes that can still be kept: of what is written and of addresses
+  -- the number of bytes that can still be kept, of the written bytes and of addresses
   pub room : ℕ
-  -- the most bytes that one read gives
+  -- the greatest number of bytes of one read
   pub cut : ℕ
-  -- which calls fail, how many were made and how many failed
+  -- the calls that are to fail, the number of calls and the number of failures
   pub calls : Tally
 
--- a new link, whose dials give these replies
+-- a new dialler, whose dials give these replies in order
 abbrev pub dialler_of : List (List ℕ) → ℕ → ℕ → List ℕ → MemDiallerView
 dialler_of replies room cut listed = record {
   story = record { ended = []; outgoing = None };
@@ -31,22 +31,22 @@ dialler_of replies room cut listed = record {
 abbrev pub CountsFaults : MemDiallerView → Type 0
 CountsFaults v = v.calls.faults < 2 ^ 64 - 1
 
--- It tells its story as long as it counts the calls that fail: the dials past the last reply are kept as a count.
+-- The story is told as long as every failed call is counted: the dials past the last reply are kept as a count alone.
 abbrev pub told : MemDiallerView → Option Story
 told v = if nat_lt v.calls.faults (2 ^ 64 - 1) then Some v.story else None
 
--- a call that did not fail
+-- the dialler after a call that did not fail
 abbrev pub passed : MemDiallerView → MemDiallerView
 passed v = record v { calls = called v.calls }
 
--- a call on the outgoing connection failed
+-- the dialler after a failed call on the outgoing connection
 abbrev pub call_failed : MemDiallerView → MemDiallerView
 call_failed v = record v {
   story = record v.story { outgoing = option_map (through broken) v.story.outgoing };
   calls = faulted (called v.calls);
 }
 
--- a dial failed, which took the next reply if there is one
+-- the dialler after a failed dial, which took the next reply if there was one
 abbrev pub dial_failed : MemDiallerView → MemDiallerView
 dial_failed v = record v {
   story = record (hung_up v.story) { ended = dials v.story ++ cut_dial (at v.replies 0) ∷ [] };
@@ -54,7 +54,7 @@ dial_failed v = record v {
   calls = faulted (called v.calls);
 }
 
--- a dial that gives the next reply
+-- the dialler after a dial that gives the next reply
 abbrev pub after_dial : List ℕ → List ℕ → MemDiallerView → MemDiallerView
 after_dial address bytes v = record (passed v) {
   story = record (hung_up v.story) {
@@ -64,14 +64,14 @@ after_dial address bytes v = record (passed v) {
   room = v.room - (length address + length bytes);
 }
 
--- these bytes were written on the outgoing connection
+-- the dialler after these bytes were written on the outgoing connection
 abbrev pub after_dial_more : List ℕ → MemDiallerView → MemDiallerView
 after_dial_more bytes v = record (passed v) {
   story = record v.story { outgoing = option_map (through (wrote bytes)) v.story.outgoing };
   room = v.room - length bytes;
 }
 
--- this many bytes were read from the outgoing connection
+-- the dialler after this number of bytes were read from the outgoing connection
 abbrev pub after_dial_read : ℕ → MemDiallerView → MemDiallerView
 after_dial_read n v = record (passed v) {
   story = record v.story { outgoing = option_map (through (further n)) v.story.outgoing };

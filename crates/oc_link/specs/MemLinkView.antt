@@ -1,4 +1,4 @@
--- A link in memory: what is left of its script, its clock, and its story.
+-- A link in memory: the rest of its script, its clock, and its story.
 use Rattle.std.specs.Prelude.{ℕ, Option, List}
 use Rattle.oc_link.specs.declared.call.Call.{Call}
 use Rattle.oc_link.specs.declared.counts.LinkCounts.{LinkCounts}
@@ -9,8 +9,8 @@ pub record MemLinkView : Type 0 where
   pub script : List Step
   -- the milliseconds of the clock
   pub time : ℕ
-  -- the calls so far, as long as there was memory to keep them
+  -- the calls so far, unless memory ran out
   pub story : Option (List Call)
-  -- what the last event lends
+  -- the bytes that the last event lends
   pub lends : List ℕ
   pub counts : LinkCounts

@@ -1,4 +1,4 @@
--- How a connection stands after the calls of a link, and which events may come then.
+-- The state of a connection after the calls of a link, and the events that may come then.
 use Rattle.std.specs.Prelude.{ℕ, Bool, true, false, ◌==◌, ◌&&◌, ◌||◌, not, if◌then◌else◌, List, [], ◌∷◌}
 use Rattle.oc_io.specs.Tally.{counted}
 use Rattle.oc_link.specs.declared.call.Call.{Call}
@@ -11,23 +11,23 @@ use Rattle.oc_link.specs.declared.phase.Phase.TheVariants as phases
 use Rattle.oc_link.specs.declared.phase.Standing.{Standing}
 use Rattle.oc_link.specs.Dials.{is_dialling}
 
--- a connection on which nothing happened yet: its first request is awaited
+-- a new connection, whose first request is awaited
 abbrev pub untouched : Standing
 untouched = record { phase = phases.Awaiting; number = 1; fed = false; watched = false }
 
--- a request came: what it was given before was sent
+-- the state after a request came: the bytes given before were sent
 abbrev pub after_request : Standing → Standing
 after_request s = record s { watched = false }
 
--- more is wanted, and nothing was given since
+-- the state after an event that there is room: no bytes were given since
 abbrev pub after_room : Standing → Standing
 after_room s = record s { fed = false }
 
--- it is over before its reply was sent whole
+-- the state after the connection was lost before its reply was sent in full
 abbrev pub after_loss : Standing → Standing
 after_loss s = record s { phase = phases.Gone; watched = false }
 
--- an event that was told of the connection c
+-- the state of the connection c after an event
 abbrev pub sees : ℕ → LinkEvent → Standing → Standing
 sees c (events.Request a) s = if a.connection == c then after_request s else s
 sees c (events.Room d) s = if d == c then after_room s else s
@@ -35,15 +35,15 @@ sees c (events.Gone d loss) s = if d == c then after_loss s else s
 sees c (events.Reply d coming) s = s
 sees c events.Quiet s = s
 
--- its request was taken
+-- the state after the request was taken
 abbrev pub after_take : Standing → Standing
 after_take s = record s { phase = phases.Answering; fed = false }
 
--- it was given something
+-- the state after bytes were given
 abbrev pub after_give : Standing → Standing
 after_give s = record s { fed = true }
 
--- its reply is whole
+-- the state after the reply was given in full
 abbrev pub after_finish : Ending → Standing → Standing
 after_finish e s = record {
   phase = if e.keeps then phases.Awaiting else phases.Whole;
@@ -52,11 +52,11 @@ after_finish e s = record {
   watched = e.watched;
 }
 
--- it was broken off
+-- the state after the connection was broken off
 abbrev pub after_break : Standing → Standing
 after_break s = record s { phase = phases.Broken; watched = false }
 
--- how the connection c stands after one more call
+-- the state of the connection c after one more call
 abbrev pub stands : ℕ → Call → Standing → Standing
 stands c (acts.Listen address) s = s
 stands c (acts.Next e bytes) s = sees c e s
@@ -68,27 +68,27 @@ stands c (acts.Finish d e) s = if d == c then after_finish e s else s
 stands c (acts.BreakOff d) s = if d == c then after_break s else s
 stands c (acts.Dial d address bytes) s = s
 
--- how it stands after further calls
+-- the state of the connection c after these calls
 abbrev pub stands_after : ℕ → List Call → Standing → Standing
 stands_after c [] s = s
 stands_after c (call ∷ calls) s = stands_after c calls (stands c call s)
 
--- how the connection c stands after these calls
+-- the state of the connection c, by all calls of its link
 abbrev pub standing_of : ℕ → List Call → Standing
 standing_of c calls = stands_after c calls untouched
 
--- its next request is awaited
+-- whether the next request is awaited
 abbrev pub is_awaiting : Phase → Bool
 is_awaiting phases.Awaiting = true
 is_awaiting phase = false
 
--- a reply is under way
+-- whether a reply is under way
 abbrev pub is_answering : Phase → Bool
 is_answering phases.Answering = true
 is_answering phase = false
 
--- Which event may come where the connection that it names stands so. A request comes where it is awaited; room, where a reply is under way
--- and something was given since there was room last; and that a connection is gone, where a reply is under way or it is watched.
+-- The events that may come on a connection in this state: a request, if it is awaited; room, if a reply is under way and bytes were
+-- given since there was room last; a loss, if a reply is under way or the connection is watched.
 abbrev pub may_request : ℕ → Bool → Standing → Bool
 may_request number permitted s = is_awaiting s.phase && (number == s.number) && (if permitted then s.fed else not s.fed)
 
@@ -98,7 +98,7 @@ may_want s = is_answering s.phase && s.fed
 abbrev pub may_go : Standing → Bool
 may_go s = is_answering s.phase || s.watched
 
--- the event may come after these calls
+-- whether the event may come after these calls
 abbrev pub may : LinkEvent → List Call → Bool
 may (events.Request a) calls = may_request a.number a.permitted (standing_of a.connection calls)
 may (events.Room c) calls = may_want (standing_of c calls)

@@ -6,8 +6,8 @@ use crate::event::Coming;
 use oc_io::{Failed, Source};
 use std::marker::Model;
 
-/// The bytes that an event lends, as a source: at their end a call fails where they ended by a failure, and else
-/// nothing more comes.
+/// The bytes that an event lends, as a source. At their end a call fails if they ended by a failure; otherwise the
+/// source ends there.
 #[derive(Drop)]
 pub struct Arrived<'a> {
     left: &'a [u8],
@@ -24,7 +24,7 @@ impl<'a> Model for Arrived<'a> {
 }
 
 impl<'a> Arrived<'a> {
-    /// These bytes, which end so.
+    /// A source of these bytes, with this end.
     pub fn new(bytes: &'a [u8], coming: Coming) -> Arrived<'a>
         ensures { result ≡ arrived bytes.now coming }
     {
@@ -35,7 +35,7 @@ impl<'a> Arrived<'a> {
         }
     }
 
-    /// How many bytes are left.
+    /// The number of bytes left.
     pub fn left(&self) -> usize
         ensures { result ≡ length self.now.left }
     {

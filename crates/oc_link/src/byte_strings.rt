@@ -5,12 +5,11 @@ ghost use Rattle.oc_link.specs.ByteStrings.{grown, strings_in, AreStarts};
 use std::alloc::{AllocError, Global};
 use std::marker::Model;
 
-/// Byte strings one after another in one buffer, which never grows past what was made. Only the last
-/// string grows.
+/// Byte strings one after another in one buffer of a fixed size. Only the last string can grow.
 #[derive(Debug, Drop)]
 pub(crate) struct ByteStrings {
     bytes: Vec<u8>,
-    /// The place where each string begins.
+    /// The offset of the first byte of each string.
     starts: Vec<usize>,
     /// The bytes for which there is room.
     room: usize,
@@ -32,7 +31,7 @@ impl Model for ByteStrings {
 }
 
 impl ByteStrings {
-    /// No strings, and room for this many bytes and strings.
+    /// An empty list, with room for these numbers of bytes and strings.
     pub(crate) fn new(
         alloc: Global,
         room: usize,
@@ -48,14 +47,14 @@ impl ByteStrings {
         })
     }
 
-    /// How many strings there are.
+    /// The number of strings.
     pub(crate) fn len(&self) -> usize
         ensures { result ≡ length self.now.strings }
     {
         self.starts.as_slice().len()
     }
 
-    /// Begins another string, which is empty at first.
+    /// Begins another string, which is empty.
     pub(crate) fn begin(&mut self)
         requires { 0 < self.old.string_room }
         ensures { self.new ≡ record self.old { strings = self.old.strings ++ [] ∷ []; string_room = self.old.string_room - 1 } }
@@ -65,7 +64,7 @@ impl ByteStrings {
         self.string_room -= 1;
     }
 
-    /// Puts these bytes after the last string.
+    /// Adds these bytes to the last string.
     pub(crate) fn extend(&mut self, more: &[u8])
         requires room { length more.now ≤ self.old.room }
         requires some { 0 < length self.old.strings }
@@ -76,7 +75,7 @@ impl ByteStrings {
         self.room -= more.len();
     }
 
-    /// The string at this place, counted from 0.
+    /// The string at an index, counted from 0.
     pub(crate) fn get(&self, at: usize) -> Option<&[u8]>
         ensures { option_copied result ≡ slice_get self.now.strings at }
     {
@@ -92,7 +91,7 @@ impl ByteStrings {
     }
 }
 
-/// Where the first of the strings that begin at these places begins and ends, in a buffer of this
+/// The begin and the end of the first string, by the offsets of all strings, in a buffer of this
 /// length.
 fn first_ends(starts: &[usize], len: usize) -> Option<(usize, usize)>
     requires { AreStarts len starts.now }

@@ -2,35 +2,35 @@ use crate::event::LinkEvent;
 use crate::ids::{ConnectionId, DialId};
 use oc_base::{Bytes, Text};
 
-/// A call that was made on a link, with what it answered.
+/// A call on a link, with its answer; the story of a link is a list of them.
 #[derive(Debug, Drop)]
 pub enum Call {
-    /// It waits for connections at this address.
+    /// The link waits for connections at this address.
     Listen(Text),
-    /// `next` answered this event. These bytes came new: of a request those after what had come before, and all
-    /// of a reply.
+    /// `next` answered this event. The bytes are those that came with it: of a request only the new ones, and of a
+    /// reply all.
     Next(LinkEvent, Bytes),
     /// The clock gave this number of seconds.
     Now(u64),
     /// The clock gave this number of milliseconds.
     Millis(u64),
-    /// This many bytes of what came on a connection were taken as its request.
+    /// This number of bytes of a connection was taken as its request.
     Take(ConnectionId, u64),
-    /// A connection was given these bytes to send.
+    /// A connection got these bytes to send.
     Give(ConnectionId, Bytes),
-    /// The reply of a connection is whole.
+    /// The reply of a connection was given in full.
     Finish(ConnectionId, Ending),
-    /// A connection was broken off.
+    /// A connection was closed at once.
     BreakOff(ConnectionId),
     /// A dial to this address began, with these bytes.
     Dial(DialId, Text, Bytes),
 }
 
-/// What becomes of a connection after a whole reply.
+/// The future of a connection after a full reply.
 #[derive(Clone, Copy, Debug)]
 pub struct Ending {
-    /// Whether its next request is awaited. Otherwise it ends once all is sent.
+    /// Whether the connection stays open for the next request; otherwise it ends once all bytes are sent.
     pub keeps: bool,
-    /// Whether it is told by `LinkEvent::Gone` where the reply can't be sent whole.
+    /// Whether `LinkEvent::Gone` tells if the reply could not be sent in full.
     pub watched: bool,
 }

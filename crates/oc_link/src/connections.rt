@@ -7,24 +7,24 @@ use crate::byte_strings::ByteStrings;
 use std::alloc::{AllocError, Global};
 use std::marker::Model;
 
-/// How far a connection has come: the bytes of it that were read, and whether a call on it failed.
+/// The progress of a connection: the number of its bytes that were read, and whether a call on it failed.
 #[derive(Clone, Copy, Debug)]
 pub(crate) struct ConnectionProgress {
     pub(crate) read: usize,
     pub(crate) failed: bool,
 }
 
-/// Connections in memory, one after another: those that wait, those that ended, and one that may be
-/// current. What is written on them is kept.
+/// Connections in memory, in order: those that wait, those that ended, and at most one current one. It
+/// keeps the bytes that are written on each.
 #[derive(Debug, Drop)]
 pub(crate) struct Connections {
     /// The bytes that each connection gives, oldest first.
     given: Vec<Vec<u8>>,
-    /// Those that ended.
+    /// The progress of the ended connections.
     past: Vec<ConnectionProgress>,
-    /// The current one, which comes after them.
+    /// The current connection, which comes after the ended ones.
     current: Option<ConnectionProgress>,
-    /// What was written on each of those that ended and on the current one.
+    /// The bytes written on each of the ended connections and on the current one.
     written: ByteStrings,
 }
 
@@ -48,7 +48,7 @@ impl Model for Connections {
 }
 
 impl Connections {
-    /// Connections that give these bytes, all of which wait, and room for this many bytes that are
+    /// Waiting connections that give these bytes, and room for this number of bytes to be
     /// written.
     pub(crate) fn new(
         alloc: Global,
@@ -97,7 +97,7 @@ impl Connections {
         }
     }
 
-    /// Makes the oldest connection that waits the current one, and ends the one before.
+    /// Makes the oldest waiting connection the current one, and ends the one before.
     pub(crate) fn next(&mut self)
         requires { 0 < length self.old.waiting }
         ensures { self.new ≡ begun self.old }
@@ -110,8 +110,8 @@ impl Connections {
         });
     }
 
-    /// Reads from the current connection, at most `most` bytes: fills a prefix of the buffer and
-    /// answers its length. Without a current connection there is nothing to read.
+    /// Reads at most `most` bytes from the current connection: fills a prefix of the buffer and
+    /// answers its length, 0 without a current connection.
     pub(crate) fn read(&mut self, buf: &mut [u8], most: usize) -> usize
         ensures count { result ≡ min (min (length buf.old) most) (length (left_of self.old.current)) }
         ensures bytes { take result buf.new ≡ take result (left_of self.old.current) }
@@ -141,7 +141,7 @@ impl Connections {
         self.written.extend(bytes);
     }
 
-    /// Notes that a call on the current connection failed, if there is one.
+    /// Notes that a call on the current connection, if there is one, failed.
     pub(crate) fn fail(&mut self)
         ensures { self.new ≡ record self.old { current = option_map broken self.old.current } }
     {
@@ -153,7 +153,7 @@ impl Connections {
         }
     }
 
-    /// What was written on the connection at this place, counted from 0, of those that ended and the current one.
+    /// The bytes written on the connection at this index, counted from 0, among the ended ones and the current one.
     pub(crate) fn written(&self, at: usize) -> Option<&[u8]>
         ensures { option_copied result ≡ option_map (λ c. c.written)
             (slice_get (self.now.past ++ option_to_list self.now.current) at) }
@@ -162,7 +162,7 @@ impl Connections {
     }
 }
 
-/// What is left of a connection's bytes.
+/// The bytes of a connection that were not read yet.
 fn unread(bytes: &[u8], progress: ConnectionProgress) -> &[u8]
     requires { progress.read ≤ length bytes.now }
     ensures { result.now ≡ drop progress.read bytes.now }
@@ -170,7 +170,7 @@ fn unread(bytes: &[u8], progress: ConnectionProgress) -> &[u8]
     &bytes[progress.read..]
 }
 
-/// Fills a prefix of the buffer with a prefix of these bytes, at most `most`, and answers its length.
+/// Fills a prefix of the buffer with at most `most` of these bytes, and answers its length.
 fn fill(buf: &mut [u8], bytes: &[u8], most: usize) -> usize
     ensures count { result ≡ min (min (length buf.old) most) (length bytes.now) }
     ensures front { take result buf.new ≡ take result bytes.now }

@@ -4,26 +4,26 @@ ghost use Rattle.oc_link.specs.Failures as kinds;
 
 use crate::event::{LinkEvent, Loss};
 
-/// How often the calls of a link failed, by their kind, and how long it has waited. A count that has reached the
-/// greatest `u64` stays there.
+/// The counts of failed calls of a link, by their kind, and the time that it has waited. A count at the greatest
+/// `u64` stays there.
 #[derive(Clone, Copy, Debug)]
 pub struct LinkCounts {
-    /// Calls of `listen` and `next`.
+    /// Failed calls of `listen` and `next`.
     pub listening: u64,
     /// Requests that could not be read.
     pub reading: u64,
     /// Replies that could not be sent.
     pub writing: u64,
-    /// Dials.
+    /// Failed dials.
     pub dialling: u64,
-    /// The milliseconds that `next` has waited.
+    /// The milliseconds that `next` has waited in all.
     pub waited: u64,
 }
 
 impl LinkCounts {
     ghost use Rattle.oc_link.specs.Counts.{no_counts, CountsEvent};
 
-    /// Nothing failed yet.
+    /// The counts of a link that was never used.
     pub fn none() -> LinkCounts
         ensures { result ≡ no_counts }
     {
@@ -36,7 +36,7 @@ impl LinkCounts {
         }
     }
 
-    /// After a call of `listen` or `next` failed.
+    /// The counts after a call of `listen` or `next` failed.
     pub fn with_failure(self) -> LinkCounts
         ensures { result ≡ record self { listening = counted self.listening } }
     {
@@ -49,7 +49,7 @@ impl LinkCounts {
         }
     }
 
-    /// After `next` gave this event and waited for at most this number of milliseconds.
+    /// The counts after `next` gave this event and waited at most this number of milliseconds.
     pub fn with_event(self, event: LinkEvent, wait: u64) -> LinkCounts
         ensures { CountsEvent event wait self result }
     {
@@ -66,7 +66,7 @@ impl LinkCounts {
     }
 }
 
-/// The count after a failure.
+/// The count, one higher after a failure.
 fn raised(count: u64, failed: bool) -> u64
     ensures { kinds.RisesAt failed count result }
 {
@@ -77,7 +77,7 @@ fn raised(count: u64, failed: bool) -> u64
     }
 }
 
-/// Whether a request could not be read.
+/// Whether an event tells that a request could not be read.
 fn fails_reading(event: &LinkEvent) -> bool
     ensures { result ≡ kinds.fails_reading event.now }
 {
@@ -87,7 +87,7 @@ fn fails_reading(event: &LinkEvent) -> bool
     }
 }
 
-/// Whether a reply could not be sent.
+/// Whether an event tells that a reply could not be sent.
 fn fails_writing(event: &LinkEvent) -> bool
     ensures { result ≡ kinds.fails_writing event.now }
 {
@@ -97,7 +97,7 @@ fn fails_writing(event: &LinkEvent) -> bool
     }
 }
 
-/// Whether a dial failed.
+/// Whether an event tells that a dial failed.
 fn fails_dialling(event: &LinkEvent) -> bool
     ensures { result ≡ kinds.fails_dialling event.now }
 {

@@ -7,19 +7,19 @@ ghost use Rattle.oc_link.specs.Story.{Story, hung_up, IsHeardOut};
 
 use oc_io::Failed;
 
-/// A client's link: connections that it makes, one of them the outgoing one.
+/// A client's link: it makes connections, of which one at a time is the outgoing one.
 ///
-/// One that tells its story says which bytes passed. Sockets tell nothing, and for them only the clauses on
+/// A dialler that tells its story says which bytes passed. Sockets tell none; for them only the clauses about
 /// counts and lengths hold. Lengths are in bytes.
 pub trait Dialler {
-    /// What was dialled, if it tells it.
+    /// The dials so far, if the dialler tells them.
     ghost story: { Self → Option Story };
 
-    /// How many calls failed so far.
+    /// The number of failed calls so far.
     ghost faults: { Self → ℕ };
 
-    /// Makes an outgoing connection to that address, in the place of the one before, and writes all
-    /// these bytes on it. A dial that fails is over.
+    /// Makes an outgoing connection to that address, in place of the one before, and writes all
+    /// these bytes on it. A failed dial leaves no outgoing connection.
     fn dial(&mut self, address: &str, bytes: &[u8]) -> Result<(), Failed>
         ensures dials { OnOk result
             (Told (DialsTo address.now bytes.now) (story self.old) (story self.new)) }
@@ -38,7 +38,7 @@ pub trait Dialler {
         ensures cause { OnErr result (Rose (faults self.old) (faults self.new)) };
 
     /// Reads from the outgoing connection: fills a prefix of the buffer and answers its length. 0 for a
-    /// buffer that is not empty is the end.
+    /// non-empty buffer means the end.
     fn dial_read(&mut self, buf: &mut [u8]) -> Result<usize, Failed>
         ensures within { IfOk result (λ n. n ≤ length buf.old) }
         ensures reads { IfOk result

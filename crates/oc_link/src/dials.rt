@@ -11,16 +11,16 @@ use crate::connections::Connections;
 use std::alloc::{AllocError, Global};
 use std::marker::Model;
 
-/// Dials in memory, one after another, of which one may be outgoing. Each takes the next of the
+/// Dials in memory, in order, of which at most one is outgoing. Each dial takes the next of the
 /// replies.
 #[derive(Debug, Drop)]
 pub(crate) struct MemDials {
     connections: Connections,
     /// The address of each dial that took a reply.
     addresses: ByteStrings,
-    /// How many dials were made after the last reply was taken.
+    /// The number of dials made after the last reply was taken.
     refused: u64,
-    /// The bytes for which there is room.
+    /// The room in bytes.
     room: usize,
 }
 
@@ -45,7 +45,7 @@ impl Model for MemDials {
 }
 
 impl MemDials {
-    /// No dial yet, these replies, and room for this many bytes.
+    /// No dials yet, these replies, and room for this number of bytes.
     pub(crate) fn new(
         alloc: Global,
         replies: Vec<Vec<u8>>,
@@ -83,7 +83,7 @@ impl MemDials {
         self.connections.waits()
     }
 
-    /// The bytes for which there is room.
+    /// The room in bytes.
     pub(crate) fn room(&self) -> usize
         ensures { result ≡ self.now.room }
     {
@@ -97,7 +97,7 @@ impl MemDials {
         self.connections.close();
     }
 
-    /// Another dial, with the next reply, in the place of the outgoing one.
+    /// Makes another dial, with the next reply, in place of the outgoing one.
     pub(crate) fn begin(&mut self, address: &[u8], bytes: &[u8])
         requires reply { 0 < length self.old.replies }
         requires room { length address.now + length bytes.now ≤ self.old.room }
@@ -117,7 +117,7 @@ impl MemDials {
         self.room -= address.len() + bytes.len();
     }
 
-    /// Another dial, which failed, in the place of the outgoing one; it takes the next reply, if there
+    /// Makes another dial, which fails, in place of the outgoing one; it takes the next reply, if there
     /// is one. Past the last reply such dials are only counted.
     pub(crate) fn refuse(&mut self)
         ensures view { self.old.refused < 2 ^ 64 - 1 → self.new ≡ record (with_failed self.old) { refused = self.new.refused } }
@@ -135,8 +135,8 @@ impl MemDials {
         }
     }
 
-    /// Reads from the outgoing dial, at most `most` bytes: fills a prefix of the buffer and answers its
-    /// length. Without an outgoing dial there is nothing to read.
+    /// Reads at most `most` bytes from the outgoing dial: fills a prefix of the buffer and answers its
+    /// length, 0 without an outgoing dial.
     pub(crate) fn read(&mut self, buf: &mut [u8], most: usize) -> usize
         ensures count { result ≡ min (min (length buf.old) most) (length (left_of (connection_of self.old.outgoing))) }
         ensures bytes { take result buf.new ≡ take result (left_of (connection_of self.old.outgoing)) }
@@ -158,14 +158,14 @@ impl MemDials {
         self.room -= bytes.len();
     }
 
-    /// Notes that a call on the outgoing dial failed, if there is one.
+    /// Notes that a call on the outgoing dial, if there is one, failed.
     pub(crate) fn fail(&mut self)
         ensures { self.new ≡ record self.old { outgoing = option_map (through broken) self.old.outgoing } }
     {
         self.connections.fail();
     }
 
-    /// What was written on the dial at this place, counted from 0.
+    /// The bytes written on the dial at this index, counted from 0.
     pub(crate) fn written(&self, at: u64) -> Option<&[u8]>
         ensures { option_copied result ≡ option_map (λ d. d.connection.written) (slice_get (all_dials self.now) at) }
     {

@@ -2,14 +2,14 @@ ghost use Rattle.std.specs.Prelude.{◌≡◌};
 
 use crate::ids::{ConnectionId, DialId};
 
-/// One thing that happened at a link.
+/// An event at a link.
 #[derive(Clone, Copy, Debug)]
 pub enum LinkEvent {
-    /// The next request of a connection has come whole, or as far as it is to be looked at now.
+    /// The next request of a connection has come in full, or as far as the node has to look at it now.
     Request(Arrival),
-    /// A connection wants more of its reply.
+    /// A connection has sent enough of its reply to take more.
     Room(ConnectionId),
-    /// A connection is over before its reply was given and sent whole.
+    /// A connection ended before its reply was given and sent in full.
     Gone(ConnectionId, Loss),
     /// The reply of a dial has come, or the dial failed.
     Reply(DialId, Coming),
@@ -17,19 +17,19 @@ pub enum LinkEvent {
     Quiet,
 }
 
-/// What came on a connection.
+/// A request that came on a connection, or the first part of one.
 #[derive(Clone, Copy, Debug)]
 pub struct Arrival {
     pub connection: ConnectionId,
-    /// Which request of the connection it is, counted from 1.
+    /// The number of the request on its connection, counted from 1.
     pub number: u64,
-    /// Whether the connection was given something since its last reply, as the permission to send a body.
+    /// Whether the connection was given bytes since its last reply, as the permission to send a body.
     pub permitted: bool,
-    /// How its bytes end.
+    /// The end of the bytes so far.
     pub coming: Coming,
 }
 
-/// How the bytes that came end.
+/// The end of the bytes that came.
 #[derive(Clone, Copy, Debug)]
 pub enum Coming {
     /// More may come.
@@ -43,7 +43,7 @@ pub enum Coming {
 impl Coming {
     ghost use Rattle.oc_link.specs.Failures.{has_failed};
 
-    /// Whether what came failed.
+    /// Whether the bytes ended by a failure.
     pub fn has_failed(self) -> bool
         ensures { result ≡ has_failed self }
     {
@@ -54,11 +54,11 @@ impl Coming {
     }
 }
 
-/// Why a connection is over before its reply was sent whole.
+/// Why a connection ended before its reply was sent in full.
 #[derive(Clone, Copy, Debug)]
 pub enum Loss {
-    /// A call failed, or it made no progress for its time.
+    /// A call failed, or the connection made no progress for its time.
     Failed,
-    /// It gave its place to another one.
+    /// The link closed the connection to make room for another one.
     GaveWay,
 }

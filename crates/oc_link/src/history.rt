@@ -1,4 +1,4 @@
-//! What the calls of a link say of one connection and of one dial.
+//! The history of one connection and of one dial, by the calls of a link.
 
 ghost use Rattle.std.specs.Prelude.{◌≡◌, min, IfOk};
 ghost use Rattle.oc_link.specs.Dials.{is_dialling, dialling};
@@ -11,7 +11,7 @@ use crate::ids::{ConnectionId, DialId};
 use crate::phase::Standing;
 use std::alloc::{AllocError, Global};
 
-/// What a connection is doing after these calls.
+/// The state of a connection after these calls.
 pub fn standing_of(calls: &[Call], connection: ConnectionId) -> Standing
     ensures { result ≡ stands.standing_of connection calls.now }
 {
@@ -33,7 +33,7 @@ pub fn is_under_way(calls: &[Call], dial: DialId) -> bool
     dials
 }
 
-/// Whether it is after one more call.
+/// Whether the dial is under way after one more call.
 fn is_under_way_after(call: &Call, dial: DialId, was: bool) -> bool
     ensures { result ≡ dialling dial call.now was }
 {
@@ -60,7 +60,7 @@ pub fn may(event: &LinkEvent, calls: &[Call]) -> bool
     }
 }
 
-/// What came on a connection and was not taken yet.
+/// The bytes that came on a connection and were not taken yet.
 pub fn held(alloc: Global, calls: &[Call], connection: ConnectionId) -> Result<Vec<u8>, AllocError>
     ensures { IfOk result (λ v. v.items ≡ traffic.held connection calls.now) }
 {
@@ -69,7 +69,7 @@ pub fn held(alloc: Global, calls: &[Call], connection: ConnectionId) -> Result<V
     read[start..].to_vec(alloc)
 }
 
-/// All that came on a connection.
+/// All bytes that came on a connection.
 fn read(alloc: Global, calls: &[Call], connection: ConnectionId) -> Result<Vec<u8>, AllocError>
     ensures { IfOk result (λ v. v.items ≡ traffic.read connection calls.now) }
 {
@@ -80,7 +80,7 @@ fn read(alloc: Global, calls: &[Call], connection: ConnectionId) -> Result<Vec<u
     Ok(bytes)
 }
 
-/// The bytes that came on it by a call.
+/// The bytes that came on a connection by a call.
 fn came_on(call: &Call, connection: ConnectionId) -> &[u8]
     ensures { result.now ≡ traffic.came_on connection call.now }
 {
@@ -96,7 +96,7 @@ fn came_on(call: &Call, connection: ConnectionId) -> &[u8]
     }
 }
 
-/// How many bytes of a connection were taken, of which there are `most`.
+/// The number of bytes of a connection that were taken, at most `most`.
 fn taken(calls: &[Call], connection: ConnectionId, most: usize) -> usize
     ensures { result ≡ min (traffic.taken connection calls.now) most }
 {
@@ -107,7 +107,7 @@ fn taken(calls: &[Call], connection: ConnectionId, most: usize) -> usize
     taken
 }
 
-/// How many a call took.
+/// The number of bytes that a call took from a connection.
 fn taken_by(call: &Call, connection: ConnectionId) -> usize
     ensures { result ≡ traffic.taken_by connection call.now }
 {
@@ -123,7 +123,7 @@ fn taken_by(call: &Call, connection: ConnectionId) -> usize
     }
 }
 
-/// All that a connection was given to send.
+/// All bytes that a connection was given to send.
 pub fn given(alloc: Global, calls: &[Call], connection: ConnectionId) -> Result<Vec<u8>, AllocError>
     ensures { IfOk result (λ v. v.items ≡ traffic.given connection calls.now) }
 {
@@ -134,7 +134,7 @@ pub fn given(alloc: Global, calls: &[Call], connection: ConnectionId) -> Result<
     Ok(bytes)
 }
 
-/// The bytes that a call gave it.
+/// The bytes that a call gave a connection.
 fn given_by(call: &Call, connection: ConnectionId) -> &[u8]
     ensures { result.now ≡ traffic.given_by connection call.now }
 {

@@ -1,6 +1,6 @@
 use std::marker::Model;
 
-/// A connection that came. A link gives no two of them the same number.
+/// A connection from outside. A link gives each connection a number of its own.
 #[derive(Clone, Copy, Debug, PartialEq, Eq)]
 pub struct ConnectionId(pub u64);
 
@@ -14,7 +14,7 @@ impl Model for ConnectionId {
     ghost inverse = { λ n. record { 0 = n } };
 }
 
-/// A dial, by the number that whoever dials gives it.
+/// A dial, by the number that the dialling side gives it.
 #[derive(Clone, Copy, Debug, PartialEq, Eq)]
 pub struct DialId(pub u64);
 

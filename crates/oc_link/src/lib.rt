@@ -1,21 +1,21 @@
-//! Links: how a program reaches others, and how it is reached.
+//! Links: a program's connections to others, and theirs to it.
 //!
-//! **That of a running node** is a [`Link`]: one thing that happened after another. It is asked by `next` for one
-//! [`LinkEvent`]: a request came, a reply has room for more, a connection is gone, a dial has its reply, or nothing happened
-//! within the wait. No other call waits, and no other call but `listen` fails: what fails later is an event. A link tells
-//! the time, too, so that its story says in which order it was dialled and the clock was read.
+//! **The link of a running node** is a [`Link`]: a sequence of events. `next` gives one [`LinkEvent`]: a request
+//! came, a reply has room for more, a connection is gone, a dial has its reply, or nothing happened within the wait.
+//! No other call waits, and no other call but `listen` fails: a later failure is an event. A link tells the time,
+//! too, so that its story says in which order the link was dialled and the clock was read.
 //!
-//! The story of a link, where it tells one, is the list of the calls that were made on it, each with what it
-//! answered ([`Call`]). What a connection read and was given and what it is doing is read off that list, by the
-//! definitions of `specs/Traffic` and `specs/Stands`. The layer above uses the contract of each call: it
-//! adds itself to the story; and of `next` that its event is one that may come after the calls so far. [`MemLink`] is such
-//! a link in memory, which plays a script.
+//! The story of a link, if it tells one, is the list of its calls with their answers ([`Call`]). The definitions of
+//! `specs/Traffic` and `specs/Stands` take from that list the bytes that a connection received and was given, and the
+//! state of the connection. The layer above uses the contract of each call: the call is added to the story, and the
+//! event of `next` is one that may come after the calls so far. [`MemLink`] is a link in memory that plays a script.
 //!
-//! **That of a client** is a [`Dialler`], which may wait. It makes dials, of which one at a time is the outgoing connection.
-//! Its story (`specs/Story`) tells what was read and written on each, and where a call failed; each call says what it adds to
-//! the story. A dialler of sockets tells no story, and for it the clauses on counts and lengths hold. [`Outgoing`] borrows a
-//! dialler, and is its outgoing connection as a source. [`MemDialler`] is one in memory: it is made with the bytes that its
-//! dials give in reply, and its calls fail where they are listed.
+//! **The link of a client** is a [`Dialler`], whose calls may wait. It makes dials, of which one at a time is the
+//! outgoing connection. Its story (`specs/Story`) tells the bytes that were read and written on each, and where a
+//! call failed; the contract of each call says how the story goes on. A dialler of sockets tells no story, and for it
+//! the clauses about counts and lengths hold. [`Outgoing`] borrows a dialler, and makes its outgoing connection a
+//! source. [`MemDialler`] is a dialler in memory: it is made with the replies of its dials, and the listed calls
+//! fail.
 #![tactic(auto)]
 
 mod arrived;

@@ -12,66 +12,66 @@ use oc_io::Failed;
 
 /// A network and a clock, as a running node uses them: connections that come in, and dials.
 ///
-/// A link that tells its story says which calls were made and what they answered. Sockets tell nothing, and for
-/// them only the clauses on counts hold. Times are in milliseconds where nothing else is said.
+/// A link that tells its story says which calls were made and their answers. Sockets tell none; for them only
+/// the clauses about counts hold. Times are in milliseconds unless a comment says seconds.
 pub trait Link {
-    /// The calls that were made and did not fail, oldest first, if the link tells them.
+    /// The successful calls, oldest first, if the link tells them.
     ghost story: { Self → Option (List Call) };
 
-    /// How many calls failed so far, by their kind, and how long the link has waited.
+    /// The number of failed calls so far, by their kind, and the time that the link has waited.
     ghost counts: { Self → LinkCounts };
 
-    /// What the last event lends.
+    /// The bytes that the last event lends.
     ghost lends: { Self → List ℕ };
 
-    /// Waits for connections at that address from now on.
+    /// Waits for connections at that address, a host and a port, from now on.
     fn listen(&mut self, address: &str) -> Result<(), Failed>
         ensures listens { OnOk result (Adds (acts.Listen address.now) (story self.old) (story self.new)) }
         ensures fails { OnErr result (story self.new ≡ story self.old) }
         ensures counts { CountsListening result (counts self.old) (counts self.new) };
 
-    /// One thing that happened, at the latest when the wait is over. It is the only call that waits. Which of
-    /// several things comes first is the link's choice.
+    /// The next event, or `Quiet` when the wait is over. It is the only call that waits. The link chooses the
+    /// order of several events.
     fn next(&mut self, wait: u64) -> Result<LinkEvent, Failed>
         ensures story { NextGives result (lends self.new) (story self.old) (story self.new) }
         ensures counts { Counted result wait (counts self.old) (counts self.new) };
 
-    /// What came by the event that `next` gave last: of a request all that came and was not taken yet, and all of
-    /// a reply. It is to be read before any other call.
+    /// The bytes of the event that `next` gave last: of a request all that came and were not taken yet, and of a
+    /// reply all. The caller reads them before any other call.
     fn lent(&self) -> &[u8]
         ensures { result.now ≡ lends self.now };
 
-    /// Takes that many of the bytes that came on a connection as its request, whose reply is then under way.
+    /// Takes the first `count` bytes that came on a connection as its request; its reply is then under way.
     fn take(&mut self, connection: ConnectionId, count: u64)
         ensures story { Adds (acts.Take connection count) (story self.old) (story self.new) }
         ensures counts { counts self.new ≡ counts self.old };
 
-    /// Gives a connection these bytes to send, all of them. Where they can't be kept or sent, it is told later.
+    /// Gives a connection these bytes to send, all of them. An event tells later if they can't be kept or sent.
     fn give(&mut self, connection: ConnectionId, bytes: &[u8])
         ensures story { Adds (acts.Give connection bytes.now) (story self.old) (story self.new) }
         ensures counts { counts self.new ≡ counts self.old };
 
-    /// Says that the reply of a connection was given whole, and what becomes of the connection.
+    /// Ends the reply of a connection, which was given in full, and says whether the connection stays open.
     fn finish(&mut self, connection: ConnectionId, ending: Ending)
         ensures story { Adds (acts.Finish connection ending) (story self.old) (story self.new) }
         ensures counts { counts self.new ≡ counts self.old };
 
-    /// Ends a connection at once. What it was given may not have been sent.
+    /// Closes a connection at once. Bytes that it was given may not have been sent.
     fn break_off(&mut self, connection: ConnectionId)
         ensures story { Adds (acts.BreakOff connection) (story self.old) (story self.new) }
         ensures counts { counts self.new ≡ counts self.old };
 
-    /// Begins a dial to that address, on which these bytes are sent. Its reply, or that it failed, is told later.
+    /// Begins a dial to that address, and sends these bytes on it. An event tells the reply or the failure later.
     fn dial(&mut self, dial: DialId, address: &str, bytes: &[u8])
         ensures story { Adds (acts.Dial dial address.now bytes.now) (story self.old) (story self.new) }
         ensures counts { counts self.new ≡ counts self.old };
 
-    /// The time in seconds, any number. It counts from a moment of the link's own choice.
+    /// The time in seconds, any number, since a moment of the link's own choice.
     fn now(&mut self) -> u64
         ensures story { Adds (acts.Now result) (story self.old) (story self.new) }
         ensures counts { counts self.new ≡ counts self.old };
 
-    /// The time in milliseconds, any number. It counts from a moment of the link's own choice.
+    /// The time in milliseconds, any number, since a moment of the link's own choice.
     fn millis(&mut self) -> u64
         ensures story { Adds (acts.Millis result) (story self.old) (story self.new) }
         ensures counts { counts self.new ≡ counts self.old };

@@ -14,12 +14,12 @@ use oc_io::{CallTally, Failed};
 use std::alloc::{AllocError, Global};
 use std::marker::Model;
 
-/// A link in memory, of which given calls fail. It keeps what is written on its dials, as far as its room
-/// goes. It keeps neither address nor bytes of a dial that fails.
+/// A dialler in memory; listed calls fail. It keeps the bytes that are written on its dials, as far as its room
+/// goes, and neither address nor bytes of a failed dial.
 #[derive(Debug, Drop)]
 pub struct MemDialler {
     dials: MemDials,
-    /// The most bytes that one read gives.
+    /// The greatest number of bytes of one read.
     cut: usize,
     calls: CallTally,
 }
@@ -42,10 +42,10 @@ impl Model for MemDialler {
 }
 
 impl MemDialler {
-    /// A link whose dials give the bytes of `replies`, in order. It keeps `room` bytes of what is written
-    /// and of the addresses that are dialled, for which it takes the memory here. One read gives `cut` bytes
-    /// at most, and `cut` is at least 1. The calls with the numbers `fails` fail, counted from 1, and so do a
-    /// call past the room and a dial past the last reply. `hang_up` is not counted.
+    /// A dialler whose dials give the bytes of `replies`, in order. It has room for `room` bytes of addresses and
+    /// written bytes, whose memory is taken here. One read gives at most `cut` bytes, which is at least 1. The
+    /// calls with the numbers `fails` fail, counted from 1, and so do a call past the room and a dial past the
+    /// last reply. `hang_up` does not count as a call.
     pub fn new(
         alloc: Global,
         replies: Vec<Vec<u8>>,
@@ -63,7 +63,7 @@ impl MemDialler {
         })
     }
 
-    /// The bytes written on the dial at this place, counted from 0.
+    /// The bytes written on the dial at this index, counted from 0.
     pub fn dialled(&self, at: u64) -> Option<&[u8]>
         ensures { option_copied result ≡ option_map (λ d. d.connection.written) (slice_get (dials self.now.story) at) }
     {
@@ -82,7 +82,7 @@ impl Dialler for MemDialler {
         ensures count { NoFall self.old.calls.faults self.new.calls.faults }
         ensures cause { OnErr result (Rose self.old.calls.faults self.new.calls.faults) }
 
-        // The next reply is that of this dial. It fails exactly where it is listed, no reply is left
+        // This dial takes the next reply. A failure exactly if the call is listed, no reply is left
         // or the room does not suffice.
         ensures passed { OnOk result (¬ IsListed self.old.calls × (0 < length self.old.replies)
             × (length address.now + length bytes.now ≤ self.old.room)
@@ -106,7 +106,7 @@ impl Dialler for MemDialler {
         ensures count { NoFall self.old.calls.faults self.new.calls.faults }
         ensures cause { OnErr result (Rose self.old.calls.faults self.new.calls.faults) }
 
-        // It fails exactly where it is listed, no connection is outgoing or the room does not suffice.
+        // A failure exactly if the call is listed, no connection is outgoing or the room does not suffice.
         ensures passed { OnOk result (¬ IsListed self.old.calls × (¬ (self.old.story.outgoing ≡ None))
             × (length bytes.now ≤ self.old.room) × (self.new ≡ after_dial_more bytes.now self.old)) }
         ensures failed { OnErr result ((IsListed self.old.calls ⊎ ((self.old.story.outgoing ≡ None)
@@ -129,7 +129,7 @@ impl Dialler for MemDialler {
         ensures count { NoFall self.old.calls.faults self.new.calls.faults }
         ensures cause { OnErr result (Rose self.old.calls.faults self.new.calls.faults) }
 
-        // It reads as much as is left and fits, at most `cut` bytes, and fails exactly where it is
+        // As many bytes as are left and fit, at most `cut`; a failure exactly if the call is
         // listed or no connection is outgoing.
         ensures most { IfOk result (λ n. n ≡ min (min (length buf.old) self.old.cut)
             (length (left_of (connection_of self.old.story.outgoing)))) }

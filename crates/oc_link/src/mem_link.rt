@@ -19,15 +19,15 @@ use oc_io::Failed;
 use std::alloc::Global;
 use std::marker::Model;
 
-/// A link in memory that plays a script, with a clock on which time passes as the script says. It tells its story
-/// as long as there is memory for it.
+/// A link in memory that plays a script, with a clock that the script moves. It tells its story unless memory runs
+/// out.
 #[derive(Drop)]
 pub struct MemLink {
     alloc: Global,
     script: Vec<Step>,
-    /// How much of the script was played.
+    /// The number of steps that were played.
     at: usize,
-    /// The milliseconds of the clock.
+    /// The time of the clock, in milliseconds.
     time: u64,
     calls: Option<Vec<Call>>,
     lent: Vec<u8>,
@@ -68,7 +68,7 @@ impl MemLink {
         }
     }
 
-    /// The calls so far, as long as there was memory to keep them.
+    /// The calls so far, unless memory ran out.
     pub fn calls(&self) -> Option<&[Call]>
         ensures { option_copied result ≡ self.now.story }
     {
@@ -79,7 +79,7 @@ impl MemLink {
     }
 }
 
-/// The calls with one more, as long as there is memory to keep them.
+/// The calls with one more, unless memory runs out.
 fn with_call(calls: Option<Vec<Call>>, call: Call) -> Option<Vec<Call>>
     ensures { Adds call (option_map (λ v. v.items) calls) (option_map (λ v. v.items) result) }
 {
@@ -102,7 +102,7 @@ fn copied(alloc: Global, bytes: &[u8]) -> Option<Vec<u8>>
     }
 }
 
-/// The event that a step of a script is after these calls: what it asks for where that may come, and else `Quiet`.
+/// The event of a step of a script after these calls: the one that it asks for, if that may come, and else `Quiet`.
 fn event_of(step: &Step, calls: &[Call]) -> LinkEvent
     ensures event { result ≡ plays.event_of step.now.happening calls.now }
     ensures may { IsTrue (stands.may result calls.now) }
@@ -136,7 +136,7 @@ fn event_asked(happening: &Happening, calls: &[Call]) -> LinkEvent
     }
 }
 
-/// The bytes that come by a step whose event is this one.
+/// The bytes that come by a step, if its event is this one.
 fn bytes_of<'a>(happening: &'a Happening, event: &LinkEvent) -> &'a [u8]
     ensures { result.now ≡ plays.bytes_of happening.now event.now }
 {
@@ -149,8 +149,8 @@ fn bytes_of<'a>(happening: &'a Happening, event: &LinkEvent) -> &'a [u8]
     }
 }
 
-/// The calls after an event, by which these bytes came, and what it lends. Where memory runs out the calls are not
-/// kept any more.
+/// The calls after an event with these bytes, and the bytes that it lends. If memory runs out, the calls are no
+/// longer kept.
 fn after_event(
     alloc: Global,
     calls: Option<Vec<Call>>,
@@ -170,7 +170,7 @@ fn after_event(
     }
 }
 
-/// What an event lends, by which these bytes came last, where there is memory for it.
+/// The bytes that an event lends, whose last bytes are these, if there is memory for them.
 fn lent_by(
     alloc: Global,
     calls: &Option<Vec<Call>>,
@@ -204,7 +204,7 @@ impl Link for MemLink {
         ensures fails { OnErr result (self.new.story ≡ self.old.story) }
         ensures counts { CountsListening result self.old.counts self.new.counts }
 
-        // It fails exactly where the next step of the script is a failure, and plays that step then.
+        // A failure exactly if the next step of the script is one, which is then played.
         ensures passes { OnOk result ((fails_at (slice_get self.old.script 0) ≡ false) × (self.new.script ≡ self.old.script)) }
         ensures plays { OnErr result ((fails_at (slice_get self.old.script 0) ≡ true) × (self.new.script ≡ drop 1 self.old.script)) }
     {
@@ -300,7 +300,7 @@ impl Link for MemLink {
     }
 }
 
-/// The step at this place of a script, if there is one.
+/// The step at this index of a script, if there is one.
 fn step_at(script: &[Step], at: usize) -> Option<&Step>
     requires { at ≤ length script.now }
     ensures { option_copied result ≡ slice_get (drop at script.now) 0 }
@@ -308,7 +308,7 @@ fn step_at(script: &[Step], at: usize) -> Option<&Step>
     script[at..].first()
 }
 
-/// The place of the step after this one.
+/// The index of the step after this one.
 fn place_after(script: &[Step], at: usize) -> usize
     requires { at ≤ length script.now }
     ensures within { result ≤ length script.now }
@@ -351,7 +351,7 @@ fn bytes_at<'a>(step: Option<&'a Step>, event: &LinkEvent) -> &'a [u8]
     }
 }
 
-/// The milliseconds that pass by the next step: those of the step, and after the script the whole wait.
+/// The milliseconds that pass by the next step: those of the step, or after the script the whole wait.
 fn passes(step: Option<&Step>, wait: u64) -> u64
     ensures { result ≡ plays.passes_at (option_copied step.entry) wait }
 {

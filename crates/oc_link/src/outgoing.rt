@@ -7,15 +7,15 @@ ghost use Rattle.oc_link.specs.Story.{IsHeardOut};
 use crate::dialler::Dialler;
 use oc_io::{Failed, Source};
 
-/// The outgoing connection of a borrowed link: a source of what comes back on it.
+/// The outgoing connection of a borrowed dialler, as a source of the reply.
 #[derive(Drop)]
 pub struct Outgoing<'a, L: Dialler> {
-    /// The link.
+    /// The dialler.
     pub link: &'a mut L,
 }
 
 impl<'a, L: Dialler> Outgoing<'a, L> {
-    /// The outgoing connection of this link. What is done to it is done to the link that is borrowed.
+    /// The outgoing connection of this dialler. Its reads act on the borrowed dialler.
     pub fn new(link: &'a mut L) -> Outgoing<'a, L>
         ensures loan { result.link.ghost_name ≡ link.entry.ghost_name }
         ensures link { result.link.now ≡ link.old }

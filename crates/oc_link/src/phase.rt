@@ -4,30 +4,30 @@ use crate::call::{Call, Ending};
 use crate::event::LinkEvent;
 use crate::ids::ConnectionId;
 
-/// What a connection is doing.
+/// The phase of a connection: waiting for a request, answering one, or over.
 #[derive(Clone, Copy, Debug)]
 pub enum Phase {
     /// Its next request is awaited.
     Awaiting,
     /// Its request was taken, and the reply is not whole.
     Answering,
-    /// Its last reply is whole, and it ends once all is sent.
+    /// Its last reply is given in full, and it ends once all bytes are sent.
     Whole,
-    /// It was over before its reply was sent whole.
+    /// It ended before its reply was sent in full.
     Gone,
-    /// It was broken off.
+    /// It was closed at once.
     Broken,
 }
 
-/// What a connection is doing, and what may come on it next.
+/// The state of a connection, which decides on the events that may come next.
 #[derive(Clone, Copy, Debug)]
 pub struct Standing {
     pub phase: Phase,
-    /// Which request is awaited or answered, counted from 1.
+    /// The number of the request that is awaited or answered, counted from 1.
     pub number: u64,
-    /// Whether it was given something since its request was awaited or taken, or since it had room.
+    /// Whether it was given bytes since its request was awaited or taken, or since it had room.
     pub fed: bool,
-    /// Whether it is told where what it was given can't be sent.
+    /// Whether an event tells if its bytes can't be sent.
     pub watched: bool,
 }
 
@@ -58,7 +58,7 @@ impl Phase {
 impl Standing {
     ghost use Rattle.oc_link.specs.Stands.{untouched, stands, sees, after_finish, may_request, may_want, may_go};
 
-    /// A connection on which nothing happened yet.
+    /// The state of a connection before its first event.
     pub fn untouched() -> Standing
         ensures { result ≡ untouched }
     {
@@ -70,7 +70,7 @@ impl Standing {
         }
     }
 
-    /// What this connection is doing after one more call of its link.
+    /// The state of this connection after one more call of its link.
     pub fn after(self, connection: ConnectionId, call: &Call) -> Standing
         ensures { result ≡ stands connection call.now self }
     {
@@ -111,7 +111,7 @@ impl Standing {
         }
     }
 
-    /// The same after an event.
+    /// The state after an event.
     fn after_event(self, connection: ConnectionId, event: LinkEvent) -> Standing
         ensures { result ≡ sees connection event self }
     {
@@ -139,7 +139,7 @@ impl Standing {
         }
     }
 
-    /// The same after a whole reply.
+    /// The state after a full reply.
     fn after_reply(self, ending: Ending) -> Standing
         ensures { result ≡ after_finish ending self }
     {
@@ -160,7 +160,7 @@ impl Standing {
         }
     }
 
-    /// The same once it is over.
+    /// The state after the connection ended, in this phase.
     fn ended(self, phase: Phase) -> Standing
         ensures { result ≡ record self { phase = phase; watched = false } }
     {
@@ -172,7 +172,7 @@ impl Standing {
         }
     }
 
-    /// Whether a request of that number may come.
+    /// Whether a request of that number may come now.
     pub fn may_request(self, number: u64, permitted: bool) -> bool
         ensures { result ≡ may_request number permitted self }
     {
@@ -181,14 +181,14 @@ impl Standing {
             && if permitted { self.fed } else { !self.fed }
     }
 
-    /// Whether it may want more of its reply.
+    /// Whether an event may say that there is room for more of the reply.
     pub fn may_want(self) -> bool
         ensures { result ≡ may_want self }
     {
         self.phase.is_answering() && self.fed
     }
 
-    /// Whether it may be told that it is over.
+    /// Whether an event may say that the connection is gone.
     pub fn may_go(self) -> bool
         ensures { result ≡ may_go self }
     {

@@ -2,24 +2,24 @@ use crate::event::{Coming, Loss};
 use crate::ids::{ConnectionId, DialId};
 use oc_base::Bytes;
 
-/// What happens at one `next` of a link in memory.
+/// The part of a script that one `next` of a link in memory plays.
 #[derive(Debug, Drop)]
 pub struct Step {
-    /// The milliseconds that pass until then.
+    /// The milliseconds that pass before it.
     pub after: u64,
     pub happening: Happening,
 }
 
-/// One thing of a script. Where it can't come as an event, the link is quiet in its place.
+/// An event of a script. If it can't come at that moment, `next` answers `Quiet`.
 #[derive(Debug, Drop)]
 pub enum Happening {
     /// These bytes come on a connection.
     Comes(ConnectionId, Bytes, Coming),
-    /// A connection wants more of its reply.
+    /// A connection has room for more of its reply.
     Room(ConnectionId),
-    /// A connection is over.
+    /// A connection ends.
     Gone(ConnectionId, Loss),
-    /// A dial is replied to by these bytes.
+    /// These bytes come as the reply of a dial.
     Replies(DialId, Bytes, Coming),
     /// Nothing happens.
     Quiet,

@@ -24,7 +24,7 @@ use Rattle.oc_merge.specs.Told.{Records}
 use Rattle.oc_merge.proofs.Fronts.{at_dropped, drop_at_place, goes, follows, fits_of, rest_is, next_told}
 use Rattle.oc_merge.proofs.Own.{entries_own, own_first, first_own, same_place}
 
--- what holds of all holds of one at a place
+-- a property of all is one of the item at a place
 pub all_at : {A : Type 0} (P : A → Type 0) (xs : List A) (k : ℕ) (x : A) → AllByRecursion P xs → slice_get xs k ≡ Some x → P x
 all_at P [] k x all at = absurd (cc at)
 all_at P (y ∷ ys) zero x all at = subst P (cc at) all.0

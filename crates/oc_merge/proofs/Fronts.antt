@@ -1,4 +1,4 @@
--- What of a node's record was taken, and what can come next.
+-- The lines taken of a node's record, and the next ones that can be taken.
 use Rattle.std.proofs.Common.{◌≡◌, ℕ, zero, suc, true, Option, Some, List, [], ◌∷◌, ◌++◌, length, map, take, drop, slice_get, refl, ap, sym, ◌∙◌, arith}
 use Rattle.std.proofs.lemmas.List.{length-map, map-append, take-append-drop}
 use Rattle.oc_base.specs.Lawful.{IsNode}
@@ -36,7 +36,7 @@ pub behind_front : {A : Type 0} (ws : List A) (x : A) (ys : List A) → slice_ge
 behind_front [] x ys = refl
 behind_front (w ∷ ws) x ys = behind_front ws x ys
 
--- what is at a place comes first in the rest from there on
+-- the item at a place is the first of the rest from there on
 pub drop_at_place : {A : Type 0} (xs : List A) (p : ℕ) (x : A) → slice_get xs p ≡ Some x → drop p xs ≡ x ∷ drop (suc p) xs
 drop_at_place [] p x at = absurd (cc at)
 drop_at_place (y ∷ ys) zero x at = ap (λ z. z ∷ ys) (cc at)
@@ -63,7 +63,7 @@ module _ (digest : Node → List ℕ) (r : Records) (taken : List Line) (w : Wor
       ap (λ (o : Option Told). are_files digest (found_in o) (after_entries (new_node r.header x) (entries_of x taken))) at
       ∙ ap (λ (n : Node). are_files digest (found_in (Some t)) n) (sym own_node)
 
-  -- what can be taken can come next in the world
+  -- a statement that can be taken can be the next event in the world
   pub goes : (t : Told) → slice_get (own_told x r.lines) (length (entries_of x taken)) ≡ Some t → fits digest r x (entries_of x taken) ≡ true
       → CanFollow r.header taken x (entry_of r.header.nodes t) → CanGo digest r.header.nodes w x t
   goes (Started files) at fit can = sym (files_test (Started files) at) ∙ fit
@@ -95,7 +95,7 @@ module _ (digest : Node → List ℕ) (r : Records) (taken : List Line) (taking 
       ≡ map (entry_of r.header.nodes) (own_told x (take p r.lines)) ++ map (entry_of r.header.nodes) (own_told x (drop p r.lines))
   parts = entries_own r.header.nodes x r.lines ∙ (ap (map (entry_of r.header.nodes)) split ∙ map-append (entry_of r.header.nodes) (own_told x (take p r.lines)) (own_told x (drop p r.lines)))
 
-  -- what is left is what is after the place
+  -- the rest is the part after the place
   pub rest_is : entries_of x (map (line_of r.header.nodes) r.lines) ≡ entries_of x taken ++ map (entry_of r.header.nodes) (own_told x (drop p r.lines))
   rest_is =
       let begun = taken_within (recorded digest r) [] taken (λ y. (entries_of y (map (line_of r.header.nodes) r.lines), refl)) taking x in

@@ -1,4 +1,4 @@
--- A line of an input, with what was read before it.
+-- A line of an input, with the reading before it.
 use Rattle.std.proofs.Common.{◌≡◌, ℕ, Result, Ok, Err, List, ap, sym, subst, ◌∙◌}
 use Rattle.oc_base.specs.Steps.{◌>>=◌}
 use Rattle.oc_base.specs.declared.why.Why.{Why}
@@ -14,7 +14,7 @@ use Rattle.oc_merge.specs.Faults.{fault_at}
 use Rattle.oc_merge.specs.Lines.{told_in}
 use Rattle.oc_merge.specs.Reading.{GivesBy, Reading, after_told, at_line, because, limited, nodes_of, tells, within_limits}
 
--- what is read, by what the line tells
+-- the result of reading, by the statement of the line
 abbrev read_on : Reading → ℕ → ℕ → Result Told Why → Result Reading RecordsFault
 read_on r me i told = limited (at_line i (because (told >>= λ t. Ok (tells (record r { place = Within me }) i me t))))
 

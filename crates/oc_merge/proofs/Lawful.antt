@@ -302,7 +302,7 @@ lines_range i ended r (line ∷ rest) found upto b e =
     let kept = line_keeps i (ended || not (is_none rest)) r line next b is_next in
     lines_range (i + 1) ended next rest found (omega (arith, kept.0)) kept.1 then
 
--- what a call gave of these lines is within its ranges
+-- the result of a call for these lines is within its ranges
 pub AreRecords-from_lines : (ended : Bool) (ls : List (List ℕ)) (r : Result Records RecordsFault) → Gives r (read_lines 1 ended nothing_read ls) → IfOk r AreRecords
 AreRecords-from_lines ended ls (Ok found) h = lines_range 1 ended nothing_read ls found (omega arith) (record { header = tt; sized = refl; areas = tt; lines = tt; few = omega arith }) h
 AreRecords-from_lines ended ls (Err fault) h = tt

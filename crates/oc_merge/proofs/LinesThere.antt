@@ -218,7 +218,7 @@ pub are_there_length : (digest : Node → List ℕ) (r : Records) (p : ℕ) (ls 
 are_there_length digest r p [] = refl
 are_there_length digest r p (l ∷ ls) = ap suc (are_there_length digest r (p + 1) ls)
 
--- what holds of all lines holds of those that are picked
+-- a property of all lines is one of those that are picked
 pub picked_all : {A : Type 0} (P : A → Type 0) (bs : List Bool) (xs : List A) → AllByRecursion P xs → AllByRecursion P (picked bs xs)
 picked_all P [] [] all = tt
 picked_all P [] (x ∷ xs) all = tt
@@ -360,7 +360,7 @@ module _ {A : Type 0} (node : A → Node) (digest : Node → List ℕ) (r : Reco
     taken_on before next same =
         subst (AreFoldsAt node digest r (p + 1)) (sym (set_again folds i before next)) (fold_at (Some one) next some (same ∙ ap (λ (k : Behind). k.node) b_is))
 
--- what a slice gives back
+-- the result of giving a slice back
 pub given_back : {A : Type 0} (xs ys : List A) (n : ℕ) → n ≡ length xs → take n (xs ++ ys) ≡ xs
 given_back xs ys n long = ap (λ k. take k (xs ++ ys)) long ∙ take_at xs ys (length xs) refl
 

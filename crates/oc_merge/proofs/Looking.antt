@@ -176,7 +176,7 @@ receiver_among m (k ∷ ks) (inr later) = inr (receiver_among m ks later)
 -- Ways that stay
 
 module _ (digest : Node → List ℕ) (nodes : ℕ) (w v : World) (x : ℕ) (news : List Message) (same_node : node v x ≡ node w x) (same_up : is_up v x ≡ is_up w x) (grown : v.net ≡ w.net ++ news) where
-  -- what stays of what can go, where no new message is to x
+  -- the statements that can be taken stay the same if no new message is for x
   came_before : (bytes : List ℕ) → (IsAmong x (map (λ m. m.to) news) → ⊥) → CanGo digest nodes v x (Came bytes) → CanGo digest nodes w x (Came bytes)
   came_before bytes none can = (sym same_up ∙ can.0, can.1, ⊎_elim (λ before. before) (λ now. absurd (none (subst (λ (y : ℕ). IsAmong y (map (λ m. m.to) news)) can.1 (receiver_among (message_of nodes bytes) news now)))) (among_either (message_of nodes bytes) w.net news (subst (IsAmong (message_of nodes bytes)) grown can.2)))
 

@@ -113,7 +113,7 @@ any_default [] i a b within = absurd (omega (arith, within))
 any_default (x ∷ xs) zero a b within = refl
 any_default (x ∷ xs) (suc i) a b within = any_default xs i a b (omega (arith, within))
 
--- the same, by what is read at the index of the node
+-- the same, by the value at the index of the node
 pub places_step : (nodes : ℕ) (ls : List ToldLine) (from : ℕ) (l : ToldLine) (first next : List ℕ) (index value : ℕ) → ArePlacesFrom nodes ls from first next → 0 < from → slice_get ls (from - 1) ≡ Some l → IsNode nodes l.node
     → index ≡ l.node - 1 → value ≡ get_or first index value → ArePlacesFrom nodes ls (from - 1) (slice_set first index (from - 1)) (slice_set next (from - 1) value)
 places_step nodes ls from l first next index value are some there is index_is read = by_index where

@@ -1,4 +1,4 @@
--- Heads on the way: what is chosen of them, and the ways that they keep where a line was taken.
+-- Heads on the way: the choice among them, and the ways that they keep if a line was taken.
 use Rattle.std.proofs.Common.{◌≡◌, ◌≢◌, ℕ, zero, suc, ◌+◌, ◌-◌, ◌<◌, ◌≤◌, Bool, true, Option, Some, None, List, [], ◌∷◌, ◌++◌, ◌⊎◌, inr, ⊎_elim, length, map, drop, slice_get, slice_set, get_or, refl, ap, sym, subst, ◌∙◌, arith, append_assoc, append-nil}
 use Rattle.std.specs.List.{range_with_len}
 use Rattle.std.proofs.lemmas.Bool.{cases_eq}

@@ -21,7 +21,7 @@ use Rattle.oc_merge.proofs.Going.{go_on, left_fewer}
 use Rattle.oc_merge.proofs.NextPlaces.{any_default}
 use Rattle.oc_merge.proofs.OneMore.{chosen_of, heads_in, none_chosen, ways_behind}
 
--- what is read at a place is the line there
+-- the value read at a place is the line there
 pub read_is : (ls : List ToldLine) (p : ℕ) (l x : ToldLine) → slice_get ls p ≡ Some l → x ≡ get_or ls p x → x ≡ l
 read_is [] p l x at read = absurd (cc at)
 read_is (k ∷ ks) zero l x at read = let same : k ≡ l = cc at in read ∙ same
@@ -98,7 +98,7 @@ moved digest r heads w before on lawful ways c first line read next are v after 
         ways = ways_but digest r heads w before on lawful ways c first line read next are v after is_taken h place begun;
       }
 
--- what is read of a head
+-- the value read of a head
 pub head_read : (heads : List Head) (i : ℕ) (h : Head) → i < length heads → h ≡ get_or heads i h → h ≡ get_or heads i no_head
 head_read [] i h within read = absurd (omega (arith, within))
 head_read (k ∷ ks) zero h within read = read

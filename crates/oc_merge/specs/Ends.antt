@@ -7,14 +7,14 @@ use Rattle.oc_merge.specs.declared.told.ToldLine.{ToldLine}
 use Rattle.oc_merge.specs.Heads.{no_head}
 use Rattle.oc_merge.specs.Merging.{is_start}
 
--- Which line is first at the heads.
+-- The first line at the heads.
 
 -- the kind that is looked for: starts, or any line
 abbrev pub is_of : Bool → Told → Bool
 is_of true told = is_start told
 is_of false told = true
 
--- of the heads before `upto`, none is a line of the kind before this place
+-- among the heads before `upto`, none is at a line of this kind before this index
 abbrev pub NoneStandsBefore : List ToldLine → List Head → Bool → ℕ → ℕ → Type 0
 NoneStandsBefore lines heads starts upto place = (i : ℕ) (l : ToldLine) → i < upto → (get_or heads i no_head).place < place
     → slice_get lines (get_or heads i no_head).place ≡ Some l → is_of starts l.told ≡ false
@@ -34,7 +34,7 @@ pub record IsFirstAtHeads (lines : List ToldLine) (heads : List Head) (starts : 
   pub stands : place < length lines → StandsAt lines heads starts place
   pub none_before : NoneStandsBefore lines heads starts upto place
 
--- this line is the first of its kind at a head
+-- the line is the first of its kind at a head
 pub record StandsFirst (lines : List ToldLine) (heads : List Head) (starts : Bool) (number : ℕ) : Type 0 where
   pub place : ℕ
   pub stands : StandsAt lines heads starts place

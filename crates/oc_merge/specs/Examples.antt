@@ -13,7 +13,7 @@ use Rattle.oc_merge.specs.declared.told.Told.{Told}
 use Rattle.oc_merge.specs.declared.told.Told.TheVariants.{Started, Came, Took}
 use Rattle.oc_merge.specs.declared.told.ToldLine.{ToldLine}
 
--- Worked examples: what these texts say.
+-- Worked examples: the meaning of some texts.
 
 abbrev two_nodes : List ℕ
 two_nodes = codes "#\novercast 1 nodes 2 chain 1\n"
@@ -28,7 +28,7 @@ has_1 = codes "# 1 has " ++ digits ++ codes "\n"
 abbrev on : ℕ → ℕ → Told → ToldLine
 on number node told = record { number = number; node = node; told = told }
 
--- two nodes in the area 0, of which this is told
+-- two nodes in the area 0, with these lines
 abbrev says : List ℕ → List ToldLine → Type 0
 says text told = records_of text ≡ Ok (record { header = record { nodes = 2; chain = 1; chunk = 4096; areas = 0 ∷ 0 ∷ [] }; lines = told })
 
@@ -64,7 +64,8 @@ pub record AreRead : Type 0 where
   pub message_of_odd_digits : refuses (two_nodes ++ codes "up 1\nrecv 1 000\n") 4 causes.Hex
   pub message_past_the_nodes : refuses (two_nodes ++ codes "up 1\nrecv 3 00\n") 4 causes.Range
 
--- Of a record in which the line of an input comes before a start, what is there: the lengths of all groups stand for the files.
+-- The lines that are kept, for a record in which an input line comes before a start. The lengths of
+-- all groups serve as the digest of the files.
 
 abbrev lengths : Node → List ℕ
 lengths n = map (λ l. l.held) (shelf n.groups)

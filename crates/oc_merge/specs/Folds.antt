@@ -9,7 +9,7 @@ use Rattle.oc_merge.specs.declared.told.Told.TheVariants.{Started, Came, Took}
 use Rattle.oc_merge.specs.Recorded.{is_missed, message_of, own_there, own_told}
 use Rattle.oc_merge.specs.Told.{Records}
 
--- Each node folded on its own lines, up to a place among those of all.
+-- Each node after its own lines, up to an index among all lines.
 
 -- the node after a line, none where nothing more is found, and whether the line is there
 pub record Behind : Type 0 where
@@ -44,7 +44,7 @@ abbrev pub there_from : (Node → List ℕ) → ℕ → ℕ → Option Node → 
 there_from digest nodes x None ts = map (λ t. true) ts
 there_from digest nodes x (Some n) ts = own_there digest nodes x n ts
 
--- it is the node x of such a network
+-- the node is node x of this network
 abbrev pub IsOfNetwork : ℕ → ℕ → Option Node → Type 0
 IsOfNetwork nodes x None = Unit {0}
 IsOfNetwork nodes x (Some n) = (n.control.nodes ≡ nodes) × (n.control.me ≡ x)

@@ -19,9 +19,9 @@ use Rattle.oc_merge.specs.Merging.{DeliverFirst, IsNumberOf}
 use Rattle.oc_merge.specs.Recorded.{are_files, entry_of, message_of, own_told, recorded}
 use Rattle.oc_merge.specs.Told.{Records}
 
--- Where a merge is in the record of each node.
+-- The position of a merge in the record of each node.
 
--- how many lines come before the first of x
+-- the number of lines before the first line of x
 abbrev pub before_own : ℕ → List ToldLine → ℕ
 before_own x [] = 0
 before_own x (l ∷ ls) = if l.node == x then 0 else suc (before_own x ls)
@@ -45,13 +45,14 @@ pub record AreHeads (nodes : ℕ) (lines : List ToldLine) (taken : List Line) (h
 
 -- What can be taken
 
--- what a line tells of x can come next in this world
+-- the statement about x can be the next event in this world
 abbrev pub CanGo : (Node → List ℕ) → ℕ → World → ℕ → Told → Type 0
 CanGo digest nodes w x (Started files) = are_files digest files (node w x) ≡ true
 CanGo digest nodes w x (Came bytes) = (is_up w x ≡ true) × ((message_of nodes bytes).to ≡ x) × IsAmong (message_of nodes bytes) w.net
 CanGo digest nodes w x (Took i) = is_up w x ≡ true
 
--- How the next line of a node is taken: as a start, as the message of this number, or as any other input
+-- The way in which the next line of a node is taken: as a start, as the message of this number, or
+-- as another input
 abbrev pub IsWay : (Node → List ℕ) → ℕ → World → ℕ → Told → Option Way → Type 0
 IsWay digest nodes w x told None = CanGo digest nodes w x told → ⊥
 IsWay digest nodes w x (Started files) (Some Start) = CanGo digest nodes w x (Started files)
@@ -77,7 +78,7 @@ pub record IsTaken (nodes : ℕ) (w : World) (l : ToldLine) (v : World) (before 
   pub behind : after ≡ before ++ events
   pub leads : v ≡ world_after w events
 
--- a merge on the way: what was taken, and where it is
+-- a merge on the way: the lines taken, and its position
 pub record IsOnTheWay (digest : Node → List ℕ) (r : Records) (heads : List Head) (w : World) (events : List Event) : Type 0 where
   pub taken : List Line
   pub in_order : IsInOrder (recorded digest r) taken
@@ -90,7 +91,7 @@ pub record IsOnTheWay (digest : Node → List ℕ) (r : Records) (heads : List H
 abbrev pub CanGoAt : (Node → List ℕ) → Records → World → List Head → ℕ → Type 0
 CanGoAt digest r w heads x = (l : ToldLine) × (slice_get r.lines (head_of heads x).place ≡ Some l) × CanGo digest r.header.nodes w x l.told
 
--- of the nodes before `upto`, none can go whose head comes before this place
+-- of the nodes before `upto`, none whose head is before this index can take its line
 abbrev pub NoneGoBefore : (Node → List ℕ) → Records → World → List Head → ℕ → ℕ → Type 0
 NoneGoBefore digest r w heads upto place = (x : ℕ) → IsNode r.header.nodes x → x < upto → (head_of heads x).place < place → CanGoAt digest r w heads x → ⊥
 
@@ -112,7 +113,7 @@ pub record AreHeadsIn (w : World) (r : Records) (heads : List Head) : Type 0 whe
 
 -- Ways that are kept with the heads
 
--- how the line at the head of x can come next, where there is one
+-- the way in which the line at the head of x can be taken, if there is one
 abbrev pub IsWayAt : (Node → List ℕ) → ℕ → World → ℕ → Option ToldLine → Option Way → Type 0
 IsWayAt digest nodes w x None way = way ≡ None
 IsWayAt digest nodes w x (Some l) way = IsWay digest nodes w x l.told way
@@ -132,7 +133,8 @@ is_message_there (Some l) = is_message l.told
 abbrev pub is_waiting : List ToldLine → Head → Bool
 is_waiting lines h = is_none h.way && is_message_there (slice_get lines h.place)
 
--- each head, but perhaps those that wait for a message to one of these nodes, has the way in which its line can come next
+-- each head has the way in which its line can be taken, except perhaps those that wait for a
+-- message to one of these nodes
 abbrev pub HaveWaysBut : (Node → List ℕ) → Records → World → List Head → List ℕ → Type 0
 HaveWaysBut digest r w heads pending = (x : ℕ) → IsNode r.header.nodes x
     → (IsAmong x pending × (is_waiting r.lines (head_of heads x) ≡ true)) ⊎ HasWay digest r w x (head_of heads x)
@@ -146,7 +148,7 @@ pub record IsLookedAt (digest : Node → List ℕ) (r : Records) (w : World) (x 
   pub is : IsWayAt digest r.header.nodes w x (slice_get r.lines (head_of before x).place) way
   pub after_is : after ≡ slice_set before (x - 1) (record (head_of before x) { way = way })
 
--- and this only where its line waits for a message
+-- the head of x is looked at again only if its line waits for a message
 abbrev pub LooksAgain : (Node → List ℕ) → Records → World → ℕ → List Head → List Head → Type 0
 LooksAgain digest r w x before after =
     IsLookedAt digest r w x before after ⊎ ((is_waiting r.lines (head_of before x) ≡ false) × (after ≡ before))
@@ -155,15 +157,15 @@ LooksAgain digest r w x before after =
 abbrev pub placed : Head → Head
 placed h = record h { way = None }
 
--- but for their ways the heads are the same
+-- the heads differ at most in their ways
 abbrev pub AreSamePlaces : List Head → List Head → Type 0
 AreSamePlaces before after = map placed after ≡ map placed before
 
--- to whom the messages after the first `sent` are
+-- the receivers of the messages after the first `sent`
 abbrev pub receivers_behind : ℕ → List Message → List ℕ
 receivers_behind sent net = map (λ m. m.to) (drop sent net)
 
--- Of the heads before `upto` that have a way, the one whose line comes first
+-- Of the heads before `upto` that have a way, the one with the first line
 
 pub record IsFirstWay (heads : List Head) (upto : ℕ) (c : Choice) : Type 0 where
   pub index : ℕ
@@ -176,7 +178,7 @@ abbrev pub IsFirstChoice : List Head → ℕ → Option Choice → Type 0
 IsFirstChoice heads upto None = (i : ℕ) → i < upto → (get_or heads i no_head).way ≡ None
 IsFirstChoice heads upto (Some c) = IsFirstWay heads upto c
 
--- whether a place comes before what was chosen, if anything was
+-- whether an index comes before the chosen one, if there is one
 abbrev pub is_before : ℕ → Option Choice → Bool
 is_before place None = true
 is_before place (Some c) = nat_lt place c.place
@@ -196,7 +198,7 @@ pub record ArePlacesFrom (nodes : ℕ) (lines : List ToldLine) (from : ℕ) (fir
   pub first_is : (x : ℕ) → IsNode nodes x → get_or first (x - 1) 0 ≡ from + before_own x (drop from lines)
   pub next_is : (place : ℕ) (l : ToldLine) → from ≤ place → slice_get lines place ≡ Some l → get_or next place 0 ≡ place + 1 + before_own l.node (drop (place + 1) lines)
 
--- how many lines come at or after the heads, each counted for each node
+-- the number of lines at or after the heads, counted for each node
 abbrev pub lines_left : ℕ → List Head → ℕ
 lines_left lines [] = 0
 lines_left lines (h ∷ hs) = (lines - h.place) + lines_left lines hs

@@ -5,7 +5,7 @@ use Rattle.oc_merge.specs.declared.fault.TheConstants.{MAX_RECORD_LINES, MAX_REC
 
 -- The limits on records.
 
--- how many there may be of each
+-- the greatest number that is allowed by each limit
 abbrev pub most_of : Most → ℕ
 most_of Lines = MAX_RECORD_LINES
 most_of Bytes = MAX_RECORD_BYTES

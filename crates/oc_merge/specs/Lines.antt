@@ -1,4 +1,4 @@
--- The lines of a record: for each kind what its fields say.
+-- The lines of a record: the meaning of the fields for each kind.
 use Rattle.std.specs.Prelude.{ℕ, ◌-◌, Bool, not, ◌&&◌, ◌||◌, ◌==◌, nat_le, nat_lt, if◌then◌else◌, Option, Some, None, Result, Ok, Err, List, ◌++◌, length, drop, slice_index, codes, decimal}
 use Rattle.std.specs.Char.{is_ascii_digit}
 use Rattle.std.specs.List.{list_all}
@@ -26,7 +26,7 @@ is_cut_off line = not (slice_index line 0 == byte "#") && slice_index line (leng
 abbrev pub is_comment : List ℕ → Bool
 is_comment word = slice_index word 0 == byte "#"
 
--- whether it is a note that a running node prints beside its inputs
+-- whether the line is a note that a running node prints beside its inputs
 abbrev pub is_note : List ℕ → Bool
 is_note word = slice_index word 0 == byte "!"
 
@@ -43,7 +43,7 @@ is_digest digits = length digits == 64 && list_all is_digit digits
 abbrev pub files_line : ℕ → List ℕ → List ℕ
 files_line node digits = (codes "# " ++ decimal node) ++ codes " has " ++ digits
 
--- where digits may be
+-- the place of the digits: the last 64 bytes
 abbrev pub last_64 : List ℕ → List ℕ
 last_64 line = drop (length line - 64) line
 
@@ -53,7 +53,7 @@ files_in node line = if is_digest (last_64 line) && bytes_eq line (files_line no
 
 -- Inputs
 
--- what a line tells of a node, in the record of `me`: of no other node
+-- the statement of a line about a node, which must be `me`, whose record it is
 abbrev pub of_own : ℕ → ℕ → Told → Result Told Why
 of_own me node told = if node == me then Ok told else Err causes.Word
 
@@ -65,7 +65,7 @@ came_in nodes me fields = do
   bytes ← with_fault causes.Hex (decode_of x)
   of_own me node (Came bytes)
 
--- what a line publishes is what one publish may have
+-- a line publishes at most as much as one publish may
 abbrev pub of_input : ℕ → ℕ → Told → Result Told Why
 of_input me node told = if nat_lt MAX_PUBLISH_BYTES (published_by told) then Err causes.Range else of_own me node told
 

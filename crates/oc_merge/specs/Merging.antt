@@ -18,11 +18,11 @@ use Rattle.oc_merge.specs.declared.told.ToldLine.{ToldLine}
 use Rattle.oc_merge.specs.Recorded.{own_told, line_of, recorded}
 use Rattle.oc_merge.specs.Told.{Records}
 
--- What a merge of records is.
+-- The definition of a merge of records.
 
 -- Numbers of messages
 
--- no message of a smaller number is the same
+-- no message of a smaller number is equal
 abbrev pub IsFirstOf : List Message → ℕ → Type 0
 IsFirstOf net k = (j : ℕ) → j < k → message_at net j ≡ message_at net k → ⊥
 
@@ -30,7 +30,7 @@ abbrev pub DeliversFirst : World → Event → Type 0
 DeliversFirst w (Do (Deliver k)) = IsFirstOf w.net k
 DeliversFirst w e = Unit {0}
 
--- each message is delivered by the least number that it has
+-- each message is delivered by its least number
 abbrev pub DeliverFirst : World → List Event → Type 0
 DeliverFirst w [] = Unit {0}
 DeliverFirst w (e ∷ es) = DeliversFirst w e × DeliverFirst (next_world w e) es

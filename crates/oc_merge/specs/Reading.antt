@@ -1,4 +1,4 @@
--- What a text says as records: its lines, one after another.
+-- The meaning of a text as records: its lines, one after another.
 use Rattle.std.specs.Prelude.{◌≡◌, ℕ, ◌+◌, ◌-◌, Bool, true, false, not, ◌&&◌, ◌||◌, ◌==◌, nat_lt, if◌then◌else◌, Option, Some, None, Result, Ok, Err, List, [], ◌∷◌, ◌++◌, length, slice_index, slice_set, codes}
 use Rattle.std.specs.Str.{byte, bytes_eq}
 use Rattle.std.specs.Str.Lines.{lines}
@@ -22,8 +22,9 @@ use Rattle.oc_merge.specs.declared.told.ToldLine.{ToldLine}
 use Rattle.oc_merge.specs.Lines.{is_cut_off, is_comment, is_note, files_in, told_in}
 use Rattle.oc_merge.specs.Told.{Records, published_in}
 
--- what was read so far: the numbers of the first header, with the areas of the first that had a start, and whether one had; the areas
--- after the last header; between which lines the reading is; and what the lines told
+-- the state of the reading: the sizes of the first header, with the areas of the first header that
+-- was followed by a start, and whether there was a start; the areas after the last header; the
+-- place between the lines; and the statements of the lines
 pub record Reading : Type 0 where
   pub header : Option Header
   pub started : Bool
@@ -72,7 +73,7 @@ abbrev pub has_areas : List ℕ → Option Header → Bool
 has_areas areas None = false
 has_areas areas (Some h) = bytes_eq areas h.areas
 
--- one more line that tells this of the node
+-- one more line with this statement about the node
 abbrev pub tells : Reading → ℕ → ℕ → Told → Reading
 tells r i node told = record r { lines = r.lines ++ record { number = i; node = node; told = told } ∷ [] }
 
@@ -102,7 +103,7 @@ abbrev pub with_digits : List ℕ → Told → Told
 with_digits digits (Started files) = Started (Some digits)
 with_digits digits told = told
 
--- the lines, where the last of them is such a start
+-- the lines, with these digits in the last one if it is a start
 abbrev pub with_files : List ℕ → List ToldLine → List ToldLine
 with_files digits [] = []
 with_files digits (l ∷ []) = record l { told = with_digits digits l.told } ∷ []
@@ -152,11 +153,11 @@ after_words (Within me) r i word fields = because (after_inside r me i word fiel
 abbrev pub at_line : {A : Type 0} → ℕ → Result A Cause → Result A RecordsFault
 at_line i r = map_fault (λ cause. Line i cause) r
 
--- the limit on what all lines publish
+-- the limit on the bytes that all lines publish
 abbrev pub within_limits : Reading → Result Reading RecordsFault
 within_limits r = if nat_lt MAX_RECORD_PUBLISHED (published_in r.lines) then Err (Limit limits.Published) else Ok r
 
--- what was read, where it passes no limit
+-- the state of the reading, if no limit is exceeded
 abbrev pub limited : Result Reading RecordsFault → Result Reading RecordsFault
 limited read = read >>= within_limits
 
@@ -169,7 +170,7 @@ abbrev pub read_words : ℕ → Reading → List ℕ → List (List ℕ) → Res
 read_words i r line [] = Ok r
 read_words i r line (word ∷ fields) = if is_comment word then Ok (after_comment r.place r line) else read_statement i r word fields
 
--- the line of this number, and whether it is whole: the limit on lines before all
+-- reads the line of this number, given whether it is complete; the limit on lines comes first
 abbrev pub read_line : ℕ → Bool → Reading → List ℕ → Result Reading RecordsFault
 read_line i whole r line =
     if nat_lt MAX_RECORD_LINES i then Err (Limit limits.Lines)
@@ -202,7 +203,8 @@ records_of bytes =
     if nat_lt MAX_RECORD_BYTES (length bytes) then Err (Limit limits.Bytes)
     else read_lines 1 (is_ended bytes) nothing_read (lines bytes)
 
--- How reading is said: what a call gave, seen by view, is what reading says, unless memory ran out
+-- The link between code and definition: the view of a call's result is that of the definition,
+-- unless memory ran out
 abbrev pub GivesBy : {X A : Type 0} → (X → A) → Result X RecordsFault → Result A RecordsFault → Type 0
 GivesBy view (Ok x) read = read ≡ Ok (view x)
 GivesBy view (Err (Line i cause)) read = read ≡ Err (Line i cause)

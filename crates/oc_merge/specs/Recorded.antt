@@ -15,9 +15,9 @@ use Rattle.oc_merge.specs.declared.told.Told.TheVariants.{Started, Came, Took}
 use Rattle.oc_merge.specs.declared.told.ToldLine.{ToldLine}
 use Rattle.oc_merge.specs.Told.{Records}
 
--- Records as the laws of merges see them. The digest of a node stands for its files.
+-- Records for the laws of merges. The digest of a node represents its files.
 
--- what stands for bytes that are no message: nobody sends it
+-- the message that represents bytes that are no message: nobody sends it
 abbrev pub no_message : Message
 no_message = record { from = 0; to = 0; body = Look }
 
@@ -37,7 +37,7 @@ entry_of nodes (Took i) = Takes i
 abbrev pub line_of : ℕ → ToldLine → Line
 line_of nodes l = line l.node (entry_of nodes l.told)
 
--- what the lines of x tell, in their order
+-- the statements of the lines of x, in order
 abbrev pub own_told : ℕ → List ToldLine → List Told
 own_told x [] = []
 own_told x (l ∷ ls) = if l.node == x then l.told ∷ own_told x ls else own_told x ls
@@ -54,7 +54,7 @@ abbrev pub are_files : (Node → List ℕ) → Option (List ℕ) → Node → Bo
 are_files digest None n = true
 are_files digest (Some digits) n = bytes_eq digits (digest n)
 
--- whether what the line of x after these entries tells of files is so
+-- whether the files told by the line of x after these entries are those of the node
 abbrev pub fits : (Node → List ℕ) → Records → ℕ → List Entry → Bool
 fits digest r x past = are_files digest (found_in (slice_get (own_told x r.lines) (length past))) (after_entries (new_node r.header x) past)
 
@@ -69,12 +69,14 @@ found_behind (Started None ∷ ts) = found_behind ts
 found_behind (Started (Some digits) ∷ ts) = Some digits
 found_behind ts = None
 
--- whether an input of the node n was not taken: that start finds the files without it, and not those with it
+-- whether an input of the node n was not taken: the next start finds the files without it, and not
+-- those with it
 abbrev pub is_missed : (Node → List ℕ) → Node → Input → Option (List ℕ) → Bool
 is_missed digest n i None = false
 is_missed digest n i (Some digits) = not (bytes_eq digits (digest (step n i).node)) && bytes_eq digits (digest n)
 
--- of the lines of x, whether each is there: by these lines alone, from the node n on. After bytes that are no message for x each is
+-- for each line of x, whether it is kept, given these lines alone and the node n before them; all
+-- lines after bytes that are no message for x are kept
 abbrev pub own_there : (Node → List ℕ) → ℕ → ℕ → Node → List Told → List Bool
 own_there digest nodes x n [] = []
 own_there digest nodes x n (Started files ∷ ts) = true ∷ own_there digest nodes x (restarted n) ts
@@ -96,7 +98,7 @@ abbrev pub are_there : (Node → List ℕ) → Records → ℕ → List ToldLine
 are_there digest r place [] = []
 are_there digest r place (l ∷ ls) = is_there digest r place l ∷ are_there digest r (place + 1) ls
 
--- those of some lines that are there
+-- the lines that are marked as kept
 abbrev pub picked : {A : Type 0} → List Bool → List A → List A
 picked (true ∷ bs) (x ∷ xs) = x ∷ picked bs xs
 picked (false ∷ bs) (x ∷ xs) = picked bs xs

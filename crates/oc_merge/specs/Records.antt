@@ -24,7 +24,7 @@ pub record AreRecords (r : Records) : Type 0 where
   pub lines : AllByRecursion (IsLine r.header.nodes) r.lines
   pub few : length r.lines ≤ MAX_RECORD_LINES
 
--- what a merge plays: starts, crashes and acts
+-- the events that a merge plays: starts, crashes and acts
 abbrev pub IsPlayed : Event → Type 0
 IsPlayed (Up x) = Unit {0}
 IsPlayed (Crash x) = Unit {0}

@@ -6,9 +6,9 @@ use Rattle.oc_merge.specs.declared.told.Told.{Told}
 use Rattle.oc_merge.specs.declared.told.Told.TheVariants.{Took}
 use Rattle.oc_merge.specs.declared.told.ToldLine.{ToldLine}
 
--- What records of running nodes tell.
+-- The content of records of running nodes.
 
--- the network, and what its records tell, in the order of the lines
+-- the network, and the statements of its records, in the order of the lines
 pub record Records : Type 0 where
   pub header : Header
   pub lines : List ToldLine
@@ -18,6 +18,6 @@ abbrev pub published_by : Told → ℕ
 published_by (Took (Publish group bytes)) = length bytes
 published_by told = 0
 
--- those that all lines publish
+-- the number of bytes that all lines publish
 abbrev pub published_in : List ToldLine → ℕ
 published_in lines = sum_by (λ l. published_by l.told) lines

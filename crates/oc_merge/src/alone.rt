@@ -5,7 +5,7 @@ ghost use Rattle.oc_model.specs.Node.{Node, new_node, restarted};
 ghost use Rattle.oc_model.specs.Step.{step};
 
 use oc_base::{Bytes, Memory, NodeId};
-use oc_model::Input;
+use oc_model::{Header, Input};
 use std::alloc::Global;
 
 /// One node alone, on which the lines of its own record are played. It shows a node of the model.
@@ -13,33 +13,25 @@ pub trait Alone: Drop {
     /// The node that it shows.
     ghost node: { Self → Node };
 
-    /// The digits that stand for the files of a node.
+    /// The digest of a node's files.
     ghost digest: { Node → List ℕ };
 
-    /// A new node: its number, the number of nodes, the length of the chain, the greatest number of bytes of a chunk, and
-    /// the area of each node.
-    fn new(
-        alloc: Global,
-        nodes: u32,
-        chain: u32,
-        chunk: u32,
-        areas: &[u8],
-        me: NodeId,
-    ) -> Result<Self, Memory>
-        requires header { IsHeader (record { nodes = nodes; chain = chain; chunk = chunk; areas = areas.now }) }
-        requires me { IsNode nodes me }
-        ensures { IfOk result (λ made. node made ≡ new_node (record { nodes = nodes; chain = chain; chunk = chunk; areas = areas.now }) me) };
+    /// A new node of this number, in the network of a header.
+    fn new(alloc: Global, header: &Header, me: NodeId) -> Result<Self, Memory>
+        requires header { IsHeader header.now }
+        requires me { IsNode header.now.nodes me }
+        ensures { IfOk result (λ made. node made ≡ new_node header.now me) };
 
-    /// What a start makes of it. It stays as it is.
+    /// The node after a restart. This node is unchanged.
     fn restarted(&self) -> Result<Self, Memory>
         ensures { IfOk result (λ other. node other ≡ restarted (node self.now)) };
 
-    /// Takes an input within its ranges. Nothing is said of it once memory ran out.
+    /// Takes an input within its ranges. After memory ran out, the contract leaves the node open.
     fn take(&mut self, input: &Input) -> Result<(), Memory>
         requires { IsInput (node self.old).control.nodes (node self.old).control.me input.now }
         ensures { OnOk result (node self.new ≡ (step (node self.old) input.now).node) };
 
-    /// The digits that stand for its files.
+    /// The digest of the node's files.
     fn files(&self) -> Result<Bytes, Memory>
         ensures { IfOk result (λ digits. digits ≡ digest (node self.now)) };
 }

@@ -1,8 +1,8 @@
 /// A node after a line of its record.
 #[derive(Drop)]
 pub(crate) struct Behind<A> {
-    /// None where nothing more is found of it.
+    /// The node; none if its state is unknown from here on.
     pub node: Option<A>,
-    /// Whether the line is there.
+    /// Whether the line is kept. Only the lines of inputs that were not taken are left out.
     pub there: bool,
 }

@@ -1,4 +1,4 @@
-//! Which line a merge takes next.
+//! The choice of the line that a merge takes next.
 
 ghost use Rattle.std.specs.Prelude.{◌≡◌, ◌+◌, ◌<◌, length};
 ghost use Rattle.oc_merge.specs.Heads.{IsFirstChoice, is_before};
@@ -9,12 +9,12 @@ use crate::way::Way;
 /// A line that can be taken.
 #[derive(Clone, Copy, Debug)]
 pub(crate) struct Choice {
-    /// Its place among the lines.
+    /// The index of the line.
     pub place: usize,
     pub way: Way,
 }
 
-/// Whether a line comes before what was chosen, if anything was.
+/// Whether a line comes before the chosen one, if there is one.
 fn is_before(place: usize, chosen: Option<Choice>) -> bool
     ensures { result ≡ is_before place chosen }
 {
@@ -24,7 +24,7 @@ fn is_before(place: usize, chosen: Option<Choice>) -> bool
     }
 }
 
-/// What is chosen with one more head.
+/// The choice after one more head is looked at.
 fn chosen_with(heads: &[Head], chosen: Option<Choice>, index: usize) -> Option<Choice>
     requires index { index < length heads.now }
     requires chosen { IsFirstChoice heads.now index chosen }

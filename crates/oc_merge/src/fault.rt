@@ -6,43 +6,43 @@ use std::alloc::{AllocError, AllocFailed};
 use std::error::Error;
 use std::fmt;
 
-/// The greatest number of lines of records.
+/// The greatest number of lines in records.
 pub const MAX_RECORD_LINES: u32 = 10_000_000;
 
-/// The greatest number of bytes of records: 2^32.
+/// The greatest length of records in bytes: 2^32.
 pub const MAX_RECORD_BYTES: u64 = 4_294_967_296;
 
-/// The greatest number of bytes that the publish lines of records have together: 2^32.
+/// The greatest number of bytes that the publish lines of records may have together: 2^32.
 pub const MAX_RECORD_PUBLISHED: u64 = 4_294_967_296;
 
-/// Why a text is no records of running nodes.
+/// The reason why a text is not records of running nodes.
 #[derive(Clone, Copy, Debug, PartialEq, Eq)]
 pub enum RecordsFault {
-    /// This line, counted from 1, is refused for this cause.
+    /// This line, counted from 1, is refused for this reason.
     Line { line: u32, cause: Cause },
-    /// The text passes a limit.
+    /// The text exceeds a limit.
     Limit(Most),
     /// Memory ran out.
     Memory,
 }
 
-/// Why a line is refused.
+/// The reason why a line is refused.
 #[derive(Clone, Copy, Debug, PartialEq, Eq)]
 pub enum Cause {
-    /// For what it says, as a line of a schedule.
+    /// The line is refused as a line of a schedule.
     Said(Why),
     /// A node starts in areas that are not those of the first record.
     Areas,
 }
 
-/// What records may not have too many of.
+/// The limits on records.
 #[derive(Clone, Copy, Debug, PartialEq, Eq)]
 pub enum Most {
-    /// Lines, those that are skipped too.
+    /// The number of lines, skipped ones included.
     Lines,
-    /// Bytes.
+    /// The number of bytes.
     Bytes,
-    /// Bytes that their publish lines have.
+    /// The number of bytes in publish lines.
     Published,
 }
 
@@ -58,7 +58,7 @@ impl Most {
         }
     }
 
-    /// How many there may be.
+    /// The greatest number that is allowed.
     pub fn most(self) -> u64
         ensures { result ≡ most_of self }
     {

@@ -1,4 +1,4 @@
-//! Where a merge is in the record of each node.
+//! The position of a merge in the record of each node.
 
 ghost use Rattle.std.specs.Prelude.{◌≡◌, Some, [], IfOk, OnOk, length, slice_get};
 ghost use Rattle.oc_base.specs.Lawful.{IsNode};
@@ -15,18 +15,18 @@ use crate::way::{Way, way_of};
 use oc_base::{Memory, NodeId};
 use std::alloc::Global;
 
-/// Where a merge is in the record of a node.
+/// The position of a merge in the record of a node.
 #[derive(Clone, Copy, Debug)]
 pub(crate) struct Head {
-    /// The place of its next line, or after all lines where there is none.
+    /// The index of the next line, or the number of all lines if there is none.
     pub place: usize,
-    /// Whether a line of it was taken.
+    /// Whether a line of the record was taken.
     pub started: bool,
-    /// How its next line can be taken, where it can.
+    /// The way in which the next line can be taken, if it can.
     pub way: Option<Way>,
 }
 
-/// How the line at a place can be taken, if it can.
+/// The way in which the line at an index can be taken, if it can.
 fn way_at<N: Nodes>(
     alloc: Global,
     nodes: &N,
@@ -43,7 +43,7 @@ fn way_at<N: Nodes>(
 {
     match records.lines.get(place) {
         None => Ok(None),
-        Some(line) => way_of(alloc, nodes, records.nodes, line, started),
+        Some(line) => way_of(alloc, nodes, records.header.sizes.nodes, line, started),
     }
 }
 
@@ -60,8 +60,8 @@ pub(crate) fn first_heads<N: Nodes>(
     ensures heads { IfOk result (λ heads. AreHeads records.now.header.nodes records.now.lines [] heads.items) }
     ensures ways { IfOk result (λ heads. HaveWays N.digest records.now (N.world nodes.now) heads.items) }
 {
-    let mut heads = Vec::with_capacity(alloc, records.nodes as usize)?;
-    for before in 0..records.nodes {
+    let mut heads = Vec::with_capacity(alloc, records.header.sizes.nodes as usize)?;
+    for before in 0..records.header.sizes.nodes {
         let place = places.first[before as usize];
         let way = way_at(alloc, nodes, records, NodeId(before + 1), place, false)?;
         heads.push(Head {
@@ -73,7 +73,7 @@ pub(crate) fn first_heads<N: Nodes>(
     Ok(heads)
 }
 
-/// Looks again how the next line of a node can be taken.
+/// Updates the way in which the next line of a node can be taken.
 pub(crate) fn look_at<N: Nodes>(
     alloc: Global,
     nodes: &N,
@@ -97,7 +97,7 @@ pub(crate) fn look_at<N: Nodes>(
     Ok(())
 }
 
-/// Looks again, where the next line of the node waits for a message.
+/// Updates the way of a node whose next line waits for a message.
 fn look_again<N: Nodes>(
     alloc: Global,
     nodes: &N,
@@ -128,8 +128,8 @@ fn is_waiting(records: &Records, head: Head) -> bool
     }
 }
 
-/// Looks again at each node to which a message was sent since there were this many. No other message can be the one for
-/// which a node waits.
+/// Updates each node to which a message was sent after the first `sent` messages. No other node can
+/// have got the message that it waits for.
 pub(crate) fn look_at_receivers<N: Nodes>(
     alloc: Global,
     nodes: &N,

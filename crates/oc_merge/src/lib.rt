@@ -1,20 +1,21 @@
 //! Records of running nodes, made into one schedule.
 //!
-//! A running node may write a record of itself: the header of its network, its start, and each input that
-//! it takes. Three calls make a schedule of such records, one after another:
+//! A running node may write a record of itself: the header of its network, its start, and each
+//! input that it takes. Three calls make a schedule of these records, one after another:
 //!
-//! - [`read`] gives what they tell as one text, exactly what `records_of` makes of any bytes, the [`Records`]
-//!   or the first fault, unless memory runs out. `specs/Reading` says how the lines follow one another and
-//!   where the limits come, `specs/Lines` what each kind of line says and which lines are skipped. The words
-//!   and numbers are those of a schedule.
+//! - [`read`] reads their text, exactly as `records_of` defines for any bytes: the [`Records`] or
+//!   the first fault, unless memory runs out. `specs/Reading` defines the order of the lines and
+//!   the limits, `specs/Lines` the meaning of each kind of line and the lines that are skipped. The
+//!   words and numbers are those of a schedule.
 //! - [`without_missed`] leaves out the lines of inputs that were not taken, exactly those that `records_there`
 //!   of `specs/Recorded` leaves out. It plays the lines of each node [`Alone`].
-//! - [`merge`] gives the [`oc_schedule::Schedule`] of all lines that can be taken, and its [`MergeEnd`]. It plays
-//!   on all [`Nodes`] of the network. `IsMergeOf` of `specs/Merging` says what a merge is: with the laws of merges
-//!   of `oc_laws_world`, that it is the greatest, whatever order is tried.
+//! - [`merge`] gives the [`oc_schedule::Schedule`] of all lines that can be taken, and its
+//!   [`MergeEnd`]. It plays on all [`Nodes`] of the network. `IsMergeOf` of `specs/Merging` defines
+//!   a merge; by the laws of `oc_laws_world` it is the greatest, in whatever order the lines are
+//!   tried.
 //!
-//! Each line costs its event, a look at each head, and a look at what the next line of its node and of the
-//! receivers of its messages wait for.
+//! The cost of a line is that of its event, a look at each head, and a look at the lines for which
+//! its node and the receivers of its messages wait.
 #![tactic(auto)]
 
 mod alone;
@@ -26,7 +27,6 @@ mod law;
 mod lines;
 mod merge_end;
 mod merging;
-mod network;
 mod nodes;
 mod place;
 mod places;

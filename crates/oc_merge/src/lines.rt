@@ -1,4 +1,4 @@
-//! The lines of a record: which are skipped, and what each kind tells.
+//! The lines of a record: those that are skipped, and the meaning of each kind.
 
 ghost use Rattle.std.specs.Prelude.{◌≡◌, IfOk};
 ghost use Rattle.std.specs.List.{list_all};
@@ -17,7 +17,7 @@ use oc_model::Act;
 use oc_schedule::{LineFault, act};
 use std::alloc::Global;
 
-/// How many digits stand for the files of a node.
+/// The number of digits of a digest.
 const DIGITS: usize = 64;
 
 /// Whether a line was cut off by a kill: the next run ended it by `#`.
@@ -37,7 +37,7 @@ pub(crate) fn is_comment(word: &[u8]) -> bool
     matches!(word, [b'#', ..])
 }
 
-/// Whether it is a note that a running node prints beside its inputs.
+/// Whether the line is a note that a running node prints beside its inputs.
 pub(crate) fn is_note(word: &[u8]) -> bool
     ensures { result ≡ is_note word.now }
 {
@@ -51,21 +51,21 @@ fn is_digit(b: u8) -> bool
     b.is_ascii_digit() || (b'a' <= b && b <= b'f')
 }
 
-/// Whether each byte is one.
+/// Whether all bytes are hexadecimal digits in lower case.
 fn are_digits(digits: &[u8]) -> bool
     ensures { result ≡ list_all is_digit digits.now }
 {
     digits.iter().all(|b| is_digit(*b))
 }
 
-/// Whether these are 64 of them.
+/// Whether the bytes are 64 hexadecimal digits in lower case.
 fn is_digest(digits: &[u8]) -> bool
     ensures { result ≡ is_digest digits.now }
 {
     digits.len() == DIGITS && are_digits(digits)
 }
 
-/// The digits of `# N has H`, where the line is spelled exactly so.
+/// The digits of `# N has H`, if the line is spelled exactly like this.
 pub(crate) fn files(alloc: Global, node: NodeId, line: &[u8]) -> Result<Option<Bytes>, Memory>
     ensures { IfOk result (λ found. found ≡ files_in node line.now) }
 {
@@ -84,7 +84,7 @@ pub(crate) fn files(alloc: Global, node: NodeId, line: &[u8]) -> Result<Option<B
     }
 }
 
-/// What a line tells of a node, in the record of `me`.
+/// The statement of a line about a node, in the record of `me`.
 fn of_own(me: NodeId, node: NodeId, told: Told) -> Result<Told, LineFault>
     ensures { GivesLine result (of_own me node told) }
 {
@@ -95,7 +95,7 @@ fn of_own(me: NodeId, node: NodeId, told: Told) -> Result<Told, LineFault>
     }
 }
 
-/// The same, where it may publish no more than one publish has.
+/// The statement of an input line, if it publishes no more than one publish may.
 fn of_input(me: NodeId, node: NodeId, told: Told) -> Result<Told, LineFault>
     ensures { GivesLine result (of_input me node told) }
 {
@@ -106,7 +106,7 @@ fn of_input(me: NodeId, node: NodeId, told: Told) -> Result<Told, LineFault>
     }
 }
 
-/// The bytes that a field writes in hexadecimal.
+/// The bytes of a field in hexadecimal.
 fn message_bytes(alloc: Global, field: &[u8]) -> Result<Bytes, LineFault>
     ensures { GivesLine result (with_fault Hex (decode_of field.now)) }
 {
@@ -127,7 +127,7 @@ fn came(alloc: Global, nodes: u32, me: NodeId, fields: &[u8]) -> Result<Told, Li
     of_own(me, of, Told::Came(bytes))
 }
 
-/// The input that an act line tells.
+/// The input of an act line.
 fn own_input(me: NodeId, act: Act) -> Result<Told, LineFault>
     ensures { GivesLine result (own_input me act) }
 {
@@ -151,7 +151,7 @@ fn took(
     own_input(me, act)
 }
 
-/// Whether a record has act lines of this word.
+/// Whether a record can have act lines with this word.
 fn is_recorded(word: &[u8]) -> bool
     ensures { result ≡ is_recorded word.now }
 {
@@ -163,7 +163,7 @@ fn is_recorded(word: &[u8]) -> bool
         || is(word, "client")
 }
 
-/// A line of the record of `me`, by its word.
+/// Reads a line in the record of `me`, by its word.
 pub(crate) fn told(
     alloc: Global,
     nodes: u32,

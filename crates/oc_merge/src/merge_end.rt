@@ -1,4 +1,4 @@
-/// How a merge ended.
+/// The end of a merge.
 #[derive(Clone, Copy, Debug, PartialEq, Eq)]
 pub enum MergeEnd {
     /// Every line was taken.

@@ -1,4 +1,4 @@
-//! Records made into one schedule.
+//! Merging of records into one schedule.
 
 ghost use Rattle.std.specs.Prelude.{◌≡◌, ◌+◌, ◌<◌, Some, IfOk, OnOk, length};
 ghost use Rattle.oc_model.specs.World.{new_world};
@@ -16,18 +16,19 @@ use crate::records::Records;
 use crate::told::{Told, ToldLine};
 use crate::way::take;
 use oc_base::Memory;
+use oc_model::Header;
 use oc_schedule::{EventList, Schedule};
 use std::alloc::Global;
 
-/// Where a merge is.
+/// The position of a merge.
 #[derive(Drop)]
 struct Fronts {
     heads: Vec<Head>,
-    /// The next line of the same node, by the place of a line.
+    /// The index of the next line of the same node, for each line.
     next: Vec<usize>,
 }
 
-/// Takes the line that was chosen, and goes on to the next of its node.
+/// Takes the chosen line, and moves to the next line of its node.
 fn take_choice<N: Nodes>(
     alloc: Global,
     nodes: &mut N,
@@ -60,14 +61,14 @@ fn take_choice<N: Nodes>(
     look_at_receivers(alloc, nodes, records, &mut fronts.heads, sent)
 }
 
-/// Whether a line is a start, or any line where those are not looked for.
+/// Whether a line is a start, or any line if not only starts are searched.
 fn is_of(starts: bool, told: &Told) -> bool
     ensures { result ≡ is_of starts told.now }
 {
     !starts || matches!(told, Told::Started(_))
 }
 
-/// The place of the first line that is left, with one more head.
+/// The index of the first remaining line, after one more head is looked at.
 fn standing_with(
     lines: &[ToldLine],
     heads: &[Head],
@@ -91,7 +92,8 @@ fn standing_with(
     }
 }
 
-/// The place of the first line that is left, of the starts or of all; after all lines where none is.
+/// The index of the first remaining line, of the starts or of all; the number of all lines if there
+/// is none.
 fn first_standing(lines: &[ToldLine], heads: &[Head], starts: bool) -> usize
     ensures { IsFirstAtHeads lines.now heads.now starts (length heads.now) result }
 {
@@ -102,7 +104,7 @@ fn first_standing(lines: &[ToldLine], heads: &[Head], starts: bool) -> usize
     first
 }
 
-/// How a merge ends that is at these heads.
+/// The end of a merge at these heads.
 fn end_at(lines: &[ToldLine], heads: &[Head]) -> MergeEnd
     ensures { EndsAt lines.now heads.now result }
 {
@@ -121,12 +123,13 @@ fn end_at(lines: &[ToldLine], heads: &[Head]) -> MergeEnd
     MergeEnd::Whole
 }
 
-/// Merges records on the nodes of a new network: the schedule of the lines that can be taken, and how it
-/// ends.
+/// Merges records on the nodes of a new network: gives the schedule of the lines that can be taken,
+/// and the end of the merge.
 ///
-/// Each time the line is taken that comes first in the input of those that can be taken, until none can. A
-/// line can be taken after those of its node before it; a start, where the node then has the files that
-/// its record tells; a message, once it was sent to that node; and any other input always.
+/// At each step the merge takes, of the lines that can be taken, the one that comes first in the
+/// input, until there is none. A line can be taken after the earlier lines of its node; a start
+/// only if the node then has the files that its record tells; a message only once it was sent to
+/// that node; and any other input always.
 pub fn merge<N: Nodes>(
     alloc: Global,
     nodes: &mut N,
@@ -136,7 +139,7 @@ pub fn merge<N: Nodes>(
     requires new { N.world nodes.old ≡ new_world records.now.header }
     ensures { IfOk result (λ merged. IsMergeOf N.digest records.now merged.0 merged.1) }
 {
-    let places = find_places(alloc, records.nodes, &records.lines)?;
+    let places = find_places(alloc, records.header.sizes.nodes, &records.lines)?;
     let heads = first_heads(alloc, nodes, records, &places)?;
     let mut fronts = Fronts {
         heads,
@@ -151,10 +154,10 @@ pub fn merge<N: Nodes>(
     }
     let end = end_at(&records.lines, &fronts.heads);
     let schedule = Schedule {
-        nodes: records.nodes,
-        chain: records.chain,
-        chunk: records.chunk,
-        areas: records.areas.to_vec(alloc)?,
+        header: Header {
+            sizes: records.header.sizes,
+            areas: records.header.areas.to_vec(alloc)?,
+        },
         events,
     };
     Ok((schedule, end))

@@ -1,4 +1,4 @@
-/// Between which lines a reading is.
+/// The place of a reading between the lines.
 #[derive(Clone, Copy, Debug)]
 pub enum Place {
     /// Before the first header.

@@ -1,4 +1,4 @@
-//! Where the lines of each node are among those of all.
+//! The places of each node's lines among all lines.
 
 ghost use Rattle.std.specs.Prelude.{◌≡◌, IfOk};
 ghost use Rattle.std.specs.List.{AllByRecursion};
@@ -9,16 +9,16 @@ use crate::told::ToldLine;
 use oc_base::Memory;
 use std::alloc::Global;
 
-/// Where the lines of each node are. A place after all lines means that there is none.
+/// The indexes of each node's lines. An index after all lines means that there is none.
 #[derive(Debug, Drop)]
 pub(crate) struct Places {
-    /// The first line of each node, by its number.
+    /// The index of the first line of each node, by its number.
     pub first: Vec<usize>,
-    /// The next line of the same node, by the place of a line.
+    /// The index of the next line of the same node, for each line.
     pub next: Vec<usize>,
 }
 
-/// Finds them, in one walk over the lines from the last to the first.
+/// Finds the indexes, in one walk over the lines from the last to the first.
 pub(crate) fn find_places(alloc: Global, nodes: u32, lines: &[ToldLine]) -> Result<Places, Memory>
     requires { AllByRecursion (IsLine nodes) lines.now }
     ensures { IfOk result (λ places. ArePlacesFrom nodes lines.now 0 places.first.items places.next.items) }

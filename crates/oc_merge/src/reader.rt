@@ -3,15 +3,15 @@ ghost use Rattle.oc_merge.specs.declared.fault.TheConstants.{MAX_RECORD_PUBLISHE
 ghost use Rattle.oc_merge.specs.Reading.{nodes_of};
 ghost use Rattle.oc_merge.specs.Told.{published_in};
 
-use crate::network::Network;
 use crate::place::Place;
 use crate::told::ToldLine;
+use oc_model::Header;
 
-/// What the lines so far tell.
+/// The records so far, while the lines are read.
 #[derive(Drop)]
 pub(crate) struct Reader {
-    /// The numbers of the first header, and the areas of the first that had a start.
-    pub network: Option<Network>,
+    /// The sizes of the first header, with the areas of the first that had a start.
+    pub header: Option<Header>,
     /// Whether a node has started.
     pub started: bool,
     /// The areas after the last header.
@@ -22,5 +22,5 @@ pub(crate) struct Reader {
     pub published: u64,
     ghost counted: { published ≡ published_in lines.items },
     ghost within: { published ≤ MAX_RECORD_PUBLISHED },
-    ghost sized: { length areas.items ≡ nodes_of network },
+    ghost sized: { length areas.items ≡ nodes_of header },
 }

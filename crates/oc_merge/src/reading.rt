@@ -1,4 +1,4 @@
-//! How each line is read, after those before it.
+//! Reading of each line, given those before it.
 
 ghost use Rattle.std.specs.Prelude.{◌≡◌, ◌≤◌, ◌∷◌, Ok, Some, OnOk, IfOk, length};
 ghost use Rattle.oc_base.specs.Words.{words};
@@ -14,17 +14,17 @@ ghost use Rattle.oc_merge.specs.Told.{published_in};
 
 use crate::fault::{Cause, MAX_RECORD_PUBLISHED, Most, RecordsFault};
 use crate::lines::{files, is_comment, is_cut_off, is_note, told};
-use crate::network::Network;
 use crate::place::Place;
 use crate::reader::Reader;
 use crate::records::Records;
 use crate::told::{Told, ToldLine, published_by};
 use oc_base::words::{first_word, is};
 use oc_base::{Bytes, Memory, NodeId, Why};
-use oc_schedule::{LineFault, Sizes, area, node_alone, opening};
+use oc_model::{Header, Sizes};
+use oc_schedule::{LineFault, area, node_alone, opening};
 use std::alloc::Global;
 
-/// The fault of a line that is refused for a cause which schedules have too.
+/// The fault of a line that is refused for a reason which schedules have too.
 fn refused(line: u32, why: Why) -> RecordsFault
     ensures { result ≡ Line line (Said why) }
 {
@@ -34,7 +34,7 @@ fn refused(line: u32, why: Why) -> RecordsFault
     }
 }
 
-/// The fault of the text, where the line of this number has this one.
+/// The fault of the text, given the number of a line and its fault.
 fn refused_at(line: u32, fault: LineFault) -> RecordsFault
     ensures { result ≡ fault_at line fault }
 {
@@ -44,38 +44,33 @@ fn refused_at(line: u32, fault: LineFault) -> RecordsFault
     }
 }
 
-/// How many nodes the network has, or 0 where none is known.
-fn nodes_of(network: &Option<Network>) -> u32
-    ensures { result ≡ nodes_of network.now }
+/// How many nodes the network of a header has, or 0 where there is none.
+fn nodes_of(header: &Option<Header>) -> u32
+    ensures { result ≡ nodes_of header.now }
 {
-    match network {
-        Some(network) => network.nodes,
+    match header {
+        Some(header) => header.sizes.nodes,
         None => 0,
     }
 }
 
-/// The network of a header, where it has the numbers of the first.
+/// The header of the network, where a further one has its sizes.
 fn agreed(
     alloc: Global,
     number: u32,
-    network: Option<Network>,
+    header: Option<Header>,
     sizes: Sizes,
-) -> Result<Network, RecordsFault>
-    ensures said { Gives result (at_line number (because (agreed network (with_sizes sizes)))) }
+) -> Result<Header, RecordsFault>
+    ensures said { Gives result (at_line number (because (agreed header (with_sizes sizes)))) }
     ensures nodes { IfOk result (λ found. found.nodes ≡ sizes.nodes) }
 {
-    match network {
-        None => Ok(Network {
-            nodes: sizes.nodes,
-            chain: sizes.chain,
-            chunk: sizes.chunk,
+    match header {
+        None => Ok(Header {
+            sizes,
             areas: vec![in alloc; 0; sizes.nodes as usize]?,
         }),
         Some(first) => {
-            if first.nodes == sizes.nodes
-                && first.chain == sizes.chain
-                && first.chunk == sizes.chunk
-            {
+            if first.sizes == sizes {
                 Ok(first)
             } else {
                 Err(refused(number, Why::Header))
@@ -84,37 +79,35 @@ fn agreed(
     }
 }
 
-/// The network with these areas.
+/// The header with these areas.
 fn with_areas(
     alloc: Global,
-    network: Option<Network>,
+    header: Option<Header>,
     areas: &[u8],
-) -> Result<Option<Network>, RecordsFault>
-    ensures said { Gives result (Ok (with_areas areas.now network)) }
-    ensures nodes { IfOk result (λ found. nodes_of found ≡ nodes_of network) }
+) -> Result<Option<Header>, RecordsFault>
+    ensures said { Gives result (Ok (with_areas areas.now header)) }
+    ensures nodes { IfOk result (λ found. nodes_of found ≡ nodes_of header) }
 {
-    match network {
+    match header {
         None => Ok(None),
-        Some(network) => Ok(Some(Network {
-            nodes: network.nodes,
-            chain: network.chain,
-            chunk: network.chunk,
+        Some(header) => Ok(Some(Header {
+            sizes: header.sizes,
             areas: areas.to_vec(alloc)?,
         })),
     }
 }
 
-/// Whether these are the areas of the network.
-fn has_areas(network: &Option<Network>, areas: &[u8]) -> bool
-    ensures { result ≡ has_areas areas.now network.now }
+/// Whether these are the areas of the header.
+fn has_areas(header: &Option<Header>, areas: &[u8]) -> bool
+    ensures { result ≡ has_areas areas.now header.now }
 {
-    match network {
+    match header {
         None => false,
-        Some(network) => areas == network.areas.as_slice(),
+        Some(header) => areas == header.areas.as_slice(),
     }
 }
 
-/// Puts these digits into the last line, as those of a start.
+/// Adds these digits to the last line, which is a start.
 #[tactic(auto, using(crate::proofs::LastLine::files_last, crate::proofs::LastLine::files_published))]
 fn put_files(lines: &mut Vec<ToldLine>, digits: Bytes) -> Result<(), Memory>
     ensures files { OnOk result (lines.new.items ≡ with_files digits lines.old.items) }
@@ -129,7 +122,7 @@ fn put_files(lines: &mut Vec<ToldLine>, digits: Bytes) -> Result<(), Memory>
     }
 }
 
-/// A line, where it is a start that found the files of these digits.
+/// The line; if it is a start, with the digits of its files.
 fn with_told_files(line: ToldLine, digits: Bytes) -> ToldLine
     ensures { result ≡ record line { told = with_digits digits line.told } }
 {
@@ -141,7 +134,7 @@ fn with_told_files(line: ToldLine, digits: Bytes) -> ToldLine
     }
 }
 
-/// What is told, where a start found the files of these digits.
+/// The statement; if it is a start, with the digits of its files.
 fn with_digits(told: Told, digits: Bytes) -> Told
     ensures { result ≡ with_digits digits told }
 {
@@ -152,12 +145,12 @@ fn with_digits(told: Told, digits: Bytes) -> Told
 }
 
 impl Reader {
-    /// Before the first line. It takes no memory.
+    /// The state before the first line. Takes no memory.
     pub fn new(alloc: Global) -> Reader
         ensures { reading_of result ≡ nothing_read }
     {
         Reader {
-            network: None,
+            header: None,
             started: false,
             areas: Vec::new(alloc),
             place: Place::Outside,
@@ -166,31 +159,19 @@ impl Reader {
         }
     }
 
-    /// What the whole text tells, where the line after the last has this number.
+    /// The records of the whole text, given the number of the line after the last.
     pub fn into_records(self, number: u32) -> Result<Records, RecordsFault>
         ensures { Gives result (records_at_end number (reading_of self).header (reading_of self).lines) }
     {
-        let Reader { network, lines, .. } = self;
-        match network {
-            Some(
-                Network {
-                    nodes,
-                    chain,
-                    chunk,
-                    areas,
-                },
-            ) => Ok(Records {
-                nodes,
-                chain,
-                chunk,
-                areas,
-                lines,
-            }),
+        let Reader { header, lines, .. } = self;
+        match header {
+            Some(header) => Ok(Records { header, lines }),
             None => Err(refused(number, Why::Header)),
         }
     }
 
-    /// One more line, of this number. One that is not whole, or was cut off, is skipped.
+    /// Reads one more line, of this number. A line that is not complete, or was cut off, is
+    /// skipped.
     pub fn with_line(
         self,
         alloc: Global,
@@ -216,7 +197,7 @@ impl Reader {
         }
     }
 
-    /// A comment, which may tell the files of the start that it follows.
+    /// Reads a comment, which may tell the files of the start before it.
     fn with_comment(self, alloc: Global, line: &[u8]) -> Result<Reader, RecordsFault>
         ensures { GivesBy reading_of result (Ok (after_comment (reading_of self).place (reading_of self) line.now)) }
     {
@@ -229,12 +210,12 @@ impl Reader {
         }
     }
 
-    /// The last line is a start that found these files.
+    /// Notes that the start in the last line found these files.
     fn with_files(self, node: NodeId, digits: Bytes) -> Result<Reader, RecordsFault>
         ensures { GivesBy reading_of result (Ok (after_files (reading_of self) node (Some digits))) }
     {
         let Reader {
-            network,
+            header,
             started,
             areas,
             place: _,
@@ -243,7 +224,7 @@ impl Reader {
         } = self;
         put_files(&mut lines, digits)?;
         Ok(Reader {
-            network,
+            header,
             started,
             areas,
             place: Place::Within(node.0),
@@ -252,7 +233,7 @@ impl Reader {
         })
     }
 
-    /// A line that is not skipped, of this word and these fields.
+    /// Reads a line that is not skipped, with this word and these fields.
     fn with_statement(
         self,
         alloc: Global,
@@ -276,7 +257,7 @@ impl Reader {
         }
     }
 
-    /// A line that opens a record.
+    /// Reads a header line, which opens a record.
     fn with_header(self, alloc: Global, number: u32, line: &[u8]) -> Result<Reader, RecordsFault>
         ensures { GivesBy reading_of result (limited (at_line number (because (after_header (reading_of self) (words line.now))))) }
     {
@@ -284,7 +265,7 @@ impl Reader {
             return Err(refused(number, Why::Header));
         };
         let Reader {
-            network,
+            header,
             started,
             areas: _,
             place: _,
@@ -292,9 +273,9 @@ impl Reader {
             published,
         } = self;
         let areas = vec![in alloc; 0; sizes.nodes as usize]?;
-        let network = agreed(alloc, number, network, sizes)?;
+        let header = agreed(alloc, number, header, sizes)?;
         Ok(Reader {
-            network: Some(network),
+            header: Some(header),
             started,
             areas,
             place: Place::Opened,
@@ -303,7 +284,7 @@ impl Reader {
         })
     }
 
-    /// A line after a header.
+    /// Reads a line after a header.
     fn with_opening(
         self,
         alloc: Global,
@@ -330,12 +311,12 @@ impl Reader {
     fn with_area(self, number: u32, fields: &[u8]) -> Result<Reader, RecordsFault>
         ensures { GivesBy reading_of result (limited (at_line number (because (after_area (reading_of self) (words fields.now))))) }
     {
-        let (node, area) = match area(nodes_of(&self.network), fields) {
+        let (node, area) = match area(nodes_of(&self.header), fields) {
             Ok(found) => found,
             Err(why) => return Err(refused(number, why)),
         };
         let Reader {
-            network,
+            header,
             started,
             mut areas,
             place,
@@ -344,7 +325,7 @@ impl Reader {
         } = self;
         areas[node.index()] = area;
         Ok(Reader {
-            network,
+            header,
             started,
             areas,
             place,
@@ -357,19 +338,19 @@ impl Reader {
     fn with_up(self, alloc: Global, number: u32, fields: &[u8]) -> Result<Reader, RecordsFault>
         ensures { GivesBy reading_of result (limited (at_line number (after_up (reading_of self) number (words fields.now)))) }
     {
-        match node_alone(nodes_of(&self.network), fields) {
+        match node_alone(nodes_of(&self.header), fields) {
             Ok(node) => self.with_start(alloc, number, node),
             Err(why) => Err(refused(number, why)),
         }
     }
 
-    /// The start of a node, in the areas of the first record.
+    /// Reads the start of a node, in the areas of the first record.
     fn with_start(self, alloc: Global, number: u32, node: NodeId) -> Result<Reader, RecordsFault>
         ensures { GivesBy reading_of result (limited (at_line number (starts (reading_of self) number node))) }
     {
         if !self.started {
             self.with_areas(alloc)?.with_start_of(number, node)
-        } else if has_areas(&self.network, &self.areas) {
+        } else if has_areas(&self.header, &self.areas) {
             self.with_start_of(number, node)
         } else {
             Err(RecordsFault::Line {
@@ -379,21 +360,21 @@ impl Reader {
         }
     }
 
-    /// The areas after the last header are those of the network.
+    /// The areas after the last header are those of the header.
     fn with_areas(self, alloc: Global) -> Result<Reader, RecordsFault>
         ensures { GivesBy reading_of result (Ok (begun (reading_of self))) }
     {
         let Reader {
-            network,
+            header,
             started: _,
             areas,
             place,
             lines,
             published,
         } = self;
-        let network = with_areas(alloc, network, &areas)?;
+        let header = with_areas(alloc, header, &areas)?;
         Ok(Reader {
-            network,
+            header,
             started: true,
             areas,
             place,
@@ -402,7 +383,7 @@ impl Reader {
         })
     }
 
-    /// The line of a start.
+    /// Appends the line of a start.
     fn with_start_of(self, number: u32, node: NodeId) -> Result<Reader, RecordsFault>
         ensures { GivesBy reading_of result (within_limits (started_at (reading_of self) number node)) }
     {
@@ -410,7 +391,7 @@ impl Reader {
             .with_told(number, node, Told::Started(None))
     }
 
-    /// A line in the record of `me`, in which this word and these fields were found.
+    /// Reads a line in the record of `me`, with this word and these fields.
     fn with_inside(
         self,
         alloc: Global,
@@ -432,7 +413,7 @@ impl Reader {
         }
     }
 
-    /// A line of a message or of any other input of `me`.
+    /// Reads a line of a message or of another input of `me`.
     fn with_input(
         self,
         alloc: Global,
@@ -443,25 +424,25 @@ impl Reader {
     ) -> Result<Reader, RecordsFault>
         ensures { GivesBy reading_of result (limited (at_line number (because (after_told (reading_of self) me number word.now (words fields.now))))) }
     {
-        match told(alloc, nodes_of(&self.network), me, word, fields) {
+        match told(alloc, nodes_of(&self.header), me, word, fields) {
             Ok(told) => self.within(me).with_told(number, me, told),
             Err(fault) => Err(refused_at(number, fault)),
         }
     }
 
-    /// In the record of `me`.
+    /// Moves into the record of `me`.
     fn within(self, me: NodeId) -> Reader
         ensures { reading_of result ≡ record (reading_of self) { place = Within me } }
     {
         self.at(Place::Within(me.0))
     }
 
-    /// Between other lines.
+    /// Moves to another place between the lines.
     fn at(self, place: Place) -> Reader
         ensures { reading_of result ≡ record (reading_of self) { place = place } }
     {
         let Reader {
-            network,
+            header,
             started,
             areas,
             place: _,
@@ -469,7 +450,7 @@ impl Reader {
             published,
         } = self;
         Reader {
-            network,
+            header,
             started,
             areas,
             place,
@@ -478,12 +459,12 @@ impl Reader {
         }
     }
 
-    /// One more line that tells this of the node, where it passes no limit.
+    /// Appends one more statement about the node, if no limit is exceeded.
     fn with_told(self, number: u32, node: NodeId, told: Told) -> Result<Reader, RecordsFault>
         ensures { GivesBy reading_of result (within_limits (tells (reading_of self) number node told)) }
     {
         let Reader {
-            network,
+            header,
             started,
             areas,
             place,
@@ -496,7 +477,7 @@ impl Reader {
         }
         lines.push(ToldLine { number, node, told })?;
         Ok(Reader {
-            network,
+            header,
             started,
             areas,
             place,

@@ -1,18 +1,12 @@
 use crate::told::ToldLine;
+use oc_model::Header;
 use std::marker::Model;
 
-/// What records tell: the network, and the lines of all its nodes in their order. Contracts see it as the
-/// record `Records` of lists.
+/// The content of records: the network, and the lines of all its nodes in order. Contracts see it
+/// as the record `Records` of lists.
 #[derive(Debug, Drop)]
 pub struct Records {
-    /// The number of nodes, from 1 to 1,024.
-    pub nodes: u32,
-    /// The number of chain members, from 1 to 16 and at most the nodes.
-    pub chain: u32,
-    /// The greatest number of bytes of a chunk, from 1 to 524,288.
-    pub chunk: u32,
-    /// The area of each node, ascending by id.
-    pub areas: Vec<u8>,
+    pub header: Header,
     /// The lines, in their order.
     pub lines: Vec<ToldLine>,
 }
@@ -22,8 +16,5 @@ impl Model for Records {
 
     ghost Value = { ToldRecords };
 
-    ghost view = { λ r. record {
-      header = record { nodes = r.nodes; chain = r.chain; chunk = r.chunk; areas = r.areas.items };
-      lines = r.lines.items;
-    } };
+    ghost view = { λ r. record { header = r.header; lines = r.lines.items } };
 }

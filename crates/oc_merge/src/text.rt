@@ -9,11 +9,11 @@ use crate::records::Records;
 use oc_base::words::first_line;
 use std::alloc::Global;
 
-/// Reads the text of records, any bytes: what they tell, or the first fault.
+/// Reads the text of records, any bytes: gives the records, or the first fault.
 ///
-/// A text of too many bytes is refused before all else. Then each line is refused in this order: where
-/// there are too many lines, for the cause of the line, where too many bytes are published. A text without
-/// a header is refused at the line after its last.
+/// A text of too many bytes is refused first of all. Then each line is refused for the first of
+/// these reasons: there are too many lines, the line has a fault, too many bytes are published. A
+/// text without a header is refused at the line after its last.
 pub fn read(alloc: Global, bytes: &[u8]) -> Result<Records, RecordsFault>
     ensures exact { Gives result (records_of bytes.now) }
 
@@ -26,7 +26,7 @@ pub fn read(alloc: Global, bytes: &[u8]) -> Result<Records, RecordsFault>
     read_lines(alloc, bytes)
 }
 
-/// Whether a text ends with a line's end.
+/// Whether a text ends with a line end.
 fn is_ended(bytes: &[u8]) -> bool
     ensures { result ≡ is_ended bytes.now }
 {
@@ -36,7 +36,7 @@ fn is_ended(bytes: &[u8]) -> bool
     }
 }
 
-/// Whether a line is whole: where the text ends with a line's end, or this is not the last line.
+/// Whether a line is complete: the text ends with a line end, or this is not the last line.
 #[tactic(auto, using(crate::proofs::LineEnds::none_is))]
 fn is_whole(ended: bool, behind: &[u8]) -> bool
     ensures { result ≡ (ended || not (is_none (lines behind.now))) }
@@ -44,7 +44,7 @@ fn is_whole(ended: bool, behind: &[u8]) -> bool
     ended || !behind.is_empty()
 }
 
-/// Reads the lines of a text, one after another.
+/// Reads the lines of a text in order.
 fn read_lines(alloc: Global, bytes: &[u8]) -> Result<Records, RecordsFault>
     ensures { Gives result (read_lines 1 (is_ended bytes.now) nothing_read (lines bytes.now)) }
 {

@@ -1,4 +1,4 @@
-//! Lines of inputs that were not taken, found from the lines of each node alone.
+//! Search for lines of inputs that were not taken, from the lines of each node alone.
 
 ghost use Rattle.std.specs.Prelude.{◌≡◌, ◌+◌, ◌<◌, ◌≤◌, if◌then◌else◌, [], ◌∷◌, ◌++◌, Some, None, true, option_map, IfOk, OnOk, length, drop, slice_get};
 ghost use Rattle.oc_base.specs.Lawful.{IsNode};
@@ -23,7 +23,7 @@ use oc_model::Input;
 use oc_wire::{WireFault, decode};
 use std::alloc::Global;
 
-/// The digits of the files that the first start after a line finds, where it tells them.
+/// The digits of the files that the first start after a line finds, if its record tells them.
 fn found_behind<'a>(lines: &'a [ToldLine], next: &[usize], place: usize) -> Option<&'a [u8]>
     requires next { AreNextPlaces lines.now next.now }
     requires place { place < length lines.now }
@@ -40,7 +40,7 @@ fn found_behind<'a>(lines: &'a [ToldLine], next: &[usize], place: usize) -> Opti
     None
 }
 
-/// The node after an input that it took.
+/// The node after an input that was taken.
 fn behind_taken<A: Alone>(one: A, input: &Input) -> Result<Behind<A>, Memory>
     requires { IsInput (A.node one).control.nodes (A.node one).control.me input.now }
     ensures { IfOk result (λ behind. view_of A.node behind ≡ record { node = Some (step (A.node one) input.now).node; there = true }) }
@@ -53,7 +53,7 @@ fn behind_taken<A: Alone>(one: A, input: &Input) -> Result<Behind<A>, Memory>
     })
 }
 
-/// The node after an input, where the first start after it finds these files.
+/// The node after an input, given the files that the first start after the line finds.
 fn behind_input<A: Alone>(one: A, input: &Input, found: Option<&[u8]>) -> Result<Behind<A>, Memory>
     requires { IsInput (A.node one).control.nodes (A.node one).control.me input.now }
     ensures { IfOk result (λ behind. view_of A.node behind ≡ behind_input A.digest (A.node one) input.now (option_map (λ digits. digits.now) found.entry)) }
@@ -80,7 +80,7 @@ fn behind_input<A: Alone>(one: A, input: &Input, found: Option<&[u8]>) -> Result
     }
 }
 
-/// The node after a line of which nothing more is found.
+/// The node after a line that leaves its state unknown.
 fn behind_lost<A: Alone>() -> Behind<A>
     ensures { view_of A.node result ≡ nothing_more }
 {
@@ -90,7 +90,7 @@ fn behind_lost<A: Alone>() -> Behind<A>
     }
 }
 
-/// The node after a message that came as these bytes.
+/// The node after a message with these bytes.
 fn behind_message<A: Alone>(
     alloc: Global,
     one: A,
@@ -148,7 +148,7 @@ fn behind_line<A: Alone>(
     }
 }
 
-/// Folds the line at a place: whether it is there.
+/// Plays the line at an index on its node, and notes whether the line is kept.
 fn fold_line<A: Alone>(
     alloc: Global,
     records: &Records,
@@ -169,7 +169,7 @@ fn fold_line<A: Alone>(
         return Ok(true);
     };
     let found = found_behind(&records.lines, next, place);
-    let behind = behind_line(alloc, one, records.nodes, line, found)?;
+    let behind = behind_line(alloc, one, records.header.sizes.nodes, line, found)?;
     folds[at] = behind.node;
     Ok(behind.there)
 }
@@ -179,14 +179,11 @@ fn new_nodes<A: Alone>(alloc: Global, records: &Records) -> Result<Vec<Option<A>
     requires { AreRecords records.now }
     ensures { IfOk result (λ folds. AreFoldsAt A.node A.digest records.now 0 folds.items) }
 {
-    let mut folds = Vec::with_capacity(alloc, records.nodes as usize)?;
-    for before in 0..records.nodes {
+    let mut folds = Vec::with_capacity(alloc, records.header.sizes.nodes as usize)?;
+    for before in 0..records.header.sizes.nodes {
         let one = A::new(
             alloc,
-            records.nodes,
-            records.chain,
-            records.chunk,
-            &records.areas,
+            &records.header,
             NodeId(before + 1),
         )?;
         folds.push(Some(one))?;
@@ -194,12 +191,12 @@ fn new_nodes<A: Alone>(alloc: Global, records: &Records) -> Result<Vec<Option<A>
     Ok(folds)
 }
 
-/// Whether each line is there.
+/// For each line, whether it is kept.
 fn are_there<A: Alone>(alloc: Global, records: &Records) -> Result<Vec<bool>, Memory>
     requires { AreRecords records.now }
     ensures { IfOk result (λ there. there.items ≡ are_there A.digest records.now 0 records.now.lines) }
 {
-    let next = find_places(alloc, records.nodes, &records.lines)?.next;
+    let next = find_places(alloc, records.header.sizes.nodes, &records.lines)?.next;
     let mut folds = new_nodes::<A>(alloc, records)?;
     let mut there = Vec::with_capacity(alloc, records.lines.len())?;
     for place in 0..records.lines.len() {
@@ -208,7 +205,7 @@ fn are_there<A: Alone>(alloc: Global, records: &Records) -> Result<Vec<bool>, Me
     Ok(there)
 }
 
-/// Puts a line at the end, where it is there.
+/// Appends a line, if it is kept.
 fn push_if(left: &mut Vec<ToldLine>, there: bool, line: ToldLine) -> Result<(), Memory>
     ensures { OnOk result (left.new.items ≡ (if there then left.old.items ++ line ∷ [] else left.old.items)) }
 {
@@ -218,7 +215,7 @@ fn push_if(left: &mut Vec<ToldLine>, there: bool, line: ToldLine) -> Result<(), 
     Ok(())
 }
 
-/// Those of some lines that are there.
+/// The lines that are kept.
 fn picked(alloc: Global, there: &[bool], lines: Vec<ToldLine>) -> Result<Vec<ToldLine>, Memory>
     requires { length lines.items ≤ length there.now }
     ensures { IfOk result (λ left. left.items ≡ picked there.now lines.items) }
@@ -234,28 +231,20 @@ fn picked(alloc: Global, there: &[bool], lines: Vec<ToldLine>) -> Result<Vec<Tol
 
 /// The records without the lines of inputs that were not taken.
 ///
-/// A running node writes the line of an input before it takes it, so the last line before a stop may tell of an input that
-/// was not taken. It did where the next start finds the files as they are without this input, and not as they are
-/// with it: so it is found from the lines of its node alone, from a new node on. After a message to another
-/// node, and after bytes that are no message, nothing more is found of a node.
+/// A running node writes the line of an input before it takes the input, so the last line before a
+/// stop may belong to an input that was not taken. It does if the next start finds the files of the
+/// node without this input, and not those with it: the lines of the node alone show this, played on
+/// a new node. After a message to another node, and after bytes that are no message, the state of
+/// the node is unknown and all its lines are kept.
 pub fn without_missed<A: Alone>(alloc: Global, records: Records) -> Result<Records, Memory>
     requires { AreRecords records }
     ensures there { IfOk result (λ left. left ≡ records_there A.digest records) }
     ensures lawful { IfOk result AreRecords }
 {
     let there = are_there::<A>(alloc, &records)?;
-    let Records {
-        nodes,
-        chain,
-        chunk,
-        areas,
-        lines,
-    } = records;
+    let Records { header, lines } = records;
     Ok(Records {
-        nodes,
-        chain,
-        chunk,
-        areas,
+        header,
         lines: picked(alloc, &there, lines)?,
     })
 }

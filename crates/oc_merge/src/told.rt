@@ -1,4 +1,4 @@
-//! What records tell.
+//! The statements of records.
 
 ghost use Rattle.std.specs.Prelude.{◌≡◌};
 ghost use Rattle.oc_merge.specs.Told.{published_by};
@@ -6,28 +6,28 @@ ghost use Rattle.oc_merge.specs.Told.{published_by};
 use oc_base::{Bytes, NodeId};
 use oc_model::Input;
 
-/// What a line of a record tells of its node.
+/// A statement of a record's line about its node.
 #[derive(Debug, Drop)]
 pub enum Told {
-    /// It started, with the digits that stand for the files which it found, where the record has them.
+    /// The node started, with the digest of the files which it found, if the record has it.
     Started(Option<Bytes>),
-    /// A message came, by its bytes.
+    /// A message with these bytes came.
     Came(Bytes),
-    /// It took any other input.
+    /// The node took another input.
     Took(Input),
 }
 
-/// A line of records that tells something of a node.
+/// A line of records with a statement about a node.
 #[derive(Debug, Drop)]
 pub struct ToldLine {
-    /// Its number among all lines that were read, counted from 1.
+    /// The number of the line among all lines that were read, counted from 1.
     pub number: u32,
-    /// The node whose record has it.
+    /// The node whose record has the line.
     pub node: NodeId,
     pub told: Told,
 }
 
-/// The bytes that a line publishes.
+/// The number of bytes that a line publishes.
 pub(crate) fn published_by(told: &Told) -> u64
     ensures { result ≡ published_by told.now }
 {

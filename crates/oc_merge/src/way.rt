@@ -1,4 +1,4 @@
-//! How the next line of a node is taken.
+//! The way in which the next line of a node is taken.
 
 ghost use Rattle.std.specs.Prelude.{◌≡◌, true, Some, [], ◌∷◌, ◌++◌, OnOk, IfOk, length};
 ghost use Rattle.oc_base.specs.Lawful.{IsNode};
@@ -21,7 +21,7 @@ use oc_schedule::{EventList, KeptEvent};
 use oc_wire::{WireFault, decode};
 use std::alloc::Global;
 
-/// How the next line of a node is taken.
+/// The way in which the next line of a node is taken.
 #[derive(Clone, Copy, Debug)]
 pub(crate) enum Way {
     /// The node starts.
@@ -32,7 +32,7 @@ pub(crate) enum Way {
     Input,
 }
 
-/// Whether the files of a node are those that a start tells, where it tells any.
+/// Whether the files of a node are those that a start tells, if it tells any.
 fn has_files<N: Nodes>(nodes: &N, node: NodeId, files: &Option<Bytes>) -> Result<bool, Memory>
     requires { IsNode (length (ids (N.world nodes.now))) node }
     ensures { IfOk result (λ same. same ≡ are_files N.digest files.now (node_in (N.world nodes.now) node)) }
@@ -43,7 +43,7 @@ fn has_files<N: Nodes>(nodes: &N, node: NodeId, files: &Option<Bytes>) -> Result
     }
 }
 
-/// The number of the message of these bytes to a node, if it was sent.
+/// The number of the message to a node with these bytes, if it was sent.
 fn number_for<N: Nodes>(
     alloc: Global,
     nodes: &N,
@@ -68,7 +68,7 @@ fn number_for<N: Nodes>(
     }
 }
 
-/// How a line of a node is taken, if it can come next.
+/// The way in which a line of a node can be taken next, if it can.
 pub(crate) fn way_of<N: Nodes>(
     alloc: Global,
     nodes: &N,
@@ -108,7 +108,7 @@ pub(crate) fn way_of<N: Nodes>(
     }
 }
 
-/// Plays an event, and puts it at the end of the list.
+/// Plays an event, and appends it to the list.
 fn play<N: Nodes>(
     alloc: Global,
     nodes: &mut N,
@@ -125,7 +125,7 @@ fn play<N: Nodes>(
     Ok(())
 }
 
-/// An event as it is kept in a list.
+/// The form in which a list keeps an event.
 fn kept(alloc: Global, event: Event) -> Result<KeptEvent, Memory>
     ensures { IfOk result (λ kept. event_of kept ≡ event) }
 {
@@ -149,7 +149,7 @@ fn kept(alloc: Global, event: Event) -> Result<KeptEvent, Memory>
     Ok(KeptEvent::other(alloc, event)?)
 }
 
-/// A node that is up stops, and starts again.
+/// Stops a node that is up, and starts it again.
 fn restart<N: Nodes>(
     alloc: Global,
     nodes: &mut N,
@@ -163,7 +163,7 @@ fn restart<N: Nodes>(
     play(alloc, nodes, events, Event::Up(node))
 }
 
-/// A node starts, after a crash where it is up.
+/// Starts a node, after a crash if it is up.
 fn start<N: Nodes>(
     alloc: Global,
     nodes: &mut N,
@@ -213,7 +213,7 @@ fn copied(input: &Input) -> Result<Input, Memory>
     }
 }
 
-/// Takes a line of a node: plays its events.
+/// Takes a line of a node, and plays its events.
 pub(crate) fn take<N: Nodes>(
     alloc: Global,
     nodes: &mut N,

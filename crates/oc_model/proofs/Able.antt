@@ -1,4 +1,4 @@
--- The tests of heal, that a world is able and that a node is placed, say what the definitions say.
+-- The tests of heal (that a world is able, and that a node is in place) agree with their definitions.
 use Rattle.std.proofs.Common.{◌≡◌, ℕ, ◌≤◌, true, nat_le, Option, Some, None, is_some, List, [], ◌∷◌, ◌↔◌, inl, refl, sym, leb-true}
 use Rattle.std.specs.List.{list_all}
 use Rattle.std.proofs.lemmas.Bool.{and_parts, le-leb}
@@ -18,7 +18,7 @@ use Rattle.oc_model.specs.Numbers.{first_of}
 pub among_up : (w : World) (x : ℕ) → IsUp w x → IsOneOf x (up_ids w)
 among_up w x up = in_filter (is_up w) (ids w) x up (up_in w.processes x up)
 
--- the first of a list is one of it
+-- the first item of a list is in the list
 first_in : (xs : List ℕ) (m : ℕ) → first_of xs ≡ Some m → IsOneOf m xs
 first_in [] m e = absurd cc
 first_in (x ∷ xs) m e = let same : x ≡ m = cc in inl (sym same)
@@ -34,7 +34,7 @@ leader_is w m e =
     let here = of_filter (λ x. is_member (node w x).control) (up_ids w) m (first_in (up_members w) m e) in
     ((of_filter (is_up w) (ids w) m here.1).0, here.0)
 
--- what the test of the numbers says of each node that is up
+-- the numbers of each node that is up are far enough from their ends, where the test says so
 room_true : (w : World) → list_all (has_room w) (up_ids w) ≡ true → (x : ℕ) → IsUp w x → ((node w x).control.kept.seq ≤ most_seq) × (epoch_in (node w x).control.kept.rank ≤ most_epoch)
 room_true w all x up =
     let parts = and_parts (nat_le (node w x).control.kept.seq most_seq) (nat_le (epoch_in (node w x).control.kept.rank) most_epoch) (all_test (has_room w) (up_ids w) all x (among_up w x up)) in
@@ -53,7 +53,7 @@ able_true w e =
       by_leader None f some = absurd cc
       by_leader (Some m) f some = let is = leader_is w m f in (m, is.0, is.1)
 
--- and an able world is tested as able
+-- an able world passes the test
 able_test : (w : World) → IsAble w → is_able w ≡ true
 able_test w able =
     let m : ℕ = able.member.0 in

@@ -59,19 +59,19 @@ chain_distinct w x r (a ∷ d ∷ ds) h = (λ one. again (chain_from_member w d 
       let long : length found.0 ≡ length (a ∷ d ∷ ds) = ap length same in
       absurd (omega (arith, found.2, long))
 
--- its nodes are up
+-- the nodes of a true chain are up
 pub chain_up : (w : World) (x r : ℕ) (c : List ℕ) → IsTrueChain w x r c → AllByRecursion (IsUp w) c
 chain_up w x r [] h = tt
 chain_up w x r (a ∷ []) h = (subst (IsUp w) (sym h.0) h.2.0, tt)
 chain_up w x r (a ∷ d ∷ ds) h = (subst (IsUp w) (sym h.0) h.1, chain_up w d r (d ∷ ds) h.3)
 
--- it has no more nodes than there are
+-- a true chain has at most as many nodes as the world
 pub chain_short : (w : World) (x r : ℕ) (c : List ℕ) → IsTrueChain w x r c → length c ≤ length w.processes
 chain_short w x r c h =
     let among : AreAmong c (ids w) = all_weaker (IsUp w) (λ y. IsOneOf y (ids w)) (λ y up. up_in w.processes y up) c (chain_up w x r c h) in
     omega (arith, no_longer c (ids w) (chain_distinct w x r c h) among, length-map w.processes (λ p. p.node.control.me))
 
--- it ends at its root
+-- a true chain ends at its root
 pub chain_last : (w : World) (x r a : ℕ) (c : List ℕ) → IsTrueChain w x r (a ∷ c) → last_of a c ≡ r
 chain_last w x r a [] h = h.0 ∙ h.1
 chain_last w x r a (d ∷ ds) h = chain_last w d r d ds h.3
@@ -86,7 +86,7 @@ climb_finds (suc n) w x r (a ∷ d ∷ ds) h short =
     let here : option_map (λ c. x ∷ c) (climb_from n w d (is_up w d) (mode_of w d)) ≡ Some (a ∷ d ∷ ds) = rw rest (ap (λ z. Some (z ∷ d ∷ ds)) (sym h.0)) in
     rw (h.1, h.2) here
 
--- and it finds true chains alone
+-- the walk finds true chains only
 IsChain : World → ℕ → List ℕ → Type 0
 IsChain w x c = (r : ℕ) × IsTrueChain w x r c
 
@@ -124,7 +124,7 @@ chain_to-finds w x r (a ∷ c) h =
     let ends : (last_of a c == r) ≡ true = eq-eqb (last_of a c) r (chain_last w x r a c h) in
     rw (found, ends)
 
--- and what is computed is one
+-- a computed chain is a true chain
 pub chain_to-true : (w : World) (x r : ℕ) (c : List ℕ) → chain_to w r x ≡ Some c → IsTrueChain w x r c
 unfolding IsChain
 chain_to-true w x r c e = by_found (chain_from w x) refl e where

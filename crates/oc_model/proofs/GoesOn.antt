@@ -16,7 +16,7 @@ use Rattle.oc_model.proofs.Outcomes.{step_leaves}
 use Rattle.oc_model.proofs.Places.{ids-with_process, ids-new}
 use Rattle.oc_model.proofs.Processes.{anew, again}
 
--- what is so of two worlds where one goes on to the other, by whatever event
+-- a relation of two worlds that holds whenever the first goes on to the second, by any event
 pub record IsPassage (R : World → World → Type 0) : Type 0 where
   pub still : (w : World) → R w w
   pub follows : (w v u : World) → R w v → R v u → R w u
@@ -47,7 +47,7 @@ module _ (R : World → World → Type 0) (k : IsPassage R) where
       let kept : Bool = keeps_write calls image (node w a.at) a.input in
       cond_both (process w a.at).up (cut_off kept w (node w a.at) a.input (step (node w a.at) a.input)) w (R w) (λ _. passage_cut kept w a.at a.input) (λ _. k.still w)
 
-  -- of each event
+  -- the relation holds for each event
   pub passage : (w : World) (e : Event) → R w (next_world w e)
   passage w (Up x) = cond_both (process w x).up w (again w x true) (R w) (λ _. k.still w) (λ _. k.starts w x true)
   passage w (Crash x) = cond_both (process w x).up (again w x false) w (R w) (λ _. k.starts w x false) (λ _. k.still w)
@@ -79,7 +79,7 @@ ids-next_world w e = passage HasSameIds ids_stay w e
 pub ids-after_acts : (w : World) (done : List Act) → ids (after_acts w done) ≡ ids w
 ids-after_acts w done = passage_acts HasSameIds ids_stay w done
 
--- nor do events
+-- no events change the ids
 pub ids-world_after : (w : World) (es : List Event) → ids (world_after w es) ≡ ids w
 ids-world_after w [] = refl
 ids-world_after w (e ∷ es) = ids-world_after (next_world w e) es ∙ ids-next_world w e
@@ -109,12 +109,12 @@ net-next_world w e = passage IsLater net_grows w e
 abbrev pub OfAll : (Node → Type 0) → List Process → Type 0
 OfAll P ps = AllByRecursion (λ p. P p.node) ps
 
--- what holds of all nodes and of absent ones holds of that at any id
+-- a property of all nodes and of absent ones holds of the node at any id
 of_process : (P : Node → Type 0) (ps : List Process) (x : ℕ) → P (absent x).node → OfAll P ps → P (process_in ps x).node
 of_process P [] x new all = new
 of_process P (p ∷ ps) x new all = cond_both (p.node.control.me == x) p (process_in ps x) (λ q. P q.node) (λ _. all.0) (λ _. of_process P ps x new all.1)
 
--- what holds of all nodes and of the one that is put holds of all then
+-- a property of all nodes and of the new one holds of all nodes after the put
 all_with_process : (P : Node → Type 0) (ps : List Process) (q : Process) → P q.node → OfAll P ps → OfAll P (with_process ps q)
 all_with_process P [] q here all = tt
 all_with_process P (p ∷ ps) q here all =

@@ -1,4 +1,4 @@
--- The list of a node's groups: what is found after one was put, and that it stays ascending.
+-- The list of a node's groups: the group found after a put, and the ascending order.
 use Rattle.std.proofs.Common.{◌≡◌, ℕ, Bool, true, false, List, [], ◌∷◌, Option, Some, None, Ordering, Less, Equal, Greater, nat_cmp, is_eq, if◌then◌else◌, refl, ap, sym, subst, ◌∙◌}
 use Rattle.std.specs.Cmp.Lexicographic.{slice_cmp}
 use Rattle.std.specs.List.{AllByRecursion}
@@ -8,7 +8,7 @@ use Rattle.oc_base.specs.Groups.{group_of, with_group, group_or_empty, or_empty,
 use Rattle.oc_model.proofs.Lists.{all_weaker, all_both}
 use Rattle.oc_base.proofs.NameOrder.{same_name-itself, names_equal, names_tied, names_back, names_apart, names_rise}
 
--- what is found at a name once this group was put
+-- the group found at a name after this group was put
 abbrev pub put_at : List ℕ → Group → Option Group → Option Group
 put_at g k was = if same_name g k.name then Some k else was
 
@@ -32,7 +32,7 @@ past_head g k j js e rest = by_test (same_name g j.name) refl where
       rw (h, other)
   by_test false h = rw h rest
 
--- at each name: the group that was put, or what was found before
+-- at each name: the new group, or the group found before
 pub group_of-with_group : (g : List ℕ) (k : Group) (ks : List Group) → group_of g (with_group k ks) ≡ put_at g k (group_of g ks)
 group_of-with_group g k [] = refl
 group_of-with_group g k (j ∷ js) = by_order (group_of-with_group g k js) (slice_cmp nat_cmp k.name j.name) refl where
@@ -45,7 +45,7 @@ group_of-with_group g k (j ∷ js) = by_order (group_of-with_group g k js) (slic
 pub group_of-with_group_same : (k : Group) (ks : List Group) → group_of k.name (with_group k ks) ≡ Some k
 group_of-with_group_same k ks = group_of-with_group k.name k ks ∙ rw (same_name-itself k.name)
 
--- at another name, what was found before
+-- at another name, the group found before
 pub group_of-with_group_other : (g : List ℕ) (k : Group) (ks : List Group) → same_name g k.name ≡ false → group_of g (with_group k ks) ≡ group_of g ks
 group_of-with_group_other g k ks h = group_of-with_group g k ks ∙ rw h
 
@@ -67,7 +67,7 @@ group_or_empty-name g ks = by_found (group_of g ks) refl where
   by_found None e = refl
   by_found (Some k) e = group_of-name g ks k e
 
--- where a group of that name is held, it is that one
+-- a group found under that name is the one held
 pub group_or_empty-held : (g : List ℕ) (ks : List Group) (t : Group) → group_of (group_or_empty g ks).name ks ≡ Some t → group_or_empty g ks ≡ t
 group_or_empty-held g ks t h =
     let found : group_of g ks ≡ Some t = rw (group_or_empty-name g ks) at h in
@@ -82,7 +82,7 @@ above_more g k (j ∷ js) h all = by_order (above_more g k js h all.1) (slice_cm
   by_order rest Equal e = rw e (h, all.1)
   by_order rest Greater e = rw e (all.0, rest)
 
--- what is above a name is above a lesser one
+-- groups above a name are above a lesser name
 pub above_lower : (a b : List ℕ) (ks : List Group) → slice_cmp nat_cmp a b ≡ Less → AreAbove b ks → AreAbove a ks
 above_lower a b ks h all = all_weaker (λ k. slice_cmp nat_cmp b k.name ≡ Less) (λ k. slice_cmp nat_cmp a k.name ≡ Less) (λ k e. names_rise a b k.name h e) ks all
 
@@ -99,7 +99,7 @@ ascend-with_group k (j ∷ js) up = by_order (ascend-with_group k js up.1) (slic
 abbrev pub AreFoundIn : List Group → List Group → Type 0
 AreFoundIn all ks = AllByRecursion (λ k. group_of k.name all ≡ Some k) ks
 
--- what is found after a lesser name is found with it
+-- a group found after a lesser name is found in the whole list
 behind_head : (j k : Group) (js : List Group) → slice_cmp nat_cmp j.name k.name ≡ Less → group_of k.name js ≡ Some k → group_of k.name (j ∷ js) ≡ Some k
 behind_head j k js e h = rw (names_apart j.name k.name e) h
 

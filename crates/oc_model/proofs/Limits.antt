@@ -13,7 +13,7 @@ use Rattle.oc_model.proofs.Groups.{above_lower, ascend-with_group}
 abbrev pub HasRoom : List Group → List ℕ → Type 0
 HasRoom ks g = group_of g ks ≡ None → length ks < MAX_GROUPS
 
--- a name below all these is none of them
+-- a name below all groups is absent
 pub absent_below : (g : List ℕ) (ks : List Group) → AreAbove g ks → group_of g ks ≡ None
 absent_below g [] above = refl
 absent_below g (k ∷ ks) above = rw above.0 (absent_below g ks above.1)
@@ -31,7 +31,7 @@ count-with_group k (j ∷ js) up = by_order (count-with_group k js up.1) (slice_
   by_order (inl same) Greater e = inl (rw e (omega (arith, same)))
   by_order (inr more) Greater e = inr (rw e more.0, rw e (omega (arith, more.1)))
 
--- what holds of each group and of the one that is put holds of each then
+-- a property of each group and of the new one holds of each group after the put
 pub all-with_group : (P : Group → Type 0) (k : Group) (ks : List Group) → P k → AllByRecursion P ks → AllByRecursion P (with_group k ks)
 all-with_group P k [] here all = (here, tt)
 all-with_group P k (j ∷ js) here all = by_order (all-with_group P k js here all.1) (slice_cmp nat_cmp k.name j.name) refl where
@@ -40,7 +40,7 @@ all-with_group P k (j ∷ js) here all = by_order (all-with_group P k js here al
   by_order rest Equal e = rw e (here, all.1)
   by_order rest Greater e = rw e (all.0, rest)
 
--- what is held of any name is short where each group is
+-- the group of any name is short, if each group is
 pub held_short : (g : List ℕ) (ks : List Group) → AllByRecursion IsShort ks → IsShort (group_or_empty g ks)
 held_short g [] all = omega arith
 held_short g (k ∷ ks) all = by_test (held_short g ks all.1) (same_name g k.name) refl where

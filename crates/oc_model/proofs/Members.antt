@@ -14,7 +14,7 @@ without : ℕ → List ℕ → List ℕ
 without x [] = []
 without x (y ∷ ys) = if x == y then ys else y ∷ without x ys
 
--- it is one shorter
+-- the list without x is shorter by one
 without_length : (x : ℕ) (ys : List ℕ) → IsOneOf x ys → length (without x ys) + 1 ≡ length ys
 unfolding without
 without_length x [] one = absurd one
@@ -35,7 +35,7 @@ without_other x z (y ∷ ys) other one = by_test (without_other x z ys other) (x
   by_test rest false e (inl same) = rw e (inl same)
   by_test rest false e (inr later) = rw e (inr (rest later))
 
--- who is a member of all but the first is another than it
+-- each member of the list is another id than x, if x is not in the list
 apart : (x : ℕ) (xs : List ℕ) → (IsOneOf x xs → ⊥) → AllByRecursion (λ z. z ≡ x → ⊥) xs
 apart x [] out = tt
 apart x (y ∷ ys) out = (λ e. out (inl (sym e)), apart x ys (λ one. out (inr one)))
@@ -47,7 +47,7 @@ no_longer (x ∷ xs) ys distinct among =
     let fewer : AreAmong xs (without x ys) = all_both (λ z. z ≡ x → ⊥) (λ z. IsOneOf z ys) (λ z. IsOneOf z (without x ys)) (λ z other one. without_other x z ys other one) xs (apart x xs distinct.0) among.1 in
     omega (arith, no_longer xs (without x ys) distinct.1 fewer, without_length x ys among.0)
 
--- what holds of each member
+-- a property of all holds of each member
 pub each_of : (P : ℕ → Type 0) (xs : List ℕ) (x : ℕ) → AllByRecursion P xs → IsOneOf x xs → P x
 each_of P [] x all one = absurd one
 each_of P (y ∷ ys) x all (inl same) = subst P (sym same) all.0
@@ -59,7 +59,7 @@ all_test test [] e x one = absurd one
 all_test test (y ∷ ys) e x (inl same) = ap test same ∙ (and_parts (test y) (list_all test ys) e).0
 all_test test (y ∷ ys) e x (inr later) = all_test test ys (and_parts (test y) (list_all test ys) e).1 x later
 
--- where it holds of everything, it is a test of all
+-- a test that passes for each member passes for the list
 pub test_all : (test : ℕ → Bool) (xs : List ℕ) → ((x : ℕ) → IsOneOf x xs → test x ≡ true) → list_all test xs ≡ true
 test_all test [] each = refl
 test_all test (y ∷ ys) each = rw (each y (inl refl)) (test_all test ys (λ x one. each x (inr one)))
@@ -73,7 +73,7 @@ found_by test (z ∷ zs) x one passes = by_test (found_by test zs x) (test z) re
   by_test rest false e (inl same) = absurd (cc (ap test same, e, passes))
   by_test rest false e (inr later) = let found = rest later passes in (found.0, rw e found.1, found.2)
 
--- what is found passes the test
+-- the member found passes the test
 pub found_passes : (test : ℕ → Bool) (xs : List ℕ) (y : ℕ) → find test xs ≡ Some y → test y ≡ true
 found_passes test [] y e = absurd cc
 found_passes test (z ∷ zs) y e = by_test (found_passes test zs y) (test z) refl where

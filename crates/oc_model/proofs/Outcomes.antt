@@ -1,4 +1,4 @@
--- What a step leaves of a node: its id, its clock except for a tick, and its groups within the limits.
+-- The node after a step: the same id, the same clock except for a tick, and groups within the limits.
 use Rattle.std.proofs.Common.{◌≡◌, ℕ, ◌+◌, ◌-◌, ◌≤◌, max, Bool, true, false, not, ◌&&◌, ◌==◌, nat_lt, nat_le, if◌then◌else◌, Option, Some, None, is_some, option_map, List, [], length, drop, refl, ap, sym, subst, ◌∙◌, arith, ltb-false, length-append, length-drop}
 use Rattle.std.proofs.lemmas.Bool.{cond_both, leb-false}
 use Rattle.oc_base.specs.declared.shelf.Shelf.{Shelf}
@@ -42,14 +42,14 @@ calm_closed x c ls = record {
   lists = λ o leases rates counts h. record { me = h.me; clock = h.clock; keeps = h.keeps };
 }
 
--- The rule Content
+-- Rule 14, content
 
--- it changes groups alone, and within the limits
+-- the rule changes groups only, and within the limits
 record IsKept (n : Node) (i : Input) (o : Plan) : Type 0 where
   node : o.node ≡ n.control
   limits : AreWithinLimits n.groups → AreWithinLimits (kept_at o.keeps n.groups (piece_of i) o.seals)
 
--- what keeps nothing leaves the groups
+-- a step that keeps no bytes does not change the groups
 kept_none : (n : Node) (i : Input) (o : Plan) → o.node ≡ n.control → o.keeps ≡ None → IsKept n i o
 kept_none n i o node none = record { node = node; limits = λ in_limits. subst AreWithinLimits (sym (ap (λ k. kept_at k n.groups (piece_of i) o.seals) none)) in_limits }
 
@@ -60,7 +60,7 @@ has_room ks g e none =
     let few : nat_le MAX_GROUPS (length (shelf ks)) ≡ false = rw absent at e in
     omega (arith, leb-false MAX_GROUPS (length (shelf ks)) few, length-shelf ks)
 
--- what holds of both refusals, and of the rest if neither limit is passed, holds within the limits
+-- a property of both refusals, and of the rest where neither limit is exceeded, holds of the result
 within : (P : Plan → Type 0) (o : Plan) (ks : List Group) (g : List ℕ) (end : ℕ) (rest : Plan) → P (says o answers.Groups) → P (says o answers.TooLong)
     → (HasRoom ks g → end ≤ MAX_GROUP_BYTES → P rest) → P (unless (limit (shelf ks) g end) o rest)
 within P o ks g end rest groups long fits = by_tests (not (is_some (line_of g (shelf ks))) && nat_le MAX_GROUPS (length (shelf ks))) (nat_lt MAX_GROUP_BYTES end) refl refl where
@@ -70,7 +70,7 @@ within P o ks g end rest groups long fits = by_tests (not (is_some (line_of g (s
   by_tests false true e f = long
   by_tests false false e f = fits (has_room ks g e) (ltb-false MAX_GROUP_BYTES end f)
 
--- what is kept of a piece passes no limit
+-- the kept part of a piece exceeds no limit
 kept_within : (g : List ℕ) (ks : List Group) (at : ℕ) (bytes : List ℕ) (closes : Bool) → HasRoom ks (group_or_empty g ks).name → length (grown (group_or_empty g ks) at bytes closes).bytes ≤ MAX_GROUP_BYTES
     → AreWithinLimits ks → AreWithinLimits (with_group (grown (group_or_empty g ks) at bytes closes) ks)
 kept_within g ks at bytes closes room short in_limits = limits-with_group (grown (group_or_empty g ks) at bytes closes) ks room short in_limits
@@ -222,7 +222,7 @@ abbrev pub clock_by : Input → ℕ → ℕ
 clock_by (Tick t) c = max c t
 clock_by i c = c
 
--- what a step leaves
+-- the node after a step
 pub record Leaves (n : Node) (i : Input) : Type 0 where
   pub me : (step n i).node.control.me ≡ n.control.me
   pub clock : (step n i).node.control.soft.clock ≡ clock_by i n.control.soft.clock

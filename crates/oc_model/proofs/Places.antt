@@ -40,7 +40,7 @@ process_in-place b (suc n) (p ∷ ps) (suc k) d is within =
     let next : b + suc k ≡ b + 1 + k = omega arith in
     rw apart (ap (process_in ps) next ∙ process_in-place (b + 1) n ps k d rest (omega arith))
 
--- an id outside of them has what stands for an absent one
+-- an id outside the list has an absent process
 pub process_in-outside : (b n : ℕ) (ps : List Process) (x : ℕ) → ids_in ps ≡ range_with_len b n → ((k : ℕ) → k < n → b + k ≡ x → ⊥) → process_in ps x ≡ absent x
 process_in-outside b n [] x is out = refl
 process_in-outside b zero (p ∷ ps) x is out = absurd cc
@@ -50,7 +50,7 @@ process_in-outside b (suc n) (p ∷ ps) x is out =
     let rest : ids_in ps ≡ range_with_len (b + 1) n = cc in
     rw apart (process_in-outside (b + 1) n ps x rest (λ k l e. out (suc k) (omega arith) (omega arith)))
 
--- to put a process is to write at the place of its id
+-- putting a process is writing at the place of its id
 pub with_process-place : (b n : ℕ) (ps : List Process) (q : Process) (k : ℕ) → ids_in ps ≡ range_with_len b n → k < length ps → q.node.control.me ≡ b + k → with_process ps q ≡ set ps k q
 with_process-place b n [] q k is within at = refl
 with_process-place b zero (p ∷ ps) q k is within at = absurd cc

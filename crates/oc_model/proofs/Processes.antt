@@ -1,4 +1,4 @@
--- The list of processes: what is found at an id after one was put, and what a new world has.
+-- The list of processes: the process found at an id after a put, and the processes of a new world.
 use Rattle.std.proofs.Common.{◌≡◌, ℕ, Bool, true, false, List, [], ◌∷◌, ◌⊎◌, inl, inr, map, if◌then◌else◌, ◌==◌, refl, ap, sym, subst, ◌∙◌, ⊎_elim, eqb-true, eq-eqb, ne_eqb}
 use Rattle.std.proofs.lemmas.Bool.{cases_eq}
 use Rattle.oc_model.specs.Node.{Header, Node, new_node, restarted}
@@ -20,7 +20,7 @@ process_in-me (p ∷ ps) x = by_test (process_in-me ps x) (p.node.control.me == 
   by_test rest true e = rw e (eqb-true p.node.control.me x e)
   by_test rest false e = rw e rest
 
--- whatever is put at one id, all others have what they had
+-- a put at one id does not change the processes at other ids
 pub process_in-with_other : (ps : List Process) (q : Process) (x : ℕ) → (q.node.control.me ≡ x → ⊥) → process_in (with_process ps q) x ≡ process_in ps x
 process_in-with_other [] q x away = refl
 process_in-with_other (p ∷ ps) q x away = by_test (process_in-with_other ps q x away) (p.node.control.me == q.node.control.me) refl where
@@ -71,7 +71,7 @@ up_in (p ∷ ps) x up = by_test (up_in ps x) (p.node.control.me == x) refl where
   by_test rest true e = inl (sym (eqb-true p.node.control.me x e))
   by_test rest false e = inr (rest (rw e at up))
 
--- what is so of the node that was put and of those before is so at each id
+-- a property of the new node and of those before holds at each id
 pub at_put : (ps : List Process) (q : Process) (P : Node → Type 0) (x : ℕ) → (q.node.control.me ≡ x → P q.node) → P (process_in ps x).node → P (process_in (with_process ps q) x).node
 at_put ps q P x new old = ⊎_elim here there (cases_eq q.node.control.me x) where
   by_case : q.node.control.me ≡ x → IsPutOrAbsent ps q → P (process_in (with_process ps q) q.node.control.me).node
@@ -84,7 +84,7 @@ at_put ps q P x new old = ⊎_elim here there (cases_eq q.node.control.me x) whe
   there : (q.node.control.me ≡ x → ⊥) → P (process_in (with_process ps q) x).node
   there apart = subst (λ (p : Process). P p.node) (sym (process_in-with_other ps q x apart)) old
 
--- where it is put over one that is up, nothing need be known of that one
+-- a put at the id of a process that is up needs no property of the old process
 pub at_put_up : (ps : List Process) (q : Process) (P : Node → Type 0) (x : ℕ) → (process_in ps q.node.control.me).up ≡ true
     → (q.node.control.me ≡ x → P q.node) → ((q.node.control.me ≡ x → ⊥) → P (process_in ps x).node) → P (process_in (with_process ps q) x).node
 at_put_up ps q P x up new old = ⊎_elim here there (cases_eq q.node.control.me x) where

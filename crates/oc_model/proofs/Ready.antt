@@ -1,4 +1,4 @@
--- The tests of a world by which settle and heal are answered say what the definitions say.
+-- The tests of a world by which settle and heal decide agree with their definitions.
 use Rattle.std.proofs.Common.{◌≡◌, ℕ, Bool, true, false, not, ◌&&◌, ◌||◌, ◌==◌, Option, Some, None, is_some, find, List, [], ◌∷◌, ◌⊎◌, ◌↔◌, inl, inr, ⊎_elim, refl, ap, sym, ◌∙◌, true≢false, eqb-true, eq-eqb}
 use Rattle.std.specs.List.{list_all}
 use Rattle.std.proofs.lemmas.Bool.{and_parts}
@@ -67,7 +67,7 @@ chain_of_root w x r root (a ∷ d ∷ ds, h) = let same : (a ∷ d ∷ ds) ≡ (
 
 -- Under a root
 
--- what the test of a node under the root says of it, if it is up
+-- the facts that the test of a node under the root gives, if the node is up
 Stands : World → ℕ → ℕ → Type 0
 Stands w r x = (x ≡ r) ⊎ (HasTrueChain w x r × IsLeased w x)
 
@@ -112,7 +112,7 @@ ready_true w e = by_found (find (is_root w) (ids w)) refl e where
   by_found None f all = absurd cc
   by_found (Some r) f all = (r, ready_if w r (root_true w r (found_passes (is_root w) (ids w) r f)) (λ x up. stands_true w r x (all_test (stands_under w r) (ids w) all x (up_in w.processes x up)) up))
 
--- and a ready world is tested as ready
+-- a ready world passes the test
 pub ready_test : (w : World) → IsReady w → is_ready w ≡ true
 ready_test w (r, ready) =
     let found = found_by (is_root w) (ids w) r (up_in w.processes r ready.root.0) (root_test w r ready.root) in

@@ -1,4 +1,4 @@
--- What every rule of the control step keeps, if each single change of a step under way keeps it.
+-- A property that each single change of a step under way keeps is kept by every rule of the control step.
 use Rattle.std.proofs.Common.{◌≡◌, ℕ, ◌+◌, ◌-◌, Bool, true, false, not, ◌&&◌, ◌||◌, ◌==◌, nat_lt, nat_le, if◌then◌else◌, Option, Some, None, List, [], ◌∷◌, filter, refl, ap, sym}
 use Rattle.oc_base.specs.declared.cert.Cert.{Cert}
 use Rattle.oc_base.specs.declared.rank.Rank.{Rank}
@@ -37,7 +37,7 @@ use Rattle.oc_model.specs.Serving.{serves, redirects, server_for, client_of, cli
 use Rattle.oc_base.specs.Shelves.{line_of}
 use Rattle.oc_model.specs.Table.{newest, is_news}
 
--- what holds of both holds of the one that a test chooses
+-- a property of both holds of the one that a test chooses
 pub either : {X : Type 0} (b : Bool) (P : X → Type 0) (o q : X) → P o → P q → P (if b then o else q)
 either true P o q h k = h
 either false P o q h k = k
@@ -59,7 +59,7 @@ pub record IsClosed (shelf : List Shelf) (P : Plan → Type 0) : Type 0 where
   pub soft : (o : Plan) (s : Soft) → s.clock ≡ o.node.soft.clock → P o → P (with_soft o s)
   pub lists : (o : Plan) (leases : List (Option ℕ)) (rates counts : List ℕ) → P o → P (with_lists o leases rates counts)
 
--- what is lost is nothing that a start clears
+-- losing a parent does not change the part that a start clears
 lost_soft : (m : Mode) (o : Plan) → (lost_from m o).node.soft ≡ o.node.soft
 lost_soft modes.Idle o = refl
 lost_soft (modes.Asking p) o = refl

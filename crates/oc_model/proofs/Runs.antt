@@ -1,4 +1,4 @@
--- What every run of settle and heal has, if no act, one act, one run after another, and a round of ticks have it.
+-- A property of no act, one act, one run after another and a round of ticks holds of every run of settle and heal.
 use Rattle.std.proofs.Common.{◌≡◌, ℕ, zero, suc, ◌+◌, ◌*◌, Bool, true, false, ◌==◌, nat_lt, filter, Option, Some, List, [], ◌∷◌, ◌++◌, length, refl, ap, sym, ◌∙◌}
 use Rattle.oc_base.specs.declared.cert.Cert.{Cert}
 use Rattle.oc_model.specs.declared.event.Act.{Act}
@@ -26,7 +26,7 @@ pub record IsCourse (R : ℕ → World → Run → Type 0) : Type 0 where
   pub all_tick : (more : ℕ) (w : World) → R more w (all_tick more w)
 
 module _ (R : ℕ → World → Run → Type 0) (k : IsCourse R) where
-  -- the same for each of some ids
+  -- the property holds of a run for each of some ids
   course_each : (f : ℕ → World → Run) → ((x : ℕ) (w : World) → R 0 w (f x w)) → (xs : List ℕ) (w : World) → R 0 w (for_each xs f w)
   course_each f each [] w = k.rests w
   course_each f each (x ∷ xs) w = k.follows 0 0 w (f x w) (for_each xs f) (each x w) (course_each f each xs (f x w).world)
@@ -162,6 +162,6 @@ leads = record {
 pub settles_leads : (w : World) → (settles w).world ≡ after_acts w (settles w).acts
 settles_leads w = course_settles (λ k v r. LeadsTo v r) leads w
 
--- and so does heal
+-- the world after heal is the world after its acts
 pub heals_leads : (m : ℕ) (w : World) → (heals m w).world ≡ after_acts w (heals m w).acts
 heals_leads m w = course_heals (λ k v r. LeadsTo v r) leads m w

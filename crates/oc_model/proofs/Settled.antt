@@ -1,4 +1,4 @@
--- The tests that a world is settled, and that a write is kept, say what the definitions say.
+-- The tests that a world is settled, and that a write is kept, agree with their definitions.
 use Rattle.std.proofs.Common.{◌≡◌, ℕ, Bool, true, false, not, ◌&&◌, ◌||◌, ◌==◌, Option, Some, None, List, [], ◌∷◌, ◌↔◌, inl, inr, ⊎_elim, refl, ap, sym, subst, ◌∙◌, eqb-true, eq-eqb}
 use Rattle.std.specs.List.{list_all}
 use Rattle.std.proofs.lemmas.Bool.{and_parts, or_cases}
@@ -27,7 +27,7 @@ joined_true Idle y e = absurd cc
 joined_true (Asking p) y e = absurd cc
 joined_true Acting y e = absurd cc
 
--- a node has a lease in a table only where there is a row of it
+-- a node with a lease in a table has a row in the table
 leased_row : (test : ℕ → Bool) (y x seq : ℕ) (rows : List Cert) → leased_by rows y x ≡ Some seq → list_all (λ k. test k.subject) rows ≡ true → test x ≡ true
 leased_row test y x seq [] leased all = absurd cc
 leased_row test y x seq (k ∷ ks) leased all = by_test (leased_row test y x seq ks) (k.subject == x) refl where
@@ -43,7 +43,7 @@ all_rows : (test : ℕ → Bool) (rows : List Cert) → ((x : ℕ) → test x �
 all_rows test [] each = refl
 all_rows test (k ∷ ks) each = rw (each k.subject) (all_rows test ks each)
 
--- the lease of x at y is current: what the test says
+-- the lease of x at y is current, as the test says
 IsCurrent : World → ℕ → ℕ → ℕ → Type 0
 IsCurrent w y x seq = IsUp w x × IsJoined w x y × ((node w x).control.kept.seq ≡ seq)
 
@@ -61,7 +61,7 @@ current_test w y x (Some seq) each =
     let is = each seq refl in
     rw (is.0, is.1, eq-eqb y y refl, eq-eqb (node w x).control.kept.seq seq is.2) refl
 
--- What waits
+-- Waiting certificates
 
 -- two tests that hold
 and_both : (a b : Bool) → a ≡ true → b ≡ true → (a && b) ≡ true
@@ -86,7 +86,7 @@ joined_to Acting e = absurd cc
 
 -- One node
 
--- what the test says of a node that is up
+-- the facts that the test gives about a node that is up
 calm_parts : (w : World) (y : ℕ) → is_calm w y ≡ true → IsUp w y → (holds_current w y ≡ true) × (has_told w y ≡ true)
 calm_parts w y e up = by_test (is_up w y) up e where
   by_test : (b : Bool) → b ≡ true → (not b || (holds_current w y && has_told w y)) ≡ true → (holds_current w y ≡ true) × (has_told w y ≡ true)
@@ -133,7 +133,7 @@ settled_true w e =
           told_true w n p x calm.1 joins waits;
     }
 
--- and a settled world is tested as settled
+-- a settled world passes the test
 settled_test : (w : World) → IsSettled w → is_settled w ≡ true
 unfolding IsCurrent
 settled_test w settled =

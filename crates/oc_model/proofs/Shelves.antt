@@ -20,7 +20,7 @@ line_of-shelf g (k ∷ ks) = by_test (line_of-shelf g ks) (same_name g k.name) r
   by_test rest true e = rw e refl
   by_test rest false e = rw e rest
 
--- the same where an absent one has no bytes
+-- the line of a group, where an absent group has 0 bytes
 pub line_at-shelf : (g : List ℕ) (ks : List Group) → line_at g (shelf ks) ≡ shelf_of (group_or_empty g ks)
 line_at-shelf g ks = ap (line_or_none g) (line_of-shelf g ks) ∙ by_found (group_of g ks) where
   by_found : (found : Option Group) → line_or_none g (option_map shelf_of found) ≡ shelf_of (or_empty g found)
@@ -34,7 +34,7 @@ is_some-shelf g ks = ap is_some (line_of-shelf g ks) ∙ by_found (group_of g ks
   by_found None = refl
   by_found (Some k) = refl
 
--- it has as many lines as there are groups
+-- the shelf has as many lines as there are groups
 pub length-shelf : (ks : List Group) → length (shelf ks) ≡ length ks
 length-shelf [] = refl
 length-shelf (k ∷ ks) = let rest = length-shelf ks in omega arith
@@ -48,7 +48,7 @@ with_line-shelf k (j ∷ js) = by_order (with_line-shelf k js) (slice_cmp nat_cm
   by_order rest Equal e = rw e refl
   by_order rest Greater e = rw e (ap (λ ls. shelf_of j ∷ ls) rest)
 
--- the line of a group with what is new in a chunk
+-- the line of a group after the new part of a chunk
 pub line-grown : (k : Group) (start : ℕ) (bytes : List ℕ) (last : Bool) → start ≤ length k.bytes
     → shelf_of (grown k start bytes (adds_seal (shelf_of k) (start + length bytes) last)) ≡ grown_line (shelf_of k) (start + length bytes) last
 line-grown k start bytes last within =
@@ -58,7 +58,7 @@ line-grown k start bytes last within =
 
 -- Whose turn it is
 
--- the first line in which the other is behind is one of them
+-- the first line of which the other has less is in the list
 behind-among : (have ls : List Shelf) (l : Shelf) → first_behind have ls ≡ Some l → IsAmong l ls
 behind-among have [] l h = absurd cc
 behind-among have (k ∷ ks) l h = by_test (behind-among have ks l) (is_behind (line_of k.group have) k) refl where
@@ -68,7 +68,7 @@ behind-among have (k ∷ ks) l h = by_test (behind-among have ks l) (is_behind (
       inl cc
   by_test rest false e = inr (rest (rw e at h))
 
--- what is in a part of a list is in the list
+-- an item of a part of a list is in the list
 among-append : {X : Type 0} (x : X) (xs ys : List X) → IsAmong x (xs ++ ys) → IsAmong x xs ⊎ IsAmong x ys
 among-append x [] ys h = inr h
 among-append x (z ∷ zs) ys (inl e) = inl (inl e)
@@ -88,7 +88,7 @@ among-take (suc i) x [] h = h
 among-take (suc i) x (z ∷ zs) (inl e) = inl e
 among-take (suc i) x (z ∷ zs) (inr h) = inr (among-take i x zs h)
 
--- and so it is in cyclic order
+-- the first such line in cyclic order is in the list too
 pub next-among : (chunk : ℕ) (have ls : List Shelf) (l : Shelf) → next_behind chunk have ls ≡ Some l → IsAmong l ls
 next-among chunk have ls l h = by_part (among-append l (drop place ls) (take place ls) (behind-among have (from_place place ls) l h)) where
   place : ℕ

@@ -154,7 +154,7 @@ walk_ends (suc n) t r = refl
 pub walk_over : (steps : ℕ) (t : List Cert) (r : ℕ) (p : Option ℕ) → steps ≡ 0 → reaches steps t r p ≡ false
 walk_over steps t r p e = rw e
 
--- of another node than the root, a walk of as many steps as there are nodes tells whether it is listed
+-- a walk with as many steps as there are nodes tells whether a node other than the root is listed
 pub listed_walk : (steps : ℕ) (t : List Cert) (r x : ℕ) → length t ≤ steps → x == r ≡ false → reaches steps t r (parent_in t x) ≡ is_listed t r x
 listed_walk steps t r x few other = rw other (steps_enough steps (length t) t r x few (omega arith))
 

@@ -3,18 +3,18 @@ use Rattle.oc_base.specs.declared.cert.Cert.{Cert}
 use Rattle.oc_base.specs.Cert.{Outranks}
 use Rattle.oc_model.specs.Numbers.{IsAmong}
 
--- Facts: what certificates say. Fact f is that ask f.seq of f.subject went to f.parent, that this lease is alive or dead, and
--- that the subject had served f.clients clients at its own number f.number.
+-- Facts, which certificates tell. Fact f: ask f.seq of f.subject went to f.parent, this lease is alive or dead, and
+-- the subject had served f.clients clients at its own number f.number.
 
--- fact k is a later word on the subject of f
+-- k is a later word than f on the same subject
 abbrev pub IsBelow : Cert → Cert → Type 0
 IsBelow f k = (f.subject ≡ k.subject) × Outranks k f
 
--- f is one of these facts, or below one of them
+-- the facts cover f: f or a later word on its subject is among them
 abbrev pub IsCovered : List Cert → Cert → Type 0
 IsCovered ks f = (k : Cert) × IsAmong k ks × ((k ≡ f) ⊎ IsBelow f k)
 
--- k is the last word of these facts on x: none of them is a later one
+-- k is the last word on x among these facts
 pub record IsNewest (ks : List Cert) (x : ℕ) (k : Cert) : Type 0 where
   pub among : IsAmong k ks
   pub subject : k.subject ≡ x

@@ -12,7 +12,7 @@ IsUp w x = is_up w x ≡ true
 abbrev pub IsJoined : World → ℕ → ℕ → Type 0
 IsJoined w x p = mode_of w x ≡ Joined p
 
--- it is up, and a root
+-- r is up, and acts as root
 abbrev pub IsRoot : World → ℕ → Type 0
 IsRoot w x = IsUp w x × (mode_of w x ≡ Acting)
 
@@ -31,24 +31,24 @@ AreJoined w [] = Unit {0}
 AreJoined w (x ∷ []) = Unit {0}
 AreJoined w (x ∷ y ∷ ys) = IsJoined w x y × AreJoined w (y ∷ ys)
 
--- parent links form no cycle; nodes that are down count with the mode that they recover
+-- parent links form no cycle; a node that is down counts with its durable mode
 abbrev pub HasNoCycle : World → Type 0
 HasNoCycle w = (y : ℕ) (between : List ℕ) → AreJoined w (y ∷ between ++ y ∷ []) → ⊥
 
--- The same as it is computed.
+-- The same definitions, computed.
 
--- the walk from a node that is up in this mode, in at most this many steps
+-- the walk upwards from a node with this mode, in at most this many steps
 abbrev pub climb_from : ℕ → World → ℕ → Bool → Mode → Option (List ℕ)
 climb_from zero w x up mode = None
 climb_from (suc n) w x true Acting = Some (x ∷ [])
 climb_from (suc n) w x true (Joined p) = option_map (λ c. x ∷ c) (climb_from n w p (is_up w p) (mode_of w p))
 climb_from (suc n) w x up mode = None
 
--- the true chain of x, to whatever root
+-- the true chain of x, to any root
 abbrev pub chain_from : World → ℕ → Option (List ℕ)
 chain_from w x = climb_from (length w.processes) w x (is_up w x) (mode_of w x)
 
--- the chain, if it ends at r
+-- the chain, where it ends at r
 abbrev pub ending_at : ℕ → Option (List ℕ) → Option (List ℕ)
 ending_at r None = None
 ending_at r (Some []) = None
@@ -58,7 +58,7 @@ ending_at r (Some (x ∷ c)) = if last_of x c == r then Some (x ∷ c) else None
 abbrev pub chain_to : World → ℕ → ℕ → Option (List ℕ)
 chain_to w r x = ending_at r (chain_from w x)
 
--- the node after the first
+-- the second node of a chain, which the first one is joined to
 abbrev pub first_link : Option (List ℕ) → Option ℕ
 first_link (Some (x ∷ y ∷ ys)) = Some y
 first_link c = None

@@ -6,31 +6,31 @@ use Rattle.oc_base.specs.declared.limits.TheConstants.{MAX_CHECK_IN_CERTS}
 
 -- The change log: the certificates for the parent, in the order in which they came. Places are counted from its beginning.
 
--- a new log of the whole table, none of it acknowledged
+-- a new log of the whole table, with nothing acknowledged
 abbrev pub begun_with : List Cert → Log
 begun_with t = record { length = length t; acked = 0; waiting = t }
 
--- the certificate at the end
+-- the log with this certificate at its end
 abbrev pub note : Log → Cert → Log
 note l c = record { length = l.length + 1; acked = l.acked; waiting = l.waiting ++ c ∷ [] }
 
--- whether acknowledging up to this place tells anything new: it lies past those acknowledged, and within the log
+-- whether an acknowledgement up to this place is new: the place is past those acknowledged, and within the log
 abbrev pub is_ahead : Log → ℕ → Bool
 is_ahead l upto = nat_lt l.acked upto && nat_le upto l.length
 
--- acknowledged up to this place
+-- the log, acknowledged up to this place
 abbrev pub ack : Log → ℕ → Log
 ack l upto = if is_ahead l upto then record { length = l.length; acked = upto; waiting = drop (upto - l.acked) l.waiting } else l
 
--- a log of this length, all of it acknowledged
+-- a log of this length that is acknowledged to its end
 abbrev pub acked_whole : ℕ → Log
 acked_whole n = record { length = n; acked = n; waiting = [] }
 
--- there is something about x that the parent has not acknowledged
+-- a certificate about x waits: the parent has not acknowledged it
 abbrev pub IsWaiting : Log → ℕ → Type 0
 IsWaiting l x = (c : Cert) × IsAmong c l.waiting × (c.subject ≡ x)
 
--- whether there is anything of that
+-- whether any certificate waits
 abbrev pub waits : List Cert → Bool
 waits cs = not (is_empty cs)
 

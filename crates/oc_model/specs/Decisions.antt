@@ -18,9 +18,9 @@ use Rattle.oc_model.specs.Shelves.{next_behind}
 use Rattle.oc_model.specs.Snapshot.{snapshot}
 use Rattle.oc_model.specs.Table.{merge_all, leased_children, table_line, listed_in}
 
--- Worked examples of each decision.
+-- Worked examples of each decision of a node.
 
--- ask s of x went to y, and the lease lives
+-- the certificate of a granted lease: ask s of x went to y, and the lease lives
 abbrev alive : ℕ → ℕ → ℕ → Cert
 alive x s y = record { subject = x; seq = s; parent = y; dead = false; number = 0; clients = 0 }
 
@@ -54,11 +54,11 @@ a_state = record {
   measures = record { rate = 10; hops = 2 } ∷ record { rate = 0; hops = 0 } ∷ record { rate = 0; hops = 0 } ∷ [];
 }
 
--- a shelf of two groups, and what another has of them
+-- a shelf of two groups with these lengths in bytes
 abbrev two_groups : ℕ → ℕ → List Shelf
 two_groups a b = record { group = codes "/a"; held = a; sealed = false } ∷ record { group = codes "/b"; held = b; sealed = false } ∷ []
 
--- the group of the next chunk of 10 bytes, from 25 bytes of each
+-- the group of the next chunk of 10 bytes, from groups of 25 bytes each
 abbrev next_group : List Shelf → Option (List ℕ)
 next_group have = option_map (λ l. l.group) (next_behind 10 have (two_groups 25 25))
 

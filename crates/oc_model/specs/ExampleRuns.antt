@@ -21,9 +21,9 @@ use Rattle.oc_model.specs.Node.{Durable, Header}
 use Rattle.oc_model.specs.Table.{table_line}
 use Rattle.oc_model.specs.World.{World, Process, new_world, process, node}
 
--- The words in which the worked examples are reported.
+-- The reports of the worked examples.
 
--- the words of events, and the world after them
+-- the words that report events, and the world after them
 pub record Played : Type 0 where
   pub words : List Word
   pub world : World
@@ -35,7 +35,7 @@ abbrev pub plays : World → List Event → Played
 plays w [] = record { words = []; world = w }
 plays w (e ∷ es) = with_word (word_of w e) (plays (next_world w e) es)
 
--- a node as it is shown: whether it is up, its mode, ask number and rank, its log, its ancestors, its table, and who is listed in it
+-- a node in a report: whether it is up, its mode, ask number and rank, its log, its ancestors, its table, and the nodes listed in it
 pub record Shown : Type 0 where
   pub up : Bool
   pub mode : Mode
@@ -69,7 +69,7 @@ shown_as up x d = record {
 abbrev shown_process : Process → Shown
 shown_process p = shown_as p.up p.node.control.me p.node.control.kept
 
--- what is reported of an example: the words of its last events, its last messages and how many there were, and nodes as they are shown
+-- the report of an example: the words of its last events, its last messages with the number of all messages, and some nodes
 pub record Told : Type 0 where
   pub words : List Word
   pub sent : List Message
@@ -84,22 +84,22 @@ told_of events messages nodes p = record {
   shown = map (λ x. shown_process (process p.world x)) nodes;
 }
 
--- the example of this header and these events, without the first `events` words and the first `messages` messages,
--- and with these nodes at its end
+-- the report of the events in a network of this header, without the first `events` words and the first `messages` messages,
+-- and with these nodes in their final states
 abbrev pub told : Header → List Event → ℕ → ℕ → List ℕ → Told
 told h es events messages nodes = told_of events messages nodes (plays (new_world h) es)
 
--- what a node holds after these events
+-- the shelf of a node after these events
 abbrev pub held : Header → List Event → ℕ → List Shelf
 held h es x = shelf (node (world_after (new_world h) es) x).groups
 
--- short words
+-- Short forms
 
--- this many nodes, and this long a chain
+-- the header of a network of this many nodes, with a chain of this length
 abbrev pub header : ℕ → ℕ → List ℕ → Header
 header nodes chain areas = record { nodes = nodes; chain = chain; chunk = USUAL_CHUNK_BYTES; areas = areas }
 
--- x moves to p, p takes its ask, which is message k, and x takes the answer
+-- x moves to p, p takes the ask, which is message k, and x takes the answer
 abbrev pub join : ℕ → ℕ → ℕ → List Event
 join x p k = Do (acts.At x (inputs.Relocate p)) ∷ Do (acts.Deliver k) ∷ Do (acts.Deliver (k + 1)) ∷ []
 
@@ -115,7 +115,7 @@ dead x seq y = record { subject = x; seq = seq; parent = y; dead = true; number 
 abbrev pub rank : ℕ → ℕ → Rank
 rank epoch depth = record { epoch = epoch; depth = depth }
 
--- a root that is up, as it is shown
+-- a root that is up, in a report
 abbrev pub root_shown : Rank → List Cert → List Line → Shown
 root_shown r table lines = record { up = true; mode = Acting; seq = 0; rank = Some r; acked = 0; length = 0; ancestors = []; table = table; listed = lines }
 

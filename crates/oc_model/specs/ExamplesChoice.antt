@@ -36,7 +36,7 @@ Descent = told (header 3 1 (0 ∷ 0 ∷ 0 ∷ [])) descending 12 4 [] ≡ record
   shown = [];
 }
 
--- An idle node that looks for a place asks again at its check; where nobody is left to be asked it begins anew four seconds later.
+-- An idle node on a descent asks again at its check; with nobody left to be asked it begins anew four seconds later.
 
 abbrev searching : List Event
 searching =
@@ -50,7 +50,7 @@ DescentGoesOn = told (header 2 1 (0 ∷ 0 ∷ [])) searching 2 0 [] ≡ record {
   shown = [];
 }
 
--- Two children of node 1, of which 3 is about as near to 2 as to 1: it reviews its place for the first time.
+-- Two children of node 1: 3 is about as near to 2 as to 1, and reviews its place for the first time.
 
 abbrev siblings : List Event
 siblings =
@@ -58,8 +58,8 @@ siblings =
     ++ (Do (At 2 (Measured 1 100 1)) ∷ Do (At 3 (Measured 1 100 1)) ∷ Do (At 3 (Measured 2 100 1)) ∷ Do (At 2 CheckNow) ∷ Do (Deliver 5) ∷ Do (At 3 (Tick 3))
     ∷ Do (Deliver 8) ∷ Do (Deliver 10) ∷ [])
 
--- The third review that gives the same place sends a node there. Meanwhile it leaves its rank, and the sibling takes up a newer one,
--- which precedes it.
+-- The third review for the same place makes a node ask for it. Meanwhile the node keeps its rank, and the sibling takes a newer one,
+-- which precedes the node's rank.
 
 abbrev descending_later : List Event
 descending_later =
@@ -82,8 +82,8 @@ SiblingReview = told (header 3 1 (0 ∷ 0 ∷ 0 ∷ [])) descending_later 27 17 
   shown = [];
 }
 
--- Where the sibling's rank is no newer it refuses. The node reviews its place again at its next check in time, and not at the first
--- one in the place to which it came back; and it has more patience there: the third review in a row does not send it away.
+-- A sibling whose rank is no newer refuses. The node reviews its place again at its next check in time, and not at the first
+-- check after its return; and it has more patience there: the third review in a row does not make it leave.
 
 abbrev refusing : List Event
 refusing =
@@ -119,7 +119,7 @@ RefusedReview = told (header 3 1 (0 ∷ 0 ∷ 0 ∷ [])) refusing 23 18 [] ≡ r
   shown = [];
 }
 
--- A node beneath a chain member stays there, however good its own way to that one's chain parent is.
+-- A node below a chain member stays there, however good its own way to that member's parent in the chain is.
 
 abbrev beneath_the_chain : List Event
 beneath_the_chain =
@@ -134,7 +134,7 @@ ChainReview = told (header 3 2 (0 ∷ 0 ∷ 0 ∷ [])) beneath_the_chain 13 7 []
   shown = [];
 }
 
--- Of those that are suitable, the one with the least hops, and then the least id.
+-- Of the suitable candidates, the one with the fewest hops is chosen, and of several the one with the least id.
 
 abbrev candidate : ℕ → ℕ → ℕ → ℕ → Candidate
 candidate id mine up hops = record { id = id; mine = mine; up = up; hops = hops }
@@ -142,14 +142,14 @@ candidate id mine up hops = record { id = id; mine = mine; up = up; hops = hops 
 abbrev pub ChooseAmong : Type 0
 ChooseAmong = (chosen 100 (candidate 7 100 200 3 ∷ candidate 6 89 200 1 ∷ candidate 5 90 200 3 ∷ []) ≡ Some 5) × (chosen 100 [] ≡ None)
 
--- Certificates that come in any order: the greater ask number stays.
+-- Certificates in any order: the one with the greater ask number stays.
 
--- which of these change the table, merged one after another
+-- whether each certificate, in this order, changes the table
 abbrev news_of : List Cert → List Cert → List Bool
 news_of t [] = []
 news_of t (c ∷ cs) = is_news t c ∷ news_of (merge t c) cs
 
--- merged in this order, which are news and what the entry is
+-- these certificates in this order: whether each changes the table, and the entry at the end
 abbrev Race : List Cert → List Bool → Type 0
 Race cs news = (news_of [] cs ≡ news) × (merge_all [] cs ≡ alive 4 2 3 ∷ [])
 
@@ -161,7 +161,7 @@ pub record CertificateRace : Type 0 where
   pub death_first : Race (dead 4 1 2 ∷ alive 4 1 2 ∷ alive 4 2 3 ∷ []) (true ∷ false ∷ true ∷ [])
   pub death_before : Race (dead 4 1 2 ∷ alive 4 2 3 ∷ alive 4 1 2 ∷ []) (true ∷ true ∷ false ∷ [])
 
--- Counts of clients: the own number decides at one state, and death stays.
+-- Counts of clients: at one ask number and state the greater own number decides, and a death stays.
 
 abbrev counted : Cert → ℕ → ℕ → Cert
 counted c number clients = record c { number = number; clients = clients }

@@ -26,7 +26,7 @@ FirstPath = told (header 2 1 (0 ∷ 0 ∷ [])) first_path 0 0 [] ≡ record {
 abbrev pub FirstPathHeld : Type 0
 FirstPathHeld = held (header 2 1 (0 ∷ 0 ∷ [])) first_path 2 ≡ record { group = codes "/a"; held = 5; sealed = false } ∷ []
 
--- A group is sealed, fetched whole, and acknowledged with its seal.
+-- A group is sealed, fetched in full, and acknowledged with its seal.
 
 abbrev sealing : List Event
 sealing =
@@ -48,7 +48,7 @@ SealedGroup = told (header 2 1 (0 ∷ 0 ∷ [])) sealing 0 0 [] ≡ record {
 abbrev pub SealedGroupHeld : Type 0
 SealedGroupHeld = held (header 2 1 (0 ∷ 0 ∷ [])) sealing 2 ≡ record { group = codes "/a"; held = 2; sealed = true } ∷ []
 
--- A node serves a client and tells it with its next check-in.
+-- A node serves a client, and counts that client in its next check-in.
 
 abbrev serving : List Event
 serving =
@@ -68,7 +68,7 @@ ServedCounts = told (header 2 1 (0 ∷ 0 ∷ [])) serving 9 4 (1 ∷ []) ≡ rec
   shown = root_shown (rank 1 0) (record (alive 2 1 1) { number = 1; clients = 1 } ∷ []) (line 2 1 ∷ []) ∷ [];
 }
 
--- Stops inside a write: the byte 1 opens its frame, and any other leaves it closed.
+-- Stops within a write: a gate byte of 1 opens the frame, and any other byte leaves the frame closed.
 
 abbrev tearing : List Event
 tearing =
@@ -86,7 +86,7 @@ TornGate = told (header 1 1 (0 ∷ [])) tearing 0 0 [] ≡ record {
 abbrev pub TornGateHeld : Type 0
 TornGateHeld = held (header 1 1 (0 ∷ [])) tearing 1 ≡ record { group = codes "/a"; held = 1; sealed = false } ∷ []
 
--- A node that is up does not start, one that is down takes nothing, and no message that was not sent comes.
+-- A node that is up does not start again, a node that is down takes no input, and a message that was never sent does not arrive.
 
 abbrev pub DownAndUnknown : Type 0
 DownAndUnknown = told (header 2 1 (0 ∷ 0 ∷ [])) (Up 1 ∷ Up 1 ∷ Do (At 2 (Tick 0)) ∷ Do (Deliver 9) ∷ []) 0 0 [] ≡ record {
@@ -96,7 +96,7 @@ DownAndUnknown = told (header 2 1 (0 ∷ 0 ∷ [])) (Up 1 ∷ Up 1 ∷ Do (At 2 
   shown = [];
 }
 
--- Only node 1 publishes; a publish of no bytes makes a group.
+-- Only node 1 publishes; a publish of no bytes makes an empty group.
 
 abbrev elsewhere : List Event
 elsewhere = Up 1 ∷ Up 2 ∷ Do (At 1 (Publish (codes "/a") [])) ∷ Do (At 2 (Publish (codes "/a") (codes "a"))) ∷ Held 1 ∷ []

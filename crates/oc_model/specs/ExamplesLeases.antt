@@ -8,7 +8,7 @@ use Rattle.oc_model.specs.declared.mode.Mode.TheVariants.{Joined}
 use Rattle.oc_model.specs.declared.word.Word.TheVariants.{Settled}
 use Rattle.oc_model.specs.ExampleRuns.{told, header, join, from_to, alive, dead, line, rank, root_shown, ok}
 
--- A lease ends while the child is up: its check-in is answered by a rejoin, and it asks anew.
+-- A lease ends while the child is up: the parent answers its check-in by `Rejoin`, and the child asks anew.
 
 abbrev ending : List Event
 ending =
@@ -28,7 +28,7 @@ FalseDeath = told (header 2 1 (0 ∷ 0 ∷ [])) ending 6 2 (1 ∷ []) ≡ record
   shown = root_shown (rank 2 0) (alive 2 2 1 ∷ []) (line 2 1 ∷ []) ∷ [];
 }
 
--- A check-in that is delivered twice: the second time its certificate changes nothing, and is not noted.
+-- A check-in arrives twice: the second time its certificate changes nothing, and the log does not grow.
 
 abbrev twice : List Event
 twice =
@@ -57,7 +57,7 @@ Quash = told (header 4 1 (0 ∷ 0 ∷ 0 ∷ 0 ∷ [])) twice 14 6 (2 ∷ []) ≡
   } ∷ [];
 }
 
--- A parent with three children fails: they go beneath their grandparent.
+-- A parent with three children fails: the children join their grandparent.
 
 abbrev failing : List Event
 failing =

@@ -14,7 +14,7 @@ use Rattle.oc_model.specs.Table.{table_line}
 use Rattle.oc_model.specs.World.{World, new_world}
 use Rattle.oc_model.specs.ExampleRuns.{told, header, join, from_to, alive, line, rank, root_shown, ok}
 
--- Two siblings move beneath each other at the same time: neither is in the tree when the ask of the other comes.
+-- Two siblings move beneath each other at the same time: neither is in the tree when the other's ask arrives.
 
 abbrev crossing : List Event
 crossing =
@@ -34,7 +34,7 @@ CrossingMoves = told (header 3 1 (0 ∷ 0 ∷ 0 ∷ [])) crossing 10 4 [] ≡ re
   shown = [];
 }
 
--- An ancestor list that is out of date: node 4 does not know that 2 is above it, and its rank refuses the ask.
+-- An ancestor list out of date: node 4 does not know that 2 is above it, and its rank refuses the ask.
 
 abbrev four_in_line : List Event
 four_in_line =
@@ -49,7 +49,7 @@ stale =
 abbrev stale_world : World
 stale_world = world_after (new_world (header 4 1 (0 ∷ 0 ∷ 0 ∷ 0 ∷ []))) stale
 
--- before it settles: the line of 3 at the root is wrong, and 4 is missing
+-- before the network settles: the root's line of 3 is wrong, and its line of 4 is missing
 abbrev pub StaleAncestors : Type 0
 StaleAncestors = told (header 4 1 (0 ∷ 0 ∷ 0 ∷ 0 ∷ [])) stale 21 10 (1 ∷ []) ≡ record {
   words = ok ∷ ok ∷ ok ∷ ok ∷ ok ∷ [];
@@ -63,7 +63,7 @@ StaleAncestors = told (header 4 1 (0 ∷ 0 ∷ 0 ∷ 0 ∷ [])) stale 21 10 (1 �
   shown = root_shown (rank 2 0) (alive 2 3 1 ∷ alive 3 1 1 ∷ []) (line 2 1 ∷ line 3 1 ∷ []) ∷ [];
 }
 
--- settled: the table of the root is the tree
+-- after the network settled: the root's table is the tree
 abbrev pub StaleAncestorsSettled : Type 0
 StaleAncestorsSettled = told (header 4 1 (0 ∷ 0 ∷ 0 ∷ 0 ∷ [])) (stale ++ Settle ∷ []) 26 41 (1 ∷ []) ≡ record {
   words = Settled 30 ∷ [];
@@ -72,17 +72,17 @@ StaleAncestorsSettled = told (header 4 1 (0 ∷ 0 ∷ 0 ∷ 0 ∷ [])) (stale ++
   shown = root_shown (rank 3 0) (alive 2 3 1 ∷ alive 3 2 2 ∷ alive 4 1 3 ∷ []) (line 2 1 ∷ line 3 2 ∷ line 4 3 ∷ []) ∷ [];
 }
 
--- the lines of 3 and 4 before: at the root 3 has the parent that it left, and 4 has none
+-- the root's lines of 3 and 4 before: 3 has the parent that it left, and 4 has none
 abbrev pub StaleLines : Type 0
 StaleLines =
     (table_line (table_of stale_world 1) 1 3 ≡ Some 1) × (true_line stale_world 1 3 ≡ Some 2)
     × (table_line (table_of stale_world 1) 1 4 ≡ None) × (true_line stale_world 1 4 ≡ Some 3)
 
--- only then is it settled
+-- the network is not settled before, and is settled after
 abbrev pub StaleSettles : Type 0
 StaleSettles = (is_settled stale_world ≡ false) × (is_settled (next_world stale_world Settle) ≡ true)
 
--- The reverse: 2 asks 3, which is in the tree but does not precede it.
+-- The reverse: 2 asks 3, which is in the tree, but whose rank does not precede that of 2.
 
 abbrev reverse_moves : List Event
 reverse_moves = four_in_line ++ (Do (At 2 (Relocate 3)) ∷ Do (Deliver 9) ∷ [])

@@ -41,7 +41,7 @@ TakeoverAndReturn = told (header 2 2 (0 ∷ 0 ∷ [])) taking_over 7 2 (1 ∷ 2 
       ∷ [];
 }
 
--- Heal from nodes that are up and nothing else.
+-- Heal in a network of new nodes that are up.
 
 abbrev three_up : List Event
 three_up = Up 1 ∷ Up 2 ∷ Up 3 ∷ Heal ∷ Show 1 ∷ []
@@ -54,7 +54,7 @@ Healing = told (header 3 1 (0 ∷ 0 ∷ 0 ∷ [])) three_up 0 26 (1 ∷ []) ≡ 
   shown = root_shown (rank 3 0) (alive 2 1 1 ∷ alive 3 1 1 ∷ []) (line 2 1 ∷ line 3 1 ∷ []) ∷ [];
 }
 
--- Without a chain member that is up there is nothing to join.
+-- Without a chain member that is up there is no tree to join.
 
 abbrev pub HealWithoutAChainMember : Type 0
 HealWithoutAChainMember = told (header 2 1 (0 ∷ 0 ∷ [])) (Up 2 ∷ Heal ∷ []) 0 0 [] ≡ record { words = ok ∷ Unready ∷ []; sent = []; messages = 0; shown = [] }

@@ -1,4 +1,4 @@
--- Lawful values: what is within the ranges of the texts, of the wire and of the records.
+-- Lawful values: the ranges of the numbers in texts, on the wire and in records.
 use Rattle.std.specs.Prelude.{ℕ, ◌≤◌, ◌≡◌, List, length}
 use Rattle.std.specs.List.{AllByRecursion}
 use Rattle.oc_base.specs.Lawful.{IsNode, IsNodeOrNone, IsLong, IsCount, IsRate, IsRank, IsRankOrNone, IsCert, AreCerts, AreAncestors, IsRefusal, AreChildren}
@@ -59,7 +59,7 @@ AreRecords nodes rs = AllByRecursion (IsRecord nodes) rs
 
 -- Inputs
 
--- an input of the node me
+-- the input is one that node `me` may get
 abbrev pub IsInput : ℕ → ℕ → Input → Type 0
 IsInput nodes me (inputs.Tick t) = t ≤ LAST_SECOND
 IsInput nodes me inputs.CheckNow = Unit {0}
@@ -74,7 +74,7 @@ IsInput nodes me (inputs.Delivered m) = IsMessage nodes m × (m.to ≡ me)
 
 -- Schedules
 
--- 1 to 1,024 nodes, a chain of 1 to 16 and at most the nodes, chunks of 1 to 524,288 bytes, an area for each node
+-- 1 to 1,024 nodes, a chain of 1 to 16 of them, chunks of 1 to 524,288 bytes, and an area for each node
 pub record IsHeader (h : Header) : Type 0 where
   pub some : 1 ≤ h.nodes
   pub few : h.nodes ≤ MAX_NODES
@@ -86,7 +86,7 @@ pub record IsHeader (h : Header) : Type 0 where
   pub areas : length h.areas ≡ h.nodes
   pub bytes : AllByRecursion (λ a. a ≤ MAX_AREA) h.areas
 
--- an input that a schedule gives a node: a clock starts before its last second, and a message comes by its number
+-- an input that a schedule may give a node: the time is at most the latest one of a schedule, and messages go by number
 abbrev pub IsGiven : ℕ → ℕ → Input → Type 0
 IsGiven nodes x (inputs.Tick t) = t ≤ MAX_TIME
 IsGiven nodes x (inputs.Delivered m) = ⊥

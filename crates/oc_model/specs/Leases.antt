@@ -3,13 +3,13 @@ use Rattle.oc_base.specs.declared.cert.Cert.{Cert}
 use Rattle.oc_model.specs.Numbers.{at, put_at}
 use Rattle.oc_model.specs.Table.{leased_children}
 
--- Leases: by the number of a child the second at which its lease ends, where that is set.
+-- Leases: by the number of a child the second at which its lease ends, if it has been set.
 
--- the seconds that a lease lasts
+-- the duration of a lease, in seconds
 abbrev pub lease_time : ℕ
 lease_time = 30
 
--- the lease of x begins anew
+-- renews the lease of x, from this second on
 abbrev pub renew : List (Option ℕ) → ℕ → ℕ → List (Option ℕ)
 renew ends x now = put_at ends x (Some (now + lease_time))
 
@@ -17,12 +17,12 @@ abbrev pub start_if : Option ℕ → List (Option ℕ) → ℕ → ℕ → List 
 start_if None ends x now = renew ends x now
 start_if (Some t) ends x now = ends
 
--- each of these without an end gets one
+-- gives each of these children an end of its lease, where it has none
 abbrev pub start_each : List ℕ → List (Option ℕ) → ℕ → List (Option ℕ)
 start_each [] ends now = ends
 start_each (x ∷ xs) ends now = start_each xs (start_if (at ends x None) ends x now) now
 
--- each leased child of y without an end gets one
+-- gives each leased child of y an end of its lease, where it has none
 abbrev pub start_all : List Cert → ℕ → List (Option ℕ) → ℕ → List (Option ℕ)
 start_all t y ends now = start_each (leased_children t y) ends now
 
@@ -34,6 +34,6 @@ is_over (Some end) now = nat_le end now
 abbrev pub ended : List Cert → ℕ → List (Option ℕ) → ℕ → List ℕ
 ended t y ends now = filter (λ x. is_over (at ends x None) now) (leased_children t y)
 
--- the least of them past x
+-- the least such child past x
 abbrev pub next_ended : List Cert → ℕ → List (Option ℕ) → ℕ → ℕ → Option ℕ
 next_ended t y ends x now = find (λ z. nat_lt x z) (ended t y ends now)

@@ -18,24 +18,24 @@ use Rattle.oc_model.specs.Step.{step, plan}
 use Rattle.oc_model.specs.World.{World, Process, Arrival, down, process, node, is_up, with_process, source_after, arrival, after_act}
 use Rattle.oc_model.specs.Numbers.{is_empty}
 
--- What one event of a schedule does, and its word.
+-- The effect of one event of a schedule, and the word that reports it.
 
 abbrev pub put : World → Process → World
 put w p = record w { processes = with_process w.processes p }
 
--- a start, of a node that is down
+-- starts a node that is down
 abbrev pub started : World → Process → World
 started w p = if p.up then w else put w (record { node = restarted p.node; up = true })
 
--- a node that stops loses what a start clears
+-- a stopped node: its durable part, and all else as after a start
 abbrev pub stopped : Node → Process
 stopped n = down (restarted n)
 
--- a crash, of a node that is up
+-- stops a node that is up
 abbrev pub crashed : World → Process → World
 crashed w p = if p.up then put w (stopped p.node) else w
 
--- an input whose write is cut off: it is kept, or all is as before; nothing is sent
+-- stops a node within the write of an input: the input is kept, or all is as before; no message is sent
 abbrev pub cut_off : Bool → World → Node → Input → Outcome → World
 cut_off true w n i o = record w { processes = with_process w.processes (stopped o.node); source = source_after w.source i o.answer }
 cut_off false w n i o = put w (stopped n)
@@ -43,11 +43,11 @@ cut_off false w n i o = put w (stopped n)
 abbrev pub has_change : Plan → Bool
 has_change o = not (is_empty o.records) || is_some o.keeps
 
--- whether this input has a durable change, so that a frame is written
+-- whether this input changes the durable state, so that a frame is written
 abbrev pub writes : Node → Input → Bool
 writes n i = has_change (plan n.control (shelf n.groups) i)
 
--- whether its frame is kept
+-- whether the frame of this input is kept
 abbrev pub keeps_write : ℕ → ℕ → Node → Input → Bool
 keeps_write k image n i = writes n i && is_kept_new k image
 
@@ -56,7 +56,7 @@ stopped_at w k image None = w
 stopped_at w k image (Some a) =
     if is_up w a.at then cut_off (keeps_write k image (node w a.at) a.input) w (node w a.at) a.input (step (node w a.at) a.input) else w
 
--- the acts that settle is made of, where the world is ready
+-- the acts of settle, if the world is ready
 abbrev pub settle_acts_if : Bool → World → Option (List Act)
 settle_acts_if true w = Some (settles w).acts
 settle_acts_if false w = None
@@ -64,7 +64,7 @@ settle_acts_if false w = None
 abbrev pub settle_acts : World → Option (List Act)
 settle_acts w = settle_acts_if (is_ready w) w
 
--- the acts that heal is made of, where the world is able
+-- the acts of heal, if the world is able
 abbrev pub heal_acts_if : Bool → Option ℕ → World → Option (List Act)
 heal_acts_if true (Some m) w = Some (heals m w).acts
 heal_acts_if able m w = None
@@ -72,12 +72,12 @@ heal_acts_if able m w = None
 abbrev pub heal_acts : World → Option (List Act)
 heal_acts w = heal_acts_if (is_able w) (leader w) w
 
--- these acts, one after another, if there are any
+-- the world after these acts, if there are any
 abbrev pub after_any : World → Option (List Act) → World
 after_any w None = w
 after_any w (Some done) = after_acts w done
 
--- what one event does
+-- the world after one event
 abbrev pub next_world : World → Event → World
 next_world w (Up x) = started w (process w x)
 next_world w (Crash x) = crashed w (process w x)
@@ -93,18 +93,18 @@ abbrev pub word_of_act : World → Option Arrival → Word
 word_of_act w None = words.NoMessage
 word_of_act w (Some a) = if is_up w a.at then words.Node (step (node w a.at) a.input).answer else words.Down
 
--- that of a stop
+-- the word of a stop
 abbrev pub word_of_stop : World → ℕ → ℕ → Option Arrival → Word
 word_of_stop w k image None = words.NoMessage
 word_of_stop w k image (Some a) =
     if is_up w a.at then (if keeps_write k image (node w a.at) a.input then words.StoppedNew else words.StoppedOld) else words.Down
 
--- that of settle, with the number of its acts
+-- the word of settle, with the number of its acts
 abbrev pub word_of_settle : Option (List Act) → Word
 word_of_settle None = words.Unready
 word_of_settle (Some done) = words.Settled (length done)
 
--- that of heal
+-- the word of heal, with the number of its acts
 abbrev pub word_of_heal : Option (List Act) → Word
 word_of_heal None = words.Unready
 word_of_heal (Some done) = words.Healed (length done)

@@ -12,21 +12,21 @@ use Rattle.oc_model.specs.declared.soft.Soft.{Soft}
 
 -- The state of one node.
 
--- what opens a world: the number of nodes, the length of the chain, how many bytes a chunk has at most, the area of each node
+-- the sizes of a network and the area of each node: the number of nodes, the length of the chain, the most bytes of a chunk, the areas
 pub record Header : Type 0 where
   pub nodes : ℕ
   pub chain : ℕ
   pub chunk : ℕ
   pub areas : List ℕ
 
--- the change log: its length, how many of its certificates the parent has acknowledged, and the rest, which wait
+-- the change log: its length, the number of certificates that the parent has acknowledged, and the rest, which wait
 pub record Log : Type 0 where
   pub length : ℕ
   pub acked : ℕ
   pub waiting : List Cert
 
--- what a stop leaves of a node's control state: the number of its last ask, its mode and rank, its own number and count of
--- clients, its table (one row per subject, ascending), its change log, its ancestors (nearest first), its reading of each peer (by number)
+-- the durable part of a node's control state: its last ask number, its mode and rank, its own number and client count, its table
+-- (one row per subject, ascending), its change log, its ancestors (nearest first), its reading of each peer (by number)
 pub record Durable : Type 0 where
   pub seq : ℕ
   pub mode : Mode
@@ -38,8 +38,8 @@ pub record Durable : Type 0 where
   pub ancestors : List ℕ
   pub measures : List Reading
 
--- all of a node except its content: who it is, what a stop leaves, and what a start clears. To the last belong the lease ends, the
--- children's rates and the redirection counts, which are in lists by the number of a node
+-- the control state: all of a node except its content. A start clears `soft`, the lease ends, the children's rates and the
+-- redirection counts; the last three are lists by the number of a node
 pub record Control : Type 0 where
   pub me : ℕ
   pub nodes : ℕ
@@ -52,27 +52,27 @@ pub record Control : Type 0 where
   pub rates : List ℕ
   pub counts : List ℕ
 
--- all that one node is
+-- the state of a node: its control state and its groups
 pub record Node : Type 0 where
   pub control : Control
   pub groups : List Group
 
--- what an input does to a node: the node after it, the records of what is durable in it, the messages that it sends, its answer
+-- the effect of an input on a node: the node after it, the durable records, the messages to send, and the answer
 pub record Outcome : Type 0 where
   pub node : Node
   pub records : List Record
   pub sends : List Message
   pub answer : Answer
 
--- a log of nothing
+-- the change log of a new node
 abbrev pub empty_log : Log
 empty_log = record { length = 0; acked = 0; waiting = [] }
 
--- no measurement was taken
+-- a reading of 0 for a peer that was not measured
 abbrev pub no_reading : Reading
 no_reading = record { rate = 0; hops = 0 }
 
--- the first durable state, among this many nodes
+-- the durable part of a new node, in a network of this many nodes
 abbrev pub new_durable : ℕ → Durable
 new_durable nodes = record {
   seq = 0;
@@ -86,7 +86,7 @@ new_durable nodes = record {
   measures = replicate nodes no_reading;
 }
 
--- what a start clears, cleared
+-- the cleared part of a node that just started
 abbrev pub new_soft : Soft
 new_soft = record {
   clock = 0;
@@ -104,7 +104,7 @@ new_soft = record {
   moves = 0;
 }
 
--- a node with these durable parts, just started
+-- a node with this durable part, just started
 abbrev pub started_with : Header → ℕ → Durable → Control
 started_with h x d = record {
   me = x;
@@ -119,14 +119,14 @@ started_with h x d = record {
   counts = replicate h.nodes 0;
 }
 
--- the new node of this id
+-- the control state of the new node x
 abbrev pub new_control : Header → ℕ → Control
 new_control h x = started_with h x (new_durable h.nodes)
 
 abbrev pub new_node : Header → ℕ → Node
 new_node h x = record { control = new_control h x; groups = [] }
 
--- what a start makes of what was kept
+-- the node after a restart: its durable part, and all else cleared
 abbrev pub restarted : Node → Node
 restarted n = record n {
   control = started_with (record { nodes = n.control.nodes; chain = n.control.chain; chunk = n.control.chunk; areas = n.control.areas }) n.control.me n.control.kept;

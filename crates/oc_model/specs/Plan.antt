@@ -11,10 +11,10 @@ use Rattle.oc_model.specs.Measures.{reading_of}
 use Rattle.oc_model.specs.Node.{Control}
 use Rattle.oc_model.specs.Records.{fold_one}
 
--- A step under way. The rules lead from one to the next.
+-- A step under way, from rule to rule.
 
--- the node as the step leaves it so far, the records of what is durable in that, the messages and the answer; the bytes of content
--- that go into the chunk it sends; the place at which the input's bytes are kept in their group, if they are; whether that closes it
+-- the node after the rules so far, the records of its durable changes, the messages and the answer; the bytes of content for the
+-- chunk that it sends; the place in the group at which the input's bytes are kept, if they are; whether the group is closed
 pub record Plan : Type 0 where
   pub node : Control
   pub records : List Record
@@ -24,15 +24,15 @@ pub record Plan : Type 0 where
   pub keeps : Option ℕ
   pub seals : Bool
 
--- before the first rule
+-- the step before its first rule
 abbrev pub begun : Control → Plan
 begun n = record { node = n; records = []; sends = []; answer = words.Ok; wants = None; keeps = None; seals = false }
 
--- a durable change: its record is written, and does what it says
+-- makes a durable change: writes its record and applies it
 abbrev pub write : Plan → Record → Plan
 write o r = record o { node = record o.node { kept = fold_one o.node.kept r }; records = o.records ++ r ∷ [] }
 
--- one more message
+-- sends one more message
 abbrev pub send : Plan → ℕ → Body → Plan
 send o p b = record o { sends = o.sends ++ record { from = o.node.me; to = p; body = b } ∷ [] }
 
@@ -45,11 +45,11 @@ with_soft o s = record o { node = record o.node { soft = s } }
 abbrev pub with_leases : Plan → List (Option ℕ) → Plan
 with_leases o ends = record o { node = record o.node { leases = ends } }
 
--- what the node looks for from now on
+-- sets the node's search, or ends it
 abbrev pub searching : Plan → Option Search → Plan
 searching o s = with_soft o (record o.node.soft { search = s })
 
--- nothing happens
+-- the input changes nothing, and is answered as ignored
 abbrev pub ignored : Plan → Plan
 ignored o = answers o words.Ignored
 
@@ -57,6 +57,6 @@ ignored o = answers o words.Ignored
 abbrev pub is_member : Control → Bool
 is_member n = nat_le n.me n.chain
 
--- the rate from a node to a peer, in bytes per second; 0 where it is not measured
+-- the rate from a node to a peer, in bytes per second; 0 where nothing was measured
 abbrev pub rate_to : Control → ℕ → ℕ
 rate_to n p = (reading_of n.kept.measures p).rate

@@ -11,17 +11,17 @@ use Rattle.oc_model.specs.ChangeLog.{IsWaiting}
 use Rattle.oc_model.specs.World.{World, node, is_up, mode_of, ids}
 use Rattle.oc_model.specs.Numbers.{is_empty}
 
--- Where settle does its work, and what it leaves.
+-- The worlds in which settle works, and the worlds that it leaves.
 
 -- p holds the lease of x at this number
 abbrev pub HoldsLease : World → ℕ → ℕ → ℕ → Type 0
 HoldsLease w p x seq = HasLease (node w p).control.kept.table p x seq
 
--- it is joined to a node that holds its lease at its own number
+-- x is joined to a node that holds its lease at its present ask number
 abbrev pub IsLeased : World → ℕ → Type 0
 IsLeased w x = (p : ℕ) × IsJoined w x p × HoldsLease w p x (node w x).control.kept.seq
 
--- one node that is up acts as root; every other that is up has a true chain to it, and its parent holds its lease
+-- one node that is up acts as root; every other node that is up has a true chain to it, and a lease of its parent
 pub record IsReadyUnder (w : World) (r : ℕ) : Type 0 where
   pub root : IsRoot w r
   pub alone : (x : ℕ) → IsRoot w x → x ≡ r
@@ -31,13 +31,13 @@ pub record IsReadyUnder (w : World) (r : ℕ) : Type 0 where
 abbrev pub IsReady : World → Type 0
 IsReady w = (r : ℕ) × IsReadyUnder w r
 
--- besides, no stale lease is held, and nothing is left to tell
+-- a ready world with no stale lease, in which no certificate waits
 pub record IsSettled (w : World) : Type 0 where
   pub ready : IsReady w
   pub leases : (y x seq : ℕ) → IsUp w y → HoldsLease w y x seq → IsUp w x × IsJoined w x y × ((node w x).control.kept.seq ≡ seq)
   pub told : (n p x : ℕ) → IsUp w n → IsJoined w n p → IsWaiting (node w n).control.kept.log x → ⊥
 
--- The same as it is computed.
+-- The same definitions, computed.
 
 abbrev pub is_root : World → ℕ → Bool
 is_root w x = is_up w x && is_acting (mode_of w x)
@@ -49,7 +49,7 @@ is_leased_as w x mode = false
 abbrev pub is_leased : World → ℕ → Bool
 is_leased w x = is_leased_as w x (mode_of w x)
 
--- under the root r, this node is as in a ready world
+-- whether this node is in place under the root r, as in a ready world
 abbrev pub stands_under : World → ℕ → ℕ → Bool
 stands_under w r x = not (is_up w x) || x == r || (is_some (chain_to w r x) && is_leased w x)
 
@@ -60,16 +60,16 @@ ready_under w (Some r) = list_all (stands_under w r) (ids w)
 abbrev pub is_ready : World → Bool
 is_ready w = ready_under w (find (is_root w) (ids w))
 
--- a lease that y holds, if it holds one, is of a node that is up and joined to y at that number
+-- whether a lease that y holds of x, if any, is of a node that is up and joined to y at that ask number
 abbrev pub is_current : World → ℕ → ℕ → Option ℕ → Bool
 is_current w y x None = true
 is_current w y x (Some seq) = is_up w x && is_joined_to (mode_of w x) y && (node w x).control.kept.seq == seq
 
--- y holds no stale lease
+-- whether y holds no stale lease
 abbrev pub holds_current : World → ℕ → Bool
 holds_current w y = list_all (λ k. is_current w y k.subject (leased_by (node w y).control.kept.table y k.subject)) (node w y).control.kept.table
 
--- nothing waits at y, if it is joined
+-- whether nothing waits at y; a node that is not joined has nobody to tell
 abbrev pub has_told : World → ℕ → Bool
 has_told w y = not (is_joined (mode_of w y)) || is_empty (node w y).control.kept.log.waiting
 

@@ -9,22 +9,22 @@ use Rattle.oc_model.specs.Measures.{with_reading}
 use Rattle.oc_model.specs.Node.{Durable, Log, empty_log, new_durable}
 use Rattle.oc_model.specs.Table.{merge}
 
--- What a record does to what is durable of a node.
+-- The effect of a record on the durable part of a node.
 
 abbrev pub is_joined : Mode → Bool
 is_joined (modes.Joined p) = true
 is_joined mode = false
 
--- the log takes a certificate exactly while the node is joined
+-- the log takes a certificate only while the node is joined
 abbrev pub noted : Mode → Log → Cert → Log
 noted (modes.Joined p) l c = note l c
 noted mode l c = l
 
--- a certificate comes into the table
+-- enters a certificate in the table, and in the log of a joined node
 abbrev pub entered : Durable → Cert → Durable
 entered d c = record d { table = merge d.table c; log = noted d.mode d.log c }
 
--- what one record does
+-- the durable part after one record
 abbrev pub fold_one : Durable → Record → Durable
 fold_one d (records.Ask s p) = record d { seq = s; mode = modes.Asking p; log = empty_log }
 fold_one d (records.Joined p r) = if d.seq == 0 then d else record d { mode = modes.Joined p; rank = Some r; log = begun_with d.table }
@@ -41,7 +41,7 @@ fold_one d (records.Snapshot g) = new_durable (length d.measures)
 fold_one d (records.Entry c) = entered d c
 fold_one d (records.Info number clients) = record d { number = number; clients = clients }
 
--- what these records do, one after another
+-- the durable part after these records, one after another
 abbrev pub folded : Durable → List Record → Durable
 folded d [] = d
 folded d (r ∷ rs) = folded (fold_one d r) rs

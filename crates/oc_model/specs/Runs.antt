@@ -12,27 +12,27 @@ abbrev pub after_acts : World → List Act → World
 after_acts w [] = w
 after_acts w (a ∷ rest) = after_acts (after_act w a) rest
 
--- the acts that were done from a world on, and the world after them
+-- the acts from a world on, and the world after them
 pub record Run : Type 0 where
   pub acts : List Act
   pub world : World
 
--- no act
+-- the run without an act
 abbrev pub rests : World → Run
 rests w = record { acts = []; world = w }
 
--- one act
+-- the run of one act
 abbrev pub does : Act → World → Run
 does a w = record { acts = a ∷ []; world = after_act w a }
 
 abbrev pub followed_by : Run → Run → Run
 followed_by r s = record { acts = r.acts ++ s.acts; world = s.world }
 
--- and then what is done from there on
+-- the run, and then the one that this function gives for the world after it
 abbrev pub and_then : Run → (World → Run) → Run
 and_then r f = followed_by r (f r.world)
 
--- this for each of these ids, one after another
+-- the runs for these ids, one after another
 abbrev pub for_each : List ℕ → (ℕ → World → Run) → World → Run
 for_each [] f w = rests w
 for_each (x ∷ xs) f w = and_then (f x w) (for_each xs f)
@@ -41,10 +41,10 @@ abbrev pub body_in : Option Message → Option Body
 body_in None = None
 body_in (Some m) = Some m.body
 
--- what the message says that was sent last
+-- the body of the message that was sent last
 abbrev pub last_body : World → Option Body
 last_body w = body_in (message_at w.net (length w.net))
 
--- the message that was sent last is delivered
+-- delivers the message that was sent last
 abbrev pub delivers_last : World → Run
 delivers_last w = does (Deliver (length w.net)) w

@@ -9,18 +9,18 @@ use Rattle.oc_model.specs.Plan.{Plan, write, answers, with_soft, is_member}
 use Rattle.oc_model.specs.Selected.{selected}
 use Rattle.oc_base.specs.Shelves.{line_of}
 
--- The rules Client and Measured.
+-- Rules 15 (client) and 16 (measured).
 
--- the node serves `count` bytes itself
+-- serves `count` bytes, and counts the client
 abbrev pub serves : Plan → ℕ → Plan
 serves o count = answers (with_soft o (record o.node.soft { served = capped (o.node.soft.served + 1) })) (words.Serve count)
 
--- a chain member sends a client on, where it knows a node for it
+-- sends the client to node k, or serves it where no node is known
 abbrev pub redirects : Option ℕ → Plan → ℕ → Plan
 redirects None o count = serves o count
 redirects (Some k) o count = answers (record o { node = record o.node { counts = put_at o.node.counts k (capped (at o.node.counts k 0 + 1)) } }) (words.Redirect k)
 
--- the node to which a chain member sends a client of this area
+-- the node to which a chain member sends a client of this area, if there is one
 abbrev pub server_for : Control → ℕ → Option ℕ
 server_for n area = if is_member n then selected n.kept.table n.me n.chain n.areas n.counts area else None
 
@@ -28,15 +28,15 @@ abbrev pub client_of : Option Shelf → Plan → ℕ → ℕ → Plan
 client_of None o area start = answers o words.NoGroup
 client_of (Some l) o area start = redirects (server_for o.node area) o (l.held - start)
 
--- a client asks for a group from a place on
+-- Rule 15, client: chain members are kept free for the tree, so they send clients on
 abbrev pub client : Plan → List Shelf → ℕ → ℕ → List ℕ → Plan
 client o shelf area start g = client_of (line_of g shelf) o area start
 
--- reviews may lead the node elsewhere again
+-- lets reviews move the node again
 abbrev pub may_move : Plan → Plan
 may_move o = with_soft o (record o.node.soft { moves = 0 })
 
--- what was measured of a peer is kept
+-- Rule 16, measured: keeps a reading; a new one may call for new places, so reviews may move the node again
 abbrev pub measured : Plan → ℕ → ℕ → ℕ → Plan
 measured o p rate hops =
     if p == o.node.me then answers o words.Own

@@ -10,9 +10,9 @@ use Rattle.oc_model.specs.Chains.{chain_from}
 use Rattle.oc_model.specs.Runs.{Run, rests, does, and_then, for_each, last_body, delivers_last}
 use Rattle.oc_model.specs.World.{World, node, mode_of, up_ids}
 
--- What settle does. Nodes come in the order of their ids.
+-- The acts of settle. Nodes come in ascending order of their ids.
 
--- Steps 1, 3 and 5: each node that is up ticks, this many seconds on
+-- Steps 1, 3 and 5: each node that is up ticks, by this many seconds
 
 abbrev pub ticks : ℕ → ℕ → World → Run
 ticks more x w = does (acts.At x (inputs.Tick ((node w x).control.soft.clock + more))) w
@@ -22,7 +22,7 @@ all_tick more w = for_each (up_ids w) (ticks more) w
 
 -- Steps 2 and 4: each node that is up and joined checks in
 
--- what was sent last is delivered if it acknowledges a check-in
+-- delivers the message that was sent last, if it acknowledges a check-in
 abbrev pub takes_ack : Option Body → World → Run
 takes_ack (Some (CheckAck seq upto rank ancestors)) w = delivers_last w
 takes_ack b w = rests w
@@ -30,7 +30,7 @@ takes_ack b w = rests w
 abbrev pub takes_any_ack : World → Run
 takes_any_ack w = takes_ack (last_body w) w
 
--- it checks now, its check-in is delivered, and the acknowledgement is
+-- a check-in, its delivery, and the delivery of its acknowledgement
 abbrev pub checks_in : ℕ → World → Run
 checks_in x w = and_then (and_then (does (acts.At x inputs.CheckNow) w) delivers_last) takes_any_ack
 
@@ -47,15 +47,15 @@ all_check_in w = for_each (up_ids w) checks_in_if_joined w
 abbrev pub first_five_steps : World → Run
 first_five_steps w = and_then (and_then (and_then (and_then (all_tick 0 w) all_check_in) (all_tick 15)) all_check_in) (all_tick 15)
 
--- Step 6: by falling depth below the root, each tells all that waits
+-- Step 6: the nodes tell all that waits, the deepest below the root first
 
--- while something waits, it checks in, n times at most
+-- checks in while something waits, at most n times
 abbrev pub tells_while : ℕ → ℕ → List Cert → World → Run
 tells_while zero x waiting w = rests w
 tells_while (suc n) x [] w = rests w
 tells_while (suc n) x (f ∷ fs) w = and_then (checks_in x w) (λ v. tells_while n x (node v x).control.kept.log.waiting v)
 
--- each check-in tells one certificate at least, so there are at most as many check-ins as certificates that wait now
+-- checks in until nothing waits: each check-in tells at least one certificate, so the number that waits now is enough
 abbrev pub tells_all : ℕ → World → Run
 tells_all x w = tells_while (length (node w x).control.kept.log.waiting) x (node w x).control.kept.log.waiting w
 
@@ -67,7 +67,7 @@ has_length n (Some c) = length c == n
 abbrev pub with_chain_of : ℕ → World → List ℕ
 with_chain_of n w = filter (λ x. has_length n (chain_from w x)) (up_ids w)
 
--- the nodes whose true chain has at most n nodes, those of longer chains first
+-- the nodes that are up and whose true chain has at most n nodes, the longest chains first
 abbrev pub deepest_first : ℕ → World → List ℕ
 deepest_first zero w = []
 deepest_first (suc n) w = with_chain_of (suc n) w ++ deepest_first n w
@@ -75,6 +75,6 @@ deepest_first (suc n) w = with_chain_of (suc n) w ++ deepest_first n w
 abbrev pub all_tell : World → Run
 all_tell w = for_each (deepest_first (length w.processes) w) tells_all w
 
--- all steps
+-- all steps of settle
 abbrev pub settles : World → Run
 settles w = and_then (first_five_steps w) all_tell

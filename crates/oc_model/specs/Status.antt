@@ -7,18 +7,18 @@ use Rattle.oc_model.specs.Table.{table_line}
 use Rattle.oc_model.specs.World.{World, node, is_up}
 use Rattle.oc_model.specs.declared.status.NodeStatus.{NodeStatus}
 
--- What is seen of a node.
+-- The state of a node, as reports show it.
 
--- the line of x beneath this parent
+-- the line of x under this parent
 abbrev pub line_beneath : ℕ → Option ℕ → Option Line
 line_beneath x None = None
 line_beneath x (Some y) = Some (record { node = x; parent = y })
 
--- the lines of all who are listed beneath r, ascending
+-- the lines of all nodes listed beneath r, ascending
 abbrev pub listing : List Cert → ℕ → List Line
 listing t r = filter_map (λ x. line_beneath x (table_line t r x)) (map (λ k. k.subject) t)
 
--- the state of a node, with the listing of its own table beneath itself
+-- the status of a node, with the nodes that its own table lists
 abbrev pub status_of : Control → Bool → NodeStatus
 status_of n up = record {
   up = up;
@@ -32,6 +32,6 @@ status_of n up = record {
   listed = listing n.kept.table n.me;
 }
 
--- the state of the node of this id
+-- the status of the node of this id
 abbrev pub status_in : World → ℕ → NodeStatus
 status_in w x = status_of (node w x).control (is_up w x)

@@ -17,11 +17,11 @@ use Rattle.oc_model.specs.Node.{Control, Node, Outcome}
 use Rattle.oc_model.specs.Plan.{Plan, begun}
 use Rattle.oc_model.specs.Serving.{client, measured}
 
--- The step: what one input does to one node, which sees nothing else.
+-- The step: the effect of one input on one node, which depends on that node alone.
 
--- The control step, which sees of the content the shelf alone
+-- The control step, which depends on the shelf but not on the bytes of the content
 
--- a message from p
+-- takes a message from p, by the rule for its kind
 abbrev pub received : Plan → List Shelf → ℕ → Body → Plan
 received o shelf p bodies.Look = looked o p
 received o shelf p (bodies.LookIs is_in parent rate children) = sees o p (record { in_tree = is_in; parent = parent; rate = rate; children = children })
@@ -37,6 +37,7 @@ received o shelf p (bodies.Chunk g start bytes last) = took_chunk o shelf p g st
 abbrev pub taken : Plan → List Shelf → Input → Plan
 taken o shelf (inputs.Tick t) = tick o shelf t
 taken o shelf inputs.CheckNow = checks o
+-- takes an input, by the rule for its kind
 taken o shelf (inputs.Relocate p) = relocate o p
 taken o shelf (inputs.Unreachable p) = unreachable o p
 taken o shelf (inputs.Pull p) = pulled o shelf p
@@ -46,13 +47,13 @@ taken o shelf (inputs.Seal g) = sealed_at o shelf g
 taken o shelf (inputs.Client area start g) = client o shelf area start g
 taken o shelf (inputs.Delivered m) = received o shelf m.from m.body
 
--- what an input does to the control state
+-- the step of the control state for an input
 abbrev pub plan : Control → List Shelf → Input → Plan
 plan n shelf i = taken (begun n) shelf i
 
--- The whole step, which has the bytes
+-- The whole step, with the bytes of the content
 
--- the group and the bytes of an input, of which a step may keep something
+-- the group and the bytes that an input brings, for a step to keep
 pub record Piece : Type 0 where
   pub group : List ℕ
   pub bytes : List ℕ
@@ -67,20 +68,20 @@ piece_of (inputs.Seal g) = record { group = g; bytes = [] }
 piece_of (inputs.Delivered m) = piece_in m.body
 piece_of i = record { group = []; bytes = [] }
 
--- the group with the bytes past held of a piece that begins at this place, and perhaps closed
+-- the group after a piece that begins at this place: with the bytes past its end, and perhaps closed
 abbrev pub grown : Group → ℕ → List ℕ → Bool → Group
 grown k at bytes closes = record { name = k.name; bytes = k.bytes ++ drop (length k.bytes - at) bytes; sealed = k.sealed || closes }
 
--- the groups once the piece was kept, if it is
+-- the groups after the piece, if it was kept
 abbrev pub kept_at : Option ℕ → List Group → Piece → Bool → List Group
 kept_at None ks p closes = ks
 kept_at (Some at) ks p closes = with_group (grown (group_or_empty p.group ks) at p.bytes closes) ks
 
--- the bytes that a step sends
+-- the bytes of content that a step sends
 abbrev pub bytes_wanted : List Group → Want → List ℕ
 bytes_wanted ks w = take w.count (drop w.start (group_or_empty w.group ks).bytes)
 
--- a chunk takes its bytes
+-- a chunk with its bytes
 abbrev pub fill_body : List ℕ → Body → Body
 fill_body bytes (bodies.Chunk g start none last) = bodies.Chunk g start bytes last
 fill_body bytes body = body
@@ -92,7 +93,7 @@ abbrev pub filled : Option Want → List Group → List Message → List Message
 filled None ks sends = sends
 filled (Some w) ks sends = map (fill (bytes_wanted ks w)) sends
 
--- the step that a plan of the control step makes
+-- the outcome of a plan of the control step
 abbrev pub finished : Node → Input → Plan → Outcome
 finished n i o = record {
   node = record { control = o.node; groups = kept_at o.keeps n.groups (piece_of i) o.seals };
@@ -101,6 +102,6 @@ finished n i o = record {
   answer = o.answer;
 }
 
--- what one input does to one node
+-- the outcome of one input at one node
 abbrev pub step : Node → Input → Outcome
 step n i = finished n i (plan n.control (shelf n.groups) i)

@@ -13,14 +13,14 @@ use Rattle.oc_base.specs.Groups.{group_or_empty, with_group}
 use Rattle.oc_model.specs.Node.{Header, Node, Outcome, new_node}
 use Rattle.oc_model.specs.Step.{step}
 
--- All nodes, all messages that were ever sent, and the source; and what one act does to them.
+-- The world: all nodes, all messages that were ever sent, and the source; and the effect of one act.
 
 -- a node, and whether it is up
 pub record Process : Type 0 where
   pub node : Node
   pub up : Bool
 
--- all nodes, all messages that were ever sent, and what the source has published
+-- all nodes, all messages that were ever sent, and the content that the source has published
 pub record World : Type 0 where
   pub processes : List Process
   pub net : List Message
@@ -29,7 +29,7 @@ pub record World : Type 0 where
 abbrev pub down : Node → Process
 down n = record { node = n; up = false }
 
--- what stands for an id that no node has: a new node of that very id
+-- the process for an id without a node: a new node of that id, which is down
 abbrev pub absent : ℕ → Process
 absent x = down (new_node (record { nodes = 0; chain = 0; chunk = 0; areas = [] }) x)
 
@@ -51,20 +51,20 @@ is_up w x = (process w x).up
 abbrev pub mode_of : World → ℕ → Mode
 mode_of w x = (node w x).control.kept.mode
 
--- the processes with this one in the place of that of its id
+-- the processes with this one in place of the process of the same id
 abbrev pub with_process : List Process → Process → List Process
 with_process [] q = []
 with_process (p ∷ ps) q = if p.node.control.me == q.node.control.me then q ∷ ps else p ∷ with_process ps q
 
--- the ids, in their order
+-- the ids of all nodes, in their order
 abbrev pub ids : World → List ℕ
 ids w = map (λ p. p.node.control.me) w.processes
 
--- those of the nodes that are up
+-- the ids of the nodes that are up
 abbrev pub up_ids : World → List ℕ
 up_ids w = filter (is_up w) (ids w)
 
--- all nodes are down and new, nothing was sent, and there is no group
+-- the world before its first event: all nodes are down and new, no message was sent, and there is no group
 abbrev pub new_world : Header → World
 new_world h = record { processes = map (λ x. down (new_node h x)) (range_with_len 1 h.nodes); net = []; source = [] }
 
@@ -73,13 +73,13 @@ abbrev pub message_at : List Message → ℕ → Option Message
 message_at net zero = None
 message_at net (suc k) = slice_get net k
 
--- the source grows by a publish that was kept, and takes a seal that was kept
+-- the source after an input at node 1: it grows by each publish and takes each seal that was kept
 abbrev pub source_after : List Group → Input → Answer → List Group
 source_after s (inputs.Publish g bytes) answers.Ok = with_group (record (group_or_empty g s) { bytes = (group_or_empty g s).bytes ++ bytes }) s
 source_after s (inputs.Seal g) answers.Ok = with_group (record (group_or_empty g s) { sealed = true }) s
 source_after s input answer = s
 
--- an input to a node that is up
+-- the world after an input to a node that is up
 abbrev pub stepped : World → Input → Outcome → World
 stepped w input o = record {
   processes = with_process w.processes (record { node = o.node; up = true });
@@ -87,7 +87,7 @@ stepped w input o = record {
   source = source_after w.source input o.answer;
 }
 
--- to whom an input goes
+-- an input, and the node to which it goes
 pub record Arrival : Type 0 where
   pub at : ℕ
   pub input : Input
@@ -96,17 +96,17 @@ abbrev pub delivery : Option Message → Option Arrival
 delivery None = None
 delivery (Some m) = Some (record { at = m.to; input = inputs.Delivered m })
 
--- the input of an act; none where no message has that number. A message comes by its number alone
+-- the input of an act; none where no message has that number; a delivery is no input of its own
 abbrev pub arrival : World → Act → Option Arrival
 arrival w (acts.At x (inputs.Delivered m)) = None
 arrival w (acts.At x i) = Some (record { at = x; input = i })
 arrival w (acts.Deliver k) = delivery (message_at w.net k)
 
--- what an input does to a world; nothing where its node is down
+-- the world after an input, which changes nothing where its node is down
 abbrev pub acted : World → Option Arrival → World
 acted w None = w
 acted w (Some a) = if is_up w a.at then stepped w a.input (step (node w a.at) a.input) else w
 
--- what an act does
+-- the world after an act
 abbrev pub after_act : World → Act → World
 after_act w a = acted w (arrival w a)

@@ -1,13 +1,13 @@
 use oc_base::NodeId;
 
-/// What a node answers to an input, in one word.
+/// The answer of a node to an input.
 #[derive(Clone, Copy, Debug, PartialEq, Eq)]
 pub enum Answer {
     /// The input was taken.
     Ok,
-    /// There was nothing to do.
+    /// The input changes nothing.
     Ignored,
-    /// A chunk begins past what is held.
+    /// A chunk begins past the bytes held.
     Gap,
     /// Only the source publishes and seals.
     NotSource,
@@ -19,16 +19,16 @@ pub enum Answer {
     TooLong,
     /// A node does not do this to itself.
     Own,
-    /// The node does not go beneath that one.
+    /// The place of this node in the chain does not allow the move.
     Fixed,
-    /// No node is left to be asked for a place.
+    /// No node is left to be asked for a place; the next check begins anew.
     Waiting,
-    /// The numbers of asks have come to their end.
+    /// No ask number of 64 bits is left.
     Spent,
     /// The group is sealed.
     Sealed,
-    /// The client is sent to this node.
+    /// The client is to ask this node.
     Redirect(NodeId),
-    /// The client is given this many bytes.
+    /// The client gets this number of bytes from this node.
     Serve(u64),
 }

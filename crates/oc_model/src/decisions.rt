@@ -1,6 +1,6 @@
 ghost use Rattle.oc_model.specs.Decisions.{DecisionsCompute};
 
-/// Worked examples of the decisions of a node compute from their definitions, one by one.
+/// Checks worked examples of the decisions of a node, one by one, by their definitions.
 pub fn decisions_compute()
     ensures { DecisionsCompute }
 {}

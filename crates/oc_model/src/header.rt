@@ -11,7 +11,7 @@ pub struct Sizes {
     pub chunk: u32,
 }
 
-/// What opens a network: its sizes, and the area of each node. Contracts see the record of `specs/Node`.
+/// The description of a network: its sizes, and the area of each node. Contracts see the record of `specs/Node`.
 #[derive(Debug, Drop)]
 pub struct Header {
     pub sizes: Sizes,

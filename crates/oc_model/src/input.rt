@@ -1,40 +1,40 @@
 use crate::Message;
 use oc_base::{Bytes, GroupName, NodeId};
 
-/// What comes to a node.
+/// An input to a node: the clock, an operator's wish, a fault, a measurement, a client or a message.
 #[derive(Clone, Debug, Drop)]
 pub enum Input {
-    /// The clock shows this, in seconds.
+    /// The time of the clock, in seconds.
     Tick(u64),
-    /// To check in with the parent, or to look for one.
+    /// A check-in with the parent, or the search for a parent, at once.
     CheckNow,
-    /// To ask this node to be the parent.
+    /// A move: the node asks this node to be its parent.
     Relocate(NodeId),
-    /// This node does not answer.
+    /// The failure of a peer, which does not answer.
     Unreachable(NodeId),
-    /// To ask this node for more of every group.
+    /// A fetch from this node, of more of every group.
     Pull(NodeId),
-    /// What was measured of the way to a peer: bytes per second, and hops.
+    /// A measurement of the way to a peer: bytes per second, and hops.
     Measured {
         peer: NodeId,
         rate: u64,
         hops: u8,
     },
-    /// To add bytes at the end of a group, at the source.
+    /// A publish: bytes for the end of a group, at the source.
     Publish {
         group: GroupName,
         bytes: Bytes,
     },
-    /// To close a group, at the source.
+    /// A seal, which closes a group, at the source.
     Seal {
         group: GroupName,
     },
-    /// A client in this area asks for a group from a place on.
+    /// A client of this area, which asks for a group from a byte on.
     Client {
         area: u8,
         start: u64,
         group: GroupName,
     },
-    /// A message that arrived.
+    /// The arrival of a message.
     Delivered(Message),
 }

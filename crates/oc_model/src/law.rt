@@ -4,7 +4,7 @@ ghost use Rattle.oc_model.specs.ExamplesLeases.{FalseDeath, Quash, FailedParent,
 ghost use Rattle.oc_model.specs.ExamplesMoves.{CrossingMoves, StaleAncestors, StaleAncestorsSettled, StaleLines, StaleSettles, ReverseMove};
 ghost use Rattle.oc_model.specs.ExamplesRoots.{TakeoverAndReturn, Healing, HealWithoutAChainMember};
 
-/// How bytes spread, and how clients are counted.
+/// Checks examples of how bytes spread and how clients are counted.
 pub fn content_computes()
     ensures first_path { FirstPath }
     ensures first_path_held { FirstPathHeld }
@@ -18,7 +18,7 @@ pub fn content_computes()
     ensures publish_elsewhere_held { PublishElsewhereHeld }
 {}
 
-/// How a place is chosen, and which certificate stays.
+/// Checks examples of how a place is chosen and which certificate stays.
 pub fn choices_compute()
     ensures descent { Descent }
     ensures descent_goes_on { DescentGoesOn }
@@ -30,7 +30,7 @@ pub fn choices_compute()
     ensures merged_counts { MergedCounts }
 {}
 
-/// How nodes move, and who refuses them.
+/// Checks examples of how nodes move and who refuses them.
 pub fn moves_compute()
     ensures crossing_moves { CrossingMoves }
     ensures stale_ancestors { StaleAncestors }
@@ -40,7 +40,7 @@ pub fn moves_compute()
     ensures reverse_move { ReverseMove }
 {}
 
-/// How leases end and changes are told.
+/// Checks examples of how leases end and how changes are told.
 pub fn leases_compute()
     ensures false_death { FalseDeath }
     ensures quash { Quash }
@@ -48,7 +48,7 @@ pub fn leases_compute()
     ensures early_check_in { EarlyCheckIn }
 {}
 
-/// How a root takes over and gives way, and how a world heals.
+/// Checks examples of how a root takes over and gives way, and how a world heals.
 pub fn roots_compute()
     ensures takeover_and_return { TakeoverAndReturn }
     ensures heal { Healing }

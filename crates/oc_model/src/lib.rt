@@ -1,8 +1,8 @@
-//! What Overcast is, without memory, disk or text: the types that the rules speak of, and in `specs/`
-//! the rules of a node, the world of all nodes, and the claims about it.
+//! The model of Overcast, without memory, disk or text: the types of the rules, and in `specs/` the rules
+//! of a node, the world of all nodes, and the claims about it. `docs/RULES.md` tells the rules in prose.
 //!
-//! Nothing in here runs: the code of the crates above is held to these definitions, and the laws of
-//! `oc_laws_step` and `oc_laws_world` are about them.
+//! No code here runs in a node: these definitions say how the code of the crates above has to behave, and
+//! the laws of `oc_laws_step` and `oc_laws_world` are about them.
 #![tactic(auto)]
 
 mod answer;

@@ -8,36 +8,36 @@ pub struct Message {
     pub body: Body,
 }
 
-/// What a message says. Each rate is in bytes per second, 0 where nothing was measured.
+/// The body of a message. Each rate is in bytes per second, 0 where nothing was measured.
 #[derive(Clone, Debug, Drop)]
 pub enum Body {
-    /// Asks for the receiver's position in the tree.
+    /// Asks for the receiver's position in the tree (rule 12, look).
     Look,
-    /// The sender's position: its parent with the rate to it, and its leased children with theirs.
+    /// The sender's position: its parent with the rate to it, and its leased children with theirs (rule 12).
     LookIs {
         in_tree: bool,
         parent: Option<NodeId>,
         rate: u64,
         children: ChildList,
     },
-    /// Asks the receiver to be the parent. `seq` counts the sender's asks, and `rank` is its own.
+    /// Asks the receiver to be the parent (rule 1). `seq` counts the sender's asks, and `rank` is its own.
     Ask {
         seq: u64,
         rank: Option<Rank>,
     },
-    /// The sender is the parent from now on: its rank, and its ancestors, nearest first.
+    /// Accepts the receiver as a child (rule 7): the sender's rank, and its ancestors, nearest first.
     Yes {
         seq: u64,
         rank: Rank,
         ancestors: IdList,
     },
-    /// The sender does not become the parent.
+    /// Refuses to be the parent, and tells why (rule 7).
     No {
         seq: u64,
         why: Refusal,
     },
-    /// Renews the lease, and tells the parent what is new: the rate to it, the sender's own number and
-    /// client count, and certificates of the change log up to the place `upto`.
+    /// Renews the lease, and tells the parent the news: the rate to it, the sender's own number and client
+    /// count, and the certificates of the change log up to the place `upto` (rules 5 and 13).
     CheckIn {
         seq: u64,
         upto: u64,
@@ -46,22 +46,22 @@ pub enum Body {
         clients: u64,
         certs: CertList,
     },
-    /// The certificates up to that place have come; the sender's rank and its ancestors.
+    /// Acknowledges the certificates up to the place `upto`, with the sender's rank and ancestors (rule 13).
     CheckAck {
         seq: u64,
         upto: u64,
         rank: Rank,
         ancestors: IdList,
     },
-    /// There is no lease at that number of an ask.
+    /// Tells a child to ask anew, since it has no lease at that ask number (rules 7 and 13).
     Rejoin {
         seq: u64,
     },
-    /// Asks for more, and names all that the sender holds.
+    /// Asks for more content, and tells the sender's holdings (rule 14).
     Fetch {
         have: ShelfList,
     },
-    /// Brings the bytes of a group from `start` on; `last` where they end a sealed group.
+    /// The bytes of a group from `start` on; `last` where they end a sealed group (rule 14).
     Chunk {
         group: GroupName,
         start: u64,

@@ -10,30 +10,30 @@ use oc_base::NodeId;
 pub enum Mode {
     /// Out of the tree.
     Idle,
-    /// It has asked this node to be its parent.
+    /// The node has asked this node to be its parent.
     Asking(NodeId),
-    /// This node is its parent.
+    /// The node is a child of this node.
     Joined(NodeId),
-    /// It is a root.
+    /// The node acts as root.
     Acting,
 }
 
 impl Mode {
-    /// Whether this is the mode of a root.
+    /// Whether the node acts as root.
     pub fn is_acting(self) -> bool
         ensures { result ≡ is_acting self }
     {
         matches!(self, Mode::Acting)
     }
 
-    /// Whether a node of this mode has a parent.
+    /// Whether the node has a parent.
     pub fn is_joined(self) -> bool
         ensures { result ≡ is_joined self }
     {
         matches!(self, Mode::Joined(_))
     }
 
-    /// Whether a node of this mode has `peer` as its parent.
+    /// Whether the node is a child of `peer`.
     pub fn is_joined_to(self, peer: NodeId) -> bool
         ensures { result ≡ is_joined_to self peer }
     {

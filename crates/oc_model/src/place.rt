@@ -1,23 +1,23 @@
 use oc_base::NodeId;
 
-/// A node that may become the parent, as the chooser sees it.
+/// A node that may become the parent, with the rates by which the chooser compares places.
 #[derive(Clone, Copy, Debug, PartialEq, Eq)]
 pub struct Candidate {
     pub id: NodeId,
     /// The chooser's own rate to it, in bytes per second; 0 where nothing was measured.
     pub mine: u64,
-    /// Its rate to its parent, as it was told.
+    /// The candidate's rate to its own parent, as that parent told it.
     pub up: u64,
     pub hops: u8,
 }
 
-/// What a joined node makes of its place.
+/// The result of a review, in which a joined node compares its place with others near by.
 #[derive(Clone, Copy, Debug, PartialEq, Eq)]
 pub enum Review {
-    /// It stays where it is.
+    /// The present place is best.
     Stay,
-    /// It goes beneath its grandparent.
+    /// The place beneath this grandparent is better.
     Up(NodeId),
-    /// It goes beneath this sibling.
+    /// The place beneath this sibling is better.
     Beneath(NodeId),
 }

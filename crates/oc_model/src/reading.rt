@@ -1,4 +1,4 @@
-/// What a node knows of the way to a peer, from its last measurement. Both are 0 where there was none.
+/// The last measurement of the way to a peer. Rate and hops are 0 for a peer that was never measured.
 #[derive(Clone, Copy, Debug, PartialEq, Eq)]
 pub struct Reading {
     /// Bytes per second.

@@ -3,21 +3,21 @@ use oc_base::{Cert, IdList, NodeId, Rank};
 /// A durable change of a node's control state, as one frame of its control file keeps it.
 #[derive(Clone, Debug, Drop)]
 pub enum Record {
-    /// The node asks that peer to be its parent, by its ask number `seq`.
+    /// The node asked that peer to be its parent, by the ask number `seq`.
     Ask {
         seq: u64,
         peer: NodeId,
     },
-    /// That peer is its parent, and this is its own rank; nothing where it has not asked yet.
+    /// The node joined that peer, and its own rank became this; no effect on a node that never asked.
     Joined {
         peer: NodeId,
         rank: Rank,
     },
-    /// It has no parent.
+    /// The node lost its parent, or gave up its ask.
     Lost,
-    /// It is a root.
+    /// The node became a root.
     Acting,
-    /// This is its rank.
+    /// The node's rank became this.
     Ranked {
         rank: Rank,
     },
@@ -28,29 +28,29 @@ pub enum Record {
         parent: NodeId,
         dead: bool,
     },
-    /// The change log is acknowledged up to this place.
+    /// The parent acknowledged the change log up to this place.
     Acked {
         upto: u64,
     },
-    /// These are its ancestors, nearest first.
+    /// The node's ancestors became these, nearest first.
     Ancestors {
         ids: IdList,
     },
-    /// What was measured of a peer: bytes per second, and hops.
+    /// A measurement of a peer: bytes per second, and hops.
     Rate {
         peer: NodeId,
         rate: u64,
         hops: u8,
     },
-    /// Its rank is that of a root of this epoch.
+    /// The node's rank became that of a root of this epoch.
     Epoch {
         epoch: u64,
     },
-    /// While joined, the change log has this length, all of it acknowledged.
+    /// The change log of a joined node has this length, and is acknowledged in full.
     Base {
         acked: u64,
     },
-    /// All records before this one are void: a whole state follows, the one of this running number.
+    /// The start of a snapshot: a whole state follows, and all records before this one are void.
     Snapshot {
         generation: u64,
     },
@@ -58,7 +58,7 @@ pub enum Record {
     Entry {
         cert: Cert,
     },
-    /// Its own number and its count of clients.
+    /// The node's own number and its client count.
     Info {
         number: u64,
         clients: u64,

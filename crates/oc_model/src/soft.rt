@@ -1,46 +1,46 @@
 use oc_base::{IdList, NodeId};
 
-/// A question by which a node looks for a place, and whose answer it waits for.
+/// A `Look` for a place, while its answer is awaited.
 #[derive(Clone, Copy, Debug, PartialEq, Eq)]
 pub enum Search {
-    /// On the way down to a place: this node was asked for its children.
+    /// On the way down to a first place: this node was asked for its position.
     Descend(NodeId),
-    /// The parent was asked for the other places near by.
+    /// A joined node's search for a better place: the parent was asked for its position.
     Review,
 }
 
-/// How often a node moves by reviews, until a measure changes: so measures that never rest do not keep it moving.
+/// The most moves by reviews before a measure changes, so that a node comes to rest although each line's rate varies.
 pub const MAX_MOVES: u8 = 8;
 
-/// The most patience that a node gains.
+/// The most additional reviews that a wish may have to last.
 pub const MAX_PATIENCE: u8 = 60;
 
-/// What a start clears of a node, except for what it keeps by the number of another node.
+/// The state that a start clears, except for the lists by node: lease ends, children's rates, redirection counts.
 #[derive(Clone, Debug, Drop)]
 pub struct Soft {
     /// The time, in seconds.
     pub clock: u64,
-    /// When the next check is due.
+    /// The second of the next check.
     pub due: Option<u64>,
-    /// The nodes still to be asked for a place.
+    /// The nodes still to be asked for a place, in their order.
     pub tries: IdList,
     /// No node has refused since the tries were last set.
     pub silent: bool,
     /// A node has refused since the last check in time.
     pub refused: bool,
-    /// When the parent was last told what is new, in seconds.
+    /// The second of the last check-in.
     pub checked: Option<u64>,
     pub search: Option<Search>,
-    /// The clients served that are not in the node's own count yet.
+    /// The clients served since the node last took clients into its own count.
     pub served: u64,
-    /// The place that reviews gave, until the node has a parent anew.
+    /// The place that reviews speak for, until the node has a parent anew.
     pub wish: Option<NodeId>,
-    /// The parent from which the wish was last asked for, or the node was moved while it had one.
+    /// The parent that the node left when it last asked for its wish, or was moved while it had one.
     pub left: Option<NodeId>,
-    /// How many reviews gave the wish, less those that gave another place since.
+    /// The number of reviews that spoke for the wish, less those that spoke for another place.
     pub waits: u64,
-    /// How many reviews more than two have to give the wish before it is asked for.
+    /// The number of reviews above two that have to speak for a wish before the node asks for it.
     pub patience: u8,
-    /// How often a review led to an ask, since a measure changed.
+    /// The number of reviews that made the node ask since a measure last changed.
     pub moves: u8,
 }

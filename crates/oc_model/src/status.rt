@@ -1,22 +1,22 @@
 use crate::Mode;
 use oc_base::{CertList, IdList, LineList, Rank};
 
-/// A node's position in the tree, and what it knows of the tree. For a node that is down it is what a start
-/// would find.
+/// The status of a node, as reports show it: its position in the tree, and its view of the tree. For a node that
+/// is down, the status that a start would recover.
 #[derive(Clone, Debug, Drop)]
 pub struct NodeStatus {
     pub up: bool,
     pub mode: Mode,
-    /// The number of its last ask for a parent; 0 where it never asked.
+    /// The number of its last ask for a parent; 0 if it never asked.
     pub seq: u64,
     pub rank: Option<Rank>,
-    /// How many certificates of its change log the parent has acknowledged.
+    /// The number of certificates of its change log that the parent has acknowledged.
     pub acked: u64,
-    /// How many certificates its change log has had.
+    /// The number of certificates that were ever in its change log.
     pub length: u64,
     /// The nodes above it, nearest first.
     pub ancestors: IdList,
-    /// The last certificate of each node that it knows, ascending by subject.
+    /// The last certificate of each node in its table, ascending by subject.
     pub table: CertList,
     /// The nodes that its table lists beneath itself, each with its parent, ascending.
     pub listed: LineList,

@@ -1,6 +1,6 @@
 use crate::Answer;
 
-/// What a report says of an event, in one word.
+/// The result of an event in a report.
 #[derive(Clone, Copy, Debug, PartialEq, Eq)]
 pub enum Word {
     /// The node's answer.
@@ -11,14 +11,14 @@ pub enum Word {
     NoMessage,
     /// The node is up already.
     Up,
-    /// The node stopped, and what it was about to write was lost.
+    /// The node stopped, and its last write was lost.
     StoppedOld,
-    /// The node stopped, and what it was about to write was kept.
+    /// The node stopped, and its last write was kept.
     StoppedNew,
-    /// The network settled, in this many events.
+    /// The network settled, in this number of acts.
     Settled(u64),
-    /// The network is not in a state to do what the event asks.
+    /// The network is not in a state in which the event can be done.
     Unready,
-    /// The network healed, in this many events.
+    /// The network healed, in this number of acts.
     Healed(u64),
 }

@@ -1,4 +1,4 @@
--- What applying a plan does to a node, part by part.
+-- The effect of applying a plan, part by part.
 use Rattle.std.proofs.Common.{◌≡◌, ℕ, ◌<◌, ◌≤◌, Option, List, drop, length, unwrap_or, refl, ap, arith, sym, subst, ◌∙◌}
 use Rattle.oc_base.specs.SlotsView.{SlotsView}
 use Rattle.oc_model.specs.declared.soft.Soft.{Soft}
@@ -13,7 +13,7 @@ use Rattle.oc_step.specs.NodeView.{ListRooms, control_of}
 use Rattle.oc_step.specs.Planned.{PlanView, control_after, soft_after}
 use Rattle.oc_updown.specs.LeasesView.{LeasesView}
 
--- what a start clears is as the plan says
+-- the state that a start clears is the one of the plan
 pub soft_applied : (s : Soft) (p : PlanView) (v : Volatile) (set : Option (List ℕ)) (taken : ℕ) (tries : List ℕ) → v ≡ p.volatile → set ≡ p.tries → taken ≡ p.taken → tries ≡ drop taken (unwrap_or set s.tries) → soft_of v tries ≡ soft_after s p
 soft_applied s p v set taken tries e f g h = rw (h, e, f, g)
 
@@ -33,7 +33,7 @@ rooms_of leases rates counts = record { leases = leases.room; rates = rates.room
 pub have_room : (us : List ListUpdate) (nodes : ℕ) (leases : LeasesView) (rates counts : SlotsView ℕ) → length leases.ends ≡ nodes → length rates.items ≡ nodes → length counts.items ≡ nodes → (0 < length us → length leases.ends ≤ leases.room) → (0 < length us → length rates.items ≤ rates.room) → (0 < length us → length counts.items ≤ counts.room) → 0 < length us → HaveRoom nodes (rooms_of leases rates counts)
 have_room us nodes leases rates counts l r c ends told sent some = record { leases = omega (arith, l, ends some); rates = omega (arith, r, told some); counts = omega (arith, c, sent some) }
 
--- lists with an item for each node and memory for all of them, where a plan has updates
+-- each list has an item for each node and memory for all of them, if a plan has updates
 pub lists_reserved : (us ps : List ListUpdate) (rows nodes : ℕ) (leases : LeasesView) (rates counts : SlotsView ℕ) → us ≡ ps → rows ≡ nodes → length leases.ends ≡ nodes → length rates.items ≡ nodes → length counts.items ≡ nodes → (0 < length ps → HaveRoom nodes (rooms_of leases rates counts)) → 0 < length us → AreReserved rows leases rates counts
 lists_reserved us ps rows nodes leases rates counts same e l r c have some =
     let there : 0 < length ps = subst (λ (xs : List ListUpdate). 0 < length xs) same some in

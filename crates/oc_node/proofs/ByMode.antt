@@ -14,12 +14,12 @@ use Rattle.oc_model.specs.Looking.{Stand, descends, reviews_place, keeps_line, s
 use Rattle.oc_model.specs.Plan.{Plan, write}
 use Rattle.oc_state.specs.Modes.{is_idle, is_descending, is_reviewing, better_rank}
 
--- what is not so is not so, whatever else holds
+-- a conjunction with a false fact is false
 and_no : (b : Bool) → (b && false) ≡ false
 and_no true = refl
 and_no false = refl
 
--- what is so leaves the rest
+-- a conjunction with a true fact is the other part
 and_so : (b : Bool) → (b && true) ≡ b
 and_so true = refl
 and_so false = refl
@@ -41,7 +41,7 @@ sees_is o p t = sees_as_is o.node.kept.mode o.node.soft.search o p t
 
 -- Ranks
 
--- what a told rank leads to, by the better rank if there is one
+-- the effect of a told rank, by the better rank if there is one
 takes_rank_some : (own : Option Rank) (told : Rank) (o : Plan) (r : Rank) → better_rank own told ≡ Some r → (if is_better own told then write o (records.Ranked (beneath_of told)) else o) ≡ write o (records.Ranked r)
 takes_rank_some own told o r e = by_test (is_better own told) refl where
   by_test : (b : Bool) → is_better own told ≡ b → (if is_better own told then write o (records.Ranked (beneath_of told)) else o) ≡ write o (records.Ranked r)

@@ -43,13 +43,13 @@ up_subjects : (ks : List Cert) → IsTable ks → IsUp (map (λ k. k.subject) ks
 up_subjects [] is = tt
 up_subjects (k ∷ ks) is = (all_map (λ y. k.subject < y) (λ (c : Cert). c.subject) ks is.0, up_subjects ks is.1)
 
--- those whose lease has ended ascend
+-- the children whose lease has ended ascend
 up_ended : (t : List Cert) (y : ℕ) (ends : List (Option ℕ)) (now : ℕ) → IsTable t → IsUp (ended t y ends now)
 up_ended t y ends now is = up_filter (λ x. is_over (at ends x None) now) (leased_children t y) (up_subjects (filter (is_lease_of y) t) (table_filter (is_lease_of y) t is))
 
 -- The next one past a number
 
--- all of them are past a number that is not past the first
+-- all children of the list are past a number below the first
 filter_past : (x e : ℕ) (es : List ℕ) → AllByRecursion (λ y. e < y) es → x ≤ e → filter (λ z. nat_lt x z) es ≡ es
 filter_past x e [] all le = refl
 filter_past x e (y ∷ ys) all le = let past : nat_lt x y ≡ true = lt-ltb x y (omega (arith, all.0)) in rw past (ap (λ (l : List ℕ). y ∷ l) (filter_past x e ys all.1 le))
@@ -62,7 +62,7 @@ found_past (y ∷ ys) x k e = by_test (found_past ys x k) (nat_lt x y) refl wher
   by_test rest true h = let found : find (λ z. nat_lt x z) (y ∷ ys) ≡ Some y = rw h in let same : y ≡ k = cc in subst (λ (n : ℕ). x < n) same (ltb-true x y h)
   by_test rest false h = rest (rw h at e)
 
--- what is past the number is the next one and what is past that
+-- the children past the number are the next one and those past that
 next_first : (es : List ℕ) (x k : ℕ) → IsUp es → find (λ z. nat_lt x z) es ≡ Some k → filter (λ z. nat_lt x z) es ≡ k ∷ filter (λ z. nat_lt k z) es
 next_first [] x k up e = absurd cc
 next_first (y ∷ ys) x k up e = by_test (next_first ys x k up.1) (nat_lt x y) refl where
@@ -142,7 +142,7 @@ ended_started t y ends now = filter_same (λ x. is_over (at (start_all t y ends 
 abbrev pub ended_at : Control → ℕ → List ℕ
 ended_at n now = ended n.kept.table n.me n.leases now
 
--- those past a number
+-- the children past a number whose lease has ended
 abbrev pub ended_past : Control → ℕ → ℕ → List ℕ
 ended_past n now x = filter (λ z. nat_lt x z) (ended_at n now)
 

@@ -1,4 +1,4 @@
--- What these rules leave as it was.
+-- The parts that these rules do not change.
 use Rattle.std.proofs.Common.{◌≡◌, ℕ, Option, Some, None, refl}
 use Rattle.oc_base.specs.declared.rank.Rank.{Rank}
 use Rattle.oc_model.specs.declared.mode.Mode.{Mode}
@@ -8,7 +8,7 @@ use Rattle.oc_model.specs.Asking.{lost_from, lost}
 use Rattle.oc_model.specs.Plan.{Plan}
 use Rattle.oc_laws_step.proofs.Goes.{either}
 
--- what is lost is nothing that a start clears
+-- losing a parent does not change the part that a start clears
 lost_soft_from : (m : Mode) (o : Plan) → (lost_from m o).node.soft ≡ o.node.soft
 lost_soft_from modes.Idle o = refl
 lost_soft_from (modes.Asking p) o = refl

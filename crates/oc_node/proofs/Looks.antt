@@ -15,7 +15,7 @@ looks_cons p x xs o = by_test (p x) refl where
   by_test true e = rw e
   by_test false e = rw e
 
--- those from the greatest down that are left, past one of them
+-- the earlier members that are left, the greatest first, past one of them
 pub looks_go_on : (other n : ℕ) (o q whole : Plan) → 1 < n → q ≡ looks_at_each (filter (λ x. nat_lt other x) ((n - 1) ∷ [])) o → looks_at_each (filter (λ x. nat_lt other x) (below n)) o ≡ whole → looks_at_each (filter (λ x. nat_lt other x) (below (n - 1))) q ≡ whole
 looks_go_on other zero o q whole past e so = absurd (omega arith)
 looks_go_on other (suc zero) o q whole past e so = absurd (omega arith)
@@ -37,6 +37,6 @@ looks_end other (suc (suc k)) o whole over so = absurd (omega arith)
 pub all_below : (n : ℕ) → filter (λ x. nat_lt 0 x) (below n) ≡ below n
 all_below n = filter_zero n (below n) (below_lawful n n (omega arith))
 
--- a root of the chain asks all of them
+-- an acting chain member asks all earlier members
 pub acting_looks : (o : Plan) → is_member o.node ≡ true → looks_round Acting o ≡ looks_at_each (filter (λ x. nat_lt 0 x) (below o.node.me)) o
 acting_looks o member = rw member (ap (λ (xs : List ℕ). looks_at_each xs o) (sym (all_below o.node.me)))

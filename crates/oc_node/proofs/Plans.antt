@@ -1,4 +1,4 @@
--- What a plan wants.
+-- The bytes that a plan wants.
 use Rattle.std.proofs.Common.{◌≡◌, ℕ, ◌≤◌, Option, Some, None, IfSome, List, [], ◌∷◌, Bool, true, false, if◌then◌else◌, ◌==◌, nat_lt, ◌&&◌, ◌+◌, length, refl, ap, sym, ◌∙◌}
 use Rattle.oc_base.specs.declared.shelf.Shelf.{Shelf}
 use Rattle.oc_base.specs.Shelves.{line_of}

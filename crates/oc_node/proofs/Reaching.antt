@@ -34,13 +34,13 @@ use Rattle.oc_state.specs.Volatile.{soft_of, new_volatile}
 pub reached_new : (h : Header) (x : ℕ) → IsHeader h → IsNode h.nodes x → IsReached (new_control h x)
 reached_new h x header me = record { header = header; me = me; sound = sound_new h x; lawful = (lawful_new h x header me).control }
 
--- the same of the parts that a new node is made of
+-- the same for the parts of a new node
 pub reached_made : (me nodes chain chunk : ℕ) (areas : List ℕ) (kept : Durable) (v : Volatile) (tries : List ℕ) (leases : List (Option ℕ)) (rates counts : List ℕ) → IsHeader (record { nodes = nodes; chain = chain; chunk = chunk; areas = areas }) → IsNode nodes me → kept ≡ new_durable nodes → v ≡ new_volatile → tries ≡ [] → leases ≡ replicate nodes None → rates ≡ replicate nodes 0 → counts ≡ replicate nodes 0 → IsReached (control_of me nodes chain chunk areas kept (soft_of v tries) leases rates counts)
 reached_made me nodes chain chunk areas kept v tries leases rates counts header here k s t l r c =
     let made : IsReached (control_of me nodes chain chunk areas (new_durable nodes) (soft_of new_volatile []) (replicate nodes None) (replicate nodes 0) (replicate nodes 0)) = reached_new (record { nodes = nodes; chain = chain; chunk = chunk; areas = areas }) me header here in
     rw (k, s, t, l, r, c) made
 
--- what is durable of it is as it may be
+-- the durable state of such a node is within its ranges
 pub reached_kept : (n : Control) → IsReached n → IsKept n.nodes n.kept
 reached_kept n reached = record { few = reached.header.few; sound = reached.sound.kept; lawful = reached.lawful.kept }
 
@@ -94,7 +94,7 @@ frame_fits n lines i p reached fair input made =
     let same : p.records ≡ (plan n lines i).records = ap (λ (o : Plan). o.records) made in
     subst (λ (rs : List Record). FitsFrame rs) (ap (λ (ls : List Shelf). (plan n ls i).records) (shelf_again lines) ∙ sym same) fits
 
--- and the plan writes records or keeps content, since a step does
+-- the plan writes records or keeps content, never both, as the step
 pub one_file : (n : Control) (lines : List Shelf) (i : Input) (p : PlanView) → planned n p ≡ plan n lines i → (p.keeps ≡ None) ⊎ (p.records ≡ [])
 one_file n lines i p made = subst (λ (o : Plan). (o.keeps ≡ None) ⊎ (o.records ≡ [])) (sym made) (writes n lines i).one
 

@@ -1,4 +1,4 @@
--- A step, and what it has at the beginning.
+-- The step under way, from its beginning.
 use Rattle.std.proofs.Common.{◌≡◌, List, ap, subst, ◌∙◌}
 use Rattle.oc_base.specs.declared.shelf.Shelf.{Shelf}
 use Rattle.oc_model.specs.declared.input.Input.{Input}
@@ -35,7 +35,7 @@ begun_log n o e = rw e
 pub base_after : (n : Control) (d e : StepView) (o : Plan) → d.base ≡ n → e ≡ goes d o → e.base ≡ n
 base_after n d e o base made = ap (λ (x : StepView). x.base) made ∙ base
 
--- what a step under way has become is the plan, where it began at the node and took the input
+-- the plan is the result of a step under way that began at the node and took the input
 pub plan_made : (n : Control) (d e : StepView) (p : PlanView) (lines : List Shelf) (i : Input) → d.base ≡ n → d.plan ≡ begun n → e ≡ goes d (taken d.plan lines i) → planned e.base p ≡ e.plan → planned n p ≡ plan n lines i
 plan_made n d e p lines i base step made done =
     let here : planned n p ≡ e.plan = subst (λ (k : Control). planned k p ≡ e.plan) (base_after n d e (taken d.plan lines i) base made) done in

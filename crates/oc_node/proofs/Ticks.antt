@@ -1,4 +1,4 @@
--- What a tick has done before its check.
+-- The effect of a tick before its check.
 use Rattle.std.proofs.Common.{◌≡◌, ℕ, ◌+◌, ◌-◌, Bool, true, false, nat_le, Option, Some, None, List, [], ◌∷◌, refl, arith}
 use Rattle.std.proofs.lemmas.Bool.{leb-true, le-leb, leb-false, lt-leb}
 use Rattle.oc_base.specs.declared.cert.Cert.{Cert}
@@ -12,7 +12,7 @@ use Rattle.oc_model.proofs.Lists.{all_append}
 use Rattle.oc_laws_step.proofs.Goes.{either}
 use Rattle.oc_step.specs.Since.{IsTold, AreTold}
 
--- it told certificates alone, and left what a start clears
+-- the step told certificates alone, and did not change the part that a start clears
 record Tells (s : Soft) (o : Plan) : Type 0 where
   told : AreTold o.records
   soft : o.node.soft ≡ s

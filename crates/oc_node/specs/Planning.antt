@@ -1,4 +1,4 @@
--- What a plan is that a node makes of an input.
+-- The plan that a node makes for an input.
 use Rattle.std.specs.Prelude.{◌≡◌, ◌⊎◌, Some, None, List, []}
 use Rattle.oc_base.specs.declared.shelf.Shelf.{Shelf}
 use Rattle.oc_laws_step.specs.Frames.{FitsFrame}
@@ -11,9 +11,9 @@ use Rattle.oc_step.specs.Applying.{CanApply, HasParts, IsPlanOf, IsStepOf}
 use Rattle.oc_step.specs.NodeView.{NodeView}
 use Rattle.oc_step.specs.Planned.{PlanView, IsWanting, planned}
 
--- It is the control step of the model, and can be applied to the node with the room that it has now. Its records fit one frame, and
--- folding them gives what is durable after the step; it writes records or keeps content, never both. It is the plan of the whole step,
--- and the step itself where it wants no bytes.
+-- The plan is the control step of the model, and can be applied with the room that the node has now. Its records fit one frame, and
+-- folding them gives the durable state after the step; it writes records or keeps content, never both. It is the plan of the whole step,
+-- and the step itself if it wants no bytes.
 pub record IsPlanFor (old new : NodeView) (lines : List Shelf) (i : Input) (p : PlanView) : Type 0 where
   pub control : planned old.control p ≡ plan old.control lines i
   pub applies : CanApply new p

@@ -14,7 +14,7 @@ use oc_state::modes::is_peer;
 use oc_state::ranks::{ancestors_by, better_rank, rank_or_last};
 use oc_step::Step;
 
-// The rule Check-ins: how a check-in is acknowledged, and an acknowledgement is taken.
+// Rule 13, check-ins: how a parent acknowledges a check-in, and how a child takes the acknowledgement.
 
 fn merge_all(step: &mut Step, certs: &[Cert]) -> Result<(), Memory>
     ensures { OnOk result (step.new ≡ goes step.old (merges_all certs.now step.old.plan)) }
@@ -25,7 +25,7 @@ fn merge_all(step: &mut Step, certs: &[Cert]) -> Result<(), Memory>
     Ok(())
 }
 
-/// A check-in of a child is acknowledged.
+/// Renews the lease of a child, keeps its rate, and acknowledges its check-in.
 fn acknowledge(step: &mut Step, child: NodeId, seq: u64, upto: u64, rate: u64) -> Result<(), Memory>
     requires { IsNode step.old.base.nodes child }
     ensures { OnOk result (step.new ≡ goes step.old (acknowledges step.old.plan child seq upto rate)) }
@@ -46,7 +46,8 @@ fn acknowledge(step: &mut Step, child: NodeId, seq: u64, upto: u64, rate: u64) -
     )
 }
 
-/// A check-in came: what it tells is merged, where the child has a lease at that number.
+/// Rule 13, check-ins: merges the news of a child with a lease at that ask number, and acknowledges; tells any other
+/// node to ask anew.
 pub fn checked_in(step: &mut Step, child: NodeId, told: &CheckIn) -> Result<(), Memory>
     requires { IsNode step.old.base.nodes child }
     ensures { OnOk result (step.new ≡ goes step.old (checked_in step.old.plan child told.now.seq told.now.upto
@@ -90,8 +91,8 @@ fn take_rank(step: &mut Step, told: Rank) -> Result<(), Memory>
     }
 }
 
-/// While the node wishes for another place it keeps its rank, so that a sibling's precedes it when it asks
-/// there.
+/// Takes the rank beneath the told one, except while the node wishes for another place: a sibling's rank has to
+/// precede its own when it asks there.
 fn take_rank_unless(step: &mut Step, wish: Option<NodeId>, told: Rank) -> Result<(), Memory>
     ensures { OnOk result (step.new ≡ goes step.old (takes_rank_unless wish step.old.plan told)) }
 {
@@ -112,7 +113,7 @@ fn take_ancestors(step: &mut Step, ids: IdList) -> Result<(), Memory>
     }
 }
 
-/// An acknowledgement came.
+/// Rule 13, check-ins, at the child: takes an acknowledgement of its parent.
 pub fn took_ack(
     step: &mut Step,
     from: NodeId,
@@ -136,7 +137,7 @@ pub fn took_ack(
     }
 }
 
-/// A node has no lease at that number.
+/// Rule 13, check-ins, at the child: asks its parent anew, which has no lease at that ask number.
 pub fn took_rejoin(step: &mut Step, from: NodeId, seq: u64) -> Result<(), Memory>
     ensures { OnOk result (step.new ≡ goes step.old (took_rejoin step.old.plan from seq)) }
 {

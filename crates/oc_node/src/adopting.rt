@@ -14,9 +14,9 @@ use oc_state::modes::in_tree;
 use oc_state::ranks::rank_or_last;
 use oc_step::Step;
 
-// The rule Answer an ask.
+// Rule 7, answer an ask.
 
-/// That ask of a child went to this parent, and its lease lives.
+/// The certificate of a granted lease: the ask of the child went to this parent, and the lease lives.
 fn birth(child: NodeId, seq: u64, parent: NodeId) -> Cert
     ensures { result ≡ birth child seq parent }
 {
@@ -30,7 +30,7 @@ fn birth(child: NodeId, seq: u64, parent: NodeId) -> Cert
     }
 }
 
-/// The epoch becomes this one, if there is one.
+/// Raises the epoch to this one, if there is one.
 pub fn set_epoch(step: &mut Step, epoch: Option<u64>) -> Result<(), Memory>
     ensures { OnOk result (step.new ≡ goes step.old (raises step.old.plan epoch)) }
 {
@@ -40,7 +40,7 @@ pub fn set_epoch(step: &mut Step, epoch: Option<u64>) -> Result<(), Memory>
     }
 }
 
-/// A root whose rank does not precede that of another asker takes the epoch above the asker's.
+/// Raises the epoch of an acting node above the asker's, if the node's rank does not precede it.
 fn raise_over(step: &mut Step, asker: NodeId, rank: Rank) -> Result<(), Memory>
     ensures { OnOk result (step.new ≡ goes step.old (raises_over step.old.plan asker rank)) }
 {
@@ -53,7 +53,7 @@ fn raise_over(step: &mut Step, asker: NodeId, rank: Rank) -> Result<(), Memory>
     }
 }
 
-/// Why the node does not become the parent of this asker, if it does not.
+/// The reason why the node refuses this asker, if it does.
 fn refusal(step: &Step, asker: NodeId, rank: Option<Rank>) -> Option<Refusal>
     requires { step.now.plan.node.kept.table ≡ step.now.base.kept.table }
     ensures { result ≡ adoption_refusal (host step.now.plan.node asker) asker rank }
@@ -70,7 +70,7 @@ fn refusal(step: &Step, asker: NodeId, rank: Option<Rank>) -> Option<Refusal>
     may_adopt(&host, asker, rank).err()
 }
 
-/// Whether a node has a lease of this one at that number of an ask.
+/// Whether a node has a lease of this one at that ask number.
 pub fn has_lease(step: &Step, child: NodeId, seq: u64) -> bool
     ensures { result ≡ has_lease step.now.plan.node child seq }
 {
@@ -80,7 +80,7 @@ pub fn has_lease(step: &Step, child: NodeId, seq: u64) -> bool
     }
 }
 
-/// The lease of a child begins anew.
+/// Renews the lease of a child.
 fn renew(step: &mut Step, child: NodeId) -> Result<(), Memory>
     requires { IsNode step.old.base.nodes child }
     ensures { OnOk result (step.new ≡ goes step.old (with_leases step.old.plan (renew step.old.plan.node.leases child step.old.plan.node.soft.clock))) }
@@ -89,7 +89,7 @@ fn renew(step: &mut Step, child: NodeId) -> Result<(), Memory>
     step.update(ListUpdate::Renew { child, now })
 }
 
-/// A node is a child: its lease begins anew.
+/// Accepts a node as a child, whose lease begins anew.
 fn grant(step: &mut Step, child: NodeId, seq: u64) -> Result<(), Memory>
     requires { IsNode step.old.base.nodes child }
     ensures { OnOk result (step.new ≡ goes step.old (grants step.old.plan child seq)) }
@@ -107,14 +107,14 @@ fn grant(step: &mut Step, child: NodeId, seq: u64) -> Result<(), Memory>
     )
 }
 
-/// There is no lease at that number of an ask.
+/// Tells a node to ask anew, since it has no lease at that ask number.
 pub fn send_rejoin(step: &mut Step, child: NodeId, seq: u64) -> Result<(), Memory>
     ensures { OnOk result (step.new ≡ goes step.old (sends_rejoin step.old.plan child seq)) }
 {
     step.send(child, Body::Rejoin { seq })
 }
 
-/// A node is a child, unless the table has a later word on it.
+/// Accepts a node as a child, or tells it to ask anew if the table has a later word on it.
 fn adopt(step: &mut Step, child: NodeId, seq: u64) -> Result<(), Memory>
     requires { IsNode step.old.base.nodes child }
     ensures { OnOk result (step.new ≡ goes step.old (adopts step.old.plan child seq)) }
@@ -141,7 +141,7 @@ fn asked_at(step: &mut Step, asker: NodeId, seq: u64, rank: Option<Rank>) -> Res
     }
 }
 
-/// An ask came, of a node with this rank.
+/// Rule 7, answer an ask: accepts or refuses a node with this rank.
 #[tactic(auto, using(crate::proofs::Leaving::raised_table))]
 pub fn asked(step: &mut Step, asker: NodeId, seq: u64, rank: Option<Rank>) -> Result<(), Memory>
     requires asker { IsNode step.old.base.nodes asker }

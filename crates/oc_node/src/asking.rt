@@ -1,23 +1,23 @@
 ghost use Rattle.std.specs.Prelude.{◌≡◌, ◌<◌, OnOk};
-ghost use Rattle.oc_model.specs.Asking.{lost, send_ask, ask, next_epoch, act, descend, try_at, earlier, waits_awhile, try_first, next_try, round, ask_before, comes_back, patience_at, joins, took_yes, refused, took_no, not_seen, unreachable, left_in_move, notes_parent, relocate};
+ghost use Rattle.oc_model.specs.Asking.{lost, send_ask, ask, next_epoch, act, descend, try_at, earlier, waits_awhile, try_first, next_try, round, ask_before, comes_back, patience_at, joins, took_yes, refused, took_no, not_seen, unreachable, notes_parent, relocate};
 ghost use Rattle.oc_step.specs.StepView.{goes};
 
 use oc_base::{MAX_DEPTH, Memory, NodeId, Rank, Refusal};
 use oc_model::{Answer, Body, MAX_PATIENCE, Mode, Record, Search};
 use oc_state::Volatile;
-use oc_state::modes::{is_asking, is_descending};
+use oc_state::modes::{is_asking, is_descending, parent_of};
 use oc_state::ranks::{ancestors_by, next_epoch, precedes_any, rank_or_last};
 use oc_step::Step;
 
-// How a node comes by a parent, and becomes a root: the rules Ask, Next try, Round, Become acting, Take
-// a yes, Take a no, Unreachable and Relocate.
+// How a node gets a parent or becomes a root: rules 1 to 4 (ask, next try, round, become acting), 8 (take a
+// yes), 9 (take a no), 10 (unreachable) and 11 (relocate).
 
-/// How long a node that nobody takes in waits before it asks all again, in seconds.
+/// The time in seconds after which a node that nobody accepts asks all again.
 const WAITING_TIME: u64 = 4;
 
-// The rule Ask
+// Rule 1, ask.
 
-/// The node has no parent, nor asks for one.
+/// Gives up the parent or the ask, if there is one, and becomes idle.
 pub fn lose(step: &mut Step) -> Result<(), Memory>
     ensures { OnOk result (step.new ≡ goes step.old (lost step.old.plan)) }
 {
@@ -27,7 +27,7 @@ pub fn lose(step: &mut Step) -> Result<(), Memory>
     }
 }
 
-/// The current ask goes to `peer`.
+/// Sends `peer` an ask with the present number.
 pub fn send_ask(step: &mut Step, peer: NodeId) -> Result<(), Memory>
     ensures { OnOk result (step.new ≡ goes step.old (send_ask step.old.plan peer)) }
 {
@@ -41,7 +41,7 @@ pub fn send_ask(step: &mut Step, peer: NodeId) -> Result<(), Memory>
     )
 }
 
-/// A peer is asked to be the parent, by the next number if there is one.
+/// Rule 1, ask: asks a peer by the next number, or becomes idle and answers `Spent` if no number is left.
 pub fn ask(step: &mut Step, peer: NodeId) -> Result<(), Memory>
     ensures { OnOk result (step.new ≡ goes step.old (ask step.old.plan peer)) }
 {
@@ -58,9 +58,9 @@ pub fn ask(step: &mut Step, peer: NodeId) -> Result<(), Memory>
     }
 }
 
-// The rule Become acting
+// Rule 4, become acting.
 
-/// The node is a root, of the epoch after its own.
+/// Rule 4, become acting: becomes the root of the epoch after its own.
 pub fn act(step: &mut Step) -> Result<(), Memory>
     ensures { OnOk result (step.new ≡ goes step.old (act step.old.plan)) }
 {
@@ -69,9 +69,9 @@ pub fn act(step: &mut Step) -> Result<(), Memory>
     step.write(Record::Epoch { epoch })
 }
 
-// The rule Next try
+// Rule 2, next try.
 
-/// A node is asked for its position, on the way down to a place.
+/// Asks a node for its position, on the way down to a first place.
 pub fn descend(step: &mut Step, peer: NodeId) -> Result<(), Memory>
     ensures { OnOk result (step.new ≡ goes step.old (descend step.old.plan peer)) }
 {
@@ -79,7 +79,7 @@ pub fn descend(step: &mut Step, peer: NodeId) -> Result<(), Memory>
     step.send(peer, Body::Look)
 }
 
-/// A node is tried: one that has been in no place yet looks for a good one, the others ask.
+/// Tries a node: one without a place so far begins a descent there, any other asks.
 fn try_at(step: &mut Step, peer: NodeId) -> Result<(), Memory>
     ensures { OnOk result (step.new ≡ goes step.old (try_at step.old.plan peer)) }
 {
@@ -90,7 +90,7 @@ fn try_at(step: &mut Step, peer: NodeId) -> Result<(), Memory>
     }
 }
 
-/// The earlier of a time, if there is one, and another.
+/// The earlier of two seconds, of which the first may be unset.
 fn earlier(due: Option<u64>, time: u64) -> u64
     ensures { result ≡ earlier due time }
 {
@@ -100,7 +100,7 @@ fn earlier(due: Option<u64>, time: u64) -> u64
     }
 }
 
-/// Nobody is left to be asked: the node asks all again four seconds later.
+/// Waits four seconds, or less if a check is due sooner; then the node asks all again.
 fn wait_awhile(step: &mut Step) -> Result<(), Memory>
     ensures { OnOk result (step.new ≡ goes step.old (waits_awhile step.old.plan)) }
 {
@@ -110,7 +110,7 @@ fn wait_awhile(step: &mut Step) -> Result<(), Memory>
     step.answer(Answer::Waiting)
 }
 
-/// The first of the tries is taken off. With none, a chain member that is silent is a root.
+/// Takes the first of the tries. With none left, a chain member that nobody refused becomes the root.
 fn try_first(step: &mut Step) -> Result<(), Memory>
     ensures { OnOk result (step.new ≡ goes step.old (try_first step.old.plan.node.soft.tries step.old.plan)) }
 {
@@ -131,9 +131,9 @@ pub fn next_try(step: &mut Step) -> Result<(), Memory>
     }
 }
 
-// The rule Round
+// Rule 3, round.
 
-/// A fresh attempt to find a parent, leaving out one node.
+/// Rule 3, round: sets the tries anew, except for one node, and takes the first.
 pub fn round(step: &mut Step, without: Option<NodeId>) -> Result<(), Memory>
     ensures { OnOk result (step.new ≡ goes step.old (round step.old.plan without)) }
 {
@@ -141,7 +141,7 @@ pub fn round(step: &mut Step, without: Option<NodeId>) -> Result<(), Memory>
     next_try(step)
 }
 
-/// A node is asked, and after it all others.
+/// Asks a node first, and all others after it.
 pub fn ask_before(step: &mut Step, peer: NodeId) -> Result<(), Memory>
     ensures { OnOk result (step.new ≡ goes step.old (ask_before step.old.plan peer)) }
 {
@@ -149,9 +149,9 @@ pub fn ask_before(step: &mut Step, peer: NodeId) -> Result<(), Memory>
     ask(step, peer)
 }
 
-// The rule Take a yes
+// Rule 8, take a yes.
 
-/// Whether a node that had a wish comes back to the parent that it left for it, mostly since it was refused there.
+/// Whether a node with a wish comes back to the parent that it left for that wish, mostly after a refusal.
 fn comes_back(step: &Step, parent: NodeId) -> bool
     ensures { result ≡ comes_back step.now.plan.node.soft.wish step.now.plan.node parent }
 {
@@ -162,8 +162,8 @@ fn comes_back(step: &Step, parent: NodeId) -> bool
     }
 }
 
-/// The patience of a node that this parent takes in: more where it comes back, by what its id leaves, so
-/// that two nodes that want each other's places do not move together.
+/// The patience of a node that joins this parent: more if it comes back, by its id, so that two nodes that want
+/// each other's places do not move together.
 fn patience_at(step: &Step, parent: NodeId) -> u8
     ensures { result ≡ patience_at step.now.plan.node parent }
 {
@@ -178,7 +178,7 @@ fn patience_at(step: &Step, parent: NodeId) -> u8
     }
 }
 
-/// A node is the parent.
+/// Joins a parent, with the rank beneath the parent's and a new change log.
 fn join(step: &mut Step, parent: NodeId, rank: Rank, above: &[NodeId]) -> Result<(), Memory>
     requires { rank.depth < MAX_DEPTH }
     ensures { OnOk result (step.new ≡ goes step.old (joins step.old.plan parent rank above.now)) }
@@ -224,10 +224,10 @@ pub fn took_yes(
     }
 }
 
-// The rule Take a no
+// Rule 9, take a no.
 
-/// What results from a refusal: one that names a chain member beneath leads a node from outside the
-/// chain there.
+/// Goes on after a refusal: a node outside the chain begins a descent at the chain member that it was told, and
+/// any other takes its next try.
 fn refused(step: &mut Step, why: Refusal) -> Result<(), Memory>
     ensures { OnOk result (step.new ≡ goes step.old (refused step.old.plan why)) }
 {
@@ -262,9 +262,9 @@ pub fn took_no(step: &mut Step, from: NodeId, seq: u64, why: Refusal) -> Result<
     }
 }
 
-// The rule Unreachable
+// Rule 10, unreachable.
 
-/// A node that is no parent does not tell its position.
+/// Goes on without the position of a node that is not the parent: a descent there takes its next try.
 #[tactic(auto, using(crate::proofs::AskByMode::not_seen_is))]
 fn not_seen(step: &mut Step, peer: NodeId) -> Result<(), Memory>
     ensures { OnOk result (step.new ≡ goes step.old (not_seen step.old.plan.node.soft.search step.old.plan peer)) }
@@ -292,26 +292,18 @@ pub fn unreachable(step: &mut Step, peer: NodeId) -> Result<(), Memory>
     }
 }
 
-// The rule Relocate
+// Rule 11, relocate.
 
-/// The parent that a node with a wish left last: being moved is leaving too.
-fn left_in_move(step: &Step) -> Option<NodeId>
-    ensures { result ≡ left_in_move step.now.plan.node.kept.mode step.now.plan.node.soft.wish step.now.plan.node.soft.left }
-{
-    let volatile = step.volatile();
-    match (step.position().mode, volatile.wish) {
-        (Mode::Joined(parent), Some(_)) => Some(parent),
-        _ => volatile.left,
-    }
-}
-
-/// An operator's move of a node that wishes for another place counts as leaving its parent, so that it waits
-/// longer there when it comes back.
+/// Notes the parent of a node with a wish as left, so that a moved node waits longer if it comes back.
+#[tactic(auto, using(crate::proofs::AskByMode::left_with_wish, crate::proofs::AskByMode::left_without))]
 fn note_parent(step: &mut Step)
     ensures { step.new ≡ goes step.old (notes_parent step.old.plan) }
 {
-    let left = left_in_move(step);
     let volatile = step.volatile();
+    let left = match volatile.wish {
+        Some(_) => parent_of(step.position().mode).or(volatile.left),
+        None => volatile.left,
+    };
     step.set_volatile(Volatile { left, ..volatile });
 }
 

@@ -19,14 +19,14 @@ use oc_state::ranks::rank_or_last;
 use oc_state::{ListUpdate, Volatile};
 use oc_step::Step;
 
-// How leases are kept up and changes are told: the rules Check now and Tick.
+// How leases are kept up and changes are told: rules 5 (check now) and 6 (tick).
 
-/// How long it takes until the next check at most, in seconds: well before a lease ends.
+/// The greatest time from one check to the next, in seconds: well before a lease of 30 seconds ends.
 const CHECK_TIME: u64 = 20;
 
-// The rule Check now
+// Rule 5, check now.
 
-/// The clients that were served are added to the node's own count, by its next number if there is one.
+/// Adds the clients that were served to the node's own count, under its next own number if there is one.
 fn count_clients(step: &mut Step) -> Result<(), Memory>
     ensures { OnOk result (step.new ≡ goes step.old (counts_clients step.old.plan)) }
 {
@@ -46,7 +46,7 @@ fn count_clients(step: &mut Step) -> Result<(), Memory>
     Ok(())
 }
 
-/// The parent is told what is new.
+/// Sends the parent a check-in: rate, own number, client count, and the certificates that wait, 64 at most.
 fn check_in(step: &mut Step, parent: NodeId) -> Result<(), Memory>
     requires told { AreTold step.old.plan.records }
     requires joined { is_joined step.old.plan.node.kept.mode ≡ true }
@@ -69,7 +69,7 @@ fn check_in(step: &mut Step, parent: NodeId) -> Result<(), Memory>
     )
 }
 
-/// The parent is told at this second.
+/// Notes this second as that of the last check-in.
 fn note_time(step: &mut Step)
     ensures { step.new ≡ goes step.old (notes_time step.old.plan) }
 {
@@ -81,7 +81,7 @@ fn note_time(step: &mut Step)
     });
 }
 
-/// A check-in goes to the parent.
+/// Counts the clients, and checks in with the parent.
 fn report(step: &mut Step, parent: NodeId) -> Result<(), Memory>
     requires told { AreTold step.old.plan.records }
     requires joined { is_joined step.old.plan.node.kept.mode ≡ true }
@@ -108,14 +108,14 @@ fn check_as(step: &mut Step, mode: Mode) -> Result<(), Memory>
     }
 }
 
-/// The second of the next check, which is not the same at all nodes.
+/// The second of the next check; it depends on the id, so that siblings do not report together for ever.
 fn next_check(step: &Step) -> u64
     ensures { result ≡ next_check step.now.plan.node }
 {
     step.volatile().clock + CHECK_TIME - u64::from(step.id().0 % 3)
 }
 
-/// The next check is due in its time.
+/// Sets the second of the next check.
 fn set_due(step: &mut Step)
     ensures { step.new ≡ goes step.old (sets_due step.old.plan) }
 {
@@ -133,9 +133,9 @@ pub fn check(step: &mut Step) -> Result<(), Memory>
     check_as(step, mode)
 }
 
-// The rule Tick
+// Rule 6, tick.
 
-/// A certificate is merged, and written where it changes the table.
+/// Merges a certificate; a record is written only if the table changes.
 pub fn merge(step: &mut Step, cert: &Cert) -> Result<(), Memory>
     ensures { OnOk result (step.new ≡ goes step.old (merges step.old.plan cert.now)) }
 {
@@ -146,7 +146,7 @@ pub fn merge(step: &mut Step, cert: &Cert) -> Result<(), Memory>
     }
 }
 
-/// The clock never goes back.
+/// Sets the clock; the clock never goes back.
 fn set_time(step: &mut Step, time: u64)
     requires { time ≤ LAST_SECOND }
     ensures { step.new ≡ goes step.old (at_time step.old.plan time) }
@@ -156,7 +156,7 @@ fn set_time(step: &mut Step, time: u64)
     step.set_volatile(Volatile { clock, ..volatile });
 }
 
-/// Each leased child without a lease end gets one.
+/// Gives each leased child without a lease end one, 30 seconds away.
 fn start_leases(step: &mut Step) -> Result<(), Memory>
     requires table { step.old.plan.node.kept.table ≡ step.old.base.kept.table }
     requires id { step.old.plan.node.me ≡ step.old.base.me }
@@ -166,7 +166,7 @@ fn start_leases(step: &mut Step) -> Result<(), Memory>
     step.update(ListUpdate::Start { now })
 }
 
-/// A child is dead, by its entry.
+/// Notes a child as dead, by its entry in the table.
 #[tactic(auto, using(crate::proofs::ByMode::dies_by, crate::proofs::ByMode::dies_not))]
 fn end_lease(step: &mut Step, child: NodeId) -> Result<(), Memory>
     ensures { OnOk result (step.new ≡ goes step.old (dies (newest step.old.plan.node.kept.table child) step.old.plan)) }
@@ -177,7 +177,7 @@ fn end_lease(step: &mut Step, child: NodeId) -> Result<(), Memory>
     }
 }
 
-/// Each leased child whose lease has ended is dead.
+/// Rule 6, tick, part 1: notes each leased child as dead whose lease has ended.
 fn end_leases(step: &mut Step) -> Result<(), Memory>
     requires reached { IsReached step.old.base }
     requires table { step.old.plan.node.kept.table ≡ step.old.base.kept.table }
@@ -194,7 +194,7 @@ fn end_leases(step: &mut Step) -> Result<(), Memory>
     Ok(())
 }
 
-/// An earlier member is asked for its position, if it is nearer than another.
+/// Asks an earlier member for its position, if it is nearer than `other`.
 fn look_past(step: &mut Step, other: u32, earlier: u32) -> Result<(), Memory>
     ensures { OnOk result (step.new ≡ goes step.old (looks_at_each (filter (λ x. nat_lt other x) (earlier ∷ [])) step.old.plan)) }
 {
@@ -205,7 +205,7 @@ fn look_past(step: &mut Step, other: u32, earlier: u32) -> Result<(), Memory>
     }
 }
 
-/// The earlier members nearer than another are asked for their positions, the nearest first.
+/// Asks the earlier members nearer than `other` for their positions, the nearest first.
 fn look_at_earlier(step: &mut Step, other: u32) -> Result<(), Memory>
     ensures { OnOk result (step.new ≡ goes step.old (looks_at_each (filter (λ x. nat_lt other x) (below step.old.plan.node.me)) step.old.plan)) }
 {
@@ -215,8 +215,8 @@ fn look_at_earlier(step: &mut Step, other: u32) -> Result<(), Memory>
     Ok(())
 }
 
-/// After its check a node in the tree looks for a better place, unless it was refused; a chain member
-/// looks among the earlier members that are nearer than its parent.
+/// Rule 6, tick, part 2, after the check: an ordinary joined node reviews its place, unless it was refused; a chain
+/// member looks at the earlier members that are nearer than its parent.
 fn look_round(step: &mut Step, mode: Mode) -> Result<(), Memory>
     ensures { OnOk result (step.new ≡ goes step.old (looks_round mode step.old.plan)) }
 {
@@ -242,7 +242,7 @@ fn look_round(step: &mut Step, mode: Mode) -> Result<(), Memory>
     }
 }
 
-/// A check in time forgets that the node was refused; the first one in a place does not.
+/// Forgets a refusal at a check that had been set; the first check in a new place does not.
 fn forget_refusal(step: &mut Step)
     ensures { step.new ≡ goes step.old (forgets_refusal step.old.plan.node.soft.due step.old.plan) }
 {
@@ -256,7 +256,7 @@ fn forget_refusal(step: &mut Step)
     }
 }
 
-/// An idle node on its way down asks there again: a search that an answer did not reach goes on.
+/// Sends the `Look` of a descent again, or begins a round: a search whose answer was lost goes on.
 fn go_on(step: &mut Step, search: &Option<Search>) -> Result<(), Memory>
     ensures { OnOk result (step.new ≡ goes step.old (goes_on search.now step.old.plan)) }
 {
@@ -280,7 +280,7 @@ fn tick_check_as(step: &mut Step, mode: Mode) -> Result<(), Memory>
     }
 }
 
-/// The check of a tick.
+/// The check of a tick, after which the next one is set.
 fn tick_check(step: &mut Step) -> Result<(), Memory>
     requires { AreTold step.old.plan.records }
     ensures { OnOk result (step.new ≡ goes step.old (tick_checks step.old.plan)) }
@@ -290,7 +290,7 @@ fn tick_check(step: &mut Step) -> Result<(), Memory>
     tick_check_as(step, mode)
 }
 
-/// The check that is due, and what the node looks at after it.
+/// Rule 6, tick, part 2: makes the check that is due, and looks for a better place after it.
 #[tactic(auto, using(crate::proofs::Ticks::forgets_told))]
 fn check_in_time(step: &mut Step) -> Result<(), Memory>
     requires { AreTold step.old.plan.records }
@@ -302,7 +302,7 @@ fn check_in_time(step: &mut Step) -> Result<(), Memory>
     look_round(step, mode)
 }
 
-/// Whether the last check-in was two seconds ago, or more.
+/// Whether the last check-in was at least two seconds ago.
 #[tactic(auto, using(crate::proofs::Ticks::past_is))]
 fn is_past(step: &Step) -> bool
     ensures { result ≡ is_past step.now.plan.node.soft.checked step.now.plan.node.soft.clock }
@@ -313,7 +313,7 @@ fn is_past(step: &Step) -> bool
     }
 }
 
-/// Whether there is something to tell before the next check.
+/// Whether certificates wait, and the last check-in was at least two seconds ago.
 fn has_news(step: &Step) -> bool
     requires told { AreTold step.now.plan.records }
     requires joined { is_joined step.now.plan.node.kept.mode ≡ true }
@@ -322,7 +322,7 @@ fn has_news(step: &Step) -> bool
     step.is_waiting() && is_past(step)
 }
 
-/// What is new goes up between two checks.
+/// Rule 6, tick, part 3: checks in with news between two checks, so that news goes up within seconds.
 fn report_news_as(step: &mut Step, mode: Mode) -> Result<(), Memory>
     requires told { AreTold step.old.plan.records }
     requires mode { mode ≡ step.old.plan.node.kept.mode }
@@ -361,7 +361,7 @@ fn is_due(step: &Step) -> bool
     }
 }
 
-/// A joined node asks its parent for more of every group.
+/// Rule 6, tick, part 4: a joined node asks its parent for more of every group.
 fn fetch_as(step: &mut Step, mode: Mode, shelf: &[Shelf]) -> Result<(), Memory>
     ensures { OnOk result (step.new ≡ goes step.old (fetches_as mode step.old.plan shelf.now)) }
 {

@@ -1,10 +1,10 @@
 use oc_base::GroupName;
 
-/// A chunk of a group, as it came.
+/// A chunk of a group, from a message.
 #[derive(Drop)]
 pub struct Chunk<'a> {
     pub group: &'a GroupName,
-    /// The place of the first byte.
+    /// The offset of the first byte in the group.
     pub start: u64,
     pub bytes: &'a [u8],
     /// Whether the group ends with these bytes, and is sealed.

@@ -11,18 +11,18 @@ use oc_model::{Answer, Body, Mode, Want};
 use oc_state::shelves::{limit, line_at, line_of, next_behind, with_line};
 use oc_step::Step;
 
-// The rule Content: how bytes come to be held, and how they spread.
+// Rule 14, content: how a node gets bytes, and how they spread.
 
 // Publish and seal
 
-/// Whether there is anything to keep of a publish: a new group, or a byte.
+/// Whether a publish changes anything: it makes a new group, or adds a byte.
 fn grows(shelf: &[Shelf], group: &GroupName, count: u64) -> bool
     ensures { result ≡ grows shelf.now group.now count }
 {
     line_of(shelf, group).is_none() || count != 0
 }
 
-/// A publish of this many bytes to a group.
+/// Keeps a publish of this number of bytes to a group, or refuses it.
 fn publish_to(step: &mut Step, shelf: &[Shelf], line: &Shelf, count: u64) -> Result<(), Memory>
     requires held { line.now.held ≤ MAX_GROUP_BYTES }
     requires count { count ≤ MAX_PUBLISH_BYTES }
@@ -43,7 +43,7 @@ fn publish_to(step: &mut Step, shelf: &[Shelf], line: &Shelf, count: u64) -> Res
     }
 }
 
-/// A publish: at the source alone, at the group's end.
+/// Rule 14, content, publish: at the source alone, at the end of the group.
 #[tactic(auto, using(oc_state::proofs::ShelfLines::held_bound))]
 pub fn published(
     step: &mut Step,
@@ -62,7 +62,7 @@ pub fn published(
     }
 }
 
-/// A seal: at the source alone, of a group that is held.
+/// Rule 14, content, seal: at the source alone, of a group that is held.
 pub fn sealed_at(step: &mut Step, shelf: &[Shelf], group: &GroupName) -> Result<(), Memory>
     ensures { OnOk result (step.new ≡ goes step.old (sealed_at step.old.plan shelf.now group.now)) }
 {
@@ -83,14 +83,14 @@ pub fn sealed_at(step: &mut Step, shelf: &[Shelf], group: &GroupName) -> Result<
 
 // Pull and fetch
 
-/// How many bytes of a group a chunk has from a place on, where it may have that many at most.
+/// The number of bytes in a chunk from a place on: all that are left, up to the limit `most`.
 fn count_from(most: u32, line: &Shelf, start: u64) -> u64
     ensures { result ≡ count_from most line.now start }
 {
     line.held.saturating_sub(start).min(u64::from(most))
 }
 
-/// These bytes of a group, if they are any.
+/// The piece of a group for a chunk, or none if it has no bytes.
 fn wanted(line: &Shelf, start: u64, count: u64) -> Option<Want>
     ensures { result ≡ wanted line.now start count }
 {
@@ -115,8 +115,8 @@ pub fn pulled(step: &mut Step, shelf: &[Shelf], peer: NodeId) -> Result<(), Memo
     step.send(peer, Body::Fetch { have })
 }
 
-/// A chunk of a group goes to a node, with this many bytes from a place on. It is last where they
-/// end a sealed group.
+/// Sends a node a chunk of a group, with this number of bytes from a place on; it is marked as the last if the
+/// bytes end a sealed group.
 fn send_chunk(
     step: &mut Step,
     to: NodeId,
@@ -140,8 +140,8 @@ fn send_chunk(
     step.want(wanted(line, start, count))
 }
 
-/// A fetch came, which names what the sender has. Groups take turns, so that a large one holds up no
-/// other.
+/// Rule 14, content, fetch: sends the next piece of a group of which the sender has less. Groups take turns, so
+/// that a large one holds up no other.
 #[tactic(auto, using(oc_state::proofs::ShelfLines::held_bound))]
 pub fn fetched(step: &mut Step, shelf: &[Shelf], from: NodeId, have: &[Shelf]) -> Result<(), Memory>
     requires have { IsShelf have.now }
@@ -159,8 +159,8 @@ pub fn fetched(step: &mut Step, shelf: &[Shelf], from: NodeId, have: &[Shelf]) -
 
 // Chunks
 
-/// Where a chunk lies in its group: the line of the group here, the places where the chunk begins and ends,
-/// and whether it is the last.
+/// The place of a chunk in its group: the node's line of the group, the offsets of the begin and the end, and
+/// whether the chunk is the last.
 #[derive(Drop)]
 struct ChunkPlace {
     line: Shelf,
@@ -169,22 +169,22 @@ struct ChunkPlace {
     last: bool,
 }
 
-/// Whether a chunk closes the group: it is last, the group is open, and the chunk does not end before
-/// what is held.
+/// Whether a chunk closes the group: the chunk is the last one, the group is open, and no byte held is past
+/// the chunk.
 fn adds_seal(place: &ChunkPlace) -> bool
     ensures { result ≡ adds_seal place.now.line place.now.end place.now.last }
 {
     place.last && !place.line.sealed && place.line.held <= place.end
 }
 
-/// Whether there is anything to keep of a chunk: a new group, a byte or a seal.
+/// Whether a chunk adds anything: a new group, a byte or a seal.
 fn adds(shelf: &[Shelf], place: &ChunkPlace) -> bool
     ensures { result ≡ adds shelf.now place.now.line place.now.end place.now.last }
 {
     line_of(shelf, &place.line.group).is_none() || place.line.held < place.end || adds_seal(place)
 }
 
-/// The line of the group once what is new in a chunk was kept.
+/// The line of the group after the new part of a chunk was kept.
 fn grown_line(place: &ChunkPlace) -> Shelf
     ensures { result ≡ grown_line place.now.line place.now.end place.now.last }
 {
@@ -195,7 +195,7 @@ fn grown_line(place: &ChunkPlace) -> Shelf
     }
 }
 
-/// If the node is joined to the sender, a fetch that names the shelf with this line goes to it.
+/// Asks the sender for more, if the sender is the parent; the fetch tells the shelf with this line.
 fn ask_on(
     step: &mut Step,
     mode: Mode,
@@ -219,7 +219,7 @@ fn ask_on(
     }
 }
 
-/// What is new in a chunk is kept, if anything is.
+/// Keeps the new part of a chunk, if there is any, and asks for more.
 fn keep_chunk(
     step: &mut Step,
     shelf: &[Shelf],
@@ -238,7 +238,7 @@ fn keep_chunk(
     }
 }
 
-/// A chunk came for this group.
+/// Takes a chunk for this group; a chunk that leaves a gap is dropped.
 fn chunk_to(
     step: &mut Step,
     shelf: &[Shelf],
@@ -261,7 +261,7 @@ fn chunk_to(
     }
 }
 
-/// A chunk came.
+/// Rule 14, content, chunk: takes a chunk.
 pub fn took_chunk(
     step: &mut Step,
     shelf: &[Shelf],

@@ -1,18 +1,18 @@
-//! One node of the overlay, pure: what an input does to it, without a disk, a text or another node.
+//! One node of the overlay, pure: the effect of an input, without a disk, a text or another node.
 //!
 //! [`Node::plan`] looks at an input and changes nothing: it takes all memory that the step needs and gives a
-//! [`Plan`], with the records of what is durable in the step, the messages and the answer. Once the records
-//! are safe, [`Node::apply`] folds those very records into the node, and takes no memory. A start folds all
-//! records of a node's file, by [`Node::recover`], and [`Node::snapshot`] gives few records that stand for
-//! all before them.
+//! [`Plan`], with the records of the durable changes, the messages and the answer. Once the records are
+//! durable, [`Node::apply`] folds these same records into the node, and takes no memory. A start folds all
+//! records of a node's file, by [`Node::recover`], and [`Node::snapshot`] gives few records that replace all
+//! earlier ones.
 //!
-//! The rules are those of the model, in files of its names and in the order of its definitions: `asking`,
-//! `adopting`, `checking` with `acknowledging`, `looking`, `content` and `serving`. Each leads a step under
-//! way (`oc_step`) on as the model's definition does.
+//! The rules are those of the model, in modules of the same names and in the order of its definitions: `asking`,
+//! `adopting`, `checking` with `acknowledging`, `looking`, `content` and `serving`. Each leads a step under way
+//! (`oc_step`) on as the model's definition does. `docs/RULES.md` tells them in prose.
 //!
-//! The layer above rests on this: the plan is the control step of the model (`plan`), and with the bytes that
-//! it wants filled in (`Plan::fill`) applying it is the model's `step`: the node after it, the messages and
-//! the answer. The records fit one frame, and folding them gives what is durable after the step.
+//! The layer above relies on this: the plan is the control step of the model (`plan`), and after the wanted
+//! bytes are filled in (`Plan::fill`) applying it is the model's `step`: the node after it, the messages and
+//! the answer. The records fit one frame, and folding them gives the durable state after the step.
 #![tactic(auto)]
 
 mod acknowledging;

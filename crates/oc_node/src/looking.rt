@@ -17,9 +17,9 @@ use oc_state::Volatile;
 use oc_state::modes::{in_tree, is_descending, is_idle, is_reviewing, parent_of, prefers};
 use oc_step::Step;
 
-// The rule Look: how a node finds a good place.
+// Rule 12, look: how a node finds a good place.
 
-/// The rate to a node, in bytes per second; 0 where there is none, or it is not measured.
+/// The rate to a node, in bytes per second; 0 for no node, and for one that was not measured.
 fn rate_to_some(step: &Step, peer: Option<NodeId>) -> u64
     requires { AreTold step.now.plan.records }
     ensures { result ≡ rate_to_some step.now.plan.node peer }
@@ -30,7 +30,7 @@ fn rate_to_some(step: &Step, peer: Option<NodeId>) -> u64
     }
 }
 
-/// A node is told this one's position.
+/// Rule 12, look: tells a node this one's position.
 pub fn looked(step: &mut Step, from: NodeId) -> Result<(), Memory>
     requires { step.old.plan ≡ begun step.old.base }
     ensures { OnOk result (step.new ≡ goes step.old (looked step.old.plan from)) }
@@ -50,7 +50,7 @@ pub fn looked(step: &mut Step, from: NodeId) -> Result<(), Memory>
     )
 }
 
-/// A child that was told, with what was measured of it.
+/// The candidate for a told child, with this node's own reading of it.
 fn candidate(step: &Step, child: &Child) -> Candidate
     requires { AreTold step.now.plan.records }
     ensures { result ≡ candidate step.now.plan.node child.now }
@@ -64,7 +64,7 @@ fn candidate(step: &Step, child: &Child) -> Candidate
     }
 }
 
-/// Puts at the end a child that was told, unless it is the node itself.
+/// Adds a told child to the candidates, unless it is the node itself.
 fn push_candidate(step: &Step, list: &mut Vec<Candidate>, child: &Child) -> Result<(), Memory>
     requires { AreTold step.now.plan.records }
     ensures { OnOk result (list.new.items ≡ list.old.items ++ candidates step.now.plan.node (child.now ∷ [])) }
@@ -75,7 +75,7 @@ fn push_candidate(step: &Step, list: &mut Vec<Candidate>, child: &Child) -> Resu
     Ok(())
 }
 
-/// The children that were told, without the node itself.
+/// The candidates among the told children: all except for the node itself.
 fn candidates(step: &Step, children: &[Child]) -> Result<Vec<Candidate>, Memory>
     requires { AreTold step.now.plan.records }
     ensures { IfOk result (λ made. made.items ≡ candidates step.now.plan.node children.now) }
@@ -87,7 +87,7 @@ fn candidates(step: &Step, children: &[Child]) -> Result<Vec<Candidate>, Memory>
     Ok(list)
 }
 
-/// Further down, or to the place here where no child is as good.
+/// Goes on with the descent at the chosen child, or asks here if no child is as good.
 fn go_down(step: &mut Step, child: Option<NodeId>, from: NodeId) -> Result<(), Memory>
     ensures { OnOk result (step.new ≡ goes step.old (goes_down child step.old.plan from)) }
 {
@@ -97,7 +97,7 @@ fn go_down(step: &mut Step, child: Option<NodeId>, from: NodeId) -> Result<(), M
     }
 }
 
-/// On its way down the node sees another's position.
+/// Rule 12, a descent: takes the position of the node that it asked, and goes on.
 fn descends(step: &mut Step, from: NodeId, stand: &Stand) -> Result<(), Memory>
     requires { AreTold step.old.plan.records }
     ensures { OnOk result (step.new ≡ goes step.old (descends step.old.plan from stand.now)) }
@@ -112,8 +112,8 @@ fn descends(step: &mut Step, from: NodeId, stand: &Stand) -> Result<(), Memory>
     }
 }
 
-/// The parent's parent with this node's own rate to it, unless that is the node itself, or both are chain
-/// members: one that has another beneath it refuses everyone else.
+/// The grandparent with this node's own rate to it; none if it is the node itself, or a chain member above a
+/// parent in the chain, since a chain member with another one below it refuses every other asker.
 fn grandparent(step: &Step, parent: NodeId, told: Option<NodeId>) -> Option<(NodeId, u64)>
     requires { AreTold step.now.plan.records }
     ensures { result ≡ grandparent step.now.plan.node parent told }
@@ -131,7 +131,7 @@ fn grandparent(step: &Step, parent: NodeId, told: Option<NodeId>) -> Option<(Nod
     }
 }
 
-/// What is made of the place beneath the parent.
+/// The result of a review of the place beneath the parent.
 fn review(step: &Step, parent: NodeId, stand: &Stand) -> Result<Review, Memory>
     requires { AreTold step.now.plan.records }
     ensures { IfOk result (λ made. made ≡ reviewed (view step.now.plan.node parent stand.now)) }
@@ -145,7 +145,7 @@ fn review(step: &Step, parent: NodeId, stand: &Stand) -> Result<Review, Memory>
     }))
 }
 
-/// The node beneath which a review finds a better place.
+/// The place that a review speaks for, if it is another one than the present place.
 fn place_in(review: Review) -> Option<NodeId>
     ensures { result ≡ place_in review }
 {
@@ -155,7 +155,7 @@ fn place_in(review: Review) -> Option<NodeId>
     }
 }
 
-/// This place is the wish, and has been waited for by this count of reviews.
+/// Sets the wish, and the number of reviews that spoke for it.
 fn set_wish(step: &mut Step, wish: Option<NodeId>, waits: u64)
     ensures { step.new ≡ goes step.old (wishes step.old.plan wish waits) }
 {
@@ -167,7 +167,7 @@ fn set_wish(step: &mut Step, wish: Option<NodeId>, waits: u64)
     });
 }
 
-/// The node leaves its parent for another place.
+/// Leaves the parent, and asks for another place.
 fn leave_for(step: &mut Step, parent: NodeId, place: NodeId) -> Result<(), Memory>
     requires { step.old.plan.node.soft.moves < MAX_MOVES }
     ensures { OnOk result (step.new ≡ goes step.old (leaves_for step.old.plan parent place)) }
@@ -182,7 +182,7 @@ fn leave_for(step: &mut Step, parent: NodeId, place: NodeId) -> Result<(), Memor
     ask_before(step, place)
 }
 
-/// A place is asked for once enough reviews gave it.
+/// Counts a review for a place, or asks for the place after enough of them.
 fn go_where(step: &mut Step, place: Option<NodeId>, parent: NodeId) -> Result<(), Memory>
     requires { step.old.plan.node.soft.moves < MAX_MOVES }
     ensures { OnOk result (step.new ≡ goes step.old (goes_where place step.old.plan parent)) }
@@ -199,8 +199,8 @@ fn go_where(step: &mut Step, place: Option<NodeId>, parent: NodeId) -> Result<()
     }
 }
 
-/// A review at the parent gives this place: measures of one line differ from time to time, so another place
-/// than the wish only makes it doubtful, and a node that has moved often stays.
+/// Rule 12, a review speaks for this place: measures of one line differ from time to time, so a review for another
+/// place than the wish only makes the wish doubtful; a node that has moved eight times stays.
 fn weigh(step: &mut Step, parent: NodeId, place: Option<NodeId>) -> Result<(), Memory>
     ensures { OnOk result (step.new ≡ goes step.old (weighs step.old.plan parent place)) }
 {
@@ -217,7 +217,7 @@ fn weigh(step: &mut Step, parent: NodeId, place: Option<NodeId>) -> Result<(), M
     }
 }
 
-/// A joined node sees its parent's position.
+/// Rule 12, a review: takes the position of the parent, and weighs the place that it finds.
 fn review_place(step: &mut Step, from: NodeId, stand: &Stand) -> Result<(), Memory>
     requires { AreTold step.old.plan.records }
     ensures { OnOk result (step.new ≡ goes step.old (reviews_place step.old.plan from stand.now)) }
@@ -227,7 +227,7 @@ fn review_place(step: &mut Step, from: NodeId, stand: &Stand) -> Result<(), Memo
     weigh(step, from, place_in(review))
 }
 
-/// A chain member goes beneath the nearest earlier member that is in the tree.
+/// Rule 12, the line of the chain: a chain member asks the nearest earlier member that is in the tree.
 fn keep_line(step: &mut Step, from: NodeId, stand: &Stand) -> Result<(), Memory>
     ensures { OnOk result (step.new ≡ goes step.old (keeps_line step.old.plan from stand.now)) }
 {
@@ -242,14 +242,14 @@ fn keep_line(step: &mut Step, from: NodeId, stand: &Stand) -> Result<(), Memory>
     }
 }
 
-/// Whether this node is the parent, which was asked for the other places near by.
+/// Whether a position is the one that a review waits for: that of the parent.
 fn is_review(step: &Step, from: NodeId) -> bool
     ensures { result ≡ is_joined_to step.now.plan.node.kept.mode from && is_reviewing step.now.plan.node.soft.search }
 {
     step.position().mode.is_joined_to(from) && is_reviewing(step.volatile().search)
 }
 
-/// A node tells its position.
+/// Rule 12, look, at the asker: takes the position of a node.
 #[tactic(auto, using(crate::proofs::ByMode::sees_is))]
 pub fn sees(step: &mut Step, from: NodeId, stand: &Stand) -> Result<(), Memory>
     requires { AreTold step.old.plan.records }

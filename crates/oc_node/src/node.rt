@@ -31,8 +31,8 @@ use oc_updown::{ChangeLog, Leases, Measures, Table};
 use std::alloc::Global;
 use std::marker::Model;
 
-/// One node, except for its content. Contracts see the model's control state, how many certificates
-/// there is room for in the change log, and for how many nodes there is memory in the lists.
+/// One node, except for its content. Contracts see the model's control state, the room in the change log in
+/// certificates, and the number of nodes for which the lists have memory.
 #[derive(Drop)]
 pub struct Node {
     id: NodeId,
@@ -48,7 +48,7 @@ pub struct Node {
     leases: Leases,
     /// The rate that each child told last, by its number.
     rates: Slots<u64>,
-    /// How many clients each node was sent, by its number.
+    /// The number of clients that each node was sent, by its number.
     counts: Slots<u64>,
     alloc: Global,
 }
@@ -72,7 +72,7 @@ impl Model for Node {
 }
 
 impl Node {
-    /// A new node, which knows of no other: its id, the number of nodes, the length of the chain, the
+    /// A new node, without knowledge of others: its id, the number of nodes, the length of the chain, the
     /// greatest number of bytes of a chunk, and the area of each node, by its number.
     #[tactic(auto, using(crate::proofs::Reaching::reached_new))]
     pub fn new(
@@ -107,8 +107,8 @@ impl Node {
         })
     }
 
-    /// Recovers a new node from its records, those of its control file in their order. If memory runs
-    /// out, the node stays new.
+    /// Recovers a new node from its records, in the order of its control file. If memory runs out, the node
+    /// stays new.
     #[tactic(auto, using(crate::proofs::Reaching::reached_kept))]
     pub fn recover(&mut self, list: &[Record]) -> Result<(), Memory>
         requires new { self.old.control.kept ≡ new_durable self.old.control.nodes }
@@ -121,12 +121,11 @@ impl Node {
         Ok(())
     }
 
-    /// The plan of the step that this input makes, with the shelf of the groups that the node holds. It
-    /// takes all memory of the step, and changes nothing but how much room there is.
+    /// Makes the plan of the step for this input, with the shelf of the groups that the node holds. It takes
+    /// all memory of the step, and changes nothing but the room.
     ///
-    /// It is the control step of the model, and once it has the bytes that it wants it is the whole step.
-    /// What it writes fits one frame, and gives what is durable after the step. It writes records or keeps
-    /// content, never both.
+    /// The plan is the control step of the model, and after `fill` the whole step. Its records fit one frame,
+    /// and give the durable state after the step. It writes records or keeps content, never both.
     pub fn plan(&mut self, input: &Input, shelf: &[Shelf]) -> Result<Plan, Memory>
         requires input { IsInput self.old.control.nodes self.old.control.me input.now }
         requires shelf { IsShelf shelf.now }
@@ -145,7 +144,7 @@ impl Node {
         Ok(plan)
     }
 
-    /// The plan, before there is room for it.
+    /// Makes the plan, without room for it.
     fn make_plan(&self, input: &Input, shelf: &[Shelf]) -> Result<Plan, Memory>
         requires input { IsInput self.now.control.nodes self.now.control.me input.now }
         requires shelf { IsShelf shelf.now }
@@ -158,7 +157,7 @@ impl Node {
         Ok(step.done())
     }
 
-    /// The node as it is, for a step to look at.
+    /// The node, lent to a step.
     fn lend(&self) -> Before<'_>
         ensures { result ≡ self.now.control }
     {
@@ -178,8 +177,8 @@ impl Node {
         }
     }
 
-    /// Does what a plan says, and gives its answer and its messages. The plan was made of this node as it
-    /// is. Takes no memory.
+    /// Applies a plan, and gives its answer and its messages. The plan must be one of this node in its present
+    /// state. Takes no memory.
     pub fn apply(&mut self, plan: Plan) -> Outcome
         requires { CanApply self.old plan }
         ensures control { self.new.control ≡ control_after self.old.control plan }
@@ -209,8 +208,8 @@ impl Node {
         Outcome { answer, sends }
     }
 
-    /// The snapshot, under this running number, of what is durable: records that give it, whatever was
-    /// before them. They are lawful where the log is no longer than a base may be.
+    /// The snapshot of the durable state, with this running number: records that give the state, whatever was
+    /// before them. They are lawful if the log is no longer than a base may be.
     pub fn snapshot(&self, generation: u64) -> Result<Vec<Record>, Memory>
         ensures snapshot { IfOk result (λ list. list.items ≡ snapshot generation self.now.control.kept) }
         ensures stands { IfOk result (λ list. (any : State) → length any.measures ≡ self.now.control.nodes → folded any list.items ≡ self.now.control.kept) }
@@ -248,7 +247,7 @@ impl Node {
         self.chunk
     }
 
-    /// The second at which the lease of each child ends, by its number, where that is set.
+    /// The second at which the lease of each child ends, by its number, if it is set.
     pub fn lease_ends(&self) -> &Slots<Option<u64>>
         ensures { result.now.items ≡ self.now.control.leases }
     {
@@ -262,14 +261,14 @@ impl Node {
         &self.rates
     }
 
-    /// What was measured of each peer.
+    /// The reading of each peer.
     pub fn measures(&self) -> &Measures
         ensures { result.now.readings ≡ self.now.control.kept.measures }
     {
         self.durable.measures()
     }
 
-    /// The parent, where the node is joined.
+    /// The parent, if the node is joined.
     pub fn parent(&self) -> Option<NodeId>
         ensures { result ≡ parent_of self.now.control.kept.mode }
     {
@@ -283,14 +282,14 @@ impl Node {
         self.position().mode
     }
 
-    /// The number of the last ask, 0 where there was none.
+    /// The number of the last ask, 0 if there was none.
     pub fn seq(&self) -> u64
         ensures { result ≡ self.now.control.kept.seq }
     {
         self.position().seq
     }
 
-    /// The node's rank, if it was in the tree yet.
+    /// The node's rank, if it has ever been in the tree.
     pub fn rank(&self) -> Option<Rank>
         ensures { result ≡ self.now.control.kept.rank }
     {
@@ -311,7 +310,7 @@ impl Node {
         self.position().clients
     }
 
-    /// The newest certificate of each node below, as far as the node knows.
+    /// The newest certificate of each node below that the node knows.
     pub fn table(&self) -> &Table
         ensures nodes { result.now.nodes ≡ self.now.control.nodes }
         ensures entries { result.now.entries ≡ self.now.control.kept.table }
@@ -334,7 +333,7 @@ impl Node {
         self.durable.ancestors()
     }
 
-    /// The time in seconds, that of the last tick.
+    /// The time in seconds, which is that of the last tick.
     pub fn now(&self) -> u64
         ensures { result ≡ self.now.control.soft.clock }
     {
@@ -348,7 +347,7 @@ impl Node {
     }
 }
 
-/// Takes the memory for what a plan does to these parts of the node.
+/// Takes the memory for the changes of a plan in these parts of the node.
 fn reserve_for(
     plan: &Plan,
     durable: &mut Durable,

@@ -1,7 +1,7 @@
 use oc_model::{Answer, Message};
 use std::marker::Model;
 
-/// What a step answers, and the messages that it sends. Contracts see them as a record with a list.
+/// The answer of a step, and the messages to send. Contracts see them as a record with a list.
 #[derive(Drop)]
 pub struct Outcome {
     pub answer: Answer,

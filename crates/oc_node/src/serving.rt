@@ -11,10 +11,9 @@ use oc_state::shelves::line_of;
 use oc_state::{ListUpdate, Volatile};
 use oc_step::Step;
 
-// The rules Client and Measured.
+// Rules 15 (client) and 16 (measured).
 
-/// A chain member sends a client on, where it knows a node for it. Else the node serves this many bytes
-/// itself.
+/// Sends a client to another node, or else serves this number of bytes itself and counts the client.
 fn redirect(step: &mut Step, to: Option<NodeId>, count: u64) -> Result<(), Memory>
     requires { IfSome to (λ node. IsNode step.old.base.nodes node) }
     ensures { OnOk result (step.new ≡ goes step.old (redirects to step.old.plan count)) }
@@ -33,7 +32,7 @@ fn redirect(step: &mut Step, to: Option<NodeId>, count: u64) -> Result<(), Memor
     }
 }
 
-/// A client asks for a group from a place on.
+/// Rule 15, client: a client of this area asks for a group from a byte on.
 pub fn client(
     step: &mut Step,
     shelf: &[Shelf],
@@ -53,7 +52,7 @@ pub fn client(
     }
 }
 
-/// Reviews may lead the node elsewhere again.
+/// Lets reviews move the node again.
 fn may_move(step: &mut Step)
     ensures { step.new ≡ goes step.old (may_move step.old.plan) }
 {
@@ -64,7 +63,7 @@ fn may_move(step: &mut Step)
     });
 }
 
-/// What was measured of a peer is kept.
+/// Rule 16, measured: keeps a reading; a new one lets reviews move the node again.
 pub fn measured(step: &mut Step, peer: NodeId, rate: u64, hops: u8) -> Result<(), Memory>
     requires { AreTold step.old.plan.records }
     ensures { OnOk result (step.new ≡ goes step.old (measured step.old.plan peer rate hops)) }

@@ -8,7 +8,7 @@ pub struct Stand<'a> {
     pub parent: Option<NodeId>,
     /// Its rate to its parent, in bytes per second.
     pub rate: u64,
-    /// Ascending.
+    /// Its leased children, ascending.
     pub children: &'a [Child],
 }
 

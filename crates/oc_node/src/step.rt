@@ -21,9 +21,9 @@ use oc_base::{Memory, NodeId, Shelf};
 use oc_model::{Body, Input};
 use oc_step::Step;
 
-// The control step, which sees of the content the shelf alone.
+// The control step, which depends on the shelf but not on the bytes of the content.
 
-/// A message came.
+/// Takes a message, by the rule for its kind.
 fn receive(step: &mut Step, shelf: &[Shelf], from: NodeId, body: &Body) -> Result<(), Memory>
     requires begun { step.old.plan ≡ begun step.old.base }
     requires shelf { IsShelf shelf.now }
@@ -101,7 +101,7 @@ fn receive(step: &mut Step, shelf: &[Shelf], from: NodeId, body: &Body) -> Resul
     }
 }
 
-/// An input came.
+/// Takes an input, by the rule for its kind.
 pub(crate) fn take(step: &mut Step, shelf: &[Shelf], input: &Input) -> Result<(), Memory>
     requires begun { step.old.plan ≡ begun step.old.base }
     requires reached { IsReached step.old.base }

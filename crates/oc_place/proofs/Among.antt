@@ -9,17 +9,17 @@ pub any_is_has : (xs : List ℕ) (x : ℕ) → list_any (λ y. y == x) xs ≡ ha
 any_is_has [] x = refl
 any_is_has (y ∷ ys) x = ap (λ b. y == x || b) (any_is_has ys x)
 
--- where the test of the first or of the rest says so, it is one of them
+-- the id is in the list, if the test finds it first or in the rest
 among_more : (y : ℕ) (ys : List ℕ) (x : ℕ) (b : Bool) → (y == x) ≡ b → (has ys x ≡ true → IsAmong x ys) → (b || has ys x) ≡ true → (y ≡ x) ⊎ IsAmong x ys
 among_more y ys x true e rest h = inl (grind (arith, nat_tests))
 among_more y ys x false e rest h = inr (rest h)
 
--- where the test says so, it is one of them
+-- an id that the test finds is in the list
 pub has_among : (xs : List ℕ) (x : ℕ) → has xs x ≡ true → IsAmong x xs
 has_among [] x h = absurd cc
 has_among (y ∷ ys) x h = among_more y ys x (y == x) refl (has_among ys x) h
 
--- the test finds each of them
+-- the test finds each id of the list
 pub among_has : (xs : List ℕ) (x : ℕ) → IsAmong x xs → has xs x ≡ true
 among_has [] x h = absurd h
 among_has (y ∷ ys) x (inl h) = grind (arith, nat_tests)

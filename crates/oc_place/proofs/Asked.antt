@@ -1,4 +1,4 @@
--- Who is asked for a place.
+-- The nodes that are asked for a place.
 use Rattle.std.proofs.Common.{◌≡◌, ◌≢◌, ℕ, zero, suc, ◌+◌, ◌<◌, ◌≤◌, ◌↔◌, Bool, true, false, ◌==◌, ◌||◌, nat_le, if◌then◌else◌, Option, Some, None, List, [], ◌∷◌, ◌++◌, ◌⊎◌, inl, inr, refl, ap, sym, subst, ◌∙◌, arith, option_to_list}
 use Rattle.std.proofs.lemmas.Bool.Decides.{nat_tests}
 use Rattle.std.specs.List.{range_with_len}
@@ -19,7 +19,7 @@ once_among_by out y xs x true e old new h = let r = old h in (inr r.0, r.1)
 once_among_by out y xs x false e old new (inl same) = (inl same, subst (λ (z : ℕ). has out z ≡ false) same e)
 once_among_by out y xs x false e old new (inr h) = let r = new h in (inr r.0, (neither (y == x) (has out x) r.1).1)
 
--- what is taken once is one of those, and not left out
+-- an id that is taken once is in the list, and not left out
 pub once_among : (out xs : List ℕ) (x : ℕ) → IsAmong x (each_once out xs) → IsAmong x xs × (has out x ≡ false)
 once_among out [] x h = absurd h
 once_among out (y ∷ xs) x h = once_among_by out y xs x (has out y) refl (once_among out xs x) (once_among (y ∷ out) xs x) h
@@ -61,7 +61,7 @@ among_below zero x low high = absurd (omega arith)
 among_below (suc zero) x low high = absurd (omega arith)
 among_below (suc (suc n)) x low high = elim (last_or_before (suc n) x high) [ inl same ↦ inl same | inr before ↦ inr (among_below (suc n) x low before) ]
 
--- and those below it come before it
+-- an id below n is between 1 and n
 pub below_among : (n x : ℕ) → IsAmong x (below n) → (1 ≤ x) × (x < n)
 below_among zero x h = absurd h
 below_among (suc zero) x h = absurd h
@@ -73,19 +73,19 @@ pub among_range : (a n x : ℕ) → a ≤ x → x < a + n → IsAmong x (range_w
 among_range a zero x low high = absurd (omega arith)
 among_range a (suc n) x low high = elim (at_or_behind a x low) [ inl same ↦ inl (sym same) | inr past ↦ inr (among_range (a + 1) n x past (omega arith)) ]
 
--- and its numbers are in the range
+-- each number of a range is within it
 pub range_among : (a n x : ℕ) → IsAmong x (range_with_len a n) → (a ≤ x) × (x < a + n)
 range_among a zero x h = absurd h
 range_among a (suc n) x (inl same) = (omega arith, omega arith)
 range_among a (suc n) x (inr h) = let b = range_among (a + 1) n x h in let low = b.0 in let high = b.1 in (omega arith, omega arith)
 
--- one of two lists in a row is in one of them
+-- an id in two lists in a row is in one of them
 pub among_append : (xs ys : List ℕ) (x : ℕ) → IsAmong x (xs ++ ys) → IsAmong x xs ⊎ IsAmong x ys
 among_append [] ys x h = inr h
 among_append (y ∷ xs) ys x (inl same) = inl (inl same)
 among_append (y ∷ xs) ys x (inr h) = elim (among_append xs ys x h) [ inl left ↦ inl (inr left) | inr right ↦ inr right ]
 
--- and one in one of them is in the row
+-- an id in one of two lists is in both in a row
 pub append_among : (xs ys : List ℕ) (x : ℕ) → IsAmong x xs ⊎ IsAmong x ys → IsAmong x (xs ++ ys)
 append_among [] ys x (inl h) = absurd h
 append_among [] ys x (inr h) = h
@@ -98,12 +98,12 @@ pub free_out : (me x : ℕ) (without : Option ℕ) → has (me ∷ option_to_lis
 free_out me x None h = (λ e. grind (arith, nat_tests), λ e. absurd cc)
 free_out me x (Some q) h = (λ e. grind (arith, nat_tests), λ e. (let same : q ≡ x = cc in grind (arith, nat_tests)))
 
--- who is not left out passes the test
+-- a node that is not left out passes the test
 pub out_free : (me x : ℕ) (without : Option ℕ) → IsNotLeftOut me without x → has (me ∷ option_to_list without) x ≡ false
 out_free me x None h = let other = h.0 in grind (arith, nat_tests)
 out_free me x (Some q) h = let other = h.0 in let not_q : q ≢ x = λ e. h.1 (ap (λ (n : ℕ). Some n) e) in grind (arith, nat_tests)
 
--- who may be asked is in the list, by the test for a member of the chain
+-- a node that may be asked is in the list, by the test for a chain member
 pub may_list : (me chain : ℕ) (ancestors : List ℕ) (x : ℕ) → MayBeAsked me chain ancestors x → IsAmong x (if nat_le me chain then below me else ancestors ++ range_with_len 1 chain)
 may_list me chain ancestors x (inl h) =
     let member : nat_le me chain ≡ true = (let le = h.0 in grind (arith, nat_tests)) in
@@ -119,7 +119,7 @@ list_may_by me chain ancestors x true e h = let b = below_among me x h in inl (g
 list_may_by me chain ancestors x false e h =
     inr (grind (arith, nat_tests), elim (among_append ancestors (range_with_len 1 chain) x h) [ inl a ↦ inl a | inr r ↦ (let b = range_among 1 chain x r in let high = b.1 in inr (b.0, omega arith)) ])
 
--- who is in the list may be asked
+-- a node in the list may be asked
 pub list_may : (me chain : ℕ) (ancestors : List ℕ) (x : ℕ) → IsAmong x (if nat_le me chain then below me else ancestors ++ range_with_len 1 chain) → MayBeAsked me chain ancestors x
 list_may me chain ancestors x h = list_may_by me chain ancestors x (nat_le me chain) refl h
 
@@ -127,7 +127,7 @@ list_may me chain ancestors x h = list_may_by me chain ancestors x (nat_le me ch
 pub asked_once : (me chain : ℕ) (ancestors : List ℕ) (without : Option ℕ) → IsOnce (ask_order me chain ancestors without)
 asked_once me chain ancestors without = taken_once (me ∷ option_to_list without) (if nat_le me chain then below me else ancestors ++ range_with_len 1 chain)
 
--- who is asked
+-- the nodes that are asked are those that may be asked and are not left out
 pub asked_is : (me chain : ℕ) (ancestors : List ℕ) (without : Option ℕ) (x : ℕ) → IsAmong x (ask_order me chain ancestors without) ↔ (MayBeAsked me chain ancestors x × IsNotLeftOut me without x)
 asked_is me chain ancestors without x =
     let out = me ∷ option_to_list without in

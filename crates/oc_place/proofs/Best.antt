@@ -29,11 +29,11 @@ three near b c d met not_so = elim (cases_Bool (near c b)) [
 pub nearest_of_three : (b c d : Candidate) → nearer_of (nearer_yet (Some b) c) (Some d) ≡ nearer_of b (Some (nearer_of c (Some d)))
 nearest_of_three b c d = three is_nearer b c d (nearer_passes d c b) (no_nearer_passes d c b)
 
--- what passes a test stays
+-- a candidate that passes the test stays
 filter_taken : (p : Candidate → Bool) (x : Candidate) (xs : List Candidate) → p x ≡ true → filter p (x ∷ xs) ≡ x ∷ filter p xs
 filter_taken p x xs h = rw h refl
 
--- what fails a test does not stay
+-- a candidate that fails the test does not stay
 filter_left : (p : Candidate → Bool) (x : Candidate) (xs : List Candidate) → p x ≡ false → filter p (x ∷ xs) ≡ filter p xs
 filter_left p x xs h = rw h refl
 
@@ -53,7 +53,7 @@ taken direct best x xs h =
 pub left : (direct : ℕ) (best : Option Candidate) (x : Candidate) (xs : List Candidate) → is_suitable direct x ≡ false → with_rest best (nearest (filter (is_suitable direct) xs)) ≡ with_rest best (nearest (filter (is_suitable direct) (x ∷ xs)))
 left direct best x xs h = ap (λ (cs : List Candidate). with_rest best (nearest cs)) (sym (filter_left (is_suitable direct) x xs h))
 
--- the rest at a place is what is there and the rest after it
+-- the rest from an index on is the candidate there and the rest after it
 pub rest_at : (xs : List Candidate) (i : ℕ) (x : Candidate) → i < length xs → x ≡ get_or xs i x → drop i xs ≡ x ∷ drop (i + 1) xs
 rest_at xs i x short here = rw (add-one, drop-cons xs i x) (ap (λ (y : Candidate). y ∷ drop (suc i) xs) (sym here))
 

@@ -12,12 +12,12 @@ use Rattle.oc_model.specs.Numbers.{has, IsAmong}
 use Rattle.oc_place.specs.Causes.{HasCause, IsNotBefore, BelongsBeneath, place_of}
 use Rattle.oc_place.proofs.Among.{has_among, among_has}
 
--- of the refusals from place n on this is the first that has a cause, or none has one
+-- this refusal is the first with a cause from position n on, or none has a cause
 pub record IsFirstFrom (h : Host) (x : ℕ) (r : Option Rank) (n : ℕ) (o : Option Refusal) : Type 0 where
   pub first : (why : Refusal) → o ≡ Some why → HasCause h x r why × ((other : Refusal) → n ≤ place_of other → HasCause h x r other → place_of why ≤ place_of other)
   pub none : o ≡ None → (other : Refusal) → n ≤ place_of other → ¬ HasCause h x r other
 
--- what is at the place n and has no cause, or comes later
+-- a position from n on is n itself or later
 pub at_or_behind : (n m : ℕ) → n ≤ m → (m ≡ n) ⊎ (n + 1 ≤ m)
 at_or_behind n m le = elim (m == n) as (λ b. (m == n) ≡ b → (m ≡ n) ⊎ (n + 1 ≤ m)) [ true ↦ λ e. inl (grind (arith, nat_tests)) | false ↦ λ e. inr (grind (arith, nat_tests)) ] refl
 
@@ -57,35 +57,35 @@ at_chain : (h : Host) (x : ℕ) (r : Option Rank) (why : Refusal) → place_of w
 at_chain h x r (Chain k) at cause = (k, cause)
 at_chain h x r _ at cause = absurd (omega arith)
 
--- and after these, that the host does not precede the asker
+-- after the other refusals: the host's rank does not precede the asker's
 at_rank : (h : Host) (x : ℕ) (r : Option Rank) (why : Refusal) → 5 ≤ place_of why → HasCause h x r why → (why ≡ TooLow) × IsNotBefore h.rank r
 at_rank h x r TooLow at cause = (refl, cause)
 at_rank h x r _ at cause = absurd (omega arith)
 
--- what passes the test precedes
+-- a rank that passes the test precedes
 pub precedes_test : (a b : Rank) → precedes a b ≡ true → Precedes a b
 precedes_test a b h = grind (arith, nat_tests)
 
--- what fails the test does not precede
+-- a rank that fails the test does not precede
 pub test_precedes : (a b : Rank) → precedes a b ≡ false → ¬ Precedes a b
 test_precedes a b h = λ p. elim p [ inl e ↦ grind (arith, nat_tests) | inr e ↦ grind (arith, nat_tests) ]
 
--- what passes a test is not refused
+-- a host that passes a test does not refuse
 untaken : (t : Bool) (why : Refusal) → (if t then None else Some why) ≡ None → t ≡ true
 untaken true why e = refl
 untaken false why e = absurd cc
 
--- what is refused fails its test
+-- a host that refuses fails the test
 taken : (t : Bool) (why found : Refusal) → (if t then None else Some why) ≡ Some found → (t ≡ false) × (found ≡ why)
 taken true why found e = absurd cc
 taken false why found e = (refl, cc)
 
--- what is not so is false
+-- a negation that is true is of a false fact
 not_true : (b : Bool) → not b ≡ true → b ≡ false
 not_true true e = absurd cc
 not_true false e = refl
 
--- and what is not false is so
+-- a negation that is false is of a true fact
 not_false : (b : Bool) → not b ≡ false → b ≡ true
 not_false true e = refl
 not_false false e = absurd cc
@@ -111,7 +111,7 @@ from_rank h x r = record {
 beneath_test : (h : Host) (x k : ℕ) → (nat_le h.me h.chain && (nat_lt h.chain x || nat_lt k x)) ≡ true → h.chain_child ≡ Some k → BelongsBeneath h x k
 beneath_test h x k t e = (e, grind (arith, nat_tests), grind (arith, nat_tests))
 
--- it does not
+-- x belongs beneath no chain member, if the test fails
 test_beneath : (h : Host) (x k : ℕ) → (nat_le h.me h.chain && (nat_lt h.chain x || nat_lt k x)) ≡ false → (j : ℕ) → h.chain_child ≡ Some k → ¬ BelongsBeneath h x j
 test_beneath h x k t j e b = let same : k ≡ j = (let f : Some k ≡ Some j = sym e ∙ b.0 in cc) in let le = b.1 in elim b.2 [ inl past ↦ grind (arith, nat_tests) | inr past ↦ grind (arith, nat_tests) ]
 
@@ -131,7 +131,7 @@ from_chain h x r (Some k) e =
     subst (IsFirstFrom h x r 4) (sym (or_by_test t (Chain k) (rank_refusal h.rank r)))
     (place_before h x r 4 t (Chain k) (rank_refusal h.rank r) refl (λ yes. beneath_test h x k yes e) (λ not other at cause. let f = at_chain h x r other at cause in test_beneath h x k not f.0 e f.1) (from_rank h x r))
 
--- all of them
+-- all refusals, from the first on
 pub from_all : (h : Host) (x : ℕ) (r : Option Rank) → IsFirstFrom h x r 0 (adoption_refusal h x r)
 from_all h x r =
     place_before h x r 0 (x == h.me) Own _ refl (λ t. grind (arith, nat_tests)) (λ t other at cause. let e = at_own h x r other at cause in grind (arith, nat_tests))

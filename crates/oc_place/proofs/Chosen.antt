@@ -1,4 +1,4 @@
--- What the nearest of the suitable ones is.
+-- The nearest of the suitable candidates.
 use Rattle.std.proofs.Common.{◌≡◌, ℕ, Bool, true, false, if◌then◌else◌, Option, Some, None, List, [], ◌∷◌, ◌⊎◌, inl, inr, refl, ap, sym, subst, ◌∙◌, arith}
 use Rattle.std.specs.Prelude.{filter, option_map}
 use Rattle.std.proofs.lemmas.Bool.Decides.{nat_tests}
@@ -8,15 +8,15 @@ use Rattle.oc_model.specs.Numbers.{IsAmong}
 use Rattle.oc_place.specs.Chosen.{IsSuitable, IsBest, IsIdOfBest}
 use Rattle.oc_place.proofs.Nearer.{no_nearer_passes, not_nearer_itself, nearer_one_way, before_is_nearer}
 
--- what passes the test is suitable
+-- a candidate that passes the test is suitable
 pub test_suitable : (direct : ℕ) (c : Candidate) → is_suitable direct c ≡ true → IsSuitable direct c
 test_suitable direct c h = record { mine = λ e. grind (arith, nat_tests); up = λ e. grind (arith, nat_tests); through = grind (arith, nat_tests) }
 
--- what is suitable passes the test
+-- a suitable candidate passes the test
 pub suitable_test : (direct : ℕ) (c : Candidate) → IsSuitable direct c → is_suitable direct c ≡ true
 suitable_test direct c s = let mine = s.mine in let up = s.up in let through = s.through in grind (arith, nat_tests)
 
--- one of the first and of the filtered rest is one of them all, and passes the test
+-- a candidate among the first and the filtered rest is among all, and passes the test
 among_step : (p : Candidate → Bool) (c : Candidate) (cs : List Candidate) (d : Candidate) (b : Bool) → p c ≡ b → (IsAmong d (filter p cs) → IsAmong d cs × (p d ≡ true)) → IsAmong d (if b then c ∷ filter p cs else filter p cs) → ((c ≡ d) ⊎ IsAmong d cs) × (p d ≡ true)
 among_step p c cs d true e rest (inl h) = (inl h, ap p (sym h) ∙ e)
 among_step p c cs d true e rest (inr h) = let r = rest h in (inr r.0, r.1)
@@ -29,7 +29,7 @@ filtered_step p c cs d t true e rest (inr h) = inr (rest h)
 filtered_step p c cs d t false e rest (inl h) = absurd (let f : true ≡ false = sym t ∙ (ap p (sym h) ∙ e) in cc)
 filtered_step p c cs d t false e rest (inr h) = rest h
 
--- what a filter leaves was there and passes the test
+-- a candidate that a filter leaves is among all, and passes the test
 pub among_filtered : (p : Candidate → Bool) (cs : List Candidate) (d : Candidate) → IsAmong d (filter p cs) → IsAmong d cs × (p d ≡ true)
 among_filtered p [] d h = absurd h
 among_filtered p (c ∷ cs) d h = among_step p c cs d (p c) refl (among_filtered p cs d) h
@@ -44,7 +44,7 @@ pub nearest_none : (cs : List Candidate) (d : Candidate) → nearest cs ≡ None
 nearest_none [] d e = λ h. h
 nearest_none (c ∷ cs) d e = absurd cc
 
--- the nearest is one of them, and none of them is nearer
+-- c is among the candidates, and no candidate is nearer
 pub record IsNearest (cs : List Candidate) (c : Candidate) : Type 0 where
   pub among : IsAmong c cs
   pub least : (d : Candidate) → IsAmong d cs → is_nearer d c ≡ false
@@ -68,7 +68,7 @@ nearest_more : (y : Candidate) (ys : List Candidate) (b : Candidate) → IsNeare
 nearest_more y ys b n true e = behind_is_nearest y ys b n e
 nearest_more y ys b n false e = first_is_nearest y ys b n e
 
--- the nearest so taken, by what is nearest after the first
+-- the nearest candidate, from the nearest after the first
 nearest_step : (y : Candidate) (ys : List Candidate) (o : Option Candidate) → nearest ys ≡ o → ((b : Candidate) → o ≡ Some b → IsNearest ys b) → IsNearest (y ∷ ys) (nearer_of y o)
 nearest_step y ys None e ih = record {
   among = inl refl;
@@ -76,7 +76,7 @@ nearest_step y ys None e ih = record {
 }
 nearest_step y ys (Some b) e ih = nearest_more y ys b (ih b refl) (is_nearer b y) refl
 
--- what is nearest is so
+-- the nearest candidate by computation is the nearest
 pub nearest_is : (cs : List Candidate) (c : Candidate) → nearest cs ≡ Some c → IsNearest cs c
 nearest_is [] c e = absurd cc
 nearest_is (y ∷ ys) c e = let same : nearer_of y (nearest ys) ≡ c = cc in subst (IsNearest (y ∷ ys)) same (nearest_step y ys (nearest ys) refl (λ b. nearest_is ys b))
@@ -91,12 +91,12 @@ best_of direct cs c n =
       least = λ d h s before. (let e = n.least d (filtered_among (is_suitable direct) cs d (suitable_test direct d s) h) in let f : true ≡ false = sym (before_is_nearer d c before) ∙ e in absurd cc);
     }
 
--- the id that is chosen, by what is nearest
+-- the chosen id, from the nearest candidate
 chosen_of : (direct : ℕ) (cs : List Candidate) (k : ℕ) (o : Option Candidate) → nearest (filter (is_suitable direct) cs) ≡ o → option_map (λ c. c.id) o ≡ Some k → IsIdOfBest direct cs k
 chosen_of direct cs k None e h = absurd cc
 chosen_of direct cs k (Some c) e h = (c, cc, best_of direct cs c (nearest_is (filter (is_suitable direct) cs) c e))
 
--- what is chosen is the best of the suitable ones
+-- the chosen candidate is the best of the suitable ones
 pub chosen_is_best : (direct : ℕ) (cs : List Candidate) (k : ℕ) → chosen direct cs ≡ Some k → IsIdOfBest direct cs k
 chosen_is_best direct cs k h = chosen_of direct cs k (nearest (filter (is_suitable direct) cs)) refl h
 

@@ -20,7 +20,7 @@ or_group : (a b c : Bool) → ((a || b) || c) ≡ (a || (b || c))
 or_group true b c = refl
 or_group false b c = refl
 
--- what occurs in two lists in a row occurs in one of them
+-- an id in two lists in a row is in one of them
 pub has_append : (xs ys : List ℕ) (x : ℕ) → has (xs ++ ys) x ≡ (has xs x || has ys x)
 has_append [] ys x = refl
 has_append (y ∷ xs) ys x = ap (λ (b : Bool). y == x || b) (has_append xs ys x) ∙ sym (or_group (y == x) (has xs x) (has ys x))
@@ -35,7 +35,7 @@ has_reverse (y ∷ xs) x =
     ∙ or_either (has xs x) (y == x || false)
     ∙ ap (λ (b : Bool). b || has xs x) (or_either (y == x) false)
 
--- what was put or is left out
+-- the ids that were put or are left out
 pub has_seen : (out list : List ℕ) (x : ℕ) → has (reverse list ++ out) x ≡ (has out x || has list x)
 has_seen out list x = has_append (reverse list) out x ∙ ap (λ (b : Bool). b || has out x) (has_reverse list x) ∙ or_either (has list x) (has out x)
 
@@ -48,7 +48,7 @@ once_by : (out list xs : List ℕ) (x : ℕ) (b : Bool) → (has out x || has li
 once_by out list xs x true e = refl
 once_by out list xs x false e = append_assoc list (x ∷ []) (each_once (reverse (list ++ x ∷ []) ++ out) xs) ∙ ap (λ (seen : List ℕ). list ++ x ∷ each_once seen xs) (seen_more out list x)
 
--- one put and the rest once are all of them once
+-- after one id was put, the rest completes the whole list
 pub once_more : (out list xs : List ℕ) (x : ℕ) → with_once out (put_new out list x) xs ≡ with_once out list (x ∷ xs)
 once_more out list xs x =
     once_by out list xs x (has out x || has list x) refl

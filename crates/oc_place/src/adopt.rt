@@ -5,9 +5,9 @@ use crate::Host;
 use crate::membership::is_among;
 use oc_base::{MAX_DEPTH, NodeId, Rank, Refusal};
 
-/// Whether the host becomes the parent of the asker, which has this rank or none: Ok, or the first
-/// refusal that has a cause, in the order of [`Refusal`]. The rank keeps cycles out where the list of
-/// ancestors is old. It takes no memory.
+/// Whether the host may become the parent of the asker, which has this rank or none: Ok, or the first
+/// refusal with a cause, in the order of [`Refusal`] (rule 7, answer an ask). The rank prevents cycles even
+/// if the list of ancestors is out of date. It takes no memory.
 pub fn may_adopt(host: &Host, asker: NodeId, rank: Option<Rank>) -> Result<(), Refusal>
     ensures adopted { OnOk result (adoption_refusal host.now asker rank ≡ None) }
     ensures refused { IfErr result (λ why. adoption_refusal host.now asker rank ≡ Some why) }
@@ -18,7 +18,7 @@ pub fn may_adopt(host: &Host, asker: NodeId, rank: Option<Rank>) -> Result<(), R
     }
 }
 
-/// The first refusal that has a cause.
+/// The first refusal with a cause, if there is one.
 fn refusal(host: &Host, asker: NodeId, rank: Option<Rank>) -> Option<Refusal>
     ensures { result ≡ adoption_refusal host.now asker rank }
 {
@@ -35,8 +35,8 @@ fn refusal(host: &Host, asker: NodeId, rank: Option<Rank>) -> Option<Refusal>
     }
 }
 
-/// The chain stays one line: the host, a member of it, has a member beneath it already, beneath which
-/// the asker belongs.
+/// The refusal that keeps the chain one line: the host is a chain member that has another one below it,
+/// below which the asker belongs.
 fn by_chain(host: &Host, asker: NodeId) -> Option<Refusal>
     ensures { result ≡ chain_refusal host.now asker host.now.chain_child }
 {
@@ -48,7 +48,7 @@ fn by_chain(host: &Host, asker: NodeId) -> Option<Refusal>
     }
 }
 
-/// A parent's rank precedes its child's, if that has one.
+/// The refusal that keeps the ranks in order: a parent's rank precedes its child's.
 fn by_rank(own: Rank, rank: Option<Rank>) -> Option<Refusal>
     ensures { result ≡ rank_refusal own rank }
 {

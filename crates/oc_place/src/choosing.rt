@@ -5,8 +5,8 @@ ghost use Rattle.oc_place.specs.Best.{nearer_yet};
 use oc_base::NodeId;
 use oc_model::Candidate;
 
-/// The suitable candidate with the fewest hops, and of several the one with the least id; `direct` is
-/// the rate without any of them.
+/// Chooses the suitable candidate with the fewest hops, and of several the one with the least id; `direct`
+/// is the rate of the direct way, in bytes per second.
 pub fn choose(direct: u64, list: &[Candidate]) -> Option<NodeId>
     ensures { result ≡ chosen direct list.now }
 {
@@ -19,7 +19,7 @@ pub fn choose(direct: u64, list: &[Candidate]) -> Option<NodeId>
     best.map(|candidate| candidate.id)
 }
 
-/// Whether the way through it was measured, and is at most a tenth worse than the direct one.
+/// Whether the way through a candidate was measured, and has at least nine tenths of the direct rate.
 fn is_suitable(direct: u64, candidate: &Candidate) -> bool
     ensures { result ≡ is_suitable direct candidate.now }
 {
@@ -37,7 +37,7 @@ fn nearer(best: Option<Candidate>, candidate: Candidate) -> Candidate
     }
 }
 
-/// Whether it is nearer than the other: fewer hops, or as many and a smaller id.
+/// Whether a candidate is nearer than the other: it has fewer hops, or as many and a smaller id.
 fn is_nearer(candidate: &Candidate, other: &Candidate) -> bool
     ensures { result ≡ is_nearer candidate.now other.now }
 {

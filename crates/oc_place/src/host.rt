@@ -1,19 +1,19 @@
 use oc_base::{NodeId, Rank};
 use std::marker::Model;
 
-/// A node that is asked to be the parent, as far as the answer depends on it. Contracts see the model's
+/// The facts about a node that is asked to be the parent on which its answer depends. Contracts see the model's
 /// record of the same name.
 #[derive(Debug, Drop)]
 pub struct Host<'a> {
     pub id: NodeId,
-    /// Whether it is acting or joined.
+    /// Whether the node is acting or joined.
     pub in_tree: bool,
     pub rank: Rank,
-    /// Nearest first.
+    /// The nodes above, nearest first.
     pub ancestors: &'a [NodeId],
     /// The length of the chain: its members are the nodes from 1 to this one.
     pub chain: u32,
-    /// The least of its leased children that is a member of the chain and not the asker.
+    /// The least of its leased children that is a chain member and not the asker.
     pub chain_child: Option<NodeId>,
 }
 

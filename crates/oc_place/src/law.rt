@@ -9,8 +9,8 @@ ghost use Rattle.oc_place.specs.Causes.{HasCause, IsFirst};
 ghost use Rattle.oc_place.specs.Chosen.{IsSuitable, IsIdOfBest};
 ghost use Rattle.oc_place.specs.Asked.{IsOnce, MayBeAsked, IsNotLeftOut};
 
-/// What is chosen is the id of a suitable candidate before which no suitable one comes, by hops and
-/// then by id; and none is chosen only where none is suitable.
+/// The chosen candidate is suitable, and no suitable one has fewer hops, or as many and a smaller id; none
+/// is chosen only if none is suitable.
 pub fn the_nearest_suitable_is_chosen()
     ensures some { (direct : ℕ) (cs : List Candidate) (k : ℕ)
         → chosen direct cs ≡ Some k → IsIdOfBest direct cs k }
@@ -18,7 +18,7 @@ pub fn the_nearest_suitable_is_chosen()
         → chosen direct cs ≡ None → (c : Candidate) → IsAmong c cs → ¬ IsSuitable direct c }
 {}
 
-/// A refusal has a cause, and none before it has one; where there is no refusal, none has a cause.
+/// A refusal has a cause, and no earlier one has; without a refusal, none has a cause.
 pub fn the_first_cause_refuses()
     ensures refused { (h : Host) (x : ℕ) (r : Option Rank) (why : Refusal)
         → adoption_refusal h x r ≡ Some why → IsFirst h x r why }
@@ -26,8 +26,8 @@ pub fn the_first_cause_refuses()
         → adoption_refusal h x r ≡ None → ¬ HasCause h x r why }
 {}
 
-/// Each node that may be asked is asked, once, except for the asker and the one that is left out; and no
-/// other is.
+/// Each node that may be asked is asked once, except for the asker and the node that is left out; no other
+/// node is asked.
 pub fn each_is_asked_once()
     ensures once { (me chain : ℕ) (ancestors : List ℕ) (without : Option ℕ)
         → IsOnce (ask_order me chain ancestors without) }

@@ -4,7 +4,7 @@ ghost use Rattle.oc_place.specs.LeftOut.{out_of};
 
 use oc_base::NodeId;
 
-/// Those that are not asked: the asker, and at most one more.
+/// The nodes that are not asked: the asker, and at most one more.
 #[derive(Drop)]
 pub(crate) struct LeftOut {
     pub me: NodeId,

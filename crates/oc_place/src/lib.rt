@@ -1,24 +1,25 @@
-//! A node's place in the tree: where it looks for one, whom it takes as its child, and whom it asks.
+//! A node's place in the tree: its choice of a place, its choice of children, and the order of its asks.
 //!
-//! A node looks for a place as far from the source as serves about as well. One that descends from the root chooses
-//! among the children of the node it asked, and a joined node reviews its place against its grandparent and its
-//! siblings, as in Overcast (Jannotti et al., OSDI 2000, section 4.2). The exact margin of ten per cent and the choice
-//! by hops and then by id are our own. Rates are in bytes per second, and 0 stands for a rate that was not measured.
-//! [`choose`] is `chosen` and [`review`] is `reviewed` of the model, for all rates. [`the_nearest_suitable_is_chosen`]
-//! says what that is: a suitable candidate such that no suitable one has fewer hops, or as many and a smaller id.
+//! A node looks for a place that is as far from the source as possible and about as fast as a direct one. In a
+//! descent from the root it chooses among the children of the node it asked; when joined, it compares its place with
+//! its grandparent and its siblings, as in Overcast (Jannotti et al., OSDI 2000, section 4.2). The exact margin of
+//! ten per cent and the choice by hops and then by id are our own. Rates are in bytes per second, 0 for one not
+//! measured. [`choose`] is `chosen` and [`review`] is `reviewed` of the model, for all rates.
+//! [`the_nearest_suitable_is_chosen`] says what a chosen candidate is: suitable, and no suitable one has fewer hops,
+//! or as many and a smaller id.
 //!
-//! Parent links make no cycle because a parent's rank precedes its child's and a rank never worsens. [`may_adopt`]
-//! keeps the first and [`take_rank`] the second. A contract sees a [`Host`] as the model's, and each call as the model's
-//! function of the same name. [`may_adopt`] answers the first refusal that has a cause, and Ok exactly where none has
-//! one ([`the_first_cause_refuses`]). That a rank that is taken is the old one or precedes it, and that precedence is a
-//! strict order, are laws of `oc_laws_step`.
+//! Parent links make no cycle, since a parent's rank precedes its child's and a rank never gets worse. [`may_adopt`]
+//! ensures the first and [`take_rank`] the second. A contract sees a [`Host`] as the model's, and each call as the
+//! model's function of the same name. [`may_adopt`] answers the first refusal with a cause, and Ok exactly if none
+//! has a cause ([`the_first_cause_refuses`]). The laws of `oc_laws_step` say that a new rank is the old one or
+//! precedes it, and that precedence is a strict order.
 //!
-//! The nodes from 1 to `chain` form one line beneath the source, so that one of them can act as the root, as in Overcast
-//! (section 4.4). Whom a node asks in which order is our own rule: a member of the chain asks the members before it, the
-//! nearest first, and any other node its ancestors and then the chain. [`ask_order`] is the model's list, in which each
-//! node occurs once and neither the asker nor the one left out occurs ([`each_is_asked_once`]).
+//! The nodes from 1 to `chain` form one line beneath the source, so that one of them can act as the root, as in
+//! Overcast (section 4.4). The order in which a node asks is our own rule: a chain member asks the members before it,
+//! the nearest first, and any other node its ancestors and then the chain. [`ask_order`] is the model's list, which
+//! has each node once, without the asker and the node that is left out ([`each_is_asked_once`]).
 //!
-//! The epoch of a rank goes up one by one: [`raise`] gives the next one, and none exactly at the last number.
+//! The epoch of a rank rises one by one: [`raise`] gives the next one, or none after the last number.
 //!
 //! Only [`ask_order`] takes memory.
 #![tactic(auto)]

@@ -8,12 +8,12 @@ use crate::left_out::LeftOut;
 use crate::membership::is_among;
 use oc_base::{Memory, NodeId};
 
-/// Puts into `into`, in the place of what was there, the nodes that are asked for a place, in their
-/// order: for a member of the chain the earlier members, the nearest first; for any other node its
-/// ancestors and then the chain. Each occurs once, and neither `me` nor `without` occurs there.
+/// Replaces `into` by the nodes that are asked for a place, in their order: for a chain member the earlier
+/// members, the nearest first; for any other node its ancestors and then the chain. Each occurs once, and
+/// neither `me` nor `without` occurs.
 ///
-/// If memory runs out, `into` is as it was. Each id is looked for among those before it, so the
-/// work is the square of the list's length: for the longest, of 1,016 nodes, half a million steps.
+/// If memory runs out, `into` does not change. Each id is searched among those before it, so the work
+/// grows with the square of the list's length: half a million steps for the longest, of 1,016 nodes.
 pub fn ask_order(
     me: NodeId,
     chain: u32,
@@ -36,7 +36,7 @@ pub fn ask_order(
     Ok(())
 }
 
-/// Puts the ids below this number, from the greatest down.
+/// Adds the ids below this number, the greatest first.
 fn put_earlier(left_out: &LeftOut, number: u32, into: &mut Vec<NodeId>)
     requires room { vec_len into.old + number ≤ vec_capacity into.old }
     ensures { into.new.items ≡ with_once (out_of left_out.now) into.old.items (below number) }
@@ -46,7 +46,7 @@ fn put_earlier(left_out: &LeftOut, number: u32, into: &mut Vec<NodeId>)
     }
 }
 
-/// Puts these ids.
+/// Adds these ids.
 fn put_all(left_out: &LeftOut, ids: &[NodeId], into: &mut Vec<NodeId>)
     requires room { vec_len into.old + length ids.now ≤ vec_capacity into.old }
     ensures items { into.new.items ≡ with_once (out_of left_out.now) into.old.items ids.now }
@@ -58,7 +58,7 @@ fn put_all(left_out: &LeftOut, ids: &[NodeId], into: &mut Vec<NodeId>)
     }
 }
 
-/// Puts the members of the chain, in their order.
+/// Adds the members of the chain, in their order.
 fn put_chain(left_out: &LeftOut, chain: u32, into: &mut Vec<NodeId>)
     requires room { vec_len into.old + chain ≤ vec_capacity into.old }
     ensures { into.new.items ≡ with_once (out_of left_out.now) into.old.items (range_with_len 1 chain) }
@@ -68,7 +68,7 @@ fn put_chain(left_out: &LeftOut, chain: u32, into: &mut Vec<NodeId>)
     }
 }
 
-/// Puts the id at the end, where there is room, unless it is left out or there already.
+/// Adds the id at the end, for which there is room, unless it is left out or in the list already.
 fn put(left_out: &LeftOut, id: NodeId, into: &mut Vec<NodeId>)
     requires room { vec_len into.old < vec_capacity into.old }
     ensures items { into.new.items ≡ put_new (out_of left_out.now) into.old.items id }

@@ -4,8 +4,8 @@ ghost use Rattle.oc_model.specs.Choice.{reviewed};
 use crate::{View, choose};
 use oc_model::Review;
 
-/// Up to the grandparent, where the way to it by the parent is more than a tenth worse than the node's
-/// own; else beneath the sibling that [`choose`] gives, or else the node stays.
+/// The result of a review: up, if the way to the grandparent through the parent is more than a tenth worse
+/// than the direct one; else beneath the sibling that [`choose`] gives; else the present place.
 pub fn review(view: &View) -> Review
     ensures { result ≡ reviewed view.now }
 {

@@ -2,10 +2,10 @@ use oc_base::NodeId;
 use oc_model::Candidate;
 use std::marker::Model;
 
-/// What a joined node sees of its place. Contracts see the model's record of the same name.
+/// The present place of a joined node, for a review. Contracts see the model's record of the same name.
 #[derive(Debug, Drop)]
 pub struct View<'a> {
-    /// The node's own rate to its parent.
+    /// The node's own rate to its parent, in bytes per second.
     pub direct: u64,
     /// The parent's rate to its own parent, as it was told.
     pub up: u64,

@@ -33,7 +33,7 @@ pub struct Rule {
 
 impl Rule {
     /// Whether the rule speaks of this request.
-    pub(crate) fn matches<'a>(
+    pub fn matches<'a>(
         &self,
         action: Action,
         group: Option<&'a GroupName>,

@@ -61,7 +61,7 @@ from-turned xs k within =
     let s = split xs k within in
     rw s.rest (append_assoc (drop (suc k) xs) (take k xs) (get_or xs k 0 ∷ []) ∙ ap (λ (front : List ℕ). drop (suc k) xs ++ front) (sym s.front))
 
--- past the end it begins anew
+-- past the end the rotation starts again
 from-end : (xs : List ℕ) (k : ℕ) → k ≡ length xs → from_place k xs ≡ from_place 0 xs
 from-end xs k is = rw (is, drop_whole xs, take_whole xs) (sym (append-nil xs))
   where

@@ -1,4 +1,4 @@
--- What a fault of the reading of a reply is to a probe.
+-- The fault of a probe that a fault of a reply brings.
 use Rattle.oc_http.specs.declared.fault.HttpFault.{HttpFault}
 use Rattle.oc_http.specs.declared.fault.HttpFault.TheVariants as http
 use Rattle.oc_probe.specs.declared.fault.ProbeFault.{ProbeFault}

@@ -6,7 +6,7 @@ use Rattle.std.specs.List.{count_by}
 abbrev pub probe_bytes : ℕ
 probe_bytes = 10_240
 
--- how many rates of a peer are kept
+-- the number of rates kept of a peer
 abbrev pub kept_rates : ℕ
 kept_rates = 5
 

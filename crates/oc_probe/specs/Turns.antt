@@ -1,7 +1,7 @@
 -- The peers of a node, in turn.
 use Rattle.std.specs.Prelude.{ℕ, ◌+◌, ◌-◌, zero, suc, List, [], ◌∷◌, ◌++◌, nat_lt, if◌then◌else◌}
 
--- this many ids from that one on
+-- the ids of this number, from that one on
 abbrev pub ids : ℕ → ℕ → List ℕ
 ids first zero = []
 ids first (suc count) = first ∷ ids (first + 1) count
@@ -15,7 +15,8 @@ abbrev pub turned : List ℕ → List ℕ
 turned [] = []
 turned (id ∷ rest) = rest ++ id ∷ []
 
--- whose rotation it is, among how many nodes, and the others in the order in which they come
+-- the node of the rotation, the number of nodes, and the other nodes in the order in which they
+-- come
 pub record RotationView : Type 0 where
   pub me : ℕ
   pub nodes : ℕ

@@ -5,12 +5,12 @@ use oc_http::HttpFault;
 use std::error::Error;
 use std::fmt;
 
-/// Why a probe gave no rate.
+/// The reason why a probe gave no rate.
 #[derive(Clone, Copy, Debug, PartialEq, Eq)]
 pub enum ProbeFault {
     /// A call of the dial failed.
     Link,
-    /// What came is no response of status 200 with a body of `PROBE_BYTES` bytes.
+    /// The bytes that came are no response of status 200 with a body of `PROBE_BYTES` bytes.
     Reply,
     /// Memory ran out.
     Memory,

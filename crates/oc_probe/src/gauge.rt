@@ -6,8 +6,8 @@ use oc_base::{Memory, NodeId};
 use std::alloc::Global;
 use std::marker::Model;
 
-/// The last five rates of each peer, in bytes per second. Contracts see it as the list of these rates
-/// by the number of the peer.
+/// The last five rates of each peer, in bytes per second. Contracts see the list of rates of each
+/// peer, by its number.
 #[derive(Debug, Drop)]
 pub struct Gauge {
     peers: Vec<Recent>,
@@ -22,7 +22,7 @@ impl Model for Gauge {
 }
 
 impl Gauge {
-    /// No rate yet of any of this many peers.
+    /// A gauge of `nodes` peers without rates.
     pub fn new(alloc: Global, nodes: u32) -> Result<Gauge, Memory>
         ensures { IfOk result (λ all. all ≡ replicate nodes []) }
     {
@@ -33,7 +33,7 @@ impl Gauge {
         Ok(Gauge { peers })
     }
 
-    /// Keeps another rate of the peer, and gives the median of its last five. It takes no memory.
+    /// Keeps another rate of the peer, and gives the median of its last five. Takes no memory.
     pub fn put(&mut self, peer: NodeId, rate: u64) -> u64
         requires first { 1 ≤ peer }
         requires last { peer ≤ length self.old }

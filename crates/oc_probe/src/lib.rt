@@ -1,4 +1,4 @@
-//! Rates to other nodes, and whose is measured next.
+//! Rates to other nodes, and the peer to be measured next.
 //!
 //! A probe downloads [`PROBE_BYTES`] bytes from a node. Its rate in bytes per second is [`rate_of`] two
 //! readings of the clock in milliseconds, before the dial and after the last byte; a [`ProbeFault`] says why

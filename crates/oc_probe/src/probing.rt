@@ -1,6 +1,6 @@
 use crate::{Gauge, Rotation};
 
-/// What a node keeps to probe its peers.
+/// The state with which a node probes its peers.
 #[derive(Debug, Drop)]
 pub struct Probing {
     pub gauge: Gauge,

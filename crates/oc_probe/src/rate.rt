@@ -1,7 +1,7 @@
 ghost use Rattle.std.specs.Prelude.{◌≡◌};
 ghost use Rattle.oc_probe.specs.Rates.{rate_of};
 
-/// The bytes that a probe downloads.
+/// The length of the body that a probe downloads, in bytes.
 pub const PROBE_BYTES: u64 = 10_240;
 
 /// The rate of a probe in bytes per second, by the readings of the clock in milliseconds before and

@@ -3,7 +3,7 @@ ghost use Rattle.oc_probe.specs.Rates.{with_rate, IsMedian};
 
 use std::marker::Model;
 
-/// How many rates of a peer are kept.
+/// The number of rates kept of a peer.
 pub const KEPT: usize = 5;
 
 /// The last rates of a peer, oldest first.
@@ -25,7 +25,7 @@ impl Model for Recent {
 }
 
 impl Recent {
-    /// No rate yet.
+    /// Begins without rates.
     pub(crate) fn new() -> Recent
         ensures { result ≡ [] }
     {
@@ -35,7 +35,7 @@ impl Recent {
         }
     }
 
-    /// Keeps another rate, and forgets the oldest where there are more than `KEPT`.
+    /// Keeps another rate, and drops the oldest if there are more than `KEPT`.
     pub(crate) fn put(&mut self, rate: u64)
         ensures { self.new ≡ with_rate self.old rate }
     {

@@ -4,12 +4,13 @@ ghost use Rattle.oc_probe.specs.Turns.{others, turned, peer_at};
 use oc_base::NodeId;
 use std::marker::Model;
 
-/// The peers of a node in the order in which they are probed: ascending, and round again.
+/// The peers of a node in the order in which they are probed: ascending, and then from the
+/// beginning.
 #[derive(Debug, Drop)]
 pub struct Rotation {
     me: NodeId,
     nodes: u32,
-    /// How many peers were given in this round.
+    /// The number of peers given in this round.
     given: u32,
 }
 
@@ -29,7 +30,7 @@ impl Model for Rotation {
 }
 
 impl Rotation {
-    /// The peers of `me` among this many nodes, from the least one on.
+    /// The peers of `me` among `nodes` nodes, from the least one on.
     pub fn new(me: NodeId, nodes: u32) -> Rotation
         requires first { 1 ≤ me }
         requires last { me ≤ nodes }
@@ -42,7 +43,7 @@ impl Rotation {
         }
     }
 
-    /// The next peer. `None` exactly where there is no other node.
+    /// The next peer. `None` exactly if there is no other node.
     pub fn next(&mut self) -> Option<NodeId>
         ensures peer { result ≡ slice_get self.old.coming 0 }
         ensures turns { self.new ≡ record self.old { coming = turned self.old.coming } }
@@ -61,7 +62,7 @@ impl Rotation {
     }
 }
 
-/// The peer at this place of those that ascend, counted from 0.
+/// The peer at this index in ascending order, counted from 0.
 fn peer_at(me: NodeId, place: u32) -> NodeId
     requires { place + 2 < 2 ^ 32 }
     ensures { result ≡ peer_at me place }

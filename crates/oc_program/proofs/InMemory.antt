@@ -18,7 +18,7 @@ use Rattle.oc_commands.specs.declared.ending.End.TheVariants.{Helped, HelpFailed
 use Rattle.oc_program.specs.Streams.{at_bytes}
 
 module _ (bytes : List ℕ) (read : ℕ) (output : Output) (error : OnError) (stage : OnStage) where
-  -- the status of what the bytes say, or that of a failure, or lack of memory
+  -- the status for the bytes, or that of a failure, or lack of memory
   abbrev IsRightOf : Scale → ℕ → Type 0
   IsRightOf scale status = (status ≡ status_for (schedule_of scale bytes)) ⊎ (status ≡ 1) ⊎ (status ≡ 4)
 

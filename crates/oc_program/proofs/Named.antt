@@ -10,7 +10,7 @@ use Rattle.oc_words.specs.declared.request.Invocation.{Invocation}
 use Rattle.oc_words.specs.declared.words.WordsFault.{WordsFault}
 use Rattle.oc_words.specs.declared.words.WordsFault.TheVariants.{Usage, Memory}
 
--- what was read names the files that the words name
+-- the request that was read names the files that the words name
 read_asked : (untokened : Bool) (asked : Option Invocation) → file_in untokened (ok_or asked Usage) ≡ file_by untokened asked
 read_asked true None = refl
 read_asked true (Some request) = refl

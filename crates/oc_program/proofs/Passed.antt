@@ -1,4 +1,4 @@
--- What passed through the adapters, over bytes in memory and over streams of which the counts are known.
+-- The traffic through the adapters, over bytes in memory and over streams with known counts.
 use Rattle.std.proofs.Common.{◌≡◌, ◌∙◌, ℕ, ◌+◌, ◌-◌, ◌^◌, ◌<◌, ◌≤◌, min, cond, refl, take, List, [], ◌++◌, length, Option, Some, None, Result, Err, ap, ap₂, sym, subst, inl, inr, arith, append-nil, length-append}
 use Rattle.std.proofs.lemmas.Bool.{lt-ltb}
 use Rattle.std.specs.Str.Lines.{lines}
@@ -60,7 +60,7 @@ failed_since a b (inr last) = omega (arith, last)
 pub long_refused : (scale : Scale) (bytes : List ℕ) → most_of scale limits.Bytes < length bytes → schedule_of scale bytes ≡ Err (Limit limits.Bytes)
 long_refused scale bytes more = ap (λ b. cond b (Err (Limit limits.Bytes)) (read_lines scale 1 None (lines bytes))) (lt-ltb (most_of scale limits.Bytes) (length bytes) more)
 
--- what passes a limit says so
+-- bytes that exceed a limit give the end of that limit
 passing : {S : Type 0} (scale : Scale) (gives : S → List ℕ → S → Type 0) (ended : S → Type 0) (old new : S) (what : What) → PassesLimit scale gives ended old new what
     → (bytes : List ℕ) × gives old bytes new × (schedule_of scale bytes ≡ Err (Limit what))
 passing scale gives ended old new limits.Bytes h = let (bytes, came, more) = h in (bytes, came, long_refused scale bytes more)
@@ -84,7 +84,7 @@ module _ {R : Type 0} (old new : ReaderSource R) (left : R → List ℕ) (began 
   abbrev ended : ReaderSource R → Type 0
   ended = readers.HasEnded left_of
 
-  -- what came is no more than there was, and was counted
+  -- the bytes that came are no more than there were, and were counted
   is_counted : (front : List ℕ) → readers.Passed left_of old front new → (read ≡ length front) × (length front ≤ length bytes)
   is_counted front p =
       let sum : length bytes ≡ length front + length (left new.reader) = ap length (sym bytes_are ∙ p.known) ∙ length-append front (left new.reader) in
@@ -109,7 +109,7 @@ module _ {R : Type 0} (old new : ReaderSource R) (left : R → List ℕ) (began 
   passes_it scale limits.Published h = let (refused, all) = says_it scale _ h in (refused, omega (arith, all))
   passes_it scale limits.Settles h = let (refused, all) = says_it scale _ h in (refused, omega (arith, all))
 
-  -- what came is no more than there was
+  -- the bytes that came are no more than there were
   came_it : (front : List ℕ) → readers.Passed left_of old front new → read ≤ length bytes
   came_it front p = let counted = is_counted front p in omega (arith, counted.0, counted.1)
 
@@ -145,7 +145,7 @@ module _ {W : Type 0} (old new : WriterSink W) (held : W → List ℕ) (began : 
     cut_off = λ text h. is_held text h.0.passed;
   }
 
-  -- what is told of a node with this output
+  -- the statements about a node with this output
   pub node_in_text : {D N : Type 0} (view : D → DiskView) (story : N → Option (List Call)) (counts : N → LinkCounts) (d e : Disks D) (link after : N)
       → TellsNode (at_node view story counts (writers.Went held_by) (writers.WentAndFailed held_by) d e link after old new) (at_node view story counts Grew Grew d e link after [] output)
   node_in_text view story counts d e link after =
@@ -160,7 +160,7 @@ module _ {W : Type 0} (old mid new : WriterSink W) (held : W → List ℕ) (bega
   told_it text (inl h) = inl (is_held old mid held began (held mid.writer) refl text h.passed)
   told_it text (inr h) = inr (h.0.0, is_held old mid held began (held mid.writer) refl (take h.0.0 text) h.0.1.passed)
 
-  -- what was told of a client
+  -- the progress lines of a client
   pub lines_told : TellsError (at_error (writers.Went told_by) (writers.WentAndFailed told_by) (λ s. s.faults) old mid) (at_lines (held mid.writer))
   lines_told = record {
     told = λ whole bytes h. (h.0, h.1, told_it (progress_text whole h.0) h.2);
@@ -222,7 +222,7 @@ module _ {W : Type 0} (old new : WriterSink W) (contents : W → Option (List �
       let all : min new.passed (2 ^ 64 - 1) ≡ traffic.bytes = omega (arith, bytes_are, fits) in
       ap₂ (λ (b f : ℕ). record { bytes = b; faults = f }) all (sym faults_are)
 
-  -- what is told of a node with this output
+  -- the statements about a node with this output
   pub node_in_counts : {D N : Type 0} (view : D → DiskView) (story : N → Option (List Call)) (counts : N → LinkCounts) (d e : Disks D) (link after : N)
       → TellsNode (at_node view story counts (writers.Went contents) (writers.WentAndFailed contents) d e link after old new) (at_node view story counts WentOn WentOnAndFailed d e link after no_traffic traffic)
   node_in_counts view story counts d e link after =
@@ -233,7 +233,7 @@ module _ {W : Type 0} (old new : WriterSink W) (contents : W → Option (List �
 
 module _ {W : Type 0} (old mid new : WriterSink W) (contents : W → Option (List ℕ)) (began : old.passed ≡ 0) (sound : old.faults ≡ 0)
     (traffic : Traffic) (bytes_are : traffic.bytes ≡ new.passed) (faults_are : traffic.faults ≡ new.faults) (fits : traffic.bytes ≤ 2 ^ 64 - 1) where
-  -- what had passed before the line
+  -- the traffic before the line
   abbrev pub told_traffic : Traffic
   told_traffic = record { bytes = min mid.passed (2 ^ 64 - 1); faults = mid.faults }
 
@@ -241,7 +241,7 @@ module _ {W : Type 0} (old mid new : WriterSink W) (contents : W → Option (Lis
   counted_it text (inl h) = inl (count_begins old.passed (length text) mid.passed began h.passed.counts)
   counted_it text (inr h) = inr ((h.0.0, count_begins old.passed (length (take h.0.0 text)) mid.passed began h.0.1.passed.counts), failed_since old.faults mid.faults h.1)
 
-  -- what was told of a client
+  -- the progress lines of a client
   pub counts_told : TellsError (at_error (writers.Went contents) (writers.WentAndFailed contents) (λ s. s.faults) old mid) (at_told told_traffic)
   counts_told = record {
     told = λ whole bytes h. (h.0, h.1, counted_it (progress_text whole h.0) h.2);

@@ -1,4 +1,4 @@
--- What had happened leaves each request its status.
+-- The effect of an end gives each request its status.
 use Rattle.std.proofs.Common.{◌≡◌, ◌∙◌, ℕ, ◌⊎◌, List, Option, Some, None, inl, inr, refl, ap}
 use Rattle.oc_commands.specs.Outside as sayings
 use Rattle.oc_commands.specs.Outside.{Input, OnError, OnFiles, OnLink, OnNode, OnStage, Output, at_files, at_link, at_node, at_sink, at_source, at_stage}

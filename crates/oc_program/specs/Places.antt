@@ -1,4 +1,4 @@
--- Where the input, the token and the three files of a run are.
+-- The paths of the input, the token and the three files of a run.
 use Rattle.std.specs.Prelude.{◌≡◌, List, ℕ, ◌++◌, codes, Option, option_map, string_bytes, unwrap_or}
 use Rattle.oc_words.specs.Paths.{file_asked, folder_asked, node_asked, token_file_asked}
 use Rattle.oc_words.specs.declared.request.Invocation.{Invocation}
@@ -8,7 +8,8 @@ use Rattle.oc_program.specs.declared.places.Places.{Places}
 abbrev pub path_in : List ℕ → List ℕ → List ℕ
 path_in folder file = folder ++ codes "/" ++ file
 
--- this node, if any, this file, if any, in the place of the input, that of a token, if any, and the files of this folder, or of the present one
+-- the places for this node, this file instead of the input, that of a token, and the files of this
+-- folder, or of the present one
 pub record AreNamed (node : Option ℕ) (named shown inside : Option (List ℕ)) (p : Places) : Type 0 where
   pub node_is : p.node ≡ node
   pub input : option_map string_bytes p.input ≡ named
@@ -18,6 +19,6 @@ pub record AreNamed (node : Option ℕ) (named shown inside : Option (List ℕ))
   pub alternate : string_bytes p.alternate ≡ path_in (unwrap_or inside (codes ".")) (codes "control.alt")
   pub content : string_bytes p.content ≡ path_in (unwrap_or inside (codes ".")) (codes "content.log")
 
--- those that words name which ask for this, if for anything
+-- the places named by words with this request, if they make one
 abbrev pub AreAsked : Option Invocation → Places → Type 0
 AreAsked asked p = AreNamed (node_asked asked) (file_asked asked) (token_file_asked asked) (folder_asked asked) p

@@ -1,5 +1,5 @@
--- What can be said of all that a run reaches, from its old value to the new one, where `told` is the error output before the line that
--- says how the run ended.
+-- The knowledge of the outside, from its old value to the new one; `told` is the error output
+-- before the line that tells how the run ended.
 use Rattle.std.specs.Prelude.{ℕ, List, Option}
 use Rattle.oc_commands.specs.Outside as sayings
 use Rattle.oc_commands.specs.Outside.{at_files, at_link, at_node, at_sink, at_source, at_stage}

@@ -1,4 +1,5 @@
--- What a run over the real things leaves, by counts of bytes and by what is known of the things.
+-- The result of a run over the real objects, by counts of bytes and by the knowledge of the
+-- objects.
 use Rattle.std.specs.Prelude.{◌≡◌, ℕ, List, Option}
 use Rattle.oc_commands.specs.Ends.{status_of}
 use Rattle.oc_commands.specs.Lines.{file_told, line_of}
@@ -22,8 +23,8 @@ use Rattle.oc_words.specs.declared.request.Invocation.{Invocation}
 
 module _ {T D L N P : Type 0} (world : T → World) (view : D → DiskView) (dials : L → Option Story) (dial_faults : L → ℕ)
     (calls : N → Option (List Call)) (counts : N → LinkCounts) where
-  -- what can be said of streams of which this passed, on the error output `told` before the last line, and of things that were the first
-  -- and became the last
+  -- the knowledge of streams with this traffic, on the error output `told` before the last line,
+  -- and of objects from their first to their last value
   abbrev pub seen_over : Option Invocation → Started → Traffic → Things T D L N P → Things T D L N P → sayings.Outside
   seen_over asked ran told first last = record {
     asked = asked;
@@ -37,8 +38,9 @@ module _ {T D L N P : Type 0} (world : T → World) (view : D → DiskView) (dia
     node = at_node view calls counts WentOn WentOnAndFailed (disks_in first.files) (disks_in last.files) first.link last.link no_traffic ran.output;
   }
 
--- how it ended: the status, the line on the error output after what was told, and what had happened to things on whose links nothing had failed before; of the
--- pause between tries nothing is said
+-- the end of the run: the status, the line on the error output after the progress lines, and the
+-- effect on objects whose links had not failed before; nothing is promised about the pause between
+-- tries
 pub record HasRun {T D L N : Type 0} (world : T → World) (view : D → DiskView) (dials : L → Option Story) (dial_faults : L → ℕ) (calls : N → Option (List Call)) (counts : N → LinkCounts) (asked : Option Invocation) (ran : Started) : Type 0 where
   pub first : Things T D L N (Unit {0})
   pub last : Things T D L N (Unit {0})

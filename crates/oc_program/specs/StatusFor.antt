@@ -1,4 +1,4 @@
--- Which status comes for which request, where nothing fails that the command names in its status.
+-- The status for each request, if nothing fails that the command names in its status.
 use Rattle.std.specs.Prelude.{◌≡◌, ◌⊎◌, ℕ, List, Option, Some, None}
 use Rattle.oc_commands.specs.AtConfigured.{HasShownStatus}
 use Rattle.oc_commands.specs.AtMerge.{HasRecordsStatus}
@@ -18,7 +18,8 @@ use Rattle.oc_program.specs.declared.outside.Outside.{Outside}
 
 module _ {S K E T D L N P : Type 0} (gives : S → List ℕ → S → Type 0) (ended : S → Type 0) (input_faults : S → ℕ) (output_faults : K → ℕ)
     (view : D → DiskView) (dials : L → Option Story) (dial_faults : L → ℕ) (counts : N → LinkCounts) (old new : Outside S K E T D L N P) where
-  -- What did not fail: the input, the output, a disk of those that are honest, a dial, and the link of a node in being asked
+  -- The objects that did not fail: the input, the output, an honest disk, a dial, and the asking of
+  -- a node's link
 
   abbrev pub InputHeld : Type 0
   InputHeld = Rose (input_faults old.input) (input_faults new.input) → ⊥
@@ -35,14 +36,15 @@ module _ {S K E T D L N P : Type 0} (gives : S → List ℕ → S → Type 0) (e
   abbrev pub LinkHeld : Type 0
   LinkHeld = Rose (counts old.link).listening (counts new.link).listening → ⊥
 
-  -- One download that is asked for once, without a token: where its URL was served whole, it is done.
+  -- One download that is made once, without a token: if its URL was served whole, it is done.
   abbrev pub StatusForGet : List ℕ → Option ℕ → Option ℕ → Option (List ℕ) → ℕ → Type 0
   StatusForGet address start None None status = IsServed address start (dials old.dialler) (dials new.dialler) → DialsHeld → OutputHeld → IsDoneOrMemory status
   StatusForGet address start times file status = Unit {0}
 
-  -- Words that ask for nothing have status 2. Help, `--version` and `gen` are done; a replay has the status of what its input says, and so
-  -- have `merge` and `rules`. The files of a node are shown by `check`, of a configuration where that has the node. A `node` has the status of what
-  -- its configuration says, and over the files of a node it is done, or a file is full. Or memory ran out.
+  -- Words without a request have status 2. Help, `--version` and `gen` are done; a replay has the
+  -- status for the schedule in its input, and `merge` and `rules` likewise. The files of a node are
+  -- shown by `check`, for a configuration if it has the node. A `node` has the status for its
+  -- configuration, and over the files of a node it is done, or a file is full. Or memory ran out.
   abbrev pub StatusFor : Option Invocation → ℕ → Type 0
   StatusFor None status = (status ≡ 2) ⊎ (status ≡ 4)
   StatusFor (Some Help) status = OutputHeld → IsDoneOrMemory status

@@ -1,4 +1,4 @@
--- A run over bytes in memory, and a run over streams of which it is known how many bytes passed.
+-- A run over bytes in memory, and a run over streams whose numbers of bytes are known.
 use Rattle.std.specs.Prelude.{◌≡◌, ℕ, ◌<◌, ◌≤◌, ◌^◌, ◌-◌, ◌+◌, ◌⊎◌, List, [], length, ◌++◌, min, Err}
 use Rattle.oc_io.specs.declared.traffic.Traffic.{Traffic}
 use Rattle.oc_base.specs.declared.limits.TheConstants.{MAX_SCHEDULE_BYTES}
@@ -10,11 +10,11 @@ use Rattle.oc_commands.specs.Telling.{IsToldOf}
 
 -- ---- in memory
 
--- these are the bytes that were read, this many of those of the input
+-- the bytes that were read, which are the first ones of the input
 abbrev pub IsFrontRead : List ℕ → ℕ → List ℕ → Type 0
 IsFrontRead bytes read front = ((rest : List ℕ) × (bytes ≡ front ++ rest)) × (read ≡ length front)
 
--- this many of the bytes of the input were read
+-- this number of bytes of the input were read
 abbrev pub at_bytes : List ℕ → ℕ → Input
 at_bytes bytes read = record {
   says = λ scale says. (schedule_of scale bytes ≡ says) × (read ≡ length bytes);
@@ -36,11 +36,11 @@ at_text output = record { written = λ text. output ≡ text; cut_off = λ text.
 abbrev pub Grew : List ℕ → List ℕ → List ℕ → Type 0
 Grew old bytes new = new ≡ old ++ bytes
 
--- the error output is what was told and after it this line, or a prefix of it
+-- the error output has the progress lines and after them this line, or a prefix of it
 abbrev pub IsLineOrFront : List ℕ → List ℕ → List ℕ → Type 0
 IsLineOrFront output told line = (output ≡ told ++ line) ⊎ SomeFront line (λ front. output ≡ told ++ front)
 
--- this was told on the error output
+-- this was written on the error output as progress
 abbrev pub at_lines : List ℕ → OnError
 at_lines told = record {
   told = λ whole bytes. IsToldOf (λ text. IsLineOrFront told [] text) whole bytes;
@@ -86,23 +86,24 @@ at_output traffic = record {
 abbrev pub IsCountBehind : Traffic → Traffic → List ℕ → Type 0
 IsCountBehind before traffic bytes = traffic.bytes ≡ min (before.bytes + length bytes) (2 ^ 64 - 1)
 
--- they were, and no call failed
+-- these bytes passed, and no call failed
 abbrev pub WentOn : Traffic → List ℕ → Traffic → Type 0
 WentOn before bytes traffic = IsCountBehind before traffic bytes × (traffic.faults ≡ before.faults)
 
--- they were, and then a call failed
+-- these bytes passed, and then a call failed
 abbrev pub WentOnAndFailed : Traffic → List ℕ → Traffic → Type 0
 WentOnAndFailed before bytes traffic = IsCountBehind before traffic bytes × HasFailed traffic
 
--- as many bytes more were written as the line has, or as a prefix of it, and then a call failed
+-- the number of bytes written grew by the length of the line; or by that of a prefix of it, and
+-- then a call failed
 abbrev pub IsCountOfLineOrFront : Traffic → Traffic → List ℕ → Type 0
 IsCountOfLineOrFront before traffic line = IsCountBehind before traffic line ⊎ (SomeFront line (λ front. IsCountBehind before traffic front) × HasFailed traffic)
 
--- nothing passed
+-- no traffic
 abbrev pub no_traffic : Traffic
 no_traffic = record { bytes = 0; faults = 0 }
 
--- this much was told on the error output
+-- this amount was written on the error output as progress
 abbrev pub at_told : Traffic → OnError
 at_told told = record {
   told = λ whole bytes. IsToldOf (λ text. IsCountOfLineOrFront no_traffic told text) whole bytes;

@@ -24,20 +24,21 @@ use oc_link::{Dialler, Link};
 use oc_world::World;
 use std::alloc::Global;
 
-/// What a run over a world in memory left: of the world the disks of one of its nodes.
+/// The result of a run over a world in memory, with the disks of one node of that world.
 #[derive(Drop)]
 pub struct Left<S: Source, K: Sink, E: Sink, D: Disk, L: Dialler, N: Link, P: Pause> {
     pub status: u8,
     pub disks: Option<(MemDisk, MemDisk, MemDisk)>,
-    /// With a new world.
+    /// The outside, with a new world.
     pub outside: Outside<S, K, E, World, D, L, N, P>,
 }
 
-/// [`run`] over a world in memory, new or not, and then the disks of one of its nodes: those of the control files before
-/// that of the content, or none where the world has no such node.
+/// Runs the program as [`run`] does over a world in memory, new or not, and gives the disks of one
+/// of its nodes: those of the control files before that of the content, or none if the world has no
+/// such node.
 ///
-/// The world is where the schedule led, and every crash of the disks leaves what is durable of the node in
-/// it. A prefix of a schedule is one too, so this holds after each event.
+/// The world is the one to which the schedule led, and every crash of the disks leaves the durable
+/// part of the node in it. A prefix of a schedule is one too, so this holds after each event.
 pub fn run_to_disks<S: Source, K: Sink, E: Sink, D: Disk, L: Dialler, N: Link, P: Pause>(
     alloc: Global,
     words: &[String],

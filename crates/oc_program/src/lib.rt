@@ -1,15 +1,17 @@
-//! The program as a call: words and all that a run reaches in, a status and the same out.
+//! The program as a call: it gets the words and the outside, and gives a status and the outside
+//! back.
 //!
-//! [`run`] is the contract that everything leads up to: how it ended, with which status and which
-//! line, and what had then happened outside. `Outside` in the `specs/` of `oc_commands` is all that it speaks
-//! of, and `Happened` says for each end what then holds. `StatusFor` says which status comes for which request where
-//! nothing fails. [`run_in_memory`] and [`run_on_streams`] are `run` at readers and writers, where the same clause is
-//! about bytes and about counts of bytes.
+//! [`run`] has the contract that all crates lead up to: the end of the run, its status and its
+//! line, and its effect on the outside. `Outside` in the `specs/` of `oc_commands` is the subject
+//! of the contract, and `Happened` gives the effect of each end. `StatusFor` gives the status for
+//! each request if nothing fails. [`run_in_memory`] and [`run_on_streams`] are `run` at readers and
+//! writers, with the same clause about bytes and about counts of bytes.
 //!
-//! Where a replay ends with status 0, [`headline_holds`] is part of that clause: what holds of every world
-//! of the schedule, also inside settle and heal, and what settle and heal leave and report.
+//! If a replay ends with status 0, [`headline_holds`] is part of that clause: the properties of
+//! every world of the schedule, also inside settle and heal, and the results and reports of settle
+//! and heal.
 //!
-//! What the words ask for is read by `oc_words`, and done by `oc_commands`.
+//! The words are read by `oc_words`, and their request is performed by `oc_commands`.
 //!
 //! [`start`] makes the real things, which are the standard streams, or a file in the place of the input, three files of a
 //! folder, sockets, and a world in memory for a replay, and calls [`run_on_streams`]. [`Places::of`] finds which files

@@ -1,4 +1,4 @@
-//! Where the input, the token and the three files of a run are.
+//! The paths of the input, the token and the three files of a run.
 
 ghost use Rattle.std.specs.Prelude.{◌≡◌, ℕ, List, Option, IfErr, IfOk, codes, option_map, string_bytes, unwrap_or};
 ghost use Rattle.oc_program.specs.Places.{AreAsked, AreNamed, path_in};
@@ -20,9 +20,9 @@ const CONTENT: &str = "content.log";
 /// The paths of the input, of the file of a token and of the three files of a node.
 #[derive(Drop)]
 pub struct Places {
-    /// The node that is to run, if one is.
+    /// The id of the node to run, if one is run.
     pub(crate) node: Option<u64>,
-    /// The file that takes the place of the standard input, if any does.
+    /// The file that is read instead of the standard input, if any.
     pub(crate) input: Option<String>,
     /// The file of a client's token, if there is one.
     pub(crate) token: Option<String>,
@@ -34,8 +34,8 @@ pub struct Places {
 }
 
 impl Places {
-    /// Those that the words name. Words that ask for nothing name none. Where memory runs out, that is how the program
-    /// ends.
+    /// The places that the words name; none for words that make no request. If memory runs out, the
+    /// error is the end of the program.
     pub fn of(alloc: Global, words: &[String]) -> Result<Places, End>
         ensures asked { IfOk result (AreAsked (asked (texts_of words.now))) }
         ensures memory { IfErr result (λ end. end ≡ End.NoMemory) }
@@ -53,8 +53,8 @@ impl Places {
         }
     }
 
-    /// This node, if any, these files of the input and of a token, if any, and the files of this folder, or of the
-    /// present one.
+    /// The places for this node, these files of the input and of a token, and the folder of the
+    /// node's files, or else the present one.
     fn named(
         alloc: Global,
         node: Option<u64>,
@@ -100,7 +100,7 @@ impl Places {
     }
 }
 
-/// This folder, or the present one.
+/// This folder, or the present one if there is none.
 fn or_present(folder: Option<&str>) -> &str
     ensures { result.now ≡ unwrap_or (option_map (λ name. name.now) folder.entry) (codes ".") }
 {
@@ -110,7 +110,7 @@ fn or_present(folder: Option<&str>) -> &str
     }
 }
 
-/// Without memory, that is how the program ends.
+/// The places, or the end of a program without memory.
 fn or_no_memory(places: Result<Places, AllocError>) -> Result<Places, End>
     ensures same { (node : Option ℕ) (input token folder : Option (List ℕ)) → IfOk places (AreNamed node input token folder)
         → IfOk result (AreNamed node input token folder) }
@@ -122,7 +122,7 @@ fn or_no_memory(places: Result<Places, AllocError>) -> Result<Places, End>
     }
 }
 
-/// A copy of a text, where there is one.
+/// A copy of a text, if there is one.
 fn copied(alloc: Global, text: Option<&str>) -> Result<Option<String>, AllocError>
     ensures { IfOk result (λ copy. option_map string_bytes copy ≡ option_map (λ text. text.now) text.entry) }
 {

@@ -3,7 +3,7 @@
 ghost use Rattle.std.specs.Prelude.{◌≡◌, ◌≢◌, ℕ, ◌⊎◌, List, None, Err, IfOk, option_map};
 ghost use Rattle.oc_keep.specs.Files.{disks_in};
 ghost use Rattle.oc_io.specs.Faults.{NoFall};
-ghost use Rattle.oc_commands.specs.AtCheck.{HappenedAtCheck, network_of};
+ghost use Rattle.oc_commands.specs.AtCheck.{HappenedAtCheck, sizes_of};
 ghost use Rattle.oc_commands.specs.AtConfigured.{HappenedAtConfigured, UnlessChecked};
 ghost use Rattle.oc_commands.specs.AtGet.{HappenedAtGet};
 ghost use Rattle.oc_commands.specs.AtNode.{HappenedAtNode, UnlessRan};
@@ -33,39 +33,41 @@ use oc_service::Site;
 use oc_words::{Download, Invocation, Member, Name, Service, Upload, WordsFault, read_words};
 use std::alloc::Global;
 
-/// Runs the program: what the words ask for, from the input to the output, over the stage, the three files
-/// of a node, and the links of a client and of a node. All of it comes back.
+/// Runs the program: performs the request of the words, from the input to the output, over the
+/// stage, the three files of a node, and the links of a client and of a node. The whole outside is
+/// given back.
 ///
-/// The status is that of [`Status`](crate::Status); with each status other than 0 a line on the error output
-/// says why, after those that tell how far a client came where they are wanted. What the words have no use for stays as
-/// it was.
+/// The status is that of [`Status`](crate::Status). With each status other than 0 a line on the
+/// error output gives the reason, after the progress lines of a client if those are wanted. Objects
+/// that the request does not use are unchanged.
 pub fn run<S: Source, K: Sink, E: Sink, T: Stage, D: Disk, L: Dialler, N: Link, P: Pause>(
     alloc: Global,
     words: &[String],
     outside: Outside<S, K, E, T, D, L, N, P>,
 ) -> Ended<S, K, E, T, D, L, N, P>
-    // How it ended: the status, the line on the error output after what was told, and what had happened; of a node,
-    // at each moment of its run what was written and what every crash leaves.
+    // The end of the run: the status, the line on the error output after the progress lines, and
+    // the effect on the outside; for a node, the bytes written and the files after every crash, at
+    // each moment of its run.
     ensures ended { (end : End) × (usage : List ℕ) × (told : E)
         × (result.status ≡ number_of (status_of end))
         × IsWrittenOrCut E.takes E.fails E.faults told result.outside.error (line_of end (file_told (asked (texts_of words.now)) end) usage)
         × Happened (seen S.gives S.fails S.ended S.faults K.takes K.fails K.faults E.takes E.fails E.faults T.world D.view L.story L.faults N.story N.counts
         (asked (texts_of words.now)) outside told result.outside) end }
 
-    // Where nothing fails that the command names in its status, this one comes: by what its input says, and by what
-    // its files or its link have. Or memory runs out.
+    // If nothing fails that the command names in its status, the status is determined by the
+    // meaning of the input, and by the files or the link. Or memory runs out.
     ensures status_for { StatusFor S.gives S.ended S.faults K.faults D.view L.story L.faults N.counts outside result.outside
         (asked (texts_of words.now)) result.status }
 
-    // Status 2 comes only where the words ask for nothing.
+    // Status 2 comes only if the words make no request.
     ensures only_misused { result.status ≡ 2 → asked (texts_of words.now) ≡ None }
     ensures plain { IsPlain (texts_of words.now) → result.status ≢ 2 }
 
     ensures input_count { NoFall (S.faults outside.input) (S.faults result.outside.input) }
     ensures error_count { NoFall (E.faults outside.error) (E.faults result.outside.error) }
 
-    // The output's count of faults never falls where the work is done, nor where the words ask for no node. For a
-    // node that ends before, nothing is said of it.
+    // The output's count of faults never falls if the work is done, nor if the words ask for no
+    // node. For a node that ends early, nothing is promised about it.
     ensures output_count { IsNoNode (asked (texts_of words.now)) → NoFall (K.faults outside.output) (K.faults result.outside.output) }
     ensures done_count { result.status ≡ 0 → NoFall (K.faults outside.output) (K.faults result.outside.output) }
 {
@@ -78,7 +80,7 @@ pub fn run<S: Source, K: Sink, E: Sink, T: Stage, D: Disk, L: Dialler, N: Link, 
     }
 }
 
-/// Writes the line of an end on the error output, for what was read from the words.
+/// Writes the line for an end on the error output, given the result of reading the words.
 fn tell_of<E: Sink>(err: &mut E, end: &End, given: Result<Invocation, WordsFault>)
     ensures told { (usage : List ℕ) × IsWrittenOrCut E.takes E.fails E.faults err.old err.new (line_of end.now (file_known given end.now) usage) }
     ensures count { NoFall (E.faults err.old) (E.faults err.new) }
@@ -89,7 +91,7 @@ fn tell_of<E: Sink>(err: &mut E, end: &End, given: Result<Invocation, WordsFault
     }
 }
 
-/// The file that an end is about, of those that a request names.
+/// The file that an end is about, among those that a request names.
 fn file_of<'a>(request: &'a Invocation, end: &End) -> Option<&'a str>
     ensures { option_map (λ name. name.now) result ≡ file_at request.now end.now }
 {
@@ -100,7 +102,7 @@ fn file_of<'a>(request: &'a Invocation, end: &End) -> Option<&'a str>
     }
 }
 
-/// Does what the words ask for, of which this was read.
+/// Performs the request of the words, given the result of reading them.
 fn perform<S: Source, K: Sink, E: Sink, T: Stage, D: Disk, L: Dialler, N: Link, P: Pause>(
     alloc: Global,
     words: &[String],
@@ -201,7 +203,7 @@ fn serve<S: Source, K: Sink, E: Sink, T: Stage, D: Disk, L: Dialler, N: Link, P:
     ensures input_count { NoFall (S.faults outside.input) (S.faults result.1.input) }
     ensures done_count { number_of (status_of_service result.0) ≡ 0 → NoFall (K.faults outside.output) (K.faults result.1.output) }
 
-    // Nothing else was reached.
+    // No other object was used.
     ensures rest { (result.1.error ≡ outside.error) × (result.1.stage ≡ outside.stage) }
     ensures client { (result.1.dialler ≡ outside.dialler) × (result.1.token ≡ outside.token) }
 {
@@ -227,10 +229,10 @@ fn check<S: Source, K: Sink, E: Sink, T: Stage, D: Disk, L: Dialler, N: Link, P:
     requires { IsMember member }
     ensures happened { HappenedAtCheck
         (at_files D.view (disks_in outside.files) (disks_in result.1.files))
-        (at_sink K.takes K.fails K.faults outside.output result.1.output) (network_of member) member.id result.0 }
+        (at_sink K.takes K.fails K.faults outside.output result.1.output) (sizes_of member) member.id result.0 }
     ensures count { NoFall (K.faults outside.output) (K.faults result.1.output) }
 
-    // Nothing else was reached.
+    // No other object was used.
     ensures input { result.1.input ≡ outside.input }
     ensures rest { (result.1.error ≡ outside.error) × (result.1.stage ≡ outside.stage) }
     ensures links { (result.1.dialler ≡ outside.dialler) × (result.1.token ≡ outside.token) × (result.1.link ≡ outside.link) }
@@ -256,7 +258,7 @@ fn check_one_of<S: Source, K: Sink, E: Sink, T: Stage, D: Disk, L: Dialler, N: L
     ensures input_count { NoFall (S.faults outside.input) (S.faults result.1.input) }
     ensures count { NoFall (K.faults outside.output) (K.faults result.1.output) }
 
-    // Nothing else was reached.
+    // No other object was used.
     ensures rest { (result.1.error ≡ outside.error) × (result.1.stage ≡ outside.stage) }
     ensures links { (result.1.dialler ≡ outside.dialler) × (result.1.token ≡ outside.token) × (result.1.link ≡ outside.link) }
 {
@@ -268,7 +270,7 @@ fn check_one_of<S: Source, K: Sink, E: Sink, T: Stage, D: Disk, L: Dialler, N: L
     (end, outside)
 }
 
-/// Downloads.
+/// Downloads a URL.
 fn fetch<S: Source, K: Sink, E: Sink, T: Stage, D: Disk, L: Dialler, N: Link, P: Pause>(
     alloc: Global,
     wanted: &Download,
@@ -282,7 +284,7 @@ fn fetch<S: Source, K: Sink, E: Sink, T: Stage, D: Disk, L: Dialler, N: Link, P:
     ensures count { NoFall (K.faults outside.output) (K.faults result.1.output) }
     ensures error_count { NoFall (E.faults outside.error) (E.faults result.1.error) }
 
-    // Nothing else was reached.
+    // No other object was used.
     ensures inputs { (result.1.input ≡ outside.input) × (result.1.token ≡ outside.token) }
     ensures rest { (result.1.stage ≡ outside.stage) × (result.1.files ≡ outside.files) }
     ensures link { result.1.link ≡ outside.link }
@@ -312,7 +314,7 @@ fn post<S: Source, K: Sink, E: Sink, T: Stage, D: Disk, L: Dialler, N: Link, P: 
     ensures count { NoFall (S.faults outside.input) (S.faults result.1.input) }
     ensures error_count { NoFall (E.faults outside.error) (E.faults result.1.error) }
 
-    // Nothing else was reached.
+    // No other object was used.
     ensures output { result.1.output ≡ outside.output }
     ensures rest { (result.1.stage ≡ outside.stage) × (result.1.files ≡ outside.files) }
     ensures others { (result.1.token ≡ outside.token) × (result.1.link ≡ outside.link) }

@@ -3,7 +3,7 @@ use std::rt::Clock;
 use std::thread;
 use std::time::Duration;
 
-/// The second that a client waits before it tries again, by the clock of the system.
+/// The pause of one second before a client tries again, by the clock of the system.
 #[derive(Drop)]
 pub(crate) struct Second<'a, R> {
     rt: &'a R,

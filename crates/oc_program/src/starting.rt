@@ -1,4 +1,4 @@
-//! A run over the real things.
+//! A run over the real objects of the system.
 
 ghost use Rattle.std.specs.Prelude.{◌≡◌, ◌⊎◌, IfErr, IfOk};
 ghost use Rattle.oc_commands.specs.Ends.{status_of};
@@ -14,9 +14,10 @@ use oc_system::{ClosedStreams, FileDisk, Input, NamedFile, SocketDialler, Socket
 use oc_words::tip;
 use oc_world::World;
 
-/// Runs the program on these words, and gives its status. Where there is no memory to read them, the line says so.
+/// Runs the program on these words, and gives its status. If there is no memory to read them, the
+/// line says so.
 pub fn run_words(rt: &HostRuntime, words: &[String]) -> u8
-    // It is that of a run of these words, or nothing was run for want of memory.
+    // The status is that of a run of these words, or nothing was run for lack of memory.
     ensures { ((ran : Started) × HasRun ⟦<World as oc_replay::Stage>⟧.world ⟦<FileDisk<'static, HostRuntime> as oc_io::Disk>⟧.view
         ⟦<SocketDialler<'static, HostRuntime> as oc_link::Dialler>⟧.story ⟦<SocketDialler<'static, HostRuntime> as oc_link::Dialler>⟧.faults
         ⟦<SocketLink<'static, HostRuntime> as oc_link::Link>⟧.story ⟦<SocketLink<'static, HostRuntime> as oc_link::Link>⟧.counts
@@ -28,7 +29,7 @@ pub fn run_words(rt: &HostRuntime, words: &[String]) -> u8
     }
 }
 
-/// Writes the line of an end that came before a run, and gives its status.
+/// Writes the line for an end that came before a run, and gives its status.
 pub fn end_early(rt: &HostRuntime, end: End) -> u8
     ensures { result ≡ number_of (status_of end) }
 {
@@ -36,29 +37,30 @@ pub fn end_early(rt: &HostRuntime, end: End) -> u8
     end.status().number()
 }
 
-/// What a run over the real things left.
+/// The result of a run over the real objects of the system.
 #[derive(Clone, Copy)]
 pub struct Started {
-    /// The status.
+    /// The exit status.
     pub status: u8,
-    /// What was read on the input.
+    /// The traffic of the input.
     pub input: Traffic,
-    /// What was read of the file of a token.
+    /// The traffic of the token's file.
     pub token: Traffic,
-    /// What was written on standard output.
+    /// The traffic of standard output.
     pub output: Traffic,
-    /// What was written on standard error.
+    /// The traffic of standard error.
     pub error: Traffic,
 }
 
-/// Runs the program on these words, over the standard streams and the files and sockets of the system: the
-/// input is the file that the words name, or else the standard input, and the three files are those of the folder that
-/// they name, or else of the present one ([`Places::of`]). A file is opened at the first call on it. Before it returns,
-/// what replies have still to go out is sent, as far as their receivers take it.
+/// Runs the program on these words, over the standard streams and the files and sockets of the
+/// system: the input is the file that the words name, or else the standard input, and the three
+/// files are those of the folder that they name, or else of the present one ([`Places::of`]). A
+/// file is opened at the first call on it. Before the call returns, the rest of the replies is
+/// sent, as far as their receivers take it.
 ///
-/// Where there is no memory to find the files, nothing is run.
+/// If there is no memory to find the files, nothing is run.
 pub fn start(rt: &HostRuntime, words: &[String]) -> Result<Started, End>
-    // How it ended, and what had happened to the streams, the world, the files and the links.
+    // The end of the run, and its effect on the streams, the world, the files and the links.
     ensures ended { IfOk result (HasRun ⟦<World as oc_replay::Stage>⟧.world ⟦<FileDisk<'static, HostRuntime> as oc_io::Disk>⟧.view
         ⟦<SocketDialler<'static, HostRuntime> as oc_link::Dialler>⟧.story ⟦<SocketDialler<'static, HostRuntime> as oc_link::Dialler>⟧.faults
         ⟦<SocketLink<'static, HostRuntime> as oc_link::Link>⟧.story ⟦<SocketLink<'static, HostRuntime> as oc_link::Link>⟧.counts
@@ -69,9 +71,9 @@ pub fn start(rt: &HostRuntime, words: &[String]) -> Result<Started, End>
     Ok(start_at(rt, words, &places))
 }
 
-/// The same, with the input and the files at these places. Where the status is that of an object that failed, a
-/// second line tells of that object, where it knows more; where it is that of words that are refused, what they may have
-/// been meant to be, where that is known.
+/// Runs the program with the input and the files at these places. If the status is that of an
+/// object that failed, a second line gives the system's reason, if one is known; if it is that of
+/// words that are refused, a suggestion, if there is one.
 fn start_at(rt: &HostRuntime, words: &[String], places: &Places) -> Started
     ensures ended { HasRun ⟦<World as oc_replay::Stage>⟧.world ⟦<FileDisk<'static, HostRuntime> as oc_io::Disk>⟧.view
         ⟦<SocketDialler<'static, HostRuntime> as oc_link::Dialler>⟧.story ⟦<SocketDialler<'static, HostRuntime> as oc_link::Dialler>⟧.faults
@@ -143,14 +145,14 @@ fn start_at(rt: &HostRuntime, words: &[String], places: &Places) -> Started
     }
 }
 
-/// Tells on the error output what words that were refused may have been meant to be, where that is known.
+/// Writes the suggestion for words that were refused on the error output, if there is one.
 fn tell_tip(rt: &HostRuntime, words: &[String]) {
     if let Some(tip) = tip(rt.alloc(), words) {
         let _ = eprintln!(rt; "overcast: {tip}");
     }
 }
 
-/// Tells on the error output why a call failed, if one did.
+/// Writes the reason of a failed call on the error output, if a call failed.
 fn tell_trouble(rt: &HostRuntime, trouble: Option<Trouble<'_>>) {
     if let Some(trouble) = trouble {
         let _ = eprintln!(rt; "overcast: {trouble}");

@@ -25,7 +25,7 @@ use oc_words::Invocation;
 use std::alloc::Global;
 use std::io::{Read, Stderr, Stdout};
 
-/// What a run reaches besides its streams.
+/// The objects of a run besides its streams.
 #[derive(Drop)]
 pub struct Things<T: Stage, D: Disk, L: Dialler, N: Link, P: Pause> {
     pub stage: T,
@@ -44,14 +44,14 @@ pub struct Streams<R: Read> {
     pub error: Stderr,
 }
 
-/// What a run over bytes in memory left.
+/// The result of a run over bytes in memory.
 #[derive(Drop)]
 pub struct MemoryRun<T: Stage, D: Disk, L: Dialler, N: Link, P: Pause> {
-    /// The status.
+    /// The exit status.
     pub status: u8,
-    /// How many bytes of the input were read.
+    /// The number of bytes read of the input.
     pub read: u64,
-    /// How many of the file of the token.
+    /// The number of bytes read of the token's file.
     pub token_read: u64,
     /// The output.
     pub output: Vec<u8>,
@@ -60,9 +60,9 @@ pub struct MemoryRun<T: Stage, D: Disk, L: Dialler, N: Link, P: Pause> {
     pub things: Things<T, D, L, N, P>,
 }
 
-/// [`run`] over the bytes of an input and of the file of a token, into memory. A read of bytes never fails, but a [`ReaderSource`] is
-/// proved for every reader, of which its relations don't say that; so the ends at which the input failed
-/// are not excluded here.
+/// Runs the program as [`run`] does over the bytes of an input and of the file of a token, into
+/// memory. A read of bytes never fails, but a [`ReaderSource`] is proved for every reader, and its
+/// relations don't say that; so the ends at which the input failed are not excluded here.
 pub fn run_in_memory<T: Stage, D: Disk, L: Dialler, N: Link, P: Pause>(
     alloc: Global,
     words: &[String],
@@ -85,7 +85,8 @@ pub fn run_in_memory<T: Stage, D: Disk, L: Dialler, N: Link, P: Pause>(
           node = at_node D.view N.story N.counts Grew Grew (disks_in things.files) (disks_in result.things.files) things.link result.things.link [] result.output.items;
         }) end }
 
-    // The status of a replay is that of what these bytes say, or the output failed, or memory runs out.
+    // The status of a replay is that of the schedule in these bytes, or the output failed, or
+    // memory runs out.
     ensures replayed { (large summary : Bool) (file : Option (List ℕ)) → asked (texts_of words.now) ≡ Some (Invocation.Replay large summary file)
         → (result.status ≡ status_for (schedule_of (scale_of large) input.now)) ⊎ (result.status ≡ 1) ⊎ (result.status ≡ 4) }
 {
@@ -121,27 +122,27 @@ pub fn run_in_memory<T: Stage, D: Disk, L: Dialler, N: Link, P: Pause>(
     }
 }
 
-/// What a run over the standard streams left.
+/// The result of a run over the standard streams.
 #[derive(Drop)]
 pub struct StreamsRun<T: Stage, D: Disk, L: Dialler, N: Link, P: Pause> {
-    /// The status.
+    /// The exit status.
     pub status: u8,
-    /// What was read on the input.
+    /// The traffic of the input.
     pub input: Traffic,
-    /// What was read of the file of the token.
+    /// The traffic of the token's file.
     pub token: Traffic,
-    /// What was written on standard output.
+    /// The traffic of standard output.
     pub output: Traffic,
-    /// What was written on standard error.
+    /// The traffic of standard error.
     pub error: Traffic,
     pub things: Things<T, D, L, N, P>,
 }
 
-/// [`run`] over streams. No contract can say
-/// which bytes pass there; how many, this one does: as
-/// many were read as some text has that says what the end tells, and exactly as many were written as the
-/// text that had to be written has, for `node` as many as the lines of its deeds have, and at each moment those of its
-/// deeds so far. Where no end blames the input or the output, no call on it failed.
+/// Runs the program as [`run`] does over streams. No contract can say which bytes pass there, but
+/// this one gives their numbers: the number read is that of some text with the meaning that the end
+/// reports, and the number written is exactly that of the text to be written; for `node` it is that
+/// of the lines of its deeds, and at each moment that of its deeds so far. If the end blames
+/// neither the input nor the output, no call on them failed.
 pub fn run_on_streams<R: Read + Drop, T: Stage, D: Disk, L: Dialler, N: Link, P: Pause>(
     alloc: Global,
     words: &[String],

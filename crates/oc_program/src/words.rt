@@ -1,4 +1,4 @@
-//! The words that the process was given.
+//! The words given to the process.
 
 ghost use Rattle.std.specs.Prelude.{◌≡◌, ◌⊎◌, IfErr};
 
@@ -6,8 +6,8 @@ use crate::End;
 use std::rt::Env;
 use std::{env, io};
 
-/// The words after the program's name; or how the program ends where they cannot be read. A word that is not
-/// text is no word of the program.
+/// The words after the program's name; or the end of the program if they cannot be read. A word
+/// that is not text is refused.
 pub fn given_words<R: Env + AllocGlobal>(rt: &R) -> Result<Vec<String>, End>
     ensures { IfErr result (λ end. (end ≡ End.NoMemory) ⊎ (end ≡ End.Misused)) }
 {

@@ -121,7 +121,7 @@ calm_refused o refusals.Rank other calm = calm_next_try o other calm
 abbrev heard : Plan → Plan
 heard o = with_soft (lost o) (record o.node.soft { silent = false; refused = true })
 
--- to lose a parent leaves the search as it was
+-- losing a parent does not change the search
 lost_soft_from : (m : Mode) (o : Plan) → (lost_from m o).node.soft ≡ o.node.soft
 lost_soft_from modes.Idle o = refl
 lost_soft_from (modes.Asking p) o = refl
@@ -291,7 +291,7 @@ calm_took_rejoin o p seq calm = either (is_peer o.node.kept.mode p && seq == o.n
 
 -- Look
 
--- who is on its way down is no member and no root
+-- a node on a descent is no chain member and no root
 calm_goes_down : (k : Option ℕ) (o : Plan) (p : ℕ) → (is_member o.node ≡ true → ⊥) → (o.node.kept.mode ≡ modes.Acting → ⊥) → Calm o → Calm (goes_down k o p)
 calm_goes_down None o p out other calm = calm_ask o p calm
 calm_goes_down (Some k) o p out other calm = calm_descend o k out other calm
@@ -384,7 +384,7 @@ calm_planned n shelf (inputs.Seal g) calm = calm_same (begun n) (sealed_at (begu
 calm_planned n shelf (inputs.Client area start g) calm = calm_client_of (line_of g shelf) (begun n) area start calm
 calm_planned n shelf (inputs.Delivered m) calm = calm_received (begun n) shelf m.from m.body calm
 
--- Where it begins
+-- The beginning of a step
 
 pub calm_started : (h : Header) (x : ℕ) (d : Durable) → 1 ≤ h.chain → SeeksNoPlace (started_with h x d)
 calm_started h x d line = record { line = line; member = λ e. tt; acting = λ e. tt }

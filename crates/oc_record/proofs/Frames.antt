@@ -1,4 +1,4 @@
--- What is kept of content makes the groups others; what is written makes a durable part another; what a joined node takes is what its log takes.
+-- Kept content changes the groups, a record changes a durable part, and a joined node's log takes its new certificates.
 use Rattle.std.proofs.Common.{◌≡◌, ◌↔◌, ℕ, ◌+◌, ◌-◌, ◌<◌, ◌≤◌, zero, suc, Bool, true, false, not, ◌&&◌, ◌||◌, ◌==◌, nat_lt, nat_le, if◌then◌else◌, Option, Some, None, is_some, option_map, List, [], ◌∷◌, ◌++◌, length, drop, ◌⊎◌, inl, inr, refl, ap, sym, subst, ◌∙◌, arith, true≢false, ltb-true, length-append, length-drop}
 use Rattle.std.proofs.lemmas.Bool.{and_parts, ltb-false}
 use Rattle.oc_base.specs.declared.cert.Cert.{Cert}
@@ -51,7 +51,7 @@ abbrev IsNew : List ℕ → List Group → ℕ → List ℕ → Bool → Type 0
 IsNew g ks at bytes closes =
     (group_of g ks ≡ None) ⊎ ((length (group_or_empty g ks).bytes < length (grown_of g ks at bytes closes).bytes) ⊎ (((group_or_empty g ks).sealed ≡ false) × (closes ≡ true)))
 
--- what is new makes the groups others
+-- new bytes change the groups
 kept_other : (g : List ℕ) (ks : List Group) (at : ℕ) (bytes : List ℕ) (closes : Bool) → IsNew g ks at bytes closes → with_group (grown_of g ks at bytes closes) ks ≡ ks → ⊥
 kept_other g ks at bytes closes new is = by_new new where
   j : Group
@@ -89,7 +89,7 @@ absent g ks h = by_found (group_of g ks) refl where
   by_found None e = e
   by_found (Some k) e = let there : is_some (line_of g (shelf ks)) ≡ true = is_some-shelf g ks ∙ ap is_some e in absurd (true≢false (sym there ∙ h))
 
--- what a test of two or three parts says
+-- the facts that a test of two or three parts gives
 either_part : (a b : Bool) → (a || b) ≡ true → (a ≡ true) ⊎ (b ≡ true)
 either_part true b h = inl refl
 either_part false b h = inr h
@@ -254,7 +254,7 @@ left_other : (d e : Durable) → Left d e → e ≡ d → ⊥
 left_other d e (inl less) is = let seq : e.seq ≡ d.seq = ap (λ f. f.seq) is in omega (arith, less, seq)
 left_other d e (inr gone) is = gone.2 (ap (λ f. f.mode) is)
 
--- what was written, where it was
+-- the step changes neither the durable control state nor the groups
 abbrev Unchanged : Node → Input → Type 0
 Unchanged n i = ((step n i).node.control.kept ≡ n.control.kept) × ((step n i).node.groups ≡ n.groups)
 
@@ -276,11 +276,11 @@ moved_at n i sound calm fair =
       has_asked : (p : ℕ) → n.control.kept.mode ≡ Asking p → n.control.kept.seq ≡ 0 → ⊥
       has_asked p asking none = let sound_ask : IsSoundAs (Asking p) n.control.kept = subst (λ (m : Mode). IsSoundAs m n.control.kept) asking sound.kept.mode in sound_ask.0 none
 
--- what a lawful input measures is a node
+-- the peer of a lawful measurement is a node
 pub measured_fair : (nodes me : ℕ) (i : Input) → IsInput nodes me i → (p rate hops : ℕ) → i ≡ inputs.Measured p rate hops → IsNode nodes p
 measured_fair nodes me i fair p rate hops is = let here : IsInput nodes me (inputs.Measured p rate hops) = subst (IsInput nodes me) is fair in here.0
 
--- so it writes exactly where something durable changes
+-- a step writes exactly if it changes the durable state
 pub writes_exactly : (n : Node) (i : Input) → IsSound n.control → SeeksNoPlace n.control → ((p rate hops : ℕ) → i ≡ inputs.Measured p rate hops → IsNode n.control.nodes p) → (writes_frame n i ≡ true) ↔ (Unchanged n i → ⊥)
 writes_exactly n i sound calm fair = (written, unwritten) where
   by_keeping : Keeping n i (plan n.control (shelf n.groups) i) → (plan n.control (shelf n.groups) i).records ≡ [] → writes_frame n i ≡ true → Unchanged n i → ⊥

@@ -21,7 +21,7 @@ pub record IsTaken (nodes code : ℕ) (bytes : List ℕ) (at : ℕ) (r : Record)
   pub kind : code_of r ≡ code
   pub text : Takes bytes at (fields_bytes r) next
 
--- what is read is so taken
+-- the bytes of a record that is read are its spelling
 abbrev pub Taken : ℕ → ℕ → List ℕ → (ℕ → Reading Record) → Type 0
 Taken nodes code bytes read = IsBytes bytes → (at : ℕ) (r : Record) (next : ℕ) → read at ≡ Ok (r, next) → IsTaken nodes code bytes at r next
 

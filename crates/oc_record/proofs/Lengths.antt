@@ -28,7 +28,7 @@ record_length (Snapshot generation) = omega arith
 record_length (Entry cert) = omega arith
 record_length (Info number clients) = omega arith
 
--- the sum of what they take
+-- the sum of the lengths of the records
 pub records_length : (list : List Record) → length (records_bytes list) ≡ total size_of list
 records_length [] = omega arith
 records_length (r ∷ list) = omega (arith, length-append (record_bytes r) (records_bytes list), record_length r, records_length list)

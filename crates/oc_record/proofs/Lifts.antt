@@ -1,4 +1,4 @@
--- What is read as a field is read so as a field of a record.
+-- A read of a field is a read of a field of a record.
 use Rattle.std.proofs.Common.{Result, Ok, Err, refl, ap}
 use Rattle.oc_base.specs.declared.field_fault.FieldFault.{FieldFault}
 use Rattle.oc_base.specs.declared.field_fault.FieldFault.TheVariants as fields
@@ -15,12 +15,12 @@ fault_given fields.Short read given = ap of_field given
 fault_given fields.Value read given = ap of_field given
 fault_given fields.Memory read given = tt
 
--- and what was read, or such a fault
+-- the value that was read, or the fault of a record
 pub field_given : {A : Type 0} (answer read : Reading A) → base.Gives answer read → Gives (of_field answer) (of_field read)
 field_given (Ok x) read given = ap of_field given
 field_given (Err fault) read given = fault_given fault read given
 
--- what reading gives is given
+-- the result of a read gives itself
 pub given_itself : {A : Type 0} (read : Result A RecordFault) → Gives read read
 given_itself (Ok x) = refl
 given_itself (Err (records.Kind code)) = refl

@@ -12,7 +12,7 @@ use Rattle.oc_record.specs.Spelling.{record_bytes, records_bytes, HasSpelling, H
 use Rattle.oc_record.specs.Reading.{record_at, records_at, decoded}
 use Rattle.oc_record.proofs.RecordReads.{given_is, record_takes, record_again}
 
--- from a text on the bytes are the text and what follows it
+-- the bytes from the text on are the text and the rest after it
 behind : (bytes : List ℕ) (at : ℕ) (text : List ℕ) (next : ℕ) → Takes bytes at text next → drop at bytes ≡ text ++ drop next bytes
 behind bytes at text next t =
     let rest : drop next bytes ≡ t.there.0 = ap (λ (k : ℕ). drop k bytes) t.moved ∙ sym (drop-drop (length text) at bytes) ∙ ap (drop (length text)) t.there.1 ∙ drop_at text t.there.0 (length text) refl in
@@ -59,11 +59,11 @@ records_again nodes (suc most) bytes at (r ∷ rs) few fuel h e =
     let rest : drop next bytes ≡ records_bytes rs = sym (drop-drop (length (record_bytes r)) at bytes) ∙ ap (drop (length (record_bytes r))) cut ∙ drop_at (record_bytes r) (records_bytes rs) (length (record_bytes r)) refl in
     rw (lt-ltb at (length bytes) long, record_again nodes bytes at r next few h.0 t, records_again nodes most bytes next rs few (omega (arith, fuel)) h.1 rest) refl
 
--- what is decoded is spelled so
+-- records that are decoded have these bytes as their spelling
 pub is_spelled : (nodes : ℕ) (bytes : List ℕ) (records : List Record) → IsBytes bytes → decoded nodes bytes ≡ Ok records → AreRecords nodes records × (bytes ≡ records_bytes records)
 is_spelled nodes bytes records fits e = let t = records_take nodes (length bytes) bytes 0 records fits (omega arith) e in (t.1, t.0)
 
--- what is spelled so is decoded
+-- bytes that are a spelling are decoded
 pub is_decoded : (nodes : ℕ) (bytes : List ℕ) (records : List Record) → nodes < 2 ^ 32 → AreRecords nodes records → bytes ≡ records_bytes records → decoded nodes bytes ≡ Ok records
 is_decoded nodes bytes records few h e = records_again nodes (length bytes) bytes 0 records few (omega arith) h e
 
@@ -89,7 +89,7 @@ has_spelling nodes (Snapshot generation) h = tt
 has_spelling nodes (Entry cert) h = tt
 has_spelling nodes (Info number clients) h = tt
 
--- and so have all of a list
+-- all records of a list have a spelling
 pub have_spellings : (nodes : ℕ) (records : List Record) → AreRecords nodes records → HaveSpellings records
 have_spellings nodes [] h = tt
 have_spellings nodes (r ∷ rs) h = (has_spelling nodes r h.0, have_spellings nodes rs h.1)

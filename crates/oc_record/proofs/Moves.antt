@@ -1,4 +1,4 @@
--- What a step does to what is durable: nothing, or it leaves the mode or the ask number behind, or both stay and a part is another.
+-- The effect of a step on the durable state: none, or another mode or ask number, or the same mode and number with another part.
 use Rattle.std.proofs.Common.{◌≡◌, ℕ, ◌+◌, ◌<◌, true, false, List, [], ◌∷◌, ◌++◌, length, ◌⊎◌, inl, inr, refl, ap, sym, subst, ◌∙◌, arith, append_assoc, append-nil, length-append, true≢false}
 use Rattle.oc_base.specs.declared.cert.Cert.{Cert}
 use Rattle.oc_model.specs.declared.mode.Mode.{Mode}
@@ -14,7 +14,7 @@ use Rattle.oc_model.specs.Table.{is_news, merge}
 use Rattle.oc_record.specs.Quash.{AreTaken, with_tail, LogTakes}
 use Rattle.oc_laws_step.proofs.Tables.{merge_takes, merge_keeps}
 
--- What became of what is durable
+-- The change of the durable state
 
 -- the ask number or the mode is another: neither a parent nor an ask is left that was there before
 abbrev pub Left : Durable → Durable → Type 0
@@ -28,7 +28,7 @@ pub record Stays (Q : Type 0) (d e : Durable) (taken : List Cert) : Type 0 where
   pub log : (p : ℕ) → d.mode ≡ modes.Joined p → LogTakes d.log taken e.log
   pub changed : Q → e ≡ d → ⊥
 
--- what a step did
+-- the change by a step
 pub data Moved (Q : Type 0) (d : Durable) (o : Plan) : Type 0 where
   still : o.records ≡ [] → o.node.kept ≡ d → Moved Q d o
   left : Left d o.node.kept → Moved Q d o
@@ -155,13 +155,13 @@ pub begins_moved : (Q : Type 0) (d : Durable) (o : Plan) → Begins d o → Move
 begins_moved Q d o (fresh f) = fresh_moved Q d o f
 begins_moved Q d o (fallen seq idle apart) = left (inr (seq, inl idle, λ e. apart (sym e ∙ idle)))
 
--- the same where a step under way has the same records and durable parts
+-- the same for a step under way with the same records and durable parts
 pub begins_along : (d : Durable) (o q : Plan) → q.records ≡ o.records → q.node.kept ≡ o.node.kept → Begins d o → Begins d q
 begins_along d o q rs kept (fresh (same none is)) = fresh (same (rs ∙ none) (kept ∙ is))
 begins_along d o q rs kept (fresh (newer taken keeps apart)) = fresh (newer taken (subst (λ e. Keeps d e taken) (sym kept) keeps) (subst (λ e. IsNewer d.table e.table) (sym kept) apart))
 begins_along d o q rs kept (fallen seq idle apart) = fallen (ap (λ e. e.seq) kept ∙ seq) (ap (λ e. e.mode) kept ∙ idle) apart
 
--- what is given up was there
+-- a parent that is given up was there
 lost_fallen : (d : Durable) (o : Plan) (m : Mode) → o.node.kept.mode ≡ m → (m ≡ modes.Idle → ⊥) → Begins d o → Begins d (write o records.Lost)
 lost_fallen d o m is there (fresh f) = fallen (fresh_seq d o f) refl (λ e. there (sym is ∙ (fresh_mode d o f ∙ e)))
 lost_fallen d o m is there (fallen seq idle apart) = absurd (there (sym is ∙ idle))

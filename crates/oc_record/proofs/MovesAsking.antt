@@ -1,4 +1,4 @@
--- How a node comes by a parent, by what it does to what is durable and to the search for a place.
+-- The effect of the rules by which a node gets a parent, on the durable state and on the search for a place.
 use Rattle.std.proofs.Common.{◌≡◌, ℕ, ◌+◌, ◌≤◌, Bool, true, false, not, ◌&&◌, ◌==◌, Option, Some, None, List, [], ◌∷◌, inl, inr, refl, sym, ◌∙◌, arith, eqb-true}
 use Rattle.std.proofs.lemmas.Bool.{and_parts, le-leb}
 use Rattle.oc_model.specs.declared.answer.Answer.{Answer}
@@ -18,7 +18,7 @@ use Rattle.oc_record.specs.SeeksNoPlace.{NoDescent, SeeksNoPlace}
 use Rattle.oc_laws_step.proofs.Goes.{either, either_by}
 use Rattle.oc_record.proofs.Moves.{Moved, left, Begins, fresh, fallen, begins_seq, begins_moved, begins_along, begins_lost, fresh_mode}
 
--- What is durable
+-- The durable state
 
 module _ (Q : Type 0) (d : Durable) where
   -- a node that acts did so before

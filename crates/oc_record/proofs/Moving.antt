@@ -1,4 +1,4 @@
--- What each rule does to what is durable.
+-- The effect of each rule on the durable state.
 use Rattle.std.proofs.Common.{◌≡◌, ℕ, zero, suc, ◌+◌, ◌-◌, ◌<◌, ◌≤◌, Bool, true, false, not, ◌&&◌, ◌||◌, ◌==◌, nat_lt, nat_le, if◌then◌else◌, Option, Some, None, List, [], ◌∷◌, length, get_or, set, filter, ◌⊎◌, inl, inr, refl, ap, sym, subst, ◌∙◌, arith, true≢false, eqb-true, eq-eqb, ltb-true}
 use Rattle.std.proofs.lemmas.Bool.{and_parts}
 use Rattle.oc_base.specs.declared.cert.Cert.{Cert}
@@ -66,7 +66,7 @@ raised_other (Some r) e h is =
     let next = raise_next r.epoch e h in
     omega arith
 
--- and so is that above an asker whom one's own does not precede
+-- an epoch above that of an asker is another one, if the node's rank does not precede the asker's
 over_other : (own : Option Rank) (r : Rank) (e : ℕ) → precedes (rank_or_last own) r ≡ false → raise r.epoch ≡ Some e → Some (root_rank e) ≡ own → ⊥
 over_other None r e not_before h is = absurd cc
 over_other (Some o) r e not_before h is =
@@ -113,7 +113,7 @@ module _ (Q : Type 0) (n : Control) (sound : Q → (p : ℕ) → n.kept.mode ≡
   at_start : Fresh n.kept (begun n)
   at_start = same refl refl
 
-  -- the same where the records and the durable parts are the same
+  -- the same for equal records and durable parts
   along : (o q : Plan) → q.records ≡ o.records → q.node.kept ≡ o.node.kept → M o → M q
   along o q rs kept (still none is) = still (rs ∙ none) (kept ∙ is)
   along o q rs kept (left gone) = left (subst (Left n.kept) (sym kept) gone)
@@ -564,7 +564,7 @@ module _ (Q : Type 0) (n : Control) (sound : Q → (p : ℕ) → n.kept.mode ≡
   moved_received shelf p (bodies.Fetch have) = unmoved (fetched (begun n) shelf p have) (stays_fetched (begun n) shelf p have)
   moved_received shelf p (bodies.Chunk g start bytes last) = unmoved (took_chunk (begun n) shelf p g start bytes last) (stays_took_chunk (begun n) shelf p g start bytes last)
 
-  -- each step; a root is not on its way down, and what is measured is a node
+  -- each step; a root is on no descent, and a measured peer is a node
   pub moves : (shelf : List Shelf) (i : Input) → ((q : ℕ) → n.soft.search ≡ Some (Descend q) → n.kept.mode ≡ modes.Acting → ⊥)
       → ((p rate hops : ℕ) → i ≡ inputs.Measured p rate hops → Q → (1 ≤ p) × (p ≤ length n.kept.measures)) → M (plan n shelf i)
   moves shelf (inputs.Tick t) other within = moves_tick shelf t

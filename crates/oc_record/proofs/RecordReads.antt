@@ -13,7 +13,7 @@ use Rattle.oc_record.specs.Spelling.{code_of, fields_bytes, record_bytes}
 use Rattle.oc_record.specs.Reading.{ask_at, joined_at, ranked_at, old_entry_at, acked_at, ancestors_record_at, rate_record_at, epoch_at, base_at, snapshot_at, entry_at, info_at, fields_at, record_at}
 use Rattle.oc_record.proofs.KindReads.{IsTaken, Taken, ask, joined, ranked, old_entry, acked, ancestors, rate, epoch, base, snapshot, entry, info}
 
--- what was read and did not fail
+-- the value of a read without a fault
 abbrev pub given : {A : Type 0} → A → Result A RecordFault
 given x = Ok x
 
@@ -38,7 +38,7 @@ plain_taken nodes code bytes at plain r next is lawful empty e =
     let made : Record × ℕ = (plain, at) in
     subst (λ (y : Record × ℕ). IsTaken nodes code bytes at y.0 y.1) (given_is made (r, next) e) (record { lawful = lawful; kind = sym (eqb-true code (code_of plain) is); text = subst (λ (x : List ℕ). Takes bytes at x at) (sym empty) (takes_nothing bytes at) })
 
--- what is read for a code has that code, and its text is there
+-- the record read for a code has that code, and its bytes are there
 fields_takes : (nodes code : ℕ) (bytes : List ℕ) → IsBytes bytes → (at : ℕ) (r : Record) (next : ℕ) → fields_at code nodes bytes at ≡ Ok (r, next) → IsTaken nodes code bytes at r next
 unfolding fields_at
 fields_takes nodes code bytes fits at r next e =

@@ -14,7 +14,7 @@ use Rattle.oc_model.specs.Lawful.{AreRecords}
 use Rattle.oc_record.proofs.ListLaws.{is_spelled}
 use Rattle.oc_record.proofs.RecordReads.{record_takes}
 
--- what was read before, and what is still read
+-- the records read before, and after them those that are still read
 abbrev pub with_front : List Record → Result (List Record) RecordFault → Result (List Record) RecordFault
 with_front front read = read >>= λ rest. Ok (front ++ rest)
 

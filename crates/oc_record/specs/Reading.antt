@@ -1,4 +1,4 @@
--- What bytes stand for as control records, with the first fault from the left.
+-- The control records in bytes, with the first fault from the left.
 use Rattle.std.specs.Prelude.{◌≡◌, ℕ, zero, suc, ◌==◌, nat_lt, if◌then◌else◌, Result, Ok, Err, List, [], ◌∷◌, length}
 use Rattle.std.specs.Global.{Vec}
 use Rattle.std.specs.Int.{w64}
@@ -73,17 +73,17 @@ record_at nodes bytes at = do
   code ← of_field (byte_at bytes at)
   fields_at code.0 nodes bytes code.1
 
--- the records from a place to the end, at most this many
+-- the records from an index to the end, at most this number
 unfoldable pub records_at : ℕ → ℕ → List ℕ → ℕ → Result (List Record) RecordFault
 records_at nodes zero bytes at = Ok []
 records_at nodes (suc most) bytes at =
     if nat_lt at (length bytes) then (record_at nodes bytes at >>= λ first. records_at nodes most bytes first.1 >>= λ rest. Ok (first.0 ∷ rest)) else Ok []
 
--- all of the bytes: there are no more records than bytes
+-- the records of all bytes; there are no more records than bytes
 abbrev pub decoded : ℕ → List ℕ → Result (List Record) RecordFault
 decoded nodes bytes = records_at nodes (length bytes) bytes 0
 
--- what a call answered is what reading gives, unless memory ran out
+-- a call answers the same as this read, except that memory may run out
 abbrev pub Gives : {A : Type 0} → Result A RecordFault → Result A RecordFault → Type 0
 Gives (Err faults.Memory) read = Unit {0}
 Gives answer read = read ≡ answer

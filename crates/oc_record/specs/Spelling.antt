@@ -22,7 +22,7 @@ code_of (Snapshot generation) = 12
 code_of (Entry cert) = 13
 code_of (Info number clients) = 14
 
--- its fields, one after the other
+-- the fields of a record, one after another
 abbrev pub fields_bytes : Record → List ℕ
 fields_bytes (Ask seq peer) = eight seq ++ four peer
 fields_bytes (Joined peer rank) = four peer ++ rank_bytes rank
@@ -43,11 +43,11 @@ fields_bytes (Info number clients) = eight number ++ eight clients
 abbrev pub record_bytes : Record → List ℕ
 record_bytes r = code_of r ∷ fields_bytes r
 
--- a list: one record after the other
+-- the records of a list, one after another
 abbrev pub records_bytes : List Record → List ℕ
 records_bytes records = flat_map record_bytes records
 
--- the number of ancestors has two bytes
+-- the number of ancestors fits two bytes
 abbrev pub HasSpelling : Record → Type 0
 HasSpelling (Ancestors ids) = length ids < 2 ^ 16
 HasSpelling _ = Unit {0}

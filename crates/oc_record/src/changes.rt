@@ -7,15 +7,15 @@ ghost use Rattle.oc_model.specs.Step.{step};
 ghost use Rattle.oc_record.specs.SeeksNoPlace.{SeeksNoPlace};
 ghost use Rattle.oc_laws_step.specs.Sound.{IsSound};
 
-/// A step writes a frame exactly where it changes something durable: a lawful input, at a node that is
-/// sound and seeks no place as a chain member or a root, as every node is that is reached.
+/// A step writes a frame exactly if it changes the durable state. This holds for lawful inputs at every
+/// node that can be reached: it is sound, and on no descent if it is a chain member or a root.
 pub fn a_frame_means_a_change()
     ensures { (n : Node) (i : Input) → IsInput n.control.nodes n.control.me i → IsSound n.control → SeeksNoPlace n.control
         → (writes n i ≡ true) ↔ (((step n i).node.control.kept ≡ n.control.kept) × ((step n i).node.groups ≡ n.groups) → ⊥) }
 {}
 
-/// Neither a chain member nor a root goes down the tree to look for a place: it is so of a new node, and every
-/// input and every start leaves it so.
+/// Neither a chain member nor a root is ever on a descent: no new node is on one, and every input and
+/// every start keeps this.
 pub fn members_and_roots_seek_no_place()
     ensures new { (h : Header) (x : ℕ) → IsHeader h → SeeksNoPlace (new_node h x).control }
     ensures step { (n : Node) (i : Input) → SeeksNoPlace n.control → SeeksNoPlace (step n i).node.control }

@@ -1,7 +1,7 @@
 use oc_base::CodeRow;
 
 /// The code of each kind of control record and the least length of its fields in bytes, in the order
-/// in which [`Record`](crate::Record) has the kinds.
+/// of the kinds in [`Record`](crate::Record).
 pub const CODES: [CodeRow; 14] = [
     CodeRow { code: 1, least: 12 },
     CodeRow { code: 2, least: 16 },

@@ -15,20 +15,20 @@ use oc_base::reading::byte_at;
 use oc_base::{FieldFault, row_of};
 use std::alloc::Global;
 
-/// The records that the bytes spell for `nodes` nodes: all of the bytes, or the first fault.
+/// Reads the records in these bytes, for a network of `nodes` nodes: all of the bytes, or the first fault.
 pub fn decode(alloc: Global, bytes: &[u8], nodes: u32) -> Result<Vec<Record>, RecordFault>
-    // Exactly the one spelling of a lawful list is read.
+    // Only the one spelling of a lawful list is accepted.
     ensures found { IfOk result (λ list. AreRecords nodes list.items × (bytes.now ≡ records_bytes list.items)) }
     ensures only { (list : List Record) → AreRecords nodes list → bytes.now ≡ records_bytes list
         → GivesList result (Ok list) }
 
-    // Which fault it is: the first from the left of the first bad record.
+    // The fault is the first one from the left.
     ensures exact { GivesList result (decoded nodes bytes.now) }
 {
     records_of(alloc, nodes, bytes)
 }
 
-/// The records up to the end.
+/// Reads the records up to the end.
 fn records_of(alloc: Global, nodes: u32, bytes: &[u8]) -> Result<Vec<Record>, RecordFault>
     ensures { GivesList result (decoded nodes bytes.now) }
 {
@@ -42,7 +42,7 @@ fn records_of(alloc: Global, nodes: u32, bytes: &[u8]) -> Result<Vec<Record>, Re
     Ok(list)
 }
 
-/// The record at an index, and the next index.
+/// Reads the record at an index; answers it with the next index.
 #[tactic(auto, using(crate::proofs::Lifts::fault_given), unfolding(crate::specs::Reading::record_at))]
 fn record_at(
     alloc: Global,
@@ -56,7 +56,7 @@ fn record_at(
     fields_at(alloc, code, nodes, bytes, next)
 }
 
-/// The record of the kind with this code, by the row that the code has.
+/// Reads the fields of the kind with this code.
 fn fields_at(
     alloc: Global,
     code: u8,
@@ -93,14 +93,14 @@ fn fields_at(
     }
 }
 
-/// What was read, with the fault of a field as that of the record.
+/// The record that was read, or the fault of its field as that of the record.
 fn record_of(read: Result<(Record, usize), FieldFault>) -> Result<(Record, usize), RecordFault>
     ensures { result ≡ of_field read }
 {
     Ok(read?)
 }
 
-/// The row of the codes that has this code.
+/// The index of the row with this code.
 fn row_with(code: u8) -> Option<usize>
     ensures some { IfSome result (λ row. (code ≡ row + 1) × (row < 14)) }
     ensures none { IfNone result ((code ≡ 0) ⊎ (14 < code)) }

@@ -8,7 +8,7 @@ use oc_base::writing::{put_byte, put_cert, put_flag, put_id, put_ids, put_long, 
 use oc_base::{Memory, NodeId, Rank};
 use std::alloc::{AllocError, Global};
 
-/// The one spelling of the records.
+/// Writes the records in their one spelling.
 pub fn encode(alloc: Global, list: &[Record]) -> Result<Vec<u8>, Memory>
     requires { HaveSpellings list.now }
     ensures { IfOk result (λ bytes. bytes.items ≡ records_bytes list.now) }
@@ -20,7 +20,7 @@ pub fn encode(alloc: Global, list: &[Record]) -> Result<Vec<u8>, Memory>
     Ok(out)
 }
 
-/// Puts the code of the kind and the fields at the end.
+/// Writes a record: the code of its kind, and its fields.
 fn put_record(out: &mut Vec<u8>, item: &Record) -> Result<(), AllocError>
     requires { HasSpelling item.now }
     ensures { OnOk result (out.new.items ≡ out.old.items ++ record_bytes item.now) }
@@ -29,7 +29,7 @@ fn put_record(out: &mut Vec<u8>, item: &Record) -> Result<(), AllocError>
     put_fields(out, item)
 }
 
-/// The code of its kind.
+/// The code of a record's kind.
 fn code_of(item: &Record) -> u8
     ensures { result ≡ code_of item.now }
 {
@@ -58,7 +58,7 @@ fn code_of(item: &Record) -> u8
     }
 }
 
-/// Puts the fields at the end.
+/// Writes the fields of a record.
 fn put_fields(out: &mut Vec<u8>, item: &Record) -> Result<(), AllocError>
     requires { HasSpelling item.now }
     ensures { OnOk result (out.new.items ≡ out.old.items ++ fields_bytes item.now) }
@@ -85,7 +85,7 @@ fn put_fields(out: &mut Vec<u8>, item: &Record) -> Result<(), AllocError>
     }
 }
 
-/// The fields of an ask.
+/// Writes the fields of an ask.
 fn put_ask(out: &mut Vec<u8>, seq: &u64, peer: &NodeId) -> Result<(), AllocError>
     ensures { OnOk result (out.new.items ≡ out.old.items ++ (eight seq.now ++ four peer.now)) }
 {
@@ -93,7 +93,7 @@ fn put_ask(out: &mut Vec<u8>, seq: &u64, peer: &NodeId) -> Result<(), AllocError
     put_id(out, peer)
 }
 
-/// The fields of a node that joined.
+/// Writes the fields of a joining.
 fn put_joined(out: &mut Vec<u8>, peer: &NodeId, rank: &Rank) -> Result<(), AllocError>
     ensures { OnOk result (out.new.items ≡ out.old.items ++ (four peer.now ++ rank_bytes rank.now)) }
 {
@@ -101,7 +101,7 @@ fn put_joined(out: &mut Vec<u8>, peer: &NodeId, rank: &Rank) -> Result<(), Alloc
     put_rank(out, rank)
 }
 
-/// The fields of an entry of the older form.
+/// Writes the fields of an entry of the old form.
 fn put_old_entry(
     out: &mut Vec<u8>,
     subject: &NodeId,
@@ -118,7 +118,7 @@ fn put_old_entry(
     put_flag(out, dead)
 }
 
-/// The fields of a rate.
+/// Writes the fields of a measurement.
 fn put_rate(out: &mut Vec<u8>, peer: &NodeId, rate: &u64, hops: &u8) -> Result<(), AllocError>
     ensures { OnOk result
         (out.new.items ≡ out.old.items ++ (four peer.now ++ eight rate.now ++ hops.now ∷ [])) }
@@ -128,7 +128,7 @@ fn put_rate(out: &mut Vec<u8>, peer: &NodeId, rate: &u64, hops: &u8) -> Result<(
     put_byte(out, hops)
 }
 
-/// The fields of what a node says of itself.
+/// Writes a node's own number and client count.
 fn put_info(out: &mut Vec<u8>, number: &u64, clients: &u64) -> Result<(), AllocError>
     ensures { OnOk result (out.new.items ≡ out.old.items ++ (eight number.now ++ eight clients.now)) }
 {

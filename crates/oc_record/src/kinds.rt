@@ -1,4 +1,4 @@
-//! The fields of each kind: each function reads those of one kind at an index, and gives the record and
+//! Readers of the fields of each kind: each reads the fields at an index, and answers the record with
 //! the next index, or the first fault from the left.
 
 ghost use Rattle.std.specs.Prelude.{◌≡◌};

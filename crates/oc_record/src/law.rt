@@ -12,32 +12,32 @@ ghost use Rattle.oc_record.specs.declared.fault.RecordFault.TheVariants.{Short a
 use crate::codes::CODES;
 use oc_base::distinct;
 
-/// No two kinds have one code. It is computed.
+/// No two kinds have the same code, as a computation checks.
 pub fn codes_are_distinct()
     ensures { AreDistinct CODES }
 {
     let _answer = distinct(&CODES);
 }
 
-/// Each row has the least length of the fields of its kind. It is computed.
+/// Each row has the least length of the fields of its kind, as a computation checks.
 pub fn least_lengths_are_exact()
     ensures { AllByRecursion HasLeast CODES }
 {}
 
-/// No two lists of lawful records have one spelling.
+/// No two lists of lawful records have the same spelling.
 pub fn no_two_lists_have_one_spelling()
     ensures { (nodes : ℕ) (first second : List Record) → nodes < 2 ^ 32 → AreRecords nodes first → AreRecords nodes second
         → records_bytes first ≡ records_bytes second → first ≡ second }
 {}
 
-/// Lawful records have a spelling, and it is read as them.
+/// Lawful records have a spelling, from which they are read back.
 pub fn spellings_are_read()
     ensures spelled { (nodes : ℕ) (list : List Record) → AreRecords nodes list → HaveSpellings list }
     ensures read { (nodes : ℕ) (list : List Record) → nodes < 2 ^ 32 → AreRecords nodes list
         → decoded nodes (records_bytes list) ≡ Ok list }
 {}
 
-/// Worked examples of reading come out as they should. They are computed.
+/// Worked examples of reading give the expected records, as a computation checks.
 pub fn examples_are_read()
     ensures ask { decoded 1 first_ask ≡ Ok (first_ask_record ∷ []) }
     ensures old_entry { decoded 2 old_entry ≡ Ok (old_entry_record ∷ []) }

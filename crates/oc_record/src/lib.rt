@@ -1,22 +1,22 @@
-//! Control records as bytes: each list of records has one spelling, and each refusal names the first
+//! Control records as bytes: each list of records has one spelling, and each refusal tells the first
 //! fault from the left.
 //!
-//! A record is its kind's code and its fields, numbers big-endian. The body of a control frame is a
-//! list of records, one after the other, to its end. `specs/Spelling` has the one spelling of each
-//! record and what a lawful one is, `specs/Reading` what bytes stand for or what is wrong with them.
+//! A record is the code of its kind and its fields; numbers are big-endian. The body of a control frame
+//! is a list of records, one after another, up to its end. `specs/Spelling` has the one spelling of each
+//! record and the lawful ones, `specs/Reading` the records in bytes or the fault of the bytes.
 //!
-//! The contracts used above: `decode` gives a list exactly where the bytes are its spelling, and else
-//! the first fault; what `encode` writes is that spelling; no two lists have one spelling. All of it
-//! rests on no two kinds having one code.
+//! The contracts that the crates above use: `decode` gives a list exactly if the bytes are its spelling,
+//! and otherwise the first fault; `encode` writes that spelling; no two lists have the same spelling. All
+//! of it rests on the fact that no two kinds have the same code.
 //!
-//! What the records of one step mean: laws of the definitions of `oc_model`, and of `oc_record`'s bytes.
+//! Laws about the records of one step: they rest on the definitions of `oc_model` and on the bytes here.
 //!
-//! A law is a public function with an empty body; code that relies on it calls it, and then knows its
-//! clauses. [`what_lawful_nodes_write_is_read`] is the law that the files of a node rest on: each frame
-//! that a lawful input makes is read as the records that the step wrote, and it is no longer than a frame
-//! may be. [`a_frame_means_a_change`] says that a step writes exactly where something durable changes;
-//! [`members_and_roots_seek_no_place`] has what it needs of a node besides soundness. And
-//! [`what_is_no_news_goes_no_further`] says what the change log of a joined node takes.
+//! A law is a public function with an empty body; code that relies on the law calls it, and may then use
+//! its clauses. [`what_lawful_nodes_write_is_read`] is the law of a node's files: each frame of a lawful
+//! input is read back as the records that the step wrote, and is no longer than the greatest frame.
+//! [`a_frame_means_a_change`] says that a step writes exactly if it changes the durable state;
+//! [`members_and_roots_seek_no_place`] has the property of a node that this law needs besides soundness.
+//! [`what_is_no_news_goes_no_further`] says which certificates the change log of a joined node takes.
 #![tactic(auto)]
 
 mod changes;

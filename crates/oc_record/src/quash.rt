@@ -9,7 +9,7 @@ ghost use Rattle.oc_record.specs.Quash.{IsQuashed};
 /// A certificate that is no news goes no further, as in the Overcast paper (section 4.3).
 ///
 /// While a node has one parent at one ask number, its change log takes exactly the certificates that
-/// change its table, in their order, each of them news when it was taken.
+/// change its table, in their order.
 pub fn what_is_no_news_goes_no_further()
     ensures { (n : Node) (i : Input) (p q : ℕ) → n.control.kept.mode ≡ Joined p → (step n i).node.control.kept.mode ≡ Joined q
         → (step n i).node.control.kept.seq ≡ n.control.kept.seq

@@ -13,8 +13,8 @@ ghost use Rattle.oc_record.specs.Spelling.{HaveSpellings, records_bytes};
 use crate::spellings_are_read;
 use oc_laws_step::lawful_nodes_stay_lawful;
 
-/// What a lawful input makes a lawful node write has a spelling, which is read as just these records, and
-/// its bytes fit a frame. The bytes that records take are those of their spelling.
+/// The records that a lawful node writes for a lawful input have a spelling, are read back from it, and
+/// fit one frame.
 pub fn what_lawful_nodes_write_is_read()
     ensures spelled { (nodes : ℕ) (n : Node) (i : Input) → IsInput nodes n.control.me i → n.control.kept.log.length ≤ MAX_LOG_LENGTH → IsLawfulNode nodes n
         → HaveSpellings (step n i).records }

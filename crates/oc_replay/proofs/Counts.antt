@@ -40,7 +40,7 @@ short_bytes : (ks : List Group) → AllByRecursion IsShort ks → held_in_all (s
 short_bytes [] all = omega arith
 short_bytes (k ∷ ks) all = omega (arith, sum_by-cons (λ (line : Shelf). line.held) (shelf_of k) (shelf ks), all.0, short_bytes ks all.1)
 
--- what a node holds at most
+-- the greatest number of bytes that a node holds
 abbrev pub MOST_HELD : ℕ
 MOST_HELD = 70368744177664
 
@@ -48,7 +48,7 @@ MOST_HELD = 70368744177664
 pub within_bytes : (ks : List Group) → AreWithinLimits ks → held_in_all (shelf ks) ≤ MOST_HELD
 within_bytes ks within = omega (arith, within.1, short_bytes ks within.2)
 
--- each node of a world within the limits is, whatever its id
+-- each node of a world within the limits is, for every id
 pub node_within : (ps : List Process) (x : ℕ) → AllByRecursion (λ p. AreWithinLimits p.node.groups) ps → AreWithinLimits (process_in ps x).node.groups
 node_within [] x all = (tt, omega arith, tt)
 node_within (p ∷ ps) x all = cond_both (p.node.control.me == x) p (process_in ps x) (λ q. AreWithinLimits q.node.groups) (λ _. all.0) (λ _. node_within ps x all.1)
@@ -59,7 +59,7 @@ node_within (p ∷ ps) x all = cond_both (p.node.control.me == x) p (process_in 
 abbrev pub left : ℕ → ℕ → List ℕ
 left i n = range_with_len i (n + 1 - i)
 
--- what was counted so far, and what is left, is the whole
+-- the counts so far and those of the rest are the whole
 abbrev pub IsCounted : World → ℕ → ℕ → Tally → Type 0
 IsCounted w i n t = plus t (tally_over w (left i n)) ≡ tally_over w (range_with_len 1 n)
 

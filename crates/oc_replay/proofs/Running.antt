@@ -17,7 +17,7 @@ use Rattle.oc_schedule.specs.declared.scale.TheConstants.{MAX_LARGE_LINES}
 use Rattle.oc_replay.specs.Stage.{HasTimeFor}
 use Rattle.oc_replay.specs.Opening.{IsOpening}
 
--- what holds of the rest holds of its first item, and of the rest after it
+-- a property of the rest is one of its first item, and of the rest after it
 pub All-drop : {A : Type 0} (P : A → Type 0) (xs : List A) (i : ℕ) (x : A) → i < length xs → x ≡ get_or xs i x → AllByRecursion P (drop i xs) → P x × AllByRecursion P (drop (i + 1) xs)
 All-drop P xs i x within read all =
     let both : P (get_or xs i x) × AllByRecursion P (drop (i + 1) xs) = subst (AllByRecursion P) (drop_more xs i x within) all in
@@ -48,8 +48,9 @@ after-take i first w new es e within read next so_far =
     let folded : w ≡ fold next_world first (take i es) = so_far ∙ after_fold first (take i es) in
     next ∙ ap (λ (v : World). next_world v e) folded ∙ ap (next_world (fold next_world first (take i es))) read ∙ sym (fold_more next_world first es i e within) ∙ sym (after_fold first (take (i + 1) es))
 
--- the world after the first i of these events, from the one that was opened: the rest are within their ranges, and no clock is
--- further past the greatest time than that many events take it
+-- the world after the first i of these events, from the one that was opened: the rest are within
+-- their ranges, and no clock is further past the greatest time than the remaining number of events
+-- allows
 pub record IsOnTheWay (opened w : World) (es : List Event) (i : ℕ) : Type 0 where
   pub played : w ≡ world_after opened (take i es)
   pub lawful : AllByRecursion (IsEvent (length (ids w))) (drop i es)
@@ -61,7 +62,7 @@ pub record IsOnTheWay (opened w : World) (es : List Event) (i : ℕ) : Type 0 wh
 pub whole_run : (opened w : World) (es : List Event) (i : ℕ) → length es ≤ i → IsOnTheWay opened w es i → w ≡ world_after opened es
 whole_run opened w es i past way = way.played ∙ ap (world_after opened) (take_all i es past)
 
--- what may be given to a stage that shows this world
+-- the events that may be given to a stage with this world
 pub record MayBeGiven (w : World) (e : Event) : Type 0 where
   pub event : IsEvent (length (ids w)) e
   pub time : HasTimeFor w e

@@ -9,7 +9,7 @@ use Rattle.oc_replay.specs.Lines.{end_line, event_line}
 use Rattle.oc_replay.specs.Report.{block_text, event_text, sent_text, told_from}
 use Rattle.oc_replay.proofs.Written.{IsWritten, gathers, gathers_all}
 
--- the line of an event, the messages that it sent and its block, put one after the other, are what is told of it
+-- the line of an event, its messages and its block, one after the other, are its report
 pub event_told : (a b c d : List ℕ) (i : ℕ) (said word : Word) (first : ℕ) (old new : World) (e : Event) → said ≡ word → first ≡ length old.net + 1 → b ≡ a ++ event_line i said → c ≡ b ++ sent_text first new e → d ≡ c ++ block_text new e → d ≡ a ++ event_text i word old new e
 event_told a b c d i said word first old new e words firsts line sent block =
     let x = event_line i word in

@@ -3,7 +3,7 @@ use Rattle.std.proofs.Common.{◌≡◌, ℕ, List, [], ◌++◌, length, take, 
 use Rattle.std.proofs.lemmas.List.{append_assoc, append-nil, take_at, take-append-drop}
 use Rattle.oc_replay.specs.Pieces.{PassesOn, SomeFront}
 
--- a prefix of the text was taken, what is gathered is after it, and then comes the rest
+-- a prefix of the text was taken, the gathered bytes are after it, and then comes the rest
 pub record IsWritten {K : Type 0} (takes : K → List ℕ → K → Type 0) (old new : K) (gathered rest text : List ℕ) : Type 0 where
   pub front : List ℕ
   pub taken : takes old front new
@@ -26,7 +26,7 @@ module _ {K : Type 0} (takes : K → List ℕ → K → Type 0) where
     whole = ap (λ g. g ++ text) none;
   }
 
-  -- what was put at the end is gathered too
+  -- bytes appended at the end are gathered, too
   pub gathers : (old new : K) (gathered more put rest text : List ℕ) → put ≡ gathered ++ more → IsWritten takes old new gathered (more ++ rest) text → IsWritten takes old new put rest text
   gathers old new gathered more put rest text e w = record {
     front = w.front;
@@ -34,7 +34,7 @@ module _ {K : Type 0} (takes : K → List ℕ → K → Type 0) where
     whole = rw (e, append_assoc) w.whole;
   }
 
-  -- what was put at the end is all that was left
+  -- bytes appended at the end are the whole rest
   pub gathers_all : (old new : K) (gathered rest put text : List ℕ) → put ≡ gathered ++ rest → IsWritten takes old new gathered rest text → IsWritten takes old new put [] text
   gathers_all old new gathered rest put text e w = record {
     front = w.front;
@@ -42,7 +42,7 @@ module _ {K : Type 0} (takes : K → List ℕ → K → Type 0) where
     whole = rw (append-nil, e) w.whole;
   }
 
-  -- a prefix of what is gathered is passed on
+  -- a prefix of the gathered bytes is passed on
   pub passes : Joins takes takes → (old mid new : K) (gathered left rest text : List ℕ) → PassesOn (λ bytes. takes mid bytes new) gathered left → IsWritten takes old mid gathered rest text → IsWritten takes old new left rest text
   passes joins old mid new gathered left rest text p w = record {
     front = w.front ++ p.front;
@@ -61,7 +61,7 @@ module _ {K : Type 0} (takes : K → List ℕ → K → Type 0) where
   stops old new gathered rest text w =
       (length w.front, subst (λ bytes. takes old bytes new) (front-is w.front (gathered ++ rest) text w.whole) w.taken)
 
-  -- a call fails when a prefix of what is gathered was taken
+  -- a call fails when a prefix of the gathered bytes was taken
   pub fails_on : (fails : K → List ℕ → K → Type 0) → Joins takes fails → (old mid new : K) (gathered rest text : List ℕ) → IsWritten takes old mid gathered rest text → SomeFront gathered (λ front. fails mid front new) → SomeFront text (λ front. fails old front new)
   fails_on fails joins old mid new gathered rest text w (n, failed) =
       let part = take n gathered in

@@ -12,7 +12,7 @@ use Rattle.oc_model.specs.declared.message.Body.TheVariants as bodies
 
 -- What messages say, as a report shows it.
 
--- a mark, where it is due
+-- a mark, if it is due
 abbrev pub mark : Bool → List ℕ → List ℕ
 mark true text = text
 mark false text = []
@@ -33,7 +33,7 @@ pair_text line = line.group ++ codes "@" ++ decimal line.held ++ mark line.seale
 abbrev pub child_text : Child → List ℕ
 child_text child = decimal child.id ++ codes ":" ++ decimal child.rate
 
--- `n:c` after such a text, where the own number n is not 0
+-- the text `before` and `n:c`, unless the number n is 0
 abbrev pub count_text : List ℕ → ℕ → ℕ → List ℕ
 count_text before number clients = mark (not (number == 0)) (before ++ decimal number ++ codes ":" ++ decimal clients)
 
@@ -74,7 +74,7 @@ abbrev pub tree_text : Bool → List ℕ
 tree_text true = codes "in"
 tree_text false = codes "out"
 
--- what a message says
+-- the text of a message body
 abbrev pub body_text : Body → List ℕ
 body_text bodies.Look = codes "look"
 body_text (bodies.LookIs in_tree parent rate children) =

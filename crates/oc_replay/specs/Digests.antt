@@ -1,4 +1,4 @@
--- A digest of what the files of a node hold: its control part, and the lengths and seals of its groups.
+-- A digest of a node's files: of its control part, and of the lengths and seals of its groups.
 use Rattle.std.specs.Prelude.{ℕ, List, ◌++◌, codes, decimal}
 use Rattle.hex.specs.Hex.{encode_lower}
 use Rattle.sha2.specs.Sha256.{sha256}

@@ -13,56 +13,56 @@ use Rattle.oc_replay.specs.declared.end.ReplayEnd.TheVariants.{Done, Text, Limit
 
 -- What holds at each end of a replay.
 
--- at Done
+-- at the end Done
 abbrev pub OnDone : ReplayEnd → Type 0 → Type 0
 OnDone Done P = P
 OnDone end P = Unit {0}
 
--- at Text, of its line and its cause
+-- at the end Text, for its line and its reason
 abbrev pub IfText : ReplayEnd → (ℕ → Why → Type 0) → Type 0
 IfText (Text line why) P = P line why
 IfText end P = Unit {0}
 
--- at Limit, of what has the limit
+-- at the end Limit, for its limit
 abbrev pub IfLimit : ReplayEnd → (What → Type 0) → Type 0
 IfLimit (Limit what) P = P what
 IfLimit end P = Unit {0}
 
--- at Source
+-- at the end Source
 abbrev pub OnSource : ReplayEnd → Type 0 → Type 0
 OnSource Source P = P
 OnSource end P = Unit {0}
 
--- at Sink
+-- at the end Sink
 abbrev pub OnSink : ReplayEnd → Type 0 → Type 0
 OnSink Sink P = P
 OnSink end P = Unit {0}
 
--- at Memory
+-- at the end Memory
 abbrev pub OnMemory : ReplayEnd → Type 0 → Type 0
 OnMemory Memory P = P
 OnMemory end P = Unit {0}
 
--- where the input is refused, or was not read to its end
+-- at each end at which the input is refused, or was not read to its end
 abbrev pub OnRefusal : ReplayEnd → Type 0 → Type 0
 OnRefusal (Text line why) P = P
 OnRefusal (Limit what) P = P
 OnRefusal Source P = P
 OnRefusal end P = Unit {0}
 
--- to which end a fault of reading leads
+-- the end that a fault of reading brings
 abbrev pub end_of_reading : ReadFault → ReplayEnd
 end_of_reading reading.Failed = Source
 end_of_reading reading.TooMany = Limit Bytes
 end_of_reading reading.Memory = Memory
 
--- to which end a fault of a schedule leads
+-- the end that a fault of a schedule brings
 abbrev pub end_of_schedule : ScheduleFault → ReplayEnd
 end_of_schedule (schedule.Line line why) = Text line why
 end_of_schedule (schedule.Limit what) = Limit what
 end_of_schedule schedule.Memory = Memory
 
--- to which end a fault of a report leads
+-- the end that a fault of a report brings
 abbrev pub end_of_report : ReportFault → ReplayEnd
 end_of_report report.Sink = Sink
 end_of_report report.Memory = Memory

@@ -7,11 +7,11 @@ use Rattle.oc_replay.specs.Replay.{report_of, summary_of}
 
 -- The worked examples, from the text of a schedule to that of its report.
 
--- what the model reports of the schedule that a text is
+-- the report of the model for the schedule in a text
 abbrev told : List ℕ → Result (List ℕ) ScheduleFault
 told text = schedule_of Usual text >>= λ s. Ok (report_of s)
 
--- and what it sums up of it
+-- the summary of the model for the schedule in a text
 abbrev summed : List ℕ → Result (List ℕ) ScheduleFault
 summed text = schedule_of Usual text >>= λ s. Ok (summary_of s)
 

@@ -48,7 +48,7 @@ abbrev pub message_line : ℕ → Message → List ℕ
 message_line k m =
     codes "  m" ++ decimal k ++ codes " " ++ decimal m.from ++ codes ">" ++ decimal m.to ++ codes " " ++ body_text m.body ++ codes "\n"
 
--- a line for each message, the first of which has this number
+-- a line for each message, numbered from this number on
 abbrev pub messages_text : ℕ → List Message → List ℕ
 messages_text k [] = []
 messages_text k (m ∷ ms) = message_line k m ++ messages_text (k + 1) ms

@@ -2,11 +2,11 @@ use Rattle.std.specs.Prelude.{◌≡◌, ℕ, List, ◌++◌, take}
 
 -- A text of which a part was written.
 
--- this holds of some prefix of a list
+-- some prefix of a list has this property
 abbrev pub SomeFront : {A : Type 0} → List A → (List A → Type 0) → Type 0
 SomeFront xs P = (n : ℕ) × P (take n xs)
 
--- a prefix of what was gathered was taken, and the rest is what is gathered now
+-- a prefix of the gathered bytes was taken, and the rest is now gathered
 pub record PassesOn (takes : List ℕ → Type 0) (old new : List ℕ) : Type 0 where
   pub front : List ℕ
   pub taken : takes front

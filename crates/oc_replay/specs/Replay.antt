@@ -15,7 +15,7 @@ use Rattle.oc_replay.specs.Summary.{run_summary}
 
 -- What a replay does with its input.
 
--- these bytes came up to the end, and this is what they say as a schedule of this scale
+-- these bytes came up to the end, and this is their meaning as a schedule of this scale
 pub record IsInput {S : Type 0} (scale : Scale) (gives : S → List ℕ → S → Type 0) (ended : S → Type 0) (old new : S) (says : Result Script ScheduleFault) : Type 0 where
   pub bytes : List ℕ
   pub came : gives old bytes new
@@ -27,12 +27,12 @@ abbrev pub PassesLimit : {S : Type 0} → Scale → (S → List ℕ → S → Ty
 PassesLimit scale gives ended old new Bytes = (bytes : List ℕ) × gives old bytes new × (most_of scale Bytes < length bytes)
 PassesLimit scale gives ended old new what = IsInput scale gives ended old new (Err (Limit what))
 
--- what is written of a run: its summary where that is asked for, and else its report
+-- the output of a run: its summary if that is asked for, otherwise its report
 abbrev pub run_output : Bool → World → List Event → List ℕ
 run_output true w es = run_summary w es
 run_output false w es = run_text w es
 
--- what a replay writes of a schedule
+-- the output of a replay of a schedule
 abbrev pub output_text : Bool → Script → List ℕ
 output_text summary s = run_output summary (new_world s.header) s.events
 

@@ -22,7 +22,7 @@ block_text w e = []
 abbrev pub sent_from : ℕ → World → List ℕ
 sent_from k w = messages_text k (drop (k - 1) w.net)
 
--- those that are reported of an event; what settle and heal send is numbered, and not reported
+-- the messages reported for an event; those of settle and heal are numbered, and left out
 abbrev pub sent_text : ℕ → World → Event → List ℕ
 sent_text k w Settle = []
 sent_text k w Heal = []
@@ -38,7 +38,7 @@ abbrev pub event_text : ℕ → Word → World → World → Event → List ℕ
 event_text i word old new e =
     event_line i word ++ sent_text (length old.net + 1) new e ++ block_text new e
 
--- the events from the world after the first i of them on, and the end
+-- the events after the first i of them, played from this world on, and the end
 abbrev pub told_from : ℕ → World → List Event → List ℕ
 told_from i w [] = end_line i (length w.net)
 told_from i w (e ∷ es) = event_text (i + 1) (word_of w e) w (next_world w e) e ++ told_from (i + 1) (next_world w e) es

@@ -12,17 +12,18 @@ use Rattle.oc_replay.specs.declared.stage.Said.{Said}
 abbrev pub HEAL_SECONDS : ℕ
 HEAL_SECONDS = 60
 
--- no node that is up is so late that settle or heal would take it past the last second
+-- every node that is up has a clock early enough for settle and heal to end by the last second
 abbrev pub HasTime : World → Type 0
 HasTime w = (x : ℕ) → IsUp w x → clock_of w x ≤ LAST_SECOND - HEAL_SECONDS
 
--- what an event asks of the clocks: nothing but at settle and heal
+-- the demand of an event on the clocks: none but at settle and heal
 abbrev pub HasTimeFor : World → Event → Type 0
 HasTimeFor w Settle = HasTime w
 HasTimeFor w Heal = HasTime w
 HasTimeFor w e = Unit {0}
 
--- what is said of an event that turned one world into another: this word, and by which messages the net grew
+-- the answer to an event that turned one world into another: this word, and the messages added to
+-- the net
 pub record IsSaid (told : Word) (old new : World) (said : Said) : Type 0 where
   pub word : said.word ≡ told
   pub first : said.first ≡ length old.net + 1

@@ -12,7 +12,8 @@ use Rattle.oc_replay.specs.declared.summing.Tally.{Tally}
 
 -- What a summary says of a world.
 
--- what is counted of one node: whether it is up, and then joined, or acting as root, and the bytes that it holds
+-- the counts of one node: whether it is up, whether it then is joined or acts as root, and the
+-- bytes that it holds
 abbrev pub tally_at : World → ℕ → Tally
 tally_at w x = record {
   up = from_bool (is_up w x);
@@ -34,7 +35,8 @@ tally_over w xs = record {
 abbrev pub count_line : List ℕ → ℕ → List ℕ
 count_line word count = word ++ codes " " ++ decimal count ++ codes "\n"
 
--- six lines: the events, the messages, the nodes that are up, those of them that are joined and that act as root, the bytes held
+-- six lines: the events, the messages, the nodes that are up, those of them that are joined and
+-- that act as root, the bytes held
 abbrev pub summary_of_tally : ℕ → ℕ → Tally → List ℕ
 summary_of_tally events messages tally =
     count_line (codes "events") events
@@ -52,7 +54,7 @@ summary_text events w = summary_of_tally events (length w.net) (tally_over w (id
 abbrev pub run_summary : World → List Event → List ℕ
 run_summary w es = summary_text (length es) (world_after w es)
 
--- what is counted of these and of others
+-- the counts of these and of other nodes together
 abbrev pub plus : Tally → Tally → Tally
 plus s t = record { up = s.up + t.up; joined = s.joined + t.joined; acting = s.acting + t.acting; bytes = s.bytes + t.bytes }
 

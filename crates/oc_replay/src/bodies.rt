@@ -1,4 +1,4 @@
-//! What messages say, put at the end of a buffer.
+//! The text of message bodies, appended to a buffer.
 
 ghost use Rattle.std.specs.Prelude.{◌≡◌, ◌++◌, OnOk};
 ghost use Rattle.oc_replay.specs.Bodies.{body_text, node_or_zero, rank_or_dash, rank_text, tree_text, why_text};
@@ -11,7 +11,7 @@ use oc_base::{
 use oc_model::Body;
 use oc_schedule::put_bytes;
 
-/// Puts what a message says.
+/// Appends the text of a message body.
 pub(crate) fn put_body(out: &mut Vec<u8>, body: &Body) -> Result<(), Memory>
     ensures { OnOk result (out.new.items ≡ out.old.items ++ body_text body.now) }
 {
@@ -58,7 +58,7 @@ pub(crate) fn put_body(out: &mut Vec<u8>, body: &Body) -> Result<(), Memory>
     }
 }
 
-/// Puts `lookis T P R [c:r ..]`.
+/// Appends `lookis T P R [c:r ..]`.
 fn put_look_is(
     out: &mut Vec<u8>,
     in_tree: bool,
@@ -77,14 +77,14 @@ fn put_look_is(
     put_list(out, children)
 }
 
-/// Whether a node is in the tree.
+/// The word for a node that is in the tree or not.
 fn tree_word(in_tree: bool) -> &'static str
     ensures { result.now ≡ tree_text in_tree }
 {
     if in_tree { "in" } else { "out" }
 }
 
-/// Puts a node, or 0 where there is none.
+/// Appends a node, or 0 if there is none.
 fn put_node_or_zero(out: &mut Vec<u8>, node: Option<NodeId>) -> Result<(), Memory>
     ensures { OnOk result (out.new.items ≡ out.old.items ++ node_or_zero node) }
 {
@@ -94,7 +94,7 @@ fn put_node_or_zero(out: &mut Vec<u8>, node: Option<NodeId>) -> Result<(), Memor
     }
 }
 
-/// Puts `ask S RANK`.
+/// Appends `ask S RANK`.
 fn put_ask(out: &mut Vec<u8>, seq: u64, rank: Option<Rank>) -> Result<(), Memory>
     ensures { OnOk result (out.new.items ≡ out.old.items ++ body_text (Body.Ask seq rank)) }
 {
@@ -103,7 +103,7 @@ fn put_ask(out: &mut Vec<u8>, seq: u64, rank: Option<Rank>) -> Result<(), Memory
     put_rank_or_dash(out, rank)
 }
 
-/// Puts a rank, and `-` where there is none.
+/// Appends a rank, or `-` if there is none.
 pub fn put_rank_or_dash(out: &mut Vec<u8>, rank: Option<Rank>) -> Result<(), Memory>
     ensures { OnOk result (out.new.items ≡ out.old.items ++ rank_or_dash rank) }
 {
@@ -113,7 +113,7 @@ pub fn put_rank_or_dash(out: &mut Vec<u8>, rank: Option<Rank>) -> Result<(), Mem
     }
 }
 
-/// Puts `E.D`.
+/// Appends `E.D`.
 fn put_rank(out: &mut Vec<u8>, rank: Rank) -> Result<(), Memory>
     ensures { OnOk result (out.new.items ≡ out.old.items ++ rank_text rank) }
 {
@@ -121,7 +121,7 @@ fn put_rank(out: &mut Vec<u8>, rank: Rank) -> Result<(), Memory>
     put_byte_number(out, b'.', u64::from(rank.depth))
 }
 
-/// Puts `yes S E.D [ids]`.
+/// Appends `yes S E.D [ids]`.
 fn put_yes(out: &mut Vec<u8>, seq: u64, rank: Rank, ancestors: &[NodeId]) -> Result<(), Memory>
     ensures { OnOk result (out.new.items ≡ out.old.items ++ body_text (Body.Yes seq rank ancestors.now)) }
 {
@@ -132,7 +132,7 @@ fn put_yes(out: &mut Vec<u8>, seq: u64, rank: Rank, ancestors: &[NodeId]) -> Res
     put_list(out, ancestors)
 }
 
-/// Puts `no S WHY`.
+/// Appends `no S WHY`.
 fn put_no(out: &mut Vec<u8>, seq: u64, why: Refusal) -> Result<(), Memory>
     ensures { OnOk result (out.new.items ≡ out.old.items ++ body_text (Body.No seq why)) }
 {
@@ -141,7 +141,7 @@ fn put_no(out: &mut Vec<u8>, seq: u64, why: Refusal) -> Result<(), Memory>
     put_why(out, why)
 }
 
-/// Puts the word of a refusal.
+/// Appends the word of a refusal.
 fn put_why(out: &mut Vec<u8>, why: Refusal) -> Result<(), Memory>
     ensures { OnOk result (out.new.items ≡ out.old.items ++ why_text why) }
 {
@@ -155,7 +155,7 @@ fn put_why(out: &mut Vec<u8>, why: Refusal) -> Result<(), Memory>
     }
 }
 
-/// Puts `checkin S U R [certs]`, without the count of clients after it.
+/// Appends `checkin S U R [certs]`, without the count of clients after it.
 fn put_check_in(
     out: &mut Vec<u8>,
     seq: u64,
@@ -172,7 +172,7 @@ fn put_check_in(
     put_list(out, certs)
 }
 
-/// Puts `checkack S U E.D [ids]`.
+/// Appends `checkack S U E.D [ids]`.
 fn put_check_ack(
     out: &mut Vec<u8>,
     seq: u64,
@@ -190,7 +190,7 @@ fn put_check_ack(
     put_list(out, ancestors)
 }
 
-/// Puts `fetch [g@h ..]`.
+/// Appends `fetch [g@h ..]`.
 fn put_fetch(out: &mut Vec<u8>, have: &[Shelf]) -> Result<(), Memory>
     ensures { OnOk result (out.new.items ≡ out.old.items ++ body_text (Body.Fetch have.now)) }
 {
@@ -198,7 +198,7 @@ fn put_fetch(out: &mut Vec<u8>, have: &[Shelf]) -> Result<(), Memory>
     put_list(out, have)
 }
 
-/// Puts `chunk G START HEX`, and ` last` after the last one of a group.
+/// Appends `chunk G START HEX`, and ` last` at the last chunk of a group.
 fn put_chunk(
     out: &mut Vec<u8>,
     group: &GroupName,

@@ -11,16 +11,16 @@ use oc_record::encode;
 use sha2::{Digest, Sha256};
 use std::alloc::Global;
 
-/// How many digits a digest has.
+/// The number of hexadecimal digits of a digest.
 pub const DIGEST_DIGITS: usize = 64;
 
-/// What the files of a node hold, as bytes: the records of its snapshot, under the running number 1 and however many they
-/// are, and after them a line for each group that it holds, with its length and its seal.
+/// The content of a node's files as bytes: the records of its snapshot, with the running number 1
+/// whatever their number is, and after them a line for each of its groups, with length and seal.
 #[tactic(auto, using(crate::proofs::Snapshots::snapshots_spell))]
 pub fn files_text(alloc: Global, node: &Node, shelf: &[Shelf]) -> Result<Vec<u8>, Memory>
     ensures { IfOk result (λ text. text.items ≡ digests.files_text node.now.control.kept shelf.now) }
 {
-    // The clause of this call says that the node is lawful, so its records have a spelling.
+    // This call has a clause by which the node is lawful, so its records have a spelling.
     let _nodes = node.nodes();
     let list = node.snapshot(1)?;
     let mut text = encode(alloc, &list)?;
@@ -29,7 +29,7 @@ pub fn files_text(alloc: Global, node: &Node, shelf: &[Shelf]) -> Result<Vec<u8>
     Ok(text)
 }
 
-/// Puts the digest of what the files of a node hold: 64 hexadecimal digits in lower case.
+/// Appends the digest of a node's files: 64 hexadecimal digits in lower case.
 pub fn put_digest(
     alloc: Global,
     out: &mut Vec<u8>,
@@ -42,7 +42,7 @@ pub fn put_digest(
     put(out, &digits_of(&text))
 }
 
-/// Puts the line `# ID has H` with the digest of what the files of a node hold.
+/// Appends the line `# ID has H` with the digest of a node's files.
 pub fn put_has_line(
     alloc: Global,
     out: &mut Vec<u8>,

@@ -3,14 +3,14 @@ use oc_base::Why;
 use oc_io::ReadFault;
 use oc_schedule::{ScheduleFault, What};
 
-/// How a replay ends.
+/// The end of a replay.
 #[derive(Clone, Copy, Debug, PartialEq, Eq)]
 pub enum ReplayEnd {
     /// The whole report, or the whole summary, was written.
     Done,
-    /// A line of the schedule, counted from 1, is refused for this cause.
+    /// A line of the schedule, counted from 1, is refused for this reason.
     Text { line: u32, why: Why },
-    /// The schedule passes a limit.
+    /// The schedule exceeds a limit.
     Limit(What),
     /// A call on the source failed.
     Source,

@@ -4,7 +4,7 @@ ghost use Rattle.oc_replay.specs.declared.fault.ReportFault.TheVariants.{Sink as
 use oc_base::Memory;
 use oc_io::Failed;
 
-/// Why a report was not written to its end.
+/// The reason why a report was not written to its end.
 #[derive(Clone, Copy, Debug, PartialEq, Eq)]
 pub enum ReportFault {
     /// A call on the sink failed.

@@ -1,4 +1,4 @@
-//! Lists in brackets, put at the end of a buffer.
+//! Lists in brackets, appended to a buffer.
 
 ghost use Rattle.std.specs.Prelude.{◌≡◌, ℕ, List, [], ◌++◌, OnOk, decimal};
 ghost use Rattle.oc_replay.specs.Bodies.{cert_text, child_text, count_text, list_text, pair_text, sign_text, spaced};
@@ -7,17 +7,17 @@ ghost use Rattle.oc_replay.specs.Shows.{listed_text};
 use crate::texts::{put_byte, put_byte_number, put_mark};
 use oc_base::{Cert, Child, Line, Memory, NodeId, Shelf, put, put_number, put_with_number};
 
-/// What a list contains.
+/// An item of a list.
 pub(crate) trait ListItem {
-    /// Its text.
+    /// The text of the item.
     ghost text: { Self → List ℕ };
 
-    /// Puts its text.
+    /// Appends the text of the item.
     fn put(&self, out: &mut Vec<u8>) -> Result<(), Memory>
         ensures { OnOk result (out.new.items ≡ out.old.items ++ text self.now) };
 }
 
-/// Puts a list in brackets, with a space between each two items.
+/// Appends a list in brackets, with a space between items.
 pub(crate) fn put_list<I: ListItem>(out: &mut Vec<u8>, items: &[I]) -> Result<(), Memory>
     ensures { OnOk result (out.new.items ≡ out.old.items ++ list_text I.text items.now) }
 {
@@ -26,7 +26,7 @@ pub(crate) fn put_list<I: ListItem>(out: &mut Vec<u8>, items: &[I]) -> Result<()
     put_byte(out, b']')
 }
 
-/// Puts the items, with a space between each two.
+/// Appends the items, with a space between them.
 fn put_spaced<I: ListItem>(out: &mut Vec<u8>, items: &[I]) -> Result<(), Memory>
     ensures { OnOk result (out.new.items ≡ out.old.items ++ spaced I.text items.now) }
 {
@@ -96,7 +96,7 @@ fn sign(dead: bool) -> &'static str
     if dead { "-" } else { "+" }
 }
 
-/// Puts a count of clients after such a text, where the own number is not 0.
+/// Appends the text `before` and `n:c`, a number and a count of clients, unless the number is 0.
 pub(crate) fn put_count(
     out: &mut Vec<u8>,
     before: &str,

@@ -1,6 +1,6 @@
 ghost use Rattle.oc_replay.specs.Examples.{AreTold};
 
-/// The worked examples compute from the definitions: the report of each schedule, byte by byte.
+/// The reports of the worked examples, computed byte by byte from the definitions.
 pub fn examples_are_told()
     ensures { AreTold }
 {}

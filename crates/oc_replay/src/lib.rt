@@ -6,20 +6,23 @@
 //! the first fault of the text, with `Source` and `Sink` the count of faults of that one rose, and where there
 //! is no schedule nothing is written and the stage is as it was.
 //!
-//! A [`Stage`] shows a world of the model and plays on it by the model's own functions: `new_world`,
-//! `next_world` and `word_of`. So what is written is the report of the model, whatever the stage is made of.
+//! A [`Stage`] shows a world of the model and plays on it by the model's own functions:
+//! `new_world`, `next_world` and `word_of`. So the report is that of the model, whatever the type
+//! of the stage.
 //!
-//! `specs/Report` says what is reported of a run and in which order, `specs/Lines` the lines of a report,
-//! `specs/Bodies` what messages say and `specs/Shows` the state of a node; [`show_text`] and [`held_text`] show
-//! one node in the same words. `specs/Summary` has what is counted of a world, `specs/Replay` what is written of
-//! a schedule, `specs/Pieces` what it means that a part of a text was written, and `specs/Ends` what holds at
-//! each end. The text is gathered in one buffer, which is written and used again whenever it has reached 64 KiB.
+//! `specs/Report` defines the report of a run and its order, `specs/Lines` the lines of a report,
+//! `specs/Bodies` the text of messages and `specs/Shows` the state of a node; [`show_text`] and
+//! [`held_text`] show one node in the same words. `specs/Summary` has the counts of a world,
+//! `specs/Replay` the output for a schedule, `specs/Pieces` the writing of a part of a text, and
+//! `specs/Ends` the properties at each end. The text is gathered in one buffer, which is written
+//! and used again whenever it has reached 64 KiB.
 //!
-//! [`files_text`] is what the files of a node hold, as bytes: the records of its control part, and after them the lines
-//! of [`held_text`], with the length and the seal of each group. [`put_digest`] puts the SHA-256 of these
-//! (`specs/Digests`): two nodes of one number among as many nodes have the same digest where all of that is the same.
-//! The record of a running node begins with it ([`put_has_line`]), so whoever reads the record knows which files the
-//! node had.
+//! [`files_text`] is the content of a node's files, as bytes: the records of its control part, and
+//! after them the lines of [`held_text`], with the length and the seal of each group.
+//! [`put_digest`] appends the SHA-256 of these (`specs/Digests`): two nodes with the same number,
+//! among equally many nodes, have the same digest if all these are equal. The record of a running
+//! node begins with the digest ([`put_has_line`]), so a reader of the record can identify the files
+//! that the node had.
 #![tactic(auto)]
 
 mod bodies;

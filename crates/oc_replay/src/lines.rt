@@ -1,4 +1,4 @@
-//! The lines of a report, each put at the end of a buffer.
+//! The lines of a report, each appended to a buffer.
 
 ghost use Rattle.std.specs.Prelude.{◌≡◌, ◌++◌, OnOk, IfOk};
 ghost use Rattle.oc_replay.specs.Lines.{answer_text, word_text, event_line, message_line, held_line, held_text, end_line};
@@ -9,7 +9,7 @@ use oc_base::{Memory, Shelf, put, put_with_number};
 use oc_model::{Answer, Message, Word};
 use std::alloc::Global;
 
-/// Puts `#i WORD`: the number of an event, and its word.
+/// Appends `#i WORD`: the number of an event, and its word.
 pub fn put_event(out: &mut Vec<u8>, number: u64, word: &Word) -> Result<(), Memory>
     ensures { OnOk result (out.new.items ≡ out.old.items ++ event_line number word.now) }
 {
@@ -19,7 +19,7 @@ pub fn put_event(out: &mut Vec<u8>, number: u64, word: &Word) -> Result<(), Memo
     put_byte(out, b'\n')
 }
 
-/// Puts the word of an event.
+/// Appends the word of an event.
 fn put_word(out: &mut Vec<u8>, word: &Word) -> Result<(), Memory>
     ensures { OnOk result (out.new.items ≡ out.old.items ++ word_text word.now) }
 {
@@ -36,7 +36,7 @@ fn put_word(out: &mut Vec<u8>, word: &Word) -> Result<(), Memory>
     }
 }
 
-/// Puts the word of an answer.
+/// Appends the word of an answer.
 pub fn put_answer(out: &mut Vec<u8>, answer: Answer) -> Result<(), Memory>
     ensures { OnOk result (out.new.items ≡ out.old.items ++ answer_text answer) }
 {
@@ -58,7 +58,7 @@ pub fn put_answer(out: &mut Vec<u8>, answer: Answer) -> Result<(), Memory>
     }
 }
 
-/// Puts `  mK A>B BODY`: the number of a message, between whom, and what it says.
+/// Appends `  mK A>B BODY`: the number of a message, its sender and receiver, and its body.
 pub fn put_message(out: &mut Vec<u8>, number: u64, message: &Message) -> Result<(), Memory>
     ensures { OnOk result (out.new.items ≡ out.old.items ++ message_line number message.now) }
 {
@@ -70,7 +70,7 @@ pub fn put_message(out: &mut Vec<u8>, number: u64, message: &Message) -> Result<
     put_byte(out, b'\n')
 }
 
-/// Puts the block of `held`: a line for each group, in the order in which they come.
+/// Appends the block of `held`: a line for each group, in order.
 pub fn put_held(out: &mut Vec<u8>, shelf: &[Shelf]) -> Result<(), Memory>
     ensures { OnOk result (out.new.items ≡ out.old.items ++ held_text shelf.now) }
 {
@@ -80,7 +80,7 @@ pub fn put_held(out: &mut Vec<u8>, shelf: &[Shelf]) -> Result<(), Memory>
     Ok(())
 }
 
-/// Puts `  GROUP HELD`.
+/// Appends `  GROUP HELD`.
 fn put_held_line(out: &mut Vec<u8>, line: &Shelf) -> Result<(), Memory>
     ensures { OnOk result (out.new.items ≡ out.old.items ++ held_line line.now) }
 {
@@ -91,7 +91,7 @@ fn put_held_line(out: &mut Vec<u8>, line: &Shelf) -> Result<(), Memory>
     put_byte(out, b'\n')
 }
 
-/// Puts `end E M`: how many events there were, and how many messages.
+/// Appends `end E M`: the number of events, and the number of messages.
 pub fn put_end(out: &mut Vec<u8>, events: u64, messages: u64) -> Result<(), Memory>
     ensures { OnOk result (out.new.items ≡ out.old.items ++ end_line events messages) }
 {

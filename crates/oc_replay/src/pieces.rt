@@ -1,4 +1,4 @@
-//! A text that is gathered, and written piece by piece.
+//! A text that is gathered, and written in pieces.
 
 ghost use Rattle.std.specs.Prelude.{◌≡◌, ◌<◌, ◌++◌, length, OnOk, OnErr, IsErrOf};
 ghost use Rattle.oc_io.specs.Faults.{NoFall, Rose};
@@ -10,10 +10,10 @@ use crate::fault::ReportFault;
 use crate::lines::put_end;
 use oc_io::{Failed, Sink, write_all};
 
-/// How many bytes are gathered before they are written.
+/// The number of bytes gathered before they are written.
 const PIECE: usize = 65_536;
 
-/// Writes what was gathered, once there is enough of it.
+/// Writes the gathered bytes, once there are enough.
 pub fn pass_on<K: Sink>(sink: &mut K, out: &mut Vec<u8>) -> Result<(), Failed>
     ensures waits { length out.old.items < ENOUGH → (sink.new ≡ sink.old) × (out.new.items ≡ out.old.items) }
     ensures few { OnOk result (length out.new.items < ENOUGH) }
@@ -29,7 +29,8 @@ pub fn pass_on<K: Sink>(sink: &mut K, out: &mut Vec<u8>) -> Result<(), Failed>
     Ok(())
 }
 
-/// Writes the last part of a report: what was gathered, and the line of its end with this many events and messages.
+/// Writes the last part of a report: the gathered bytes, and the end line with the numbers of
+/// events and messages.
 pub fn write_last<K: Sink>(
     sink: &mut K,
     out: &mut Vec<u8>,
@@ -38,7 +39,7 @@ pub fn write_last<K: Sink>(
 ) -> Result<(), ReportFault>
     ensures written { OnOk result (K.takes sink.old (out.old.items ++ end_line events messages) sink.new) }
 
-    // A prefix of it had been taken when a call failed, and nothing of it when memory ran out.
+    // When a call failed, a prefix had been taken; when memory ran out, nothing.
     ensures failed { IsErrOf result ReportFault.Sink
         → SomeFront (out.old.items ++ end_line events messages) (λ front. K.fails sink.old front sink.new) }
     ensures memory { IsErrOf result ReportFault.Memory → sink.new ≡ sink.old }

@@ -1,4 +1,4 @@
-//! Events that are given to a stage.
+//! The playing of events on a stage.
 
 ghost use Rattle.std.specs.Prelude.{◌≡◌, ◌<◌, ◌++◌, Some, length, slice_get, OnOk, IfOk};
 ghost use Rattle.oc_model.specs.declared.event.Event.{Event as EventValue};
@@ -16,7 +16,8 @@ use oc_base::Memory;
 use oc_model::Event;
 use oc_schedule::EventList;
 
-/// Gives the stage the event of this number, puts the line of its word, and answers what the stage said of it.
+/// Plays the event of this number on the stage, appends the line of its word, and gives the stage's
+/// answer.
 pub fn play_one<T: Stage>(
     out: &mut Vec<u8>,
     stage: &mut T,
@@ -34,7 +35,7 @@ pub fn play_one<T: Stage>(
     Ok(said)
 }
 
-/// Gives the stage the event at a place, and answers what the stage said of it.
+/// Plays the event at an index on the stage, and gives the stage's answer.
 fn give_at<T: Stage>(stage: &mut T, events: &EventList, place: usize) -> Result<Said, Memory>
     requires within { place < length events.now }
     requires event { (e : EventValue) → slice_get events.now place ≡ Some e → IsEvent (length (ids (T.world stage.old))) e }
@@ -49,7 +50,7 @@ fn give_at<T: Stage>(stage: &mut T, events: &EventList, place: usize) -> Result<
     said
 }
 
-/// Gives the stage each event once, in order, and answers how many messages were sent.
+/// Plays each event once on the stage, in order, and gives the number of messages sent.
 pub fn play<T: Stage>(stage: &mut T, events: &EventList) -> Result<u64, Memory>
     requires { IsOpening (T.world stage.old) events.now }
     ensures played { OnOk result (T.world stage.new ≡ world_after (T.world stage.old) events.now) }

@@ -32,14 +32,15 @@ pub fn replay<S: Source, K: Sink, T: Stage>(
     scale: Scale,
     summary: bool,
 ) -> ReplayEnd
-    // All input came and is a schedule within the limits, its whole text was taken, and the stage is at its last world.
+    // The whole input came and is a schedule within the limits, its whole report was taken, and the
+    // stage is at its last world.
     ensures done { OnDone result ((s : Script)
         × IsInput scale S.gives S.ended source.old source.new (Ok s)
         × IsSchedule scale s
         × K.takes sink.old (output_text summary s) sink.new
         × (T.world stage.new ≡ world_at s s.events)) }
 
-    // All input came, and this is its first fault.
+    // The whole input came, and this is its first fault.
     ensures text { IfText result (λ line why.
         IsInput scale S.gives S.ended source.old source.new (Err (Line line why))) }
     ensures limit { IfLimit result (λ what.
@@ -49,19 +50,19 @@ pub fn replay<S: Source, K: Sink, T: Stage>(
     ensures source { OnSource result (((bytes : List ℕ) × S.fails source.old bytes source.new)
         × Rose (S.faults source.old) (S.faults source.new)) }
 
-    // Where there is no schedule to play, nothing is written, and the stage is as it was.
+    // If there is no schedule to play, nothing is written, and the stage is unchanged.
     ensures refused { OnRefusal result (K.takes sink.old [] sink.new × (stage.new ≡ stage.old)) }
 
-    // All input came and is a schedule, a prefix of its text had been taken when a call on the sink
-    // failed, and the stage is at a world on the way.
+    // The whole input came and is a schedule, a prefix of its report had been taken when a call on
+    // the sink failed, and the stage is at a world on the way.
     ensures sink { OnSink result ((s : Script)
         × IsInput scale S.gives S.ended source.old source.new (Ok s)
         × SomeFront (output_text summary s) (λ front. K.fails sink.old front sink.new)
         × SomeFront s.events (λ played. T.world stage.new ≡ world_at s played)
         × Rose (K.faults sink.old) (K.faults sink.new)) }
 
-    // Some input came, nothing is written, and the stage is as it was; or all input came and is a
-    // schedule, and a prefix of its text was taken.
+    // Some input came, nothing is written, and the stage is unchanged; or the whole input came and
+    // is a schedule, and a prefix of its report was taken.
     ensures memory { OnMemory result (
         (((bytes : List ℕ) × S.gives source.old bytes source.new) × K.takes sink.old [] sink.new × (stage.new ≡ stage.old))
         ⊎ ((s : Script)
@@ -81,8 +82,8 @@ pub fn replay<S: Source, K: Sink, T: Stage>(
     }
 }
 
-/// The schedule of this scale that the source gives, up to its end. The error is the end of the replay
-/// where there is none, and so neither `Done` nor `Sink`.
+/// Reads a schedule of this scale from the source, up to its end. An error is the end of the
+/// replay, and is neither `Done` nor `Sink`.
 fn schedule_in<S: Source>(
     alloc: Global,
     source: &mut S,
@@ -106,7 +107,7 @@ fn schedule_in<S: Source>(
     Ok(schedule)
 }
 
-/// Plays a schedule on the stage, from its header on, and writes its report or its summary.
+/// Plays a schedule on the stage, beginning with its header, and writes its report or its summary.
 fn play<K: Sink, T: Stage>(
     alloc: Global,
     schedule: &Schedule,
@@ -128,24 +129,19 @@ fn play<K: Sink, T: Stage>(
     ensures count { NoFall (K.faults sink.old) (K.faults sink.new) }
     ensures cause { IsErrOf result ReportFault.Sink → Rose (K.faults sink.old) (K.faults sink.new) }
 {
-    stage.open(
-        schedule.nodes,
-        schedule.chain,
-        schedule.chunk,
-        &schedule.areas,
-    )?;
+    stage.open(&schedule.header)?;
     tell(
         alloc,
         sink,
         stage,
         &schedule.events,
-        schedule.nodes,
+        schedule.header.sizes.nodes,
         summary,
     )
 }
 
-/// Gives the stage each event once, in order, and writes the report of the run or its summary, in which
-/// each of `nodes` nodes is counted.
+/// Plays each event once on the stage, in order, and writes the report of the run or its summary,
+/// in which each of `nodes` nodes is counted.
 fn tell<K: Sink, T: Stage>(
     alloc: Global,
     sink: &mut K,

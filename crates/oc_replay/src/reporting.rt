@@ -1,4 +1,4 @@
-//! A run of events on a stage, reported while it happens.
+//! A run of events on a stage, with a report of each event as it happens.
 
 ghost use Rattle.std.specs.Prelude.{◌≡◌, ◌+◌, ◌-◌, ◌^◌, ◌<◌, ◌++◌, Some, length, slice_get, OnOk, IfOk, IsErrOf};
 ghost use Rattle.oc_model.specs.declared.event.Event.{Event as EventValue};
@@ -23,8 +23,8 @@ use oc_model::Event;
 use oc_schedule::EventList;
 use std::alloc::Global;
 
-/// Gives the stage each event once, in order, and writes the report of the run, which opens with
-/// the world that the stage shows.
+/// Plays each event once on the stage, in order, and writes the report of the run, which begins
+/// with the world of the stage.
 pub(crate) fn report<K: Sink, T: Stage>(
     alloc: Global,
     sink: &mut K,
@@ -39,14 +39,15 @@ pub(crate) fn report<K: Sink, T: Stage>(
     ensures played { OnOk result
         (T.world stage.new ≡ world_after (T.world stage.old) events.now) }
 
-    // A prefix of it had been taken when a call failed, and the stage is at a world on the way.
+    // A prefix of the report had been taken when a call failed, and the stage is at a world on the
+    // way.
     ensures failed { IsErrOf result ReportFault.Sink
         → SomeFront (run_text (T.world stage.old) events.now)
         (λ front. K.fails sink.old front sink.new) }
     ensures stopped { IsErrOf result ReportFault.Sink
         → SomeFront events.now (λ played. T.world stage.new ≡ world_after (T.world stage.old) played) }
 
-    // A prefix of it had been taken when memory ran out.
+    // A prefix of the report had been taken when memory ran out.
     ensures memory { IsErrOf result ReportFault.Memory
         → SomeFront (run_text (T.world stage.old) events.now)
         (λ front. K.takes sink.old front sink.new) }
@@ -63,8 +64,8 @@ pub(crate) fn report<K: Sink, T: Stage>(
     write_last(sink, &mut out, events.len() as u64, sent)
 }
 
-/// Gives the stage the event at a place, which has this number, puts what is reported of it, and answers how
-/// many messages were sent so far.
+/// Plays the event at an index, which has this number, on the stage, appends its report, and gives
+/// the number of messages sent so far.
 fn tell_at<T: Stage>(
     out: &mut Vec<u8>,
     stage: &mut T,
@@ -87,8 +88,8 @@ fn tell_at<T: Stage>(
     sent
 }
 
-/// Gives the stage the event of this number, puts what is reported of it, and answers how many messages
-/// were sent so far.
+/// Plays the event of this number on the stage, appends its report, and gives the number of
+/// messages sent so far.
 fn tell<T: Stage>(
     out: &mut Vec<u8>,
     stage: &mut T,
@@ -109,7 +110,8 @@ fn tell<T: Stage>(
     Ok(sent)
 }
 
-/// Puts the messages that are reported of an event. Settle and heal may send very many, which are not reported.
+/// Appends the messages that are reported for an event. Settle and heal may send very many, which
+/// are left out.
 fn put_told<T: Stage>(out: &mut Vec<u8>, stage: &T, event: &Event, said: Said) -> Result<(), Memory>
     requires first { 0 < said.first }
     requires all { said.first + said.count ≡ length (T.world stage.now).net + 1 }
@@ -122,7 +124,7 @@ fn put_told<T: Stage>(out: &mut Vec<u8>, stage: &T, event: &Event, said: Said) -
     }
 }
 
-/// Puts a line for each message from the first one that was sent on.
+/// Appends a line for each message, beginning with the first one that the event sent.
 fn put_sent<T: Stage>(out: &mut Vec<u8>, stage: &T, said: Said) -> Result<(), Memory>
     requires first { 0 < said.first }
     requires all { said.first + said.count ≡ length (T.world stage.now).net + 1 }
@@ -135,7 +137,7 @@ fn put_sent<T: Stage>(out: &mut Vec<u8>, stage: &T, said: Said) -> Result<(), Me
     Ok(())
 }
 
-/// Puts the line of the message of this number, if there is one.
+/// Appends the line of the message of this number, if there is one.
 fn put_one<T: Stage>(out: &mut Vec<u8>, stage: &T, number: u64) -> Result<(), Memory>
     ensures { OnOk result (out.new.items ≡ out.old.items
         ++ message_text number (message_at (T.world stage.now).net number)) }
@@ -146,7 +148,7 @@ fn put_one<T: Stage>(out: &mut Vec<u8>, stage: &T, number: u64) -> Result<(), Me
     }
 }
 
-/// Puts the block of an event.
+/// Appends the block of an event.
 fn put_block<T: Stage>(out: &mut Vec<u8>, stage: &T, event: &Event) -> Result<(), Memory>
     requires { IsEvent (length (ids (T.world stage.now))) event.now }
     ensures { OnOk result (out.new.items ≡ out.old.items ++ block_text (T.world stage.now) event.now) }

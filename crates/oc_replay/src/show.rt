@@ -19,7 +19,7 @@ pub fn show_text(alloc: Global, node: NodeId, status: &NodeStatus) -> Result<Vec
     Ok(text)
 }
 
-/// Puts the block of `show`: four lines on the state of a node.
+/// Appends the block of `show`: four lines on the state of a node.
 pub fn put_show(out: &mut Vec<u8>, node: NodeId, status: &NodeStatus) -> Result<(), Memory>
     ensures { OnOk result (out.new.items ≡ out.old.items ++ show_text node status.now) }
 {
@@ -30,7 +30,7 @@ pub fn put_show(out: &mut Vec<u8>, node: NodeId, status: &NodeStatus) -> Result<
     Ok(())
 }
 
-/// Puts `  WORD [..]`.
+/// Appends `  WORD [..]`.
 fn put_list_line<I: ListItem>(out: &mut Vec<u8>, word: &str, items: &[I]) -> Result<(), Memory>
     ensures { OnOk result (out.new.items ≡ out.old.items ++ list_line word.now I.text items.now) }
 {
@@ -41,7 +41,7 @@ fn put_list_line<I: ListItem>(out: &mut Vec<u8>, word: &str, items: &[I]) -> Res
     put_byte(out, b'\n')
 }
 
-/// Puts `  node N STATE MODE seq S rank RANK log A/L`.
+/// Appends `  node N STATE MODE seq S rank RANK log A/L`.
 fn put_node_line(out: &mut Vec<u8>, node: NodeId, status: &NodeStatus) -> Result<(), Memory>
     ensures { OnOk result (out.new.items ≡ out.old.items ++ node_line node status.now) }
 {
@@ -58,14 +58,14 @@ fn put_node_line(out: &mut Vec<u8>, node: NodeId, status: &NodeStatus) -> Result
     put_byte(out, b'\n')
 }
 
-/// Whether a node is up.
+/// The word for a node that is up or down.
 fn state_word(up: bool) -> &'static str
     ensures { result.now ≡ state_text up }
 {
     if up { "up" } else { "down" }
 }
 
-/// Puts a node's position in the tree.
+/// Appends a node's position in the tree.
 pub fn put_mode(out: &mut Vec<u8>, mode: Mode) -> Result<(), Memory>
     ensures { OnOk result (out.new.items ≡ out.old.items ++ mode_text mode) }
 {

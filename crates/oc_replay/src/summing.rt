@@ -1,4 +1,4 @@
-//! A run of events on a stage, reported by a summary of its last world.
+//! A run of events on a stage, with a summary of its last world.
 
 ghost use Rattle.std.specs.Prelude.{◌≡◌, ◌+◌, ◌<◌, ◌≤◌, [], ◌++◌, length, OnOk, IfOk, IsErrOf};
 ghost use Rattle.std.specs.List.{range_with_len};
@@ -21,8 +21,8 @@ use oc_io::{Sink, write_all};
 use oc_schedule::EventList;
 use std::alloc::Global;
 
-/// What is counted of some nodes: those that are up, those of them that are joined and that act as
-/// root, and the bytes that all of them hold.
+/// The counts of some nodes: those that are up, those of them that are joined and that act as root,
+/// and the bytes that all of them hold.
 #[derive(Clone, Copy, Debug, PartialEq, Eq)]
 pub(crate) struct Tally {
     up: u64,
@@ -32,7 +32,7 @@ pub(crate) struct Tally {
 }
 
 impl Tally {
-    /// What is counted of no node.
+    /// The counts of no nodes.
     const NONE: Tally = Tally {
         up: 0,
         joined: 0,
@@ -40,7 +40,7 @@ impl Tally {
         bytes: 0,
     };
 
-    /// What is counted of these and of others.
+    /// The counts of these and of other nodes together.
     fn with(self, other: Tally) -> Tally
         requires { FitsWith self other }
         ensures { result ≡ plus self other }
@@ -54,8 +54,8 @@ impl Tally {
     }
 }
 
-/// Gives the stage each event once, in order, and writes the summary of the last world, where each of
-/// `nodes` nodes is counted.
+/// Plays each event once on the stage, in order, and writes the summary of the last world, in which
+/// each of `nodes` nodes is counted.
 pub(crate) fn summarize<K: Sink, T: Stage>(
     alloc: Global,
     sink: &mut K,
@@ -72,7 +72,8 @@ pub(crate) fn summarize<K: Sink, T: Stage>(
         (K.takes sink.old (run_summary (T.world stage.old) events.now) sink.new) }
     ensures played { OnOk result (T.world stage.new ≡ world_after (T.world stage.old) events.now) }
 
-    // A prefix of it had been taken when a call failed, and the stage is at the last world.
+    // A prefix of the summary had been taken when a call failed, and the stage is at the last
+    // world.
     ensures failed { IsErrOf result ReportFault.Sink
         → SomeFront (run_summary (T.world stage.old) events.now)
         (λ front. K.fails sink.old front sink.new) }
@@ -89,7 +90,7 @@ pub(crate) fn summarize<K: Sink, T: Stage>(
     Ok(())
 }
 
-/// Gives the stage each event once, in order, and makes the summary of the last world.
+/// Plays each event once on the stage, in order, and makes the summary of the last world.
 fn play_and_sum<T: Stage>(
     alloc: Global,
     stage: &mut T,
@@ -109,7 +110,7 @@ fn play_and_sum<T: Stage>(
     Ok(out)
 }
 
-/// What is counted of all nodes.
+/// The counts of all nodes.
 fn tally_all<T: Stage>(stage: &T, nodes: u32) -> Result<Tally, Memory>
     requires ids { ids (T.world stage.now) ≡ range_with_len 1 nodes }
     requires few { nodes ≤ MAX_NODES }
@@ -123,7 +124,7 @@ fn tally_all<T: Stage>(stage: &T, nodes: u32) -> Result<Tally, Memory>
     Ok(total)
 }
 
-/// What is counted of one node.
+/// The counts of one node.
 fn tally_at<T: Stage>(stage: &T, node: NodeId) -> Result<Tally, Memory>
     requires node { IsNode (length (ids (T.world stage.now))) node }
     requires limits { IsWithinLimits (T.world stage.now) }
@@ -139,7 +140,7 @@ fn tally_at<T: Stage>(stage: &T, node: NodeId) -> Result<Tally, Memory>
     })
 }
 
-/// Puts the six lines.
+/// Appends the six lines.
 fn put_summary(out: &mut Vec<u8>, events: u64, messages: u64, tally: &Tally) -> Result<(), Memory>
     ensures { OnOk result (out.new.items ≡ out.old.items ++ summary_of_tally events messages tally.now) }
 {
@@ -151,7 +152,7 @@ fn put_summary(out: &mut Vec<u8>, events: u64, messages: u64, tally: &Tally) -> 
     put_count_line(out, "bytes", tally.bytes)
 }
 
-/// Puts `WORD NUMBER`.
+/// Appends `WORD NUMBER`.
 fn put_count_line(out: &mut Vec<u8>, word: &str, count: u64) -> Result<(), Memory>
     ensures { OnOk result (out.new.items ≡ out.old.items ++ count_line word.now count) }
 {

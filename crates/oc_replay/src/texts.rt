@@ -1,11 +1,11 @@
-//! Texts put at the end of a buffer.
+//! Texts appended to a buffer.
 
 ghost use Rattle.std.specs.Prelude.{◌≡◌, [], ◌∷◌, ◌++◌, OnOk, decimal};
 ghost use Rattle.oc_replay.specs.Bodies.{mark};
 
 use oc_base::{Memory, put, put_number};
 
-/// Puts one byte.
+/// Appends one byte.
 pub(crate) fn put_byte(out: &mut Vec<u8>, byte: u8) -> Result<(), Memory>
     ensures { OnOk result (out.new.items ≡ out.old.items ++ byte ∷ []) }
 {
@@ -13,7 +13,7 @@ pub(crate) fn put_byte(out: &mut Vec<u8>, byte: u8) -> Result<(), Memory>
     Ok(())
 }
 
-/// Puts one byte, and after it a number in decimal.
+/// Appends one byte, and after it a number in decimal.
 pub(crate) fn put_byte_number(out: &mut Vec<u8>, byte: u8, number: u64) -> Result<(), Memory>
     ensures { OnOk result (out.new.items ≡ out.old.items ++ byte ∷ decimal number) }
 {
@@ -21,7 +21,7 @@ pub(crate) fn put_byte_number(out: &mut Vec<u8>, byte: u8, number: u64) -> Resul
     put_number(out, number)
 }
 
-/// Puts a mark, where it is due.
+/// Appends a mark, if it is due.
 pub(crate) fn put_mark(out: &mut Vec<u8>, due: bool, text: &str) -> Result<(), Memory>
     ensures { OnOk result (out.new.items ≡ out.old.items ++ mark due text.now) }
 {

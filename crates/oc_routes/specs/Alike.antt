@@ -7,7 +7,7 @@ use Rattle.oc_routes.specs.declared.routes.Operation.{Operation}
 
 -- a rule denies it
 abbrev pub IsDenied : Result Operation Refused → Type 0
-IsDenied (Err (Denied rule)) = Unit {0}
+IsDenied (Err (Denied rule needs_token)) = Unit {0}
 IsDenied said = ⊥
 
 -- they are the same, or one of them is denied

@@ -19,9 +19,9 @@ IsInputOf other hint input = Unit {0}
 
 -- what is asked is within its ranges, the input is one of the node `me` of `nodes` nodes, and that of a client is what it asks
 pub record IsLawfulAsk (nodes me : ℕ) (request : Request) : Type 0 where
-  pub asks : IsAsked request.operation
+  pub asks : IsAsked request.asked.operation
   pub input : IfSome request.input (IsInput nodes me)
-  pub client : IsInputOf request.operation request.hint request.input
+  pub client : IsInputOf request.asked.operation request.asked.hint request.input
 
 abbrev pub IsLawfulVerdict : ℕ → ℕ → Verdict → Type 0
 IsLawfulVerdict nodes me (Ask request) = IsLawfulAsk nodes me request

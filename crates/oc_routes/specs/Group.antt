@@ -1,18 +1,21 @@
 -- A GET or HEAD of a group: a client is given its bytes from a byte on, or is sent to another node.
-use Rattle.std.specs.Prelude.{⊤, ℕ, Bool, true, false, not, Some, List, []}
+use Rattle.std.specs.Prelude.{⊤, ℕ, Bool, true, false, not, ◌&&◌, nat_lt, if◌then◌else◌, Some, List, []}
 use Rattle.oc_http.specs.Writing.{head_text}
 use Rattle.oc_http.specs.declared.framing.Framing.{Framing}
 use Rattle.oc_http.specs.declared.framing.Framing.TheVariants as framings
 use Rattle.oc_http.specs.declared.reply.Reply.{Reply}
 use Rattle.oc_model.specs.declared.answer.Answer.{Answer}
 use Rattle.oc_model.specs.declared.answer.Answer.TheVariants as answers
-use Rattle.oc_updown.specs.Locations.{location_text, follow_location_text}
 use Rattle.oc_routes.specs.Manners.{connection_for, content_for}
-use Rattle.oc_routes.specs.Refusals.{bare}
-use Rattle.oc_routes.specs.Responses.{address_of, status_alone, typed, whole}
+use Rattle.oc_routes.specs.Reasons.{bare, no_group_line, past_line, telling}
+use Rattle.oc_routes.specs.Responses.{address_of, typed, whole, whole_for}
+use Rattle.oc_routes.specs.Shown.{location_of, shown, told_text}
+use Rattle.oc_routes.specs.declared.hint.Hint.{Hint}
+use Rattle.oc_routes.specs.declared.holding.Holding.{Holding}
 use Rattle.oc_routes.specs.declared.manner.Manner.{Manner}
 use Rattle.oc_routes.specs.declared.manner.Manner.TheVariants.{Follow}
 use Rattle.oc_routes.specs.declared.response.Response.{Response}
+use Rattle.oc_routes.specs.declared.showing.Shown.{Shown}
 
 -- what its step answers
 abbrev pub IsClientAnswer : Answer → Type 0
@@ -39,18 +42,30 @@ served manner sealed last start count = record {
   connection = connection_for manner last;
 }
 
--- the URL to which a client is sent
-abbrev pub location_for : Manner → List ℕ → List ℕ → ℕ → List ℕ
-location_for Follow address group start = follow_location_text address group start
-location_for manner address group start = location_text address group start
+-- the start is past the end of a group that is sealed here; at its end it is not
+abbrev pub is_past : ℕ → Holding → Bool
+is_past start h = h.sealed && nat_lt h.held start
+
+-- the length of that group is told
+abbrev pub past_reply : ℕ → Reply
+past_reply length = record (telling 416 (past_line length)) { content_range = Some length }
 
 -- a client is sent to a node
 abbrev pub redirection : List ℕ → Reply
 redirection location = record (bare 302) { location = Some location }
 
--- to a client, which is answered `Redirect`, `Serve` or `NoGroup`
-abbrev pub client_response : List ℕ → ℕ → Manner → Answer → Bool → List (List ℕ) → Bool → Response
-client_response group start manner (answers.Redirect node) sealed addresses last =
-    whole (redirection (location_for manner (address_of addresses node) group start))
-client_response group start manner (answers.Serve count) sealed addresses last = served manner sealed last start count
-client_response group start manner refusal sealed addresses last = status_alone 404
+-- to a client of such a node, which is shown `Redirect`, `Serve` or `NoGroup`, of a group that it is shown as sealed or not
+abbrev pub client_response : List ℕ → ℕ → Manner → List ℕ → Answer → Bool → Bool → Holding → List (List ℕ) → Response
+client_response group start manner told (answers.Redirect node) sealed last h addresses =
+    whole (redirection (location_of (address_of addresses node) group start told manner))
+client_response group start manner told (answers.Serve count) sealed last h addresses =
+    if is_past start h then whole_for manner (past_reply h.held) else served manner sealed last start count
+client_response group start manner told refusal sealed last h addresses = whole_for manner (telling 404 no_group_line)
+
+abbrev pub shown_response : List ℕ → ℕ → Manner → List ℕ → Shown → Bool → Holding → List (List ℕ) → Response
+shown_response group start manner told s last h addresses = client_response group start manner told s.answer s.sealed last h addresses
+
+-- to a client that tells this, for this answer of the step
+abbrev pub group_response : List ℕ → ℕ → Manner → Hint → Bool → Answer → Holding → List (List ℕ) → Response
+group_response group start manner hint last answer h addresses =
+    shown_response group start manner (told_text hint h) (shown hint answer h start) last h addresses

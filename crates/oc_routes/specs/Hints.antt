@@ -38,8 +38,8 @@ with_hint (Ok (asks.Client group area start manner)) (Err why) = Err why
 with_hint (Ok (asks.Report report manner)) (Ok hint) = Ok (record { operation = asks.Report report manner; hint = Plain })
 with_hint (Ok (asks.Report report manner)) (Err why) = Err why
 with_hint (Ok other) told = Ok (record { operation = other; hint = Plain })
-with_hint (Err (refusals.Denied rule)) (Ok hint) = Err (refusals.Denied rule)
-with_hint (Err (refusals.Denied rule)) (Err why) = Err why
+with_hint (Err (refusals.Denied rule needs_token)) (Ok hint) = Err (refusals.Denied rule needs_token)
+with_hint (Err (refusals.Denied rule needs_token)) (Err why) = Err why
 with_hint (Err other) told = Err other
 
 -- only a GET or HEAD tells something

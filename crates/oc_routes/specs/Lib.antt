@@ -1,3 +1,4 @@
+pub mod Reasons
 pub mod Refusals
 pub mod Inputs
 pub mod Responses

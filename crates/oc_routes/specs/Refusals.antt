@@ -1,13 +1,14 @@
 -- What a refused request is answered, and its line.
-use Rattle.std.specs.Prelude.{ℕ, if◌then◌else◌, Option, Some, None, option_map, List, [], ◌++◌, codes, decimal}
-use Rattle.oc_http.specs.Writing.{response_text}
+use Rattle.std.specs.Prelude.{ℕ, Bool, false, if◌then◌else◌, Option, Some, None, option_map, List, [], ◌++◌, codes, decimal}
 use Rattle.oc_http.specs.declared.fault.HttpFault.{HttpFault}
 use Rattle.oc_http.specs.declared.fault.HttpFault.TheVariants as http
 use Rattle.oc_http.specs.declared.reply.Reply.{Reply}
+use Rattle.oc_routes.specs.Reasons.{refused_line, reply_text, telling}
 use Rattle.oc_routes.specs.declared.fault.RouteFault.{RouteFault}
 use Rattle.oc_routes.specs.declared.fault.RouteFault.TheVariants as faults
 use Rattle.oc_routes.specs.declared.refused.Refused.{Refused}
 use Rattle.oc_routes.specs.declared.refused.Refused.TheVariants.{Source, Ended, Head, HeadLong, Fields, Host, Coding, Length, BodyLong, Method, Path, Query, Denied, Mac, Message, Body, At}
+use Rattle.oc_routes.specs.declared.verdict.Refusal.{Refusal}
 
 -- a fault of a head or a body refuses its request by the same name; running out of memory doesn't
 abbrev pub fault_of_http : HttpFault → RouteFault
@@ -36,7 +37,7 @@ status_of BodyLong = Some 413
 status_of Method = Some 405
 status_of Path = Some 404
 status_of Query = Some 400
-status_of (Denied rule) = Some 403
+status_of (Denied rule needs_token) = Some (if needs_token then 401 else 403)
 status_of Mac = Some 403
 status_of Message = Some 400
 status_of Body = Some 400
@@ -44,7 +45,7 @@ status_of (At length) = Some 409
 
 -- the rule that the reply names
 abbrev pub rule_of : Refused → Option ℕ
-rule_of (Denied rule) = Some rule
+rule_of (Denied rule needs_token) = Some rule
 rule_of refused = None
 
 -- the length of a group that the reply names
@@ -52,17 +53,17 @@ abbrev pub group_length_of : Refused → Option ℕ
 group_length_of (At length) = Some length
 group_length_of refused = None
 
--- a reply without a body
-abbrev pub bare : ℕ → Reply
-bare status = record { status = status; location = None; content_type = None; body = []; rule = None; group_length = None; mac = None }
-
 -- the reply of this status to a refused request: it names the rule that denies it, or the length of its group
 abbrev pub refusal : ℕ → Refused → Reply
-refusal status refused = record (bare status) { rule = rule_of refused; group_length = group_length_of refused }
+refusal status refused = record (telling status (refused_line refused)) { rule = rule_of refused; group_length = group_length_of refused }
 
 -- the text of that reply, which ends the connection; a connection that failed or ended gets none
-abbrev pub refusal_text : Refused → Option (List ℕ)
-refusal_text refused = option_map (λ status. response_text (refusal status refused)) (status_of refused)
+abbrev pub refusal_text : Refusal → Option (List ℕ)
+refusal_text r = option_map (λ status. reply_text r.head_alone (refusal status r.why)) (status_of r.why)
+
+-- one to whose client nothing is said, or that is no HEAD
+abbrev pub refusing : Refused → Refusal
+refusing why = record { why = why; head_alone = false }
 
 -- what the line of a refused request says
 abbrev pub why_text : Refused → List ℕ
@@ -78,7 +79,7 @@ why_text BodyLong = codes "bodylong"
 why_text Method = codes "method"
 why_text Path = codes "path"
 why_text Query = codes "query"
-why_text (Denied rule) = codes "denied " ++ decimal rule
+why_text (Denied rule needs_token) = codes "denied " ++ decimal rule
 why_text Mac = codes "mac"
 why_text Message = codes "message"
 why_text Body = codes "body"

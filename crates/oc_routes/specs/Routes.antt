@@ -1,5 +1,6 @@
 -- The table of routes: what the head of a request asks of a node, which input results from it, and what it is answered.
-use Rattle.std.specs.Prelude.{◌≡◌, ℕ, Bool, true, false, if◌then◌else◌, Option, Some, None, Result, Ok, Err, List, [], ◌∷◌}
+use Rattle.std.specs.Prelude.{◌≡◌, ℕ, ◌-◌, Bool, true, false, not, ◌&&◌, ◌||◌, nat_eq, if◌then◌else◌, Option, Some, None, Result, Ok, Err, List, [], ◌∷◌, codes, take}
+use Rattle.std.specs.List.{list_any, starts_with}
 use Rattle.std.specs.Str.{bytes_eq}
 use Rattle.oc_base.specs.Names.{parsed_name}
 use Rattle.oc_base.specs.Steps.{◌>>=◌}
@@ -12,35 +13,38 @@ use Rattle.oc_model.specs.declared.answer.Answer.{Answer}
 use Rattle.oc_model.specs.declared.input.Input.{Input}
 use Rattle.oc_model.specs.declared.input.Input.TheVariants as inputs
 use Rattle.oc_model.specs.declared.message.Message.{Message}
-use Rattle.oc_policy.specs.Rules.{verdict}
+use Rattle.oc_policy.specs.Rules.{rule_matches, verdict}
 use Rattle.oc_policy.specs.declared.deciding.Decision.{Decision}
 use Rattle.oc_policy.specs.declared.deciding.Decision.TheVariants.{Allowed, Denied}
 use Rattle.oc_policy.specs.declared.rule.Action.{Action}
 use Rattle.oc_policy.specs.declared.rule.Action.TheVariants.{Get, Post}
 use Rattle.oc_policy.specs.declared.rule.Rule.{Rule}
 use Rattle.oc_wire.specs.MessageReading.{decoded}
-use Rattle.oc_routes.specs.Group.{client_response}
+use Rattle.oc_routes.specs.Group.{group_response}
 use Rattle.oc_routes.specs.Manners.{manner_of}
 use Rattle.oc_routes.specs.Message.{delivered, message_response}
 use Rattle.oc_routes.specs.Probe.{probe_response}
 use Rattle.oc_routes.specs.Publish.{publish_response}
 use Rattle.oc_routes.specs.Queries.{query_in}
 use Rattle.oc_routes.specs.Reports.{report_response}
+use Rattle.oc_routes.specs.Responses.{source_in}
 use Rattle.oc_routes.specs.Seal.{seal_input, seal_response}
 use Rattle.oc_routes.specs.declared.routes.Operation.{Operation}
 use Rattle.oc_routes.specs.declared.routes.Operation.TheVariants as operations
 use Rattle.oc_routes.specs.declared.routes.Resource.{Resource}
 use Rattle.oc_routes.specs.declared.routes.Resource.TheVariants.{Messages, Probe, Report as OwnReport, Group}
-use Rattle.oc_routes.specs.declared.routes.Scope.{Scope}
-use Rattle.oc_routes.specs.declared.routes.Scope.TheVariants as scopes
-use Rattle.oc_routes.specs.declared.routes.metrics.TheConstants.{METRICS_PATH}
-use Rattle.oc_routes.specs.declared.routes.page.TheConstants.{PAGE_PATH}
-use Rattle.oc_routes.specs.declared.routes.status.TheConstants.{STATUS_PATH}
+use Rattle.oc_routes.specs.declared.routes.metrics.TheConstants.{METRICS_NAME, METRICS_PATH}
+use Rattle.oc_routes.specs.declared.routes.page.TheConstants.{PAGE_NAME, PAGE_PATH}
+use Rattle.oc_routes.specs.declared.routes.status.TheConstants.{STATUS_NAME, STATUS_PATH}
 use Rattle.oc_routes.specs.declared.fault.RouteFault.{RouteFault}
 use Rattle.oc_routes.specs.declared.fault.RouteFault.TheVariants as faults
+use Rattle.oc_routes.specs.declared.hint.Asked.{Asked}
+use Rattle.oc_routes.specs.declared.hint.Hint.{Hint}
+use Rattle.oc_routes.specs.declared.holding.Holding.{Holding}
 use Rattle.oc_routes.specs.declared.query.Query.{Query}
 use Rattle.oc_routes.specs.declared.refused.Refused.{Refused}
 use Rattle.oc_routes.specs.declared.refused.Refused.TheVariants as refusals
+use Rattle.oc_routes.specs.declared.report.Report.{Report}
 use Rattle.oc_routes.specs.declared.report.Report.TheVariants as reports
 use Rattle.oc_routes.specs.declared.response.Response.{Response}
 
@@ -53,13 +57,17 @@ action_of methods.Head = Ok Get
 action_of methods.Post = Ok Post
 action_of methods.Other = Err refusals.Method
 
--- the paths that name no group, with what is read there, and what is posted: messages are posted, a probe and reports are read
+-- the paths that name no group, with what is read there, and what is posted: messages are posted, a probe and reports are
+-- read, each report by two names
 abbrev pub rows : Action → List (List ℕ × Resource)
 rows Get =
     (probe_path, Probe)
     ∷ (STATUS_PATH.now, OwnReport reports.Status)
+    ∷ (STATUS_NAME.now, OwnReport reports.Status)
     ∷ (METRICS_PATH.now, OwnReport reports.Metrics)
+    ∷ (METRICS_NAME.now, OwnReport reports.Metrics)
     ∷ (PAGE_PATH.now, OwnReport reports.Page)
+    ∷ (PAGE_NAME.now, OwnReport reports.Page)
     ∷ []
 rows Post = (message_path, Messages) ∷ []
 
@@ -79,34 +87,57 @@ named_group (Err fault) = Err refusals.Path
 abbrev pub group_in : List ℕ → Result Resource Refused
 group_in path = named_group (parsed_name path)
 
-abbrev pub resource_or : Option Resource → Result Resource Refused → Result Resource Refused
-resource_or (Some resource) other = Ok resource
-resource_or None other = other
+-- a path that is the program's, and no group's: `/-`, and all that begins with `/-/`
+abbrev pub is_own : List ℕ → Bool
+is_own path = bytes_eq path (codes "/-") || starts_with nat_eq path (codes "/-/")
 
--- what a path names: a row of the table, and any other path is a group
+abbrev pub resource_or : Option Resource → List ℕ → Result Resource Refused
+resource_or (Some resource) path = Ok resource
+resource_or None path = if is_own path then Err refusals.Path else group_in path
+
+-- what a path names: a row of the table, and any other path that is not the program's is a group
 abbrev pub resource_in : Action → List ℕ → Result Resource Refused
-resource_in action path = resource_or (resource_at action path) (group_in path)
+resource_in action path = resource_or (resource_at action path) path
+
+-- the same of a path as it was asked for, which is none where an escape of it is broken
+abbrev pub resource_named : Action → Option (List ℕ) → Result Resource Refused
+resource_named action None = Err refusals.Path
+resource_named action (Some path) = resource_in action path
 
 -- Which access rules speak of it
 
--- those of a group; of reports those for `/` too; and of all else none
-abbrev pub scope_of : Resource → Scope
-scope_of (Group group) = scopes.Group group
-scope_of (OwnReport report) = scopes.Node
-scope_of resource = scopes.Free
+-- a report is to the rules what a group of its name with `/-/` would be; the page is `/-`, which lies within the same prefixes as `/-/`
+abbrev pub report_name : Report → List ℕ
+report_name reports.Status = codes "/-/status"
+report_name reports.Metrics = codes "/-/metrics"
+report_name reports.Page = codes "/-"
 
--- what a verdict lets through
-abbrev pub permitted_by : Decision → Result (Unit {0}) Refused
-permitted_by Allowed = Ok tt
-permitted_by (Denied rule) = Err (refusals.Denied rule)
+-- the name by which the rules speak of it; all else is permitted to all
+abbrev pub name_of : Resource → Option (List ℕ)
+name_of (Group group) = Some group
+name_of (OwnReport report) = Some (report_name report)
+name_of resource = None
 
-abbrev pub permitted_in : List Rule → Action → Scope → ℕ → Option (List ℕ) → Result (Unit {0}) Refused
-permitted_in rules action scopes.Free area shown = Ok tt
-permitted_in rules action scopes.Node area shown = permitted_by (verdict rules action None area shown)
-permitted_in rules action (scopes.Group group) area shown = permitted_by (verdict rules action (Some group) area shown)
+-- a rule that allows would match this with its token
+abbrev pub would_allow : Action → List ℕ → ℕ → Rule → Bool
+would_allow action name area rule = rule.allow && rule_matches (record rule { token = None }) action (Some name) area None
 
-abbrev pub permitted : List Rule → Action → Resource → ℕ → Option (List ℕ) → Result (Unit {0}) Refused
-permitted rules action resource area shown = permitted_in rules action (scope_of resource) area shown
+-- one of the rules before the one of this number would
+abbrev pub needs_token : List Rule → Action → List ℕ → ℕ → ℕ → Bool
+needs_token rules action name area number = list_any (would_allow action name area) (take (number - 1) rules)
+
+-- what the rules let through; of who has shown nothing that could be a token, it is told whether one would do
+abbrev pub permitted_by : List Rule → Action → List ℕ → ℕ → Bool → Decision → Result (Unit {0}) Refused
+permitted_by rules action name area bare Allowed = Ok tt
+permitted_by rules action name area bare (Denied rule) = Err (refusals.Denied rule (bare && needs_token rules action name area rule))
+
+abbrev pub permitted_as : List Rule → Action → Option (List ℕ) → ℕ → Bool → Option (List ℕ) → Result (Unit {0}) Refused
+permitted_as rules action None area bare shown = Ok tt
+permitted_as rules action (Some name) area bare shown = permitted_by rules action name area bare (verdict rules action (Some name) area shown)
+
+-- `bare` says that there is no Authorization field, and `shown` is the value of the only one
+abbrev pub permitted : List Rule → Action → Resource → ℕ → Bool → Option (List ℕ) → Result (Unit {0}) Refused
+permitted rules action resource area bare shown = permitted_as rules action (name_of resource) area bare shown
 
 -- What is asked
 
@@ -131,9 +162,9 @@ asked_at method minor query (Group group) = asked_of_group method minor query gr
 abbrev pub asked : Head → List Rule → Result Operation Refused
 asked head rules = do
   action ← action_of head.method
-  resource ← resource_in action head.path
+  resource ← resource_named action head.path
   query ← query_in head.query (is_conditional action resource)
-  allowed ← permitted rules action resource query.area head.authorization
+  allowed ← permitted rules action resource query.area (not head.has_authorization) head.authorization
   Ok (asked_at head.method head.minor query resource)
 
 -- Which input results from a request
@@ -154,14 +185,18 @@ Gives (Err faults.Memory) said = Unit {0}
 
 -- What a request is answered
 
--- What is answered to what was asked: for this answer of the step, this message that goes back to the sender, whether the
--- group is sealed, the addresses and the key of the network, and what the node tells of itself; last says that the request
--- is the last of its connection whatever it asks.
-abbrev pub response_to : Operation → Answer → Option Message → Bool → List (List ℕ) → Option (List ℕ) → Bool → List ℕ → Response
-response_to operations.Message answer reply sealed addresses key last report = message_response key reply
-response_to (operations.Publish group at) answer reply sealed addresses key last report = publish_response answer
-response_to (operations.Seal group at) answer reply sealed addresses key last report = seal_response answer
-response_to (operations.Client group area start manner) answer reply sealed addresses key last report =
-    client_response group start manner answer sealed addresses last
-response_to (operations.Probe manner) answer reply sealed addresses key last report = probe_response manner last
-response_to (operations.Report what manner) answer reply sealed addresses key last report = report_response what manner last report
+-- to what was asked
+abbrev pub response_to : Operation → Hint → Bool → Answer → Option Message → Holding → List (List ℕ) → Option (List ℕ) → List ℕ → Response
+response_to operations.Message hint last answer back h addresses key report = message_response key back
+response_to (operations.Publish group at) hint last answer back h addresses key report = publish_response answer (source_in addresses) group
+response_to (operations.Seal group at) hint last answer back h addresses key report = seal_response answer (source_in addresses) group
+response_to (operations.Client group area start manner) hint last answer back h addresses key report =
+    group_response group start manner hint last answer h addresses
+response_to (operations.Probe manner) hint last answer back h addresses key report = probe_response manner last
+response_to (operations.Report what manner) hint last answer back h addresses key report = report_response what manner last report
+
+-- What a request is answered for this answer of its step, with this message that goes back to the sender of a message, by
+-- what the node holds of the group, the addresses and the key of the network, and what the node tells of itself; `last` says
+-- that the request is the last of its connection whatever it asks.
+abbrev pub response_for : Asked → Bool → Answer → Option Message → Holding → List (List ℕ) → Option (List ℕ) → List ℕ → Response
+response_for asked last answer back h addresses key report = response_to asked.operation asked.hint last answer back h addresses key report

@@ -4,7 +4,8 @@ use Rattle.oc_model.specs.declared.answer.Answer.{Answer}
 use Rattle.oc_model.specs.declared.answer.Answer.TheVariants as answers
 use Rattle.oc_model.specs.declared.input.Input.{Input}
 use Rattle.oc_model.specs.declared.input.Input.TheVariants as inputs
-use Rattle.oc_routes.specs.Responses.{status_alone}
+use Rattle.oc_routes.specs.Reasons.{seal_line}
+use Rattle.oc_routes.specs.Responses.{status_alone, told}
 use Rattle.oc_routes.specs.declared.refused.Refused.{Refused}
 use Rattle.oc_routes.specs.declared.refused.Refused.TheVariants as refusals
 use Rattle.oc_routes.specs.declared.response.Response.{Response}
@@ -28,5 +29,8 @@ seal_status answers.Ignored = 200
 seal_status answers.NoGroup = 404
 seal_status refusal = 403
 
-abbrev pub seal_response : Answer → Response
-seal_response answer = status_alone (seal_status answer)
+-- and what that is told, whose group this is, where the source has this address
+abbrev pub seal_response : Answer → List ℕ → List ℕ → Response
+seal_response answers.Ok source group = status_alone 200
+seal_response answers.Ignored source group = status_alone 200
+seal_response refusal source group = told (seal_status refusal) (seal_line refusal source group)

@@ -4,14 +4,17 @@ use Rattle.oc_link.specs.declared.event.Arrival.{Arrival}
 use Rattle.oc_link.specs.declared.event.Coming.{Coming}
 use Rattle.oc_link.specs.declared.event.Coming.TheVariants.{Open, Ended, Failed}
 use Rattle.oc_http.specs.Answers.{AnswersRequest, IsDecided}
+use Rattle.oc_http.specs.Requests.{begins_with_head}
 use Rattle.oc_http.specs.declared.fault.HttpFault.{HttpFault}
 use Rattle.oc_http.specs.declared.fault.HttpFault.TheVariants as http
 use Rattle.oc_http.specs.declared.head.Head.{Head}
+use Rattle.oc_http.specs.declared.head.Method.{Method}
+use Rattle.oc_http.specs.declared.head.Method.TheVariants as methods
 use Rattle.oc_model.specs.declared.input.Input.{Input}
 use Rattle.oc_policy.specs.declared.rule.Rule.{Rule}
 use Rattle.oc_routes.specs.Connections.{awaits_continue, is_last}
 use Rattle.oc_routes.specs.Routes.{input_asked}
-use Rattle.oc_routes.specs.Refusals.{fault_of_http}
+use Rattle.oc_routes.specs.Refusals.{fault_of_http, refusing}
 use Rattle.oc_routes.specs.declared.fault.RouteFault.{RouteFault}
 use Rattle.oc_routes.specs.declared.fault.RouteFault.TheVariants as faults
 use Rattle.oc_routes.specs.declared.refused.Refused.{Refused}
@@ -21,6 +24,7 @@ use Rattle.oc_routes.specs.Macs.{is_forged}
 use Rattle.oc_routes.specs.declared.hint.Asked.{Asked}
 use Rattle.oc_routes.specs.declared.hint.Hint.{Hint}
 use Rattle.oc_routes.specs.declared.hint.Hint.TheVariants.{Here}
+use Rattle.oc_routes.specs.declared.verdict.Refusal.{Refusal}
 use Rattle.oc_routes.specs.declared.verdict.Request.{Request}
 use Rattle.oc_routes.specs.declared.verdict.Verdict.{Verdict}
 use Rattle.oc_routes.specs.declared.verdict.Verdict.TheVariants.{Wait, Leave, Permit, Refuse, Ask}
@@ -39,17 +43,25 @@ terms_of me nodes rules key = record { me = me; nodes = nodes; rules = rules; ke
 abbrev pub arrival : ℕ → ℕ → Bool → Coming → Arrival
 arrival c number permitted coming = record { connection = c; number = number; permitted = permitted; coming = coming }
 
+-- a request is refused, whether it is a HEAD or not
+abbrev pub refuse : Bool → Refused → Verdict
+refuse head_alone why = Refuse (record { why = why; head_alone = head_alone })
+
+abbrev pub is_head : Method → Bool
+is_head methods.Head = true
+is_head method = false
+
 -- a request is refused for a fault
-abbrev pub refused_for : RouteFault → Verdict
-refused_for (faults.Refused why) = Refuse why
-refused_for faults.Memory = Wait
+abbrev pub refused_for : Bool → RouteFault → Verdict
+refused_for head_alone (faults.Refused why) = refuse head_alone why
+refused_for head_alone faults.Memory = Wait
 
 -- The bytes so far are a part of a request, none where there are none. One that ended without a byte is left without a word; a link tells of one
 -- that ran out of its time without a byte the same, or nothing.
 abbrev pub unfinished : Coming → Bool → Verdict
 unfinished Open none = Wait
-unfinished Ended none = if none then Leave else Refuse refusals.Ended
-unfinished Failed none = Refuse refusals.Source
+unfinished Ended none = if none then Leave else refuse false refusals.Ended
+unfinished Failed none = refuse false refusals.Source
 
 abbrev pub is_none : List ℕ → Bool
 is_none [] = true
@@ -61,14 +73,14 @@ input_for Here input = None
 input_for hint input = input
 
 -- a whole request, with its body
-abbrev pub answered : Request → Result (Option Input) Refused → Verdict
-answered request (Ok input) = Ask (record request { input = input_for request.hint input })
-answered request (Err why) = Refuse why
+abbrev pub answered : Head → Request → Result (Option Input) Refused → Verdict
+answered head request (Ok input) = Ask (record request { input = input_for request.asked.hint input })
+answered head request (Err why) = refuse (is_head head.method) why
 
 abbrev pub whole : NodeTerms → Head → Request → List ℕ → Verdict
 whole t head request body =
-    if is_forged t.key request.operation head.mac body then Refuse refusals.Mac
-    else answered request (input_asked t.nodes t.me request.operation body)
+    if is_forged t.key request.asked.operation head.mac body then refuse (is_head head.method) refusals.Mac
+    else answered head request (input_asked t.nodes t.me request.asked.operation body)
 
 -- a head that asks this, with what came after it of the bytes that came
 abbrev pub with_body : NodeTerms → Arrival → ℕ → Head → List ℕ → Asked → Verdict
@@ -77,15 +89,14 @@ with_body t a came head rest said =
     else if nat_lt (length rest) head.length then unfinished a.coming false
     else whole t head (record {
       count = came - length rest + head.length;
-      operation = said.operation;
-      hint = said.hint;
+      asked = said;
       input = None;
       last = is_last head a.number;
     }) (take head.length rest)
 
 abbrev pub routed : NodeTerms → Arrival → ℕ → Head → List ℕ → Result Asked Refused → Verdict
 routed t a came head rest (Ok said) = with_body t a came head rest said
-routed t a came head rest (Err why) = Refuse why
+routed t a came head rest (Err why) = refuse (is_head head.method) why
 
 -- a whole head, with what came after it
 abbrev pub after_head : NodeTerms → Arrival → ℕ → Head → List ℕ → Verdict
@@ -97,14 +108,18 @@ fault_met http.Ended = None
 fault_met fault = Some (fault_of_http fault)
 
 -- no head was read
-abbrev pub unread : Coming → Bool → Option RouteFault → Verdict
-unread coming none None = unfinished coming none
-unread coming none (Some fault) = refused_for fault
+abbrev pub unread : Coming → Bool → Bool → Option RouteFault → Verdict
+unread coming none head_alone None = unfinished coming none
+unread coming none head_alone (Some fault) = refused_for head_alone fault
 
--- what a reader of heads answered, with what it left
+-- what a reader of heads took of these bytes, of which it left that
+abbrev pub taken : List ℕ → List ℕ → List ℕ
+taken bytes rest = take (length bytes - length rest) bytes
+
+-- what a reader of heads answered, with what it left; a head with a fault is a HEAD where it begins so
 abbrev pub verdict_for : NodeTerms → Arrival → List ℕ → List ℕ → Result Head HttpFault → Verdict
 verdict_for t a bytes rest (Ok head) = after_head t a (length bytes) head rest
-verdict_for t a bytes rest (Err fault) = unread a.coming (is_none bytes) (fault_met fault)
+verdict_for t a bytes rest (Err fault) = unread a.coming (is_none bytes) (begins_with_head (taken bytes rest)) (fault_met fault)
 
 -- The verdict on these bytes: what a source that gives these bytes and then ends is answered, where its end is what it is here.
 pub record IsVerdict (t : NodeTerms) (a : Arrival) (bytes : List ℕ) (v : Verdict) : Type 0 where

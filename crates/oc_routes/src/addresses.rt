@@ -1,5 +1,5 @@
 ghost use Rattle.std.specs.Prelude.{◌≡◌, map, string_bytes};
-ghost use Rattle.oc_routes.specs.Responses.{address_of};
+ghost use Rattle.oc_routes.specs.Responses.{address_of, source_in};
 
 use oc_base::NodeId;
 
@@ -11,4 +11,11 @@ pub fn address_of(addresses: &[String], node: NodeId) -> &str
         Some(address) => address.as_str(),
         None => "",
     }
+}
+
+/// The address of the source.
+pub(crate) fn source_in(addresses: &[String]) -> &str
+    ensures { result.now ≡ source_in (map string_bytes addresses.now) }
+{
+    address_of(addresses, NodeId(1))
 }

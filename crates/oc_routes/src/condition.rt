@@ -4,7 +4,8 @@ ghost use Rattle.std.specs.Prelude.{◌≡◌};
 ghost use Rattle.oc_routes.specs.Conditions.{unmet, unmet_at, unmet_by};
 
 use crate::holding::Holding;
-use crate::{Operation, Refused};
+use crate::refusals::refusing;
+use crate::{Operation, Refusal, Refused};
 use oc_base::{GroupName, NodeId, Shelf};
 
 /// The node at which groups are published.
@@ -12,7 +13,7 @@ const SOURCE: NodeId = NodeId(1);
 
 /// Why the node `me` with this shelf refuses what is asked for its condition, if it does: at the source the group has
 /// another length than the request says, and the refusal carries this length. It is asked before the input is taken.
-pub fn unmet(operation: &Operation, me: NodeId, shelf: &[Shelf]) -> Option<Refused>
+pub fn unmet(operation: &Operation, me: NodeId, shelf: &[Shelf]) -> Option<Refusal>
     ensures { result ≡ unmet operation.now me shelf.now }
 {
     match operation {
@@ -23,7 +24,7 @@ pub fn unmet(operation: &Operation, me: NodeId, shelf: &[Shelf]) -> Option<Refus
 }
 
 /// The same of a group, with the length that is said, if one is.
-fn unmet_at(me: NodeId, group: &GroupName, at: Option<u64>, shelf: &[Shelf]) -> Option<Refused>
+fn unmet_at(me: NodeId, group: &GroupName, at: Option<u64>, shelf: &[Shelf]) -> Option<Refusal>
     ensures { result ≡ unmet_at me group.now at shelf.now }
 {
     if me != SOURCE {
@@ -33,11 +34,11 @@ fn unmet_at(me: NodeId, group: &GroupName, at: Option<u64>, shelf: &[Shelf]) -> 
 }
 
 /// The same of a group of this length.
-fn unmet_by(held: u64, at: Option<u64>) -> Option<Refused>
+fn unmet_by(held: u64, at: Option<u64>) -> Option<Refusal>
     ensures { result ≡ unmet_by held at }
 {
     match at {
-        Some(at) if held != at => Some(Refused::At(held)),
+        Some(at) if held != at => Some(refusing(Refused::At(held))),
         _ => None,
     }
 }

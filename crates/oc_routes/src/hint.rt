@@ -52,9 +52,9 @@ pub fn route_with_hint(head: &Head, rules: &[Rule]) -> Result<Asked, Refused>
             }
             _ => Ok(plain(operation)),
         },
-        Err(Refused::Denied(rule)) => {
+        Err(Refused::Denied { rule, needs_token }) => {
             let _hint = hint_for(head.method, head.query.items())?;
-            Err(Refused::Denied(rule))
+            Err(Refused::Denied { rule, needs_token })
         }
         Err(why) => Err(why),
     }

@@ -42,6 +42,7 @@
 #![tactic(auto)]
 
 mod addresses;
+mod answered;
 mod arrays;
 mod condition;
 mod connections;
@@ -59,6 +60,7 @@ mod lines;
 mod manner;
 mod objects;
 mod query;
+mod reasons;
 mod refusals;
 mod refused;
 mod replies;
@@ -72,12 +74,12 @@ mod rows;
 mod seen;
 mod showing;
 mod status_law;
-mod step_outcome;
 mod terms;
 mod verdict;
 mod waiting;
 
 pub use addresses::address_of;
+pub use answered::Answered;
 pub use condition::unmet;
 pub use connections::{CONTINUE, MAX_REQUESTS, awaits_continue, is_last};
 pub use content::{PIECE_BYTES, UnderWay};
@@ -101,15 +103,12 @@ pub use reply_law::{
 };
 pub use report::{Report, report_of};
 pub use response::{GroupRange, Response};
-pub use responses::Answered;
-pub use routes::metrics::{METRICS_PATH, metrics};
-pub use routes::page::{PAGE_PATH, page};
-pub use routes::status::{STATUS_PATH, status};
+pub use routes::metrics::{METRICS_NAME, METRICS_PATH, metrics};
+pub use routes::page::{PAGE_NAME, PAGE_PATH, page};
+pub use routes::status::{STATUS_NAME, STATUS_PATH, status};
 pub use routes::{Operation, input_of, respond, route};
 pub use seen::Seen;
-pub use showing::{Shown, as_shown, respond_to};
 pub use status_law::{examples_are_told, names_are_plain};
-pub use step_outcome::StepOutcome;
 pub use terms::Terms;
-pub use verdict::{Request, Verdict};
+pub use verdict::{Refusal, Request, Verdict};
 pub use waiting::{FOLLOW_MILLIS, Follower, IDLE_MILLIS, Prospect, is_to_wait, millis_left};

@@ -69,7 +69,7 @@ fn put_why(out: &mut Vec<u8>, refused: Refused) -> Result<(), Memory>
         Refused::Method => put(out, b"method"),
         Refused::Path => put(out, b"path"),
         Refused::Query => put(out, b"query"),
-        Refused::Denied(rule) => put_with_number(out, b"denied ", u64::from(rule)),
+        Refused::Denied { rule, .. } => put_with_number(out, b"denied ", u64::from(rule)),
         Refused::Mac => put(out, b"mac"),
         Refused::Message => put(out, b"message"),
         Refused::Body => put(out, b"body"),

@@ -2,46 +2,45 @@
 
 ghost use Rattle.std.specs.Prelude.{◌≡◌, IfOk, IfSome, option_map};
 ghost use Rattle.oc_http.specs.Writing.{HasPhrase};
-ghost use Rattle.oc_routes.specs.Refusals.{bare, group_length_of, refusal, refusal_text, rule_of, status_of};
+ghost use Rattle.oc_routes.specs.Refusals.{group_length_of, refusal, refusal_text, refusing, rule_of, status_of};
 
-use crate::Refused;
-use oc_base::{Bytes, Memory};
-use oc_http::{Reply, write_response};
+use crate::reasons::{refused_line, reply_text, telling};
+use crate::{Refusal, Refused};
+use oc_base::Memory;
+use oc_http::Reply;
 use std::alloc::Global;
 
 /// The whole reply to a refused request, which ends its connection; none where the connection failed or
 /// ended.
-pub fn refusal_reply(alloc: Global, refused: Refused) -> Result<Option<Vec<u8>>, Memory>
-    ensures { IfOk result (λ reply. option_map (λ text. text.items) reply ≡ refusal_text refused) }
+pub fn refusal_reply(alloc: Global, refusal: Refusal) -> Result<Option<Vec<u8>>, Memory>
+    ensures { IfOk result (λ reply. option_map (λ text. text.items) reply ≡ refusal_text refusal) }
 {
-    match status_of(refused) {
+    match status_of(refusal.why) {
         None => Ok(None),
-        Some(status) => Ok(Some(write_response(alloc, &refusal(alloc, status, refused))?)),
+        Some(status) => {
+            let reply = reply_of(alloc, status, refusal.why)?;
+            Ok(Some(reply_text(alloc, refusal.head_alone, &reply)?))
+        }
     }
 }
 
 /// The reply of this status to a refused request: it names the rule that denies it, or the length of its group.
-fn refusal(alloc: Global, status: u16, refused: Refused) -> Reply
-    ensures { result ≡ refusal status refused }
+fn reply_of(alloc: Global, status: u16, refused: Refused) -> Result<Reply, Memory>
+    ensures { IfOk result (λ reply. reply ≡ refusal status refused) }
 {
-    let mut reply = bare(alloc, status);
+    let mut reply = telling(status, refused_line(alloc, refused)?);
     reply.rule = rule_of(refused);
     reply.group_length = group_length_of(refused);
-    reply
+    Ok(reply)
 }
 
-/// A reply without a body.
-pub(crate) fn bare(alloc: Global, status: u16) -> Reply
-    ensures { result ≡ bare status }
+/// The refusal of a request that is no HEAD, or whose client is told nothing.
+pub(crate) fn refusing(why: Refused) -> Refusal
+    ensures { result ≡ refusing why }
 {
-    Reply {
-        status,
-        location: None,
-        content_type: None,
-        body: Bytes::of(Vec::new(alloc)),
-        rule: None,
-        group_length: None,
-        mac: None,
+    Refusal {
+        why,
+        head_alone: false,
     }
 }
 
@@ -65,7 +64,10 @@ fn status_of(refused: Refused) -> Option<u16>
         Refused::BodyLong => Some(413),
         Refused::Method => Some(405),
         Refused::Path => Some(404),
-        Refused::Denied(_) | Refused::Mac => Some(403),
+        Refused::Denied {
+            needs_token: true, ..
+        } => Some(401),
+        Refused::Denied { .. } | Refused::Mac => Some(403),
         Refused::At(_) => Some(409),
     }
 }
@@ -75,7 +77,7 @@ fn rule_of(refused: Refused) -> Option<u32>
     ensures { result ≡ rule_of refused }
 {
     match refused {
-        Refused::Denied(rule) => Some(rule),
+        Refused::Denied { rule, .. } => Some(rule),
         _ => None,
     }
 }

@@ -28,12 +28,17 @@ pub enum Refused {
     BodyLong,
     /// The method is none of GET, HEAD and POST.
     Method,
-    /// The path has no route for the method.
+    /// The path has no route for the method, or an escape in it is broken.
     Path,
     /// A start or an area of the query is no number, or out of range.
     Query,
-    /// The access rule with this number, counted from 1, denies it.
-    Denied(u32),
+    /// An access rule denies it.
+    Denied {
+        /// The number of the rule, counted from 1.
+        rule: u32,
+        /// It has no Authorization field, and with its token an earlier rule would allow it.
+        needs_token: bool,
+    },
     /// The head of a message has not just one MAC, or it is not that of the body under the key of the network.
     Mac,
     /// The body is no message to this node.

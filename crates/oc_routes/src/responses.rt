@@ -2,27 +2,14 @@
 
 ghost use Rattle.std.specs.Prelude.{◌≡◌, [], IfOk};
 ghost use Rattle.oc_http.specs.Writing.{HasPhrase, head_text};
-ghost use Rattle.oc_routes.specs.Responses.{status_alone, typed, typed_as, whole};
+ghost use Rattle.oc_routes.specs.Responses.{is_head_alone, status_alone, told, typed, typed_as, whole, whole_for};
 
-use crate::refusals::bare;
+use crate::manner::Manner;
+use crate::reasons::{bare, reply_text, telling};
 use crate::response::Response;
 use oc_base::{Bytes, Memory, Text};
 use oc_http::{ContentType, Framing, Persistence, Reply, write_reply_head, write_response};
-use oc_model::Answer;
 use std::alloc::Global;
-
-/// What an answer depends on besides what was asked.
-#[derive(Clone, Copy, Drop)]
-pub struct Answered<'a> {
-    /// The answer of the step; for a probe and a report it is not looked at.
-    pub answer: Answer,
-    /// The group that a client gets is sealed.
-    pub sealed: bool,
-    /// The request is the last of its connection whatever it asks.
-    pub last: bool,
-    /// What the node tells of itself; looked at for a report alone.
-    pub report: &'a [u8],
-}
 
 /// A whole reply, which ends the connection.
 pub(crate) fn whole(alloc: Global, reply: &Reply) -> Result<Response, Memory>
@@ -36,12 +23,38 @@ pub(crate) fn whole(alloc: Global, reply: &Reply) -> Result<Response, Memory>
     })
 }
 
+/// The same to one who asks so: to a HEAD without its body.
+pub(crate) fn whole_for(alloc: Global, manner: Manner, reply: &Reply) -> Result<Response, Memory>
+    requires { HasPhrase reply.now.status }
+    ensures { IfOk result (λ response. response ≡ whole_for manner reply.now) }
+{
+    Ok(Response {
+        text: Text::of(reply_text(alloc, is_head_alone(manner), reply)?),
+        content: None,
+        connection: Persistence::Close,
+    })
+}
+
+fn is_head_alone(manner: Manner) -> bool
+    ensures { result ≡ is_head_alone manner }
+{
+    manner == Manner::HeadAlone
+}
+
 /// A status alone.
 pub(crate) fn status_alone(alloc: Global, status: u16) -> Result<Response, Memory>
     requires { HasPhrase status }
     ensures { IfOk result (λ response. response ≡ status_alone status) }
 {
     whole(alloc, &bare(alloc, status))
+}
+
+/// A status of 400 or above, with its line.
+pub(crate) fn told(alloc: Global, status: u16, line: Vec<u8>) -> Result<Response, Memory>
+    requires { HasPhrase status }
+    ensures { IfOk result (λ response. response ≡ told status line.items) }
+{
+    whole(alloc, &telling(status, line))
 }
 
 /// A 200 with a body of this type.
@@ -52,6 +65,7 @@ pub(crate) fn typed_as(content_type: ContentType, body: Vec<u8>) -> Reply
         status: 200,
         location: None,
         content_type: Some(content_type),
+        content_range: None,
         body: Bytes::of(body),
         rule: None,
         group_length: None,

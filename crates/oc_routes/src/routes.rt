@@ -5,9 +5,10 @@
 //! | --- | --- | --- | --- | --- | --- |
 //! | `/!overcast` | POST | `message` | `Message` | `Delivered` | the message that goes back, or 204 |
 //! | `/!probe` | GET, HEAD | `probe` | `Probe` | none | `PROBE_BYTES` bytes |
-//! | `/!status` | GET, HEAD | `status` | `Report` | none | the state of the node, as JSON |
-//! | `/!metrics` | GET, HEAD | `metrics` | `Report` | none | its metrics, for Prometheus |
-//! | `/!` | GET, HEAD | `page` | `Report` | none | the page that draws the status |
+//! | `/-/status`, `/!status` | GET, HEAD | `status` | `Report` | none | the state of the node, as JSON |
+//! | `/-/metrics`, `/!metrics` | GET, HEAD | `metrics` | `Report` | none | its metrics, for Prometheus |
+//! | `/-/`, `/!` | GET, HEAD | `page` | `Report` | none | the page that draws the status |
+//! | any other that is `/-` or begins with `/-/` | all | | | | 404 |
 //! | the name of a group | GET, HEAD | `group` | `Client` | `Client` | the group's bytes, or a redirection |
 //! | the name of a group | POST | `publish` | `Publish` | `Publish` | a status |
 //! | the name of a group | POST with `seal` | `seal` | `Seal` | `Seal` | a status |
@@ -15,8 +16,8 @@
 //! A path is looked up in [`resource_at`] alone, once a request: another name of a route is another row there. A POST of a
 //! group may say by `at=N` which length the group has to have; whether it has is looked at by the layer above.
 //!
-//! The laws look at no single route: that of tokens rests on what the rules speak of ([`Scope`]), those of MACs, of failures
-//! and of plain lines on what a body gives (`proofs/Bodies`), which computes for a route without an input.
+//! The laws look at no single route: that of tokens rests on the names of which the rules speak ([`name_of`]), those of MACs,
+//! of failures and of plain lines on what a body gives (`proofs/Bodies`), which computes for a route without an input.
 
 ghost use Rattle.std.specs.Prelude.{◌≡◌, ◌≤◌, length, IfOk, IfSome, map, option_map, string_bytes};
 ghost use Rattle.std.specs.Option.{ForSome};
@@ -25,7 +26,7 @@ ghost use Rattle.oc_base.specs.declared.limits.TheConstants.{MAX_AREA as AREA_LI
 ghost use Rattle.oc_model.specs.Lawful.{IsInput};
 ghost use Rattle.oc_routes.specs.Inputs.{HasLine};
 ghost use Rattle.oc_routes.specs.Lawful.{IsAsked, IsResource};
-ghost use Rattle.oc_routes.specs.Routes.{Gives, action_of, asked, asked_at, asked_of_group, group_in, input_asked, is_conditional, permitted, permitted_by, resource_at, resource_in, response_to, scope_of};
+ghost use Rattle.oc_routes.specs.Routes.{Gives, action_of, asked, asked_at, asked_of_group, group_in, input_asked, is_conditional, is_own, name_of, needs_token, permitted, permitted_by, report_name, resource_at, resource_in, resource_named, response_for, would_allow};
 ghost use Rattle.oc_wire.specs.Spelling.{HasSpelling};
 
 pub(crate) mod group;
@@ -37,28 +38,29 @@ pub(crate) mod publish;
 pub(crate) mod seal;
 pub(crate) mod status;
 
-use crate::addresses::address_of;
+use crate::addresses::source_in;
+use crate::answered::Answered;
 use crate::directory::Directory;
 use crate::fault::RouteFault;
+use crate::hint::Asked;
 use crate::manner::{Manner, manner_of};
 use crate::query::{Query, query_in};
 use crate::refused::Refused;
 use crate::report::{Report, report_response};
 use crate::response::Response;
-use crate::responses::{Answered, status_alone};
-use group::{sent_to, served};
+use crate::showing::{Client, to_client};
 use message::{delivered, to_message};
-use metrics::METRICS_PATH;
+use metrics::{METRICS_NAME, METRICS_PATH};
 use oc_base::words::is;
 use oc_base::{Bytes, GroupName, Memory, NodeId};
 use oc_http::{Head, MESSAGE_PATH, Method, PROBE_PATH, Text};
-use oc_model::{Answer, Input, Message};
-use oc_policy::{Action, Decision, MAX_RULES, Rule, decide};
-use page::PAGE_PATH;
+use oc_model::Input;
+use oc_policy::{Action, Decision, Demand, MAX_RULES, Rule, decide};
+use page::{PAGE_NAME, PAGE_PATH};
 use probe::to_probe;
 use publish::to_publish;
 use seal::to_seal;
-use status::STATUS_PATH;
+use status::{STATUS_NAME, STATUS_PATH};
 use std::alloc::Global;
 
 /// What a path names.
@@ -67,17 +69,6 @@ pub(crate) enum Resource {
     Messages,
     Probe,
     Report(Report),
-    Group(GroupName),
-}
-
-/// Of what the access rules speak.
-#[derive(Clone, Copy, Debug)]
-pub(crate) enum Scope {
-    /// Of nothing: it is permitted to all.
-    Free,
-    /// Of the node itself, by the rules for `/` alone.
-    Node,
-    /// Of a group.
     Group(GroupName),
 }
 
@@ -122,13 +113,14 @@ pub fn route(head: &Head, rules: &[Rule]) -> Result<Operation, Refused>
     ensures lawful { IfOk result IsAsked }
 {
     let action = action_of(head.method)?;
-    let resource = resource_in(action, head.path.items())?;
+    let resource = resource_named(action, &head.path)?;
     let query = query_in(head.query.items(), is_conditional(action, &resource))?;
     permit(
         rules,
         action,
         &resource,
         query.area,
+        !head.has_authorization,
         shown_by(&head.authorization),
     )?;
     Ok(asked_at(head.method, head.minor, &query, &resource))
@@ -145,13 +137,26 @@ pub(crate) fn action_of(method: Method) -> Result<Action, Refused>
     }
 }
 
-/// What a path names, where it has a route for this action: a row of the table, or else a group.
-pub(crate) fn resource_in(action: Action, path: &[u8]) -> Result<Resource, Refused>
+/// What a path names, as it was asked for; none where an escape of it is broken.
+fn resource_named(action: Action, path: &Option<Text>) -> Result<Resource, Refused>
+    ensures said { result ≡ resource_named action path.now }
+    ensures lawful { IfOk result IsResource }
+{
+    match path {
+        Some(path) => resource_in(action, path.items()),
+        None => Err(Refused::Path),
+    }
+}
+
+/// What a path names, where it has a route for this action: a row of the table, or else a group, where the path is not
+/// the program's own.
+fn resource_in(action: Action, path: &[u8]) -> Result<Resource, Refused>
     ensures said { result ≡ resource_in action path.now }
     ensures lawful { IfOk result IsResource }
 {
     match resource_at(action, path) {
         Some(resource) => Ok(resource),
+        None if is_own(path) => Err(Refused::Path),
         None => group_in(path),
     }
 }
@@ -164,11 +169,21 @@ fn resource_at(action: Action, path: &[u8]) -> Option<Resource>
     match action {
         Action::Get if is(path, PROBE_PATH) => Some(Resource::Probe),
         Action::Get if is(path, STATUS_PATH) => Some(Resource::Report(Report::Status)),
+        Action::Get if is(path, STATUS_NAME) => Some(Resource::Report(Report::Status)),
         Action::Get if is(path, METRICS_PATH) => Some(Resource::Report(Report::Metrics)),
+        Action::Get if is(path, METRICS_NAME) => Some(Resource::Report(Report::Metrics)),
         Action::Get if is(path, PAGE_PATH) => Some(Resource::Report(Report::Page)),
+        Action::Get if is(path, PAGE_NAME) => Some(Resource::Report(Report::Page)),
         Action::Post if is(path, MESSAGE_PATH) => Some(Resource::Messages),
         _ => None,
     }
+}
+
+/// Whether a path is the program's, and no group's: `/-`, and all that begins with `/-/`.
+fn is_own(path: &[u8]) -> bool
+    ensures { result ≡ is_own path.now }
+{
+    is(path, "/-") || path.starts_with(b"/-/")
 }
 
 /// The group that a path names.
@@ -190,43 +205,77 @@ fn is_conditional(action: Action, resource: &Resource) -> bool
     matches!((action, resource), (Action::Post, Resource::Group(_)))
 }
 
-/// Refuses what the rules deny to a request that shows this.
+/// Refuses what the rules deny to a request that shows this; `bare` says that it has no Authorization field.
 fn permit(
     rules: &[Rule],
     action: Action,
     resource: &Resource,
     area: u8,
+    bare: bool,
     shown: Option<&[u8]>,
 ) -> Result<(), Refused>
     requires { length rules.now ≤ MAX_RULES }
-    ensures { result ≡ permitted rules.now action resource.now area (option_map (λ s. s.now) shown.entry) }
+    ensures { result ≡ permitted rules.now action resource.now area bare (option_map (λ s. s.now) shown.entry) }
 {
-    match scope_of(resource) {
-        Scope::Free => Ok(()),
-        Scope::Node => permitted_by(decide(rules, action, None, area, shown)),
-        Scope::Group(group) => permitted_by(decide(rules, action, Some(&group), area, shown)),
+    let Some(name) = name_of(resource) else {
+        return Ok(());
+    };
+    match decide(rules, action, Some(&name), area, shown) {
+        Decision::Allowed => Ok(()),
+        Decision::Denied(rule) => Err(Refused::Denied {
+            rule,
+            needs_token: bare && needs_token(rules, action, &name, area, rule),
+        }),
     }
 }
 
-/// Of what the rules speak where this is asked.
-fn scope_of(resource: &Resource) -> Scope
-    ensures { result ≡ scope_of resource.now }
+/// The name by which the access rules speak of a resource; none where it is permitted to all.
+fn name_of(resource: &Resource) -> Option<GroupName>
+    ensures { result ≡ name_of resource.now }
 {
     match resource {
-        Resource::Group(group) => Scope::Group(*group),
-        Resource::Report(_) => Scope::Node,
-        _ => Scope::Free,
+        Resource::Group(group) => Some(*group),
+        Resource::Report(report) => Some(report_name(*report)),
+        _ => None,
     }
 }
 
-/// What a verdict lets through.
-fn permitted_by(verdict: Decision) -> Result<(), Refused>
-    ensures { result ≡ permitted_by verdict }
+/// The name by which the access rules speak of a report, as of a group. That of the page is `/-`, which lies within the
+/// same prefixes as `/-/`.
+fn report_name(report: Report) -> GroupName
+    ensures { result ≡ report_name report }
 {
-    match verdict {
-        Decision::Allowed => Ok(()),
-        Decision::Denied(rule) => Err(Refused::Denied(rule)),
+    let name: &[u8] = match report {
+        Report::Status => b"/-/status",
+        Report::Metrics => b"/-/metrics",
+        Report::Page => b"/-",
+    };
+    match GroupName::parse(name) {
+        Ok(name) => name,
+        Err(_) => unreachable!(),
     }
+}
+
+/// Whether one of the rules before the one of this number would allow what it denies, with its token.
+fn needs_token(rules: &[Rule], action: Action, name: &GroupName, area: u8, number: u32) -> bool
+    requires { length rules.now ≤ MAX_RULES }
+    ensures { result ≡ needs_token rules.now action name.now area number }
+{
+    rules
+        .iter()
+        .take((number as usize).saturating_sub(1))
+        .any(|rule| would_allow(action, name, area, rule))
+}
+
+/// Whether a rule that allows would match this with its token.
+fn would_allow(action: Action, name: &GroupName, area: u8, rule: &Rule) -> bool
+    ensures { result ≡ would_allow action name.now area rule.now }
+{
+    let asking_nothing = Rule {
+        token: Demand::nothing(),
+        ..*rule
+    };
+    rule.allow && asking_nothing.matches(action, Some(name), area, None)
 }
 
 /// What a request shows: the value of its Authorization field, where there is just one.
@@ -327,51 +376,52 @@ pub fn input_of(
     }
 }
 
-/// What is answered to what was asked. `reply` is the message that goes back to the sender of a message.
+/// What a request is answered; `last` says that it is the last of its connection whatever it asks.
 pub fn respond(
     alloc: Global,
-    operation: &Operation,
+    asked: Asked,
+    last: bool,
     answered: Answered<'_>,
-    reply: Option<&Message>,
     network: &Directory<'_>,
 ) -> Result<Response, Memory>
-    requires asks { IsAsked operation.now }
-    requires reply { ForSome (option_map (λ m. m.now) reply) (λ m. HasSpelling m.body) }
+    requires asks { IsAsked asked.operation }
+    requires back { ForSome (option_map (λ m. m.now) answered.back) (λ m. HasSpelling m.body) }
     ensures { IfOk result (λ response. response
-        ≡ response_to operation.now answered.entry.answer (option_map (λ m. m.now) reply.entry) answered.entry.sealed
-        (map string_bytes network.now.addresses.now) (option_map (λ k. k.now) network.now.key) answered.entry.last answered.entry.report.now) }
+        ≡ response_for asked last answered.entry.answer (option_map (λ m. m.now) answered.entry.back) answered.entry.holding
+        (map string_bytes network.now.addresses.now) (option_map (λ k. k.now) network.now.key) answered.entry.report.now) }
 {
-    let Answered {
-        answer,
-        sealed,
-        last,
-        report: text,
-    } = answered;
-    match operation {
-        Operation::Message => to_message(alloc, reply, network.key),
-        Operation::Publish { .. } => to_publish(alloc, answer),
-        Operation::Seal { .. } => to_seal(alloc, answer),
+    match asked.operation {
+        Operation::Message => to_message(alloc, answered.back, network.key),
+        Operation::Publish { group, .. } => to_publish(
+            alloc,
+            answered.answer,
+            source_in(network.addresses),
+            &group,
+        ),
+        Operation::Seal { group, .. } => to_seal(
+            alloc,
+            answered.answer,
+            source_in(network.addresses),
+            &group,
+        ),
         Operation::Client {
             group,
             start,
             manner,
             ..
-        } => match answer {
-            Answer::Redirect(node) => {
-                sent_to(
-                    alloc,
-                    *manner,
-                    address_of(network.addresses, node),
-                    group,
-                    *start,
-                )
-            }
-            Answer::Serve(count) => served(alloc, *manner, sealed, last, *start, count),
-            _ => status_alone(alloc, 404),
-        },
-        Operation::Probe { manner } => to_probe(alloc, *manner, last),
+        } => {
+            let client = Client {
+                group,
+                start,
+                manner,
+                hint: asked.hint,
+                last,
+            };
+            to_client(alloc, &client, &answered, network.addresses)
+        }
+        Operation::Probe { manner } => to_probe(alloc, manner, last),
         Operation::Report { report, manner } => {
-            report_response(alloc, *report, *manner, last, text)
+            report_response(alloc, report, manner, last, answered.report)
         }
     }
 }

@@ -1,91 +1,71 @@
 //! What a client is answered by what it tells.
 
-ghost use Rattle.std.specs.Prelude.{◌≡◌, ◌++◌, [], IfOk, None, OnOk, map, string_bytes, option_map};
-ghost use Rattle.std.specs.Option.{ForSome};
-ghost use Rattle.oc_base.specs.Names.{IsGroupName};
-ghost use Rattle.oc_routes.specs.Shown.{address_in, here_answer, known_shown, location_of, of_shown, follow_text, shown, start_text, response_for, told_text};
-ghost use Rattle.oc_routes.specs.Lawful.{IsAsked};
-ghost use Rattle.oc_wire.specs.Spelling.{HasSpelling};
+ghost use Rattle.std.specs.Prelude.{◌≡◌, ◌++◌, IfOk, OnOk, map, string_bytes};
+ghost use Rattle.oc_routes.specs.Group.{group_response};
+ghost use Rattle.oc_routes.specs.Shown.{here_answer, known_shown, location_of, of_shown, follow_text, shown, start_text, told_text};
 
-use crate::hint::{Asked, Hint};
+use crate::hint::Hint;
 use crate::holding::Holding;
-use crate::routes::group::redirected;
-use crate::step_outcome::StepOutcome;
-use crate::{Answered, Directory, Manner, Operation, Response, address_of, respond};
+use crate::routes::group::{is_past, no_group, past, sent_to, served};
+use crate::{Answered, Manner, Response, address_of};
 use oc_base::{GroupName, Memory, put, put_with_number};
+use oc_http::put_path;
 use oc_model::Answer;
 use std::alloc::Global;
 
+/// A client that asks for a group, and what it tells of it.
+#[derive(Clone, Copy, Debug)]
+pub(crate) struct Client {
+    pub(crate) group: GroupName,
+    pub(crate) start: u64,
+    pub(crate) manner: Manner,
+    pub(crate) hint: Hint,
+    /// Its request is the last of its connection whatever it asks.
+    pub(crate) last: bool,
+}
+
 /// An answer, and whether its group is sealed, as a client is shown them.
 #[derive(Clone, Copy, Debug)]
-pub struct Shown {
+pub(crate) struct Shown {
     pub answer: Answer,
     pub sealed: bool,
 }
 
-/// What a request is answered for the answer of its step. `last` says that it is the last request of its connection
-/// whatever it asks, and `report` is what [`report_of`](crate::report_of) has for it.
-pub fn respond_to(
+/// What a client is answered, where the addresses of the nodes are these.
+pub(crate) fn to_client(
     alloc: Global,
-    asked: Asked,
-    last: bool,
-    outcome: StepOutcome<'_>,
-    network: &Directory<'_>,
-    report: &[u8],
+    client: &Client,
+    answered: &Answered<'_>,
+    addresses: &[String],
 ) -> Result<Response, Memory>
-    requires asks { IsAsked asked.operation }
-    requires back { ForSome (option_map (λ m. m.now) outcome.back) (λ m. HasSpelling m.body) }
-    ensures { IfOk result (λ response. response
-        ≡ response_for asked last outcome.entry.answer (option_map (λ m. m.now) outcome.entry.back) outcome.entry.holding
-        (map string_bytes network.now.addresses.now) (option_map (λ k. k.now) network.now.key) report.now) }
+    ensures { IfOk result (λ response. response ≡ group_response client.now.group client.now.start client.now.manner client.now.hint client.now.last
+        answered.now.answer answered.now.holding (map string_bytes addresses.now)) }
 {
-    let StepOutcome {
-        answer,
-        back,
-        holding,
-    } = outcome;
-    let Operation::Client {
-        group,
-        start,
-        manner,
-        ..
-    } = &asked.operation
-    else {
-        let answered = Answered {
-            answer,
-            sealed: holding.sealed,
-            last,
-            report,
-        };
-        return respond(alloc, &asked.operation, answered, back, network);
-    };
-    let shown = as_shown(asked.hint, answer, holding, *start);
-    let Some(address) = address_in(shown.answer, network.addresses) else {
-        let answered = Answered {
-            answer: shown.answer,
-            sealed: shown.sealed,
-            last,
-            report,
-        };
-        return respond(alloc, &asked.operation, answered, back, network);
-    };
-    let text = told_text(alloc, asked.hint, holding)?;
-    let location = location_of(alloc, address, group, *start, &text, *manner)?;
-    redirected(alloc, location)
-}
-
-/// The address of the node to which an answer sends a client.
-fn address_in(answer: Answer, addresses: &[String]) -> Option<&str>
-    ensures { option_map (λ a. a.now) result ≡ address_in answer (map string_bytes addresses.now) }
-{
-    match answer {
-        Answer::Redirect(node) => Some(address_of(addresses, node)),
-        _ => None,
+    let holding = answered.holding;
+    let shown = as_shown(client.hint, answered.answer, holding, client.start);
+    match shown.answer {
+        Answer::Redirect(node) => {
+            let told = told_text(alloc, client.hint, holding)?;
+            let location = location_of(alloc, address_of(addresses, node), client, &told)?;
+            sent_to(alloc, location)
+        }
+        Answer::Serve(_) if is_past(client.start, holding) => {
+            past(alloc, client.manner, holding.held)
+        }
+        Answer::Serve(count) => served(
+            alloc,
+            client.manner,
+            shown.sealed,
+            client.last,
+            client.start,
+            count,
+        ),
+        _ => no_group(alloc, client.manner),
     }
 }
 
 /// The answer of a step, and whether the group is sealed, as the client is shown them.
-pub fn as_shown(hint: Hint, answer: Answer, holding: Holding, start: u64) -> Shown
+pub(crate) fn as_shown(hint: Hint, answer: Answer, holding: Holding, start: u64) -> Shown
     ensures { result ≡ shown hint answer holding start }
 {
     let sealed = holding.sealed;
@@ -157,21 +137,20 @@ fn told_text(alloc: Global, hint: Hint, holding: Holding) -> Result<Vec<u8>, Mem
 fn location_of(
     alloc: Global,
     address: &str,
-    group: &GroupName,
-    start: u64,
+    client: &Client,
     told: &[u8],
-    manner: Manner,
 ) -> Result<Vec<u8>, Memory>
-    ensures { IfOk result (λ url. url.items ≡ location_of address.now group.now start told.now manner) }
+    ensures { IfOk result (λ url. url.items ≡ location_of address.now client.now.group client.now.start told.now client.now.manner) }
 {
-    let mut url = Vec::new(alloc);
-    put(&mut url, b"http://")?;
-    put(&mut url, address.as_bytes())?;
-    put(&mut url, group.bytes())?;
+    let mut place = String::new(alloc);
+    place.push_str("http://")?;
+    place.push_str(address)?;
+    put_path(&mut place, client.group.bytes())?;
+    let mut url = place.into_bytes();
     put(&mut url, b"?")?;
-    put_start(&mut url, start)?;
+    put_start(&mut url, client.start)?;
     put(&mut url, told)?;
-    put_follow(&mut url, manner)?;
+    put_follow(&mut url, client.manner)?;
     Ok(url)
 }
 

@@ -1,5 +1,4 @@
-use crate::hint::Hint;
-use crate::{Operation, Refused};
+use crate::{Asked, Refused};
 use oc_model::Input;
 
 /// What is to be done with a connection for the bytes that came on it.
@@ -11,22 +10,28 @@ pub enum Verdict {
     Leave,
     /// Its client is given the permission to send the body (RFC 9110, section 10.1.1).
     Permit,
-    /// The request is refused; [`crate::refusal_reply`] has the reply.
-    Refuse(Refused),
+    /// The request is refused.
+    Refuse(Refusal),
     /// The request is whole, and is to be answered.
     Ask(Request),
 }
 
-/// A request that is whole.
+/// A request that is whole: from here on it goes through the node as this one value.
 #[derive(Debug, Drop)]
 pub struct Request {
-    /// How many bytes it has.
+    /// The number of its bytes.
     pub count: u64,
-    pub operation: Operation,
-    /// What its query tells besides.
-    pub hint: Hint,
+    pub asked: Asked,
     /// The input that results from it, if any.
     pub input: Option<Input>,
     /// It is the last of its connection whatever it asks.
     pub last: bool,
+}
+
+/// A request that becomes none, since it is refused; [`crate::refusal_reply`] has its reply.
+#[derive(Clone, Copy, Debug, PartialEq, Eq)]
+pub struct Refusal {
+    pub why: Refused,
+    /// It is a HEAD, so that its reply has no body.
+    pub head_alone: bool,
 }

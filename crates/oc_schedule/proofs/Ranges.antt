@@ -14,7 +14,7 @@ use Rattle.oc_schedule.proofs.ActRanges.{act_range, either, number_range}
 use Rattle.oc_schedule.proofs.Steps.{steps, within_guard}
 use Rattle.oc_base.specs.Words.{one, two, number_in, node_in}
 use Rattle.oc_base.specs.declared.limits.TheConstants.{MAX_AREA, MAX_NODES, MAX_CHAIN, MAX_CHUNK_BYTES, USUAL_CHUNK_BYTES}
-use Rattle.oc_schedule.specs.declared.lines.Sizes.{Sizes}
+use Rattle.oc_model.specs.declared.header.Sizes.{Sizes}
 use Rattle.oc_schedule.specs.Acts.{act_in, most_byte}
 use Rattle.oc_schedule.specs.Lines.{with_sizes, sizes_in, named_in, chunk_in, opening_in, header_in, area_in, first_three, node_alone_in, up_in, crash_in, held_in, show_in, alone, stop_in, act_alone_in, event_in, most_calls}
 use Rattle.oc_base.specs.Steps.{with_fault}

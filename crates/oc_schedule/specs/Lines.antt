@@ -9,7 +9,7 @@ use Rattle.oc_base.specs.declared.why.Why.TheVariants as causes
 use Rattle.oc_model.specs.declared.event.Event.{Event}
 use Rattle.oc_model.specs.declared.event.Event.TheVariants.{Up, Crash, Stop, Do, Held, Show, Settle, Heal}
 use Rattle.oc_model.specs.Node.{Header}
-use Rattle.oc_schedule.specs.declared.lines.Sizes.{Sizes}
+use Rattle.oc_model.specs.declared.header.Sizes.{Sizes}
 use Rattle.oc_schedule.specs.Acts.{act_in, act_word, act_fields, act_words, most_byte}
 
 -- the numbers of nodes and of chain members, beside that of a chunk

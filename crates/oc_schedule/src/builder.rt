@@ -13,6 +13,7 @@ use crate::kept_event::KeptEvent;
 use crate::lines::{area, event, opening};
 use crate::{EventList, Scale, Schedule, ScheduleFault, What};
 use oc_base::{MAX_PUBLISH_BYTES, MAX_SCHEDULE_SETTLES, NodeId, Why};
+use oc_model::Header;
 use std::alloc::Global;
 
 /// The schedule of the lines so far, from the header on.
@@ -40,10 +41,7 @@ impl ScheduleBuilder {
         let areas = vec![in alloc; 0; sizes.nodes as usize]?;
         Ok(ScheduleBuilder {
             schedule: Schedule {
-                nodes: sizes.nodes,
-                chain: sizes.chain,
-                chunk: sizes.chunk,
-                areas,
+                header: Header { sizes, areas },
                 events: EventList::new(alloc),
             },
             published: 0,
@@ -64,7 +62,7 @@ impl ScheduleBuilder {
         ensures { GivesBy (λ d. d.schedule) result
             (read_statement scale number (Some self.schedule) word.now (words fields.now)) }
     {
-        let nodes = self.schedule.nodes;
+        let nodes = self.schedule.header.sizes.nodes;
         if is(word, "area") && self.schedule.events.is_empty() {
             match area(nodes, fields) {
                 Ok((node, area)) => Ok(self.with_area(node, area)),
@@ -96,7 +94,7 @@ impl ScheduleBuilder {
             published,
             settles,
         } = self;
-        schedule.areas[node.index()] = area;
+        schedule.header.areas[node.index()] = area;
         ScheduleBuilder {
             schedule,
             published,

@@ -13,7 +13,7 @@ ghost use Rattle.oc_schedule.specs.Generator.{draw_at, draws_of, events_from, ge
 use crate::kept_event::KeptEvent;
 use crate::{EventList, Schedule};
 use oc_base::{Bytes, GroupName, Memory, NodeId, USUAL_CHUNK_BYTES};
-use oc_model::{Act, Event, Input};
+use oc_model::{Act, Event, Header, Input, Sizes};
 use std::alloc::Global;
 
 /// The greatest number of events of a schedule that is generated.
@@ -36,10 +36,14 @@ pub fn generate(alloc: Global, seed: u64, nodes: u32, events: u32) -> Result<Sch
     put_starts(&mut made, nodes)?;
     put_drawn(alloc, &mut made, Draws { state: seed }, nodes, events)?;
     Ok(Schedule {
-        nodes,
-        chain: CHAIN.min(nodes),
-        chunk: USUAL_CHUNK_BYTES,
-        areas: vec![in alloc; 0; nodes as usize]?,
+        header: Header {
+            sizes: Sizes {
+                nodes,
+                chain: CHAIN.min(nodes),
+                chunk: USUAL_CHUNK_BYTES,
+            },
+            areas: vec![in alloc; 0; nodes as usize]?,
+        },
         events: made,
     })
 }

@@ -40,7 +40,7 @@ pub use fault::{LineFault, ScheduleFault, What};
 pub use generating::{MAX_GENERATED_EVENTS, generate};
 pub use kept_event::KeptEvent;
 pub use law::{examples_are_read, generated_schedules_are_lawful};
-pub use lines::{Sizes, area, node_alone, opening};
+pub use lines::{area, node_alone, opening};
 pub use listed_event::ListedEvent;
 pub use printing::print;
 pub use scale::{MAX_LARGE_BYTES, MAX_LARGE_LINES, MAX_LARGE_PUBLISHED, Scale};

@@ -21,23 +21,13 @@ use crate::kept_event::KeptEvent;
 use crate::texts::put_number_field;
 use oc_base::words::{first_word, node, number, one_field, two_fields};
 use oc_base::{MAX_CHAIN, MAX_CHUNK_BYTES, MAX_NODES, Memory, NodeId, USUAL_CHUNK_BYTES, Why, put};
-use oc_model::Event;
+use oc_model::{Event, Sizes};
 use std::alloc::Global;
 
 /// The greatest number of device calls that a stop lets work.
 const MAX_CALLS: u64 = 4;
 
-/// The numbers of a network.
-#[derive(Clone, Copy)]
-pub struct Sizes {
-    pub nodes: u32,
-    /// The length of the chain.
-    pub chain: u32,
-    /// The greatest number of bytes of a chunk.
-    pub chunk: u32,
-}
-
-/// `overcast 1 nodes N chain C`, and after it perhaps `chunk B`: the numbers of the network.
+/// `overcast 1 nodes N chain C`, and after it perhaps `chunk B`: the sizes of the network.
 pub fn opening(line: &[u8]) -> Result<Sizes, Why>
     ensures { result ≡ opening_in (words line.now) }
 {

@@ -12,7 +12,7 @@ use crate::lines::put_event;
 use crate::texts::put_number_field;
 use crate::{EventList, Schedule};
 use oc_base::{Memory, USUAL_CHUNK_BYTES, put};
-use oc_model::Event;
+use oc_model::{Event, Sizes};
 use std::alloc::Global;
 
 /// Writes the text of a schedule: the header, a line for each area that is not 0, ascending, and a
@@ -30,48 +30,48 @@ pub fn print(alloc: Global, schedule: &Schedule) -> Result<Vec<u8>, Memory>
 fn put_schedule(out: &mut Vec<u8>, schedule: &Schedule) -> Result<(), Memory>
     ensures { OnOk result (out.new.items ≡ out.old.items ++ script_text schedule.now) }
 {
-    put_header(out, schedule.nodes, schedule.chain, schedule.chunk)?;
-    put_areas(out, &schedule.areas)?;
+    put_header(out, schedule.header.sizes)?;
+    put_areas(out, &schedule.header.areas)?;
     put_events(out, &schedule.events)?;
     Ok(())
 }
 
-fn put_header(out: &mut Vec<u8>, nodes: u32, chain: u32, chunk: u32) -> Result<(), Memory>
-    ensures { OnOk result (out.new.items ≡ out.old.items ++ line_text (header_words nodes chain chunk)) }
+fn put_header(out: &mut Vec<u8>, sizes: Sizes) -> Result<(), Memory>
+    ensures { OnOk result (out.new.items ≡ out.old.items ++ line_text (header_words sizes.nodes sizes.chain sizes.chunk)) }
 {
-    if chunk != USUAL_CHUNK_BYTES {
-        put_long_header(out, nodes, chain, chunk)
+    if sizes.chunk != USUAL_CHUNK_BYTES {
+        put_long_header(out, sizes)
     } else {
-        put_short_header(out, nodes, chain)
+        put_short_header(out, sizes)
     }
 }
 
 /// Puts a header that says how many bytes a chunk has at most.
-fn put_long_header(out: &mut Vec<u8>, nodes: u32, chain: u32, chunk: u32) -> Result<(), Memory>
-    ensures { OnOk result (out.new.items ≡ out.old.items ++ line_text (header_with nodes chain (codes "chunk" ∷ decimal chunk ∷ []))) }
+fn put_long_header(out: &mut Vec<u8>, sizes: Sizes) -> Result<(), Memory>
+    ensures { OnOk result (out.new.items ≡ out.old.items ++ line_text (header_with sizes.nodes sizes.chain (codes "chunk" ∷ decimal sizes.chunk ∷ []))) }
 {
-    put_front(out, nodes, chain)?;
+    put_front(out, sizes)?;
     put(out, b" chunk")?;
-    put_number_field(out, u64::from(chunk))?;
+    put_number_field(out, u64::from(sizes.chunk))?;
     put(out, b"\n")
 }
 
 /// Puts a header that does not.
-fn put_short_header(out: &mut Vec<u8>, nodes: u32, chain: u32) -> Result<(), Memory>
-    ensures { OnOk result (out.new.items ≡ out.old.items ++ line_text (header_with nodes chain [])) }
+fn put_short_header(out: &mut Vec<u8>, sizes: Sizes) -> Result<(), Memory>
+    ensures { OnOk result (out.new.items ≡ out.old.items ++ line_text (header_with sizes.nodes sizes.chain [])) }
 {
-    put_front(out, nodes, chain)?;
+    put_front(out, sizes)?;
     put(out, b"\n")
 }
 
 /// Puts what both begin with.
-fn put_front(out: &mut Vec<u8>, nodes: u32, chain: u32) -> Result<(), Memory>
-    ensures { OnOk result (out.new.items ≡ out.old.items ++ spaced (header_with nodes chain [])) }
+fn put_front(out: &mut Vec<u8>, sizes: Sizes) -> Result<(), Memory>
+    ensures { OnOk result (out.new.items ≡ out.old.items ++ spaced (header_with sizes.nodes sizes.chain [])) }
 {
     put(out, b"overcast 1 nodes")?;
-    put_number_field(out, u64::from(nodes))?;
+    put_number_field(out, u64::from(sizes.nodes))?;
     put(out, b" chain")?;
-    put_number_field(out, u64::from(chain))
+    put_number_field(out, u64::from(sizes.chain))
 }
 
 /// Puts the lines of areas that are not 0.

@@ -1,18 +1,12 @@
 use crate::EventList;
+use oc_model::Header;
 use std::marker::Model;
 
 /// What a schedule says: how the world opens, and what happens in it. Contracts see it as the
 /// record `Script` of lists.
 #[derive(Debug, Drop)]
 pub struct Schedule {
-    /// The number of nodes, from 1 to 1,024.
-    pub nodes: u32,
-    /// The number of chain members, from 1 to 16 and at most the nodes.
-    pub chain: u32,
-    /// The greatest number of bytes of a chunk, from 1 to 524,288.
-    pub chunk: u32,
-    /// The area of each node, ascending by id.
-    pub areas: Vec<u8>,
+    pub header: Header,
     /// The events, in their order.
     pub events: EventList,
 }
@@ -22,8 +16,5 @@ impl Model for Schedule {
 
     ghost Value = { Script };
 
-    ghost view = { λ s. record {
-      header = record { nodes = s.nodes; chain = s.chain; chunk = s.chunk; areas = s.areas.items };
-      events = s.events;
-    } };
+    ghost view = { λ s. record { header = s.header; events = s.events } };
 }

@@ -7,12 +7,13 @@ use Rattle.oc_keep.specs.KeptView.{IsHonest, node_of}
 use Rattle.oc_model.specs.Lawful.{IsInput}
 use Rattle.oc_model.specs.Node.{Header, Node}
 use Rattle.oc_model.specs.declared.input.Input.{Input}
-use Rattle.oc_server.specs.Deeds.{Running, Says}
+use Rattle.oc_deeds.specs.Deeds.{Running, Says}
 use Rattle.oc_server.specs.Noting.{NoteBreaks}
-use Rattle.oc_server.specs.Parts.{Does, Part, Stops, ◌>>◌}
-use Rattle.oc_server.specs.Records.{told_ahead}
+use Rattle.oc_server.specs.Parts.{Does, Stops}
+use Rattle.oc_deeds.specs.Parts.{Part, ◌>>◌}
+use Rattle.oc_deeds.specs.Records.{told_ahead}
 use Rattle.oc_server.specs.Scenes.{Did, IsServing, running, setting}
-use Rattle.oc_server.specs.Telling.{says_ahead}
+use Rattle.oc_deeds.specs.Telling.{says_ahead}
 use Rattle.oc_server.specs.declared.ends.TurnEnd.{TurnEnd}
 use Rattle.oc_server.specs.declared.server.Server.{Server}
 use Rattle.oc_server.proofs.Parts.{does_one, does_then, stops_behind, stops_in}

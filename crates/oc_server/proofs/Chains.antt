@@ -1,47 +1,12 @@
--- Deeds after deeds.
-use Rattle.std.proofs.Common.{◌≡◌, ℕ, Option, None, Some, List, [], ◌∷◌, ◌++◌, refl, sym, ap, subst, ◌∙◌}
-use Rattle.std.proofs.lemmas.List.{append_assoc}
-use Rattle.oc_link.specs.declared.call.Call.{Call}
-use Rattle.oc_link.specs.declared.counts.LinkCounts.{LinkCounts}
+-- The node after deeds.
+use Rattle.std.proofs.Common.{◌≡◌, List, [], ◌∷◌, ◌++◌, refl, sym, ap, ◌∙◌}
 use Rattle.oc_keep.specs.Trials.{after_inputs}
 use Rattle.oc_model.specs.declared.input.Input.{Input}
 use Rattle.oc_model.specs.Node.{Node}
 use Rattle.oc_model.specs.Step.{step}
-use Rattle.oc_server.specs.Deeds.{Deed, Running, Setting, after, after_all, calls, calls_of, input_of, inputs_of, line, lines, with_input}
-use Rattle.oc_server.specs.Deeds as deeds
-use Rattle.oc_server.specs.Scenes.{CountsAll}
+use Rattle.oc_deeds.specs.Deeds.{Deed, Running, after, after_all, input_of, inputs_of, with_input}
+use Rattle.oc_deeds.specs.Deeds as deeds
 use Rattle.oc_server.proofs.Moments.{taken_first}
-
--- Lists
-
--- the lines of deeds after deeds
-pub lines_append : (s : Setting) (ds es : List Deed) → lines s (ds ++ es) ≡ lines s ds ++ lines s es
-lines_append s [] es = refl
-lines_append s (d ∷ ds) es = ap (λ (t : List ℕ). line s d ++ t) (lines_append s ds es) ∙ sym (append_assoc (line s d) (lines s ds) (lines s es))
-
--- an input before inputs
-with_append : (o : Option Input) (is js : List Input) → with_input o (is ++ js) ≡ with_input o is ++ js
-with_append None is js = refl
-with_append (Some i) is js = refl
-
--- their inputs
-pub inputs_append : (ds es : List Deed) → inputs_of (ds ++ es) ≡ inputs_of ds ++ inputs_of es
-inputs_append [] es = refl
-inputs_append (d ∷ ds) es = ap (λ (is : List Input). with_input (input_of d) is) (inputs_append ds es) ∙ with_append (input_of d) (inputs_of ds) (inputs_of es)
-
--- what they make of a running node
-pub after_append : (ds es : List Deed) (a : Running) → after_all (ds ++ es) a ≡ after_all es (after_all ds a)
-after_append [] es a = refl
-after_append (d ∷ ds) es a = after_append ds es (after d a)
-
--- their calls
-pub calls_append : (s : Setting) (ds es : List Deed) (a : Running) → calls_of s (ds ++ es) a ≡ calls_of s ds a ++ calls_of s es (after_all ds a)
-calls_append s [] es a = refl
-calls_append s (d ∷ ds) es a =
-    ap (λ (cs : List Call). calls s d a ++ cs) (calls_append s ds es (after d a))
-    ∙ sym (append_assoc (calls s d a) (calls_of s ds (after d a)) (calls_of s es (after_all ds (after d a))))
-
--- The node
 
 -- inputs after inputs
 pub fold_append : (n : Node) (is js : List Input) → after_inputs n (is ++ js) ≡ after_inputs (after_inputs n is) js
@@ -73,47 +38,3 @@ pub nodes_behind : (ds : List Deed) (a : Running) → (after_all ds a).node ≡ 
 nodes_behind [] a = refl
 nodes_behind (d ∷ ds) a =
     nodes_behind ds (after d a) ∙ ap (λ (n : Node). after_inputs n (inputs_of ds)) (node_behind d a) ∙ sym (taken_first a.node (input_of d) (inputs_of ds))
-
--- Counts
-
--- those of deeds after deeds
-pub counts_append : (ds es : List Deed) (a b c : LinkCounts) → CountsAll ds a b → CountsAll es b c → CountsAll (ds ++ es) a c
-counts_append [] es a b c first second = subst (λ (x : LinkCounts). CountsAll es x c) first second
-counts_append (deeds.Sees e wait bytes ∷ ds) es a b c (at, one, first) second = (at, one, counts_append ds es at b c first second)
-counts_append (deeds.Reads t ∷ ds) es a b c first second = counts_append ds es a b c first second
-counts_append (deeds.Tells t ∷ ds) es a b c first second = counts_append ds es a b c first second
-counts_append (deeds.Takes i ∷ ds) es a b c first second = counts_append ds es a b c first second
-counts_append (deeds.Accepts i ∷ ds) es a b c first second = counts_append ds es a b c first second
-counts_append (deeds.Says text ∷ ds) es a b c first second = counts_append ds es a b c first second
-counts_append (deeds.Notes why ∷ ds) es a b c first second = counts_append ds es a b c first second
-counts_append (deeds.Permits x ∷ ds) es a b c first second = counts_append ds es a b c first second
-counts_append (deeds.Waits w ∷ ds) es a b c first second = counts_append ds es a b c first second
-counts_append (deeds.Replies r response now ∷ ds) es a b c first second = counts_append ds es a b c first second
-counts_append (deeds.Refuses x count why ∷ ds) es a b c first second = counts_append ds es a b c first second
-counts_append (deeds.BreaksOff x ∷ ds) es a b c first second = counts_append ds es a b c first second
-counts_append (deeds.Gives p now ∷ ds) es a b c first second = counts_append ds es a b c first second
-counts_append (deeds.LaysAside p ∷ ds) es a b c first second = counts_append ds es a b c first second
-counts_append (deeds.Drops x told ∷ ds) es a b c first second = counts_append ds es a b c first second
-counts_append (deeds.Dials place m d ∷ ds) es a b c first second = counts_append ds es a b c first second
-counts_append (deeds.Probes peer d now ∷ ds) es a b c first second = counts_append ds es a b c first second
-
--- deeds never raise the count of failures of `next`
-pub counts_listening : (ds : List Deed) (a b : LinkCounts) → CountsAll ds a b → b.listening ≡ a.listening
-counts_listening [] a b done = ap (λ (x : LinkCounts). x.listening) done
-counts_listening (deeds.Sees e wait bytes ∷ ds) a b (at, one, done) = counts_listening ds at b done ∙ one.listening
-counts_listening (deeds.Reads t ∷ ds) a b done = counts_listening ds a b done
-counts_listening (deeds.Tells t ∷ ds) a b done = counts_listening ds a b done
-counts_listening (deeds.Takes i ∷ ds) a b done = counts_listening ds a b done
-counts_listening (deeds.Accepts i ∷ ds) a b done = counts_listening ds a b done
-counts_listening (deeds.Says text ∷ ds) a b done = counts_listening ds a b done
-counts_listening (deeds.Notes why ∷ ds) a b done = counts_listening ds a b done
-counts_listening (deeds.Permits x ∷ ds) a b done = counts_listening ds a b done
-counts_listening (deeds.Waits w ∷ ds) a b done = counts_listening ds a b done
-counts_listening (deeds.Replies r response now ∷ ds) a b done = counts_listening ds a b done
-counts_listening (deeds.Refuses x count why ∷ ds) a b done = counts_listening ds a b done
-counts_listening (deeds.BreaksOff x ∷ ds) a b done = counts_listening ds a b done
-counts_listening (deeds.Gives p now ∷ ds) a b done = counts_listening ds a b done
-counts_listening (deeds.LaysAside p ∷ ds) a b done = counts_listening ds a b done
-counts_listening (deeds.Drops x told ∷ ds) a b done = counts_listening ds a b done
-counts_listening (deeds.Dials place m d ∷ ds) a b done = counts_listening ds a b done
-counts_listening (deeds.Probes peer d now ∷ ds) a b done = counts_listening ds a b done

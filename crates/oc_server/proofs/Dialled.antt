@@ -12,16 +12,18 @@ use Rattle.oc_keep.specs.KeptView.{node_of}
 use Rattle.oc_model.specs.declared.message.Message.{Message}
 use Rattle.oc_routes.specs.Responses.{address_of}
 use Rattle.oc_wire.specs.Macs.{request_of}
-use Rattle.oc_server.specs.Deeds.{Dials, Probes}
-use Rattle.oc_server.specs.Dials.{brings, dialling}
-use Rattle.oc_server.specs.Scenes.{Did, IsLawful, IsLawfulDial}
-use Rattle.oc_server.specs.Sending.{AreSendable}
-use Rattle.oc_server.specs.declared.dials.Dialling.{Dialling}
-use Rattle.oc_server.specs.declared.dials.Errand.TheVariants as errands
+use Rattle.oc_deeds.specs.Deeds.{Dials, Probes}
+use Rattle.oc_deeds.specs.Dials.{brings, dialling}
+use Rattle.oc_server.specs.Scenes.{Did, IsLawful}
+use Rattle.oc_deeds.specs.Lawful.{IsLawfulDial}
+use Rattle.oc_deeds.specs.Sending.{AreSendable}
+use Rattle.oc_deeds.specs.declared.dials.Dialling.{Dialling}
+use Rattle.oc_deeds.specs.declared.dials.Errand.TheVariants as errands
 use Rattle.oc_server.specs.declared.server.Server.{Server}
-use Rattle.oc_server.proofs.Lawful.{dials_with, lawful_of}
+use Rattle.oc_deeds.proofs.Lawful.{dials_with}
+use Rattle.oc_server.proofs.Lawful.{lawful_of}
 use Rattle.oc_server.proofs.Looking.{looks_none}
-use Rattle.oc_server.proofs.Messages.{one_sendable, receiver_of_sendable, without_place}
+use Rattle.oc_deeds.proofs.Messages.{one_sendable, receiver_of_sendable, without_place}
 use Rattle.oc_server.proofs.Steps.{did_step}
 
 module _ {D L K : Type 0} (view : D → DiskView) (takes fails : K → List ℕ → K → Type 0) (faults : K → ℕ) (story : L → Option (List Call)) (counts : L → LinkCounts) where

@@ -5,7 +5,7 @@ use Rattle.oc_keep.specs.Files.{Disks, AllGoOn, AlwaysLeaves, SameDurable}
 use Rattle.oc_keep.specs.Trials.{after_inputs}
 use Rattle.oc_model.specs.declared.input.Input.{Input}
 use Rattle.oc_model.specs.Node.{Header, Node}
-use Rattle.oc_server.specs.Deeds.{Deed, input_of, inputs_of, with_input}
+use Rattle.oc_deeds.specs.Deeds.{Deed, input_of, inputs_of, with_input}
 use Rattle.oc_server.specs.Looks.{LooksOn}
 use Rattle.oc_server.specs.Moments.{AtEachPrefix, TakesOne, node_after}
 

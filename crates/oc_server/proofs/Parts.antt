@@ -1,46 +1,19 @@
 -- Parts of a turn, one after another.
 use Rattle.std.proofs.Common.{◌≡◌, ℕ, false, Option, List, [], ◌∷◌, ◌++◌, refl, sym, ap, subst, ◌∙◌}
-use Rattle.std.proofs.lemmas.List.{append_assoc}
 use Rattle.oc_link.specs.declared.call.Call.{Call}
 use Rattle.oc_link.specs.declared.counts.LinkCounts.{LinkCounts}
 use Rattle.oc_io.specs.DiskView.{DiskView}
 use Rattle.oc_keep.specs.KeptView.{IsHonest}
-use Rattle.oc_server.specs.Deeds.{Deed, Running, Setting, after_all}
-use Rattle.oc_server.specs.Parts.{Cuts, Does, IsUnder, Part, Stops, one, ◌>>◌}
-use Rattle.oc_server.specs.Scenes.{Breaks, Did, Idle, IsServing, Noting, Taking, Under, running, setting}
+use Rattle.oc_deeds.specs.Deeds.{Deed, Running, Setting, after_all}
+use Rattle.oc_deeds.specs.Under.{Cuts, IsUnder}
+use Rattle.oc_server.specs.Parts.{Does, Stops}
+use Rattle.oc_deeds.specs.Parts.{Part, one, ◌>>◌}
+use Rattle.oc_server.specs.Scenes.{Breaks, Did, IsServing, running, setting}
+use Rattle.oc_deeds.specs.Under.{Under}
 use Rattle.oc_server.specs.declared.ends.TurnEnd.{TurnEnd}
 use Rattle.oc_server.specs.declared.server.Server.{Server}
 use Rattle.oc_server.proofs.Scenes.{breaks_first, breaks_then, did_none, did_then, setting_stays, still_honest, still_serving}
-
--- Fronts of lists of deeds
-
--- what is under way is so with more deeds after it
-under_more : (u : Under) (ds more : List Deed) → IsUnder u ds → IsUnder u (ds ++ more)
-under_more Idle ds more is = tt
-under_more (Taking i) [] more is = absurd is
-under_more (Taking i) (d ∷ ds) more is = is
-under_more (Noting line) [] more is = absurd is
-under_more (Noting line) (d ∷ ds) more is = is
-
--- a front of deeds is one of these with more after it
-pub cuts_more : (whole more deeds : List Deed) (u : Under) → Cuts whole deeds u → Cuts (whole ++ more) deeds u
-cuts_more whole more deeds u cut = record {
-  behind = cut.behind ++ more;
-  front = ap (λ (ds : List Deed). ds ++ more) cut.front ∙ append_assoc deeds cut.behind more;
-  next = under_more u cut.behind more cut.next;
-}
-
--- and with deeds before
-pub cuts_behind : (before whole deeds : List Deed) (u : Under) → Cuts whole deeds u → Cuts (before ++ whole) (before ++ deeds) u
-cuts_behind before whole deeds u cut = record {
-  behind = cut.behind;
-  front = ap (λ (ds : List Deed). before ++ ds) cut.front ∙ sym (append_assoc before deeds cut.behind);
-  next = cut.next;
-}
-
--- nothing was done yet
-pub cuts_none : (whole : List Deed) (u : Under) → IsUnder u whole → Cuts whole [] u
-cuts_none whole u is = record { behind = whole; front = refl; next = is }
+use Rattle.oc_deeds.proofs.Cuts.{cuts_behind, cuts_more, cuts_none}
 
 module _ {D L K : Type 0} (view : D → DiskView) (takes fails : K → List ℕ → K → Type 0) (faults : K → ℕ) (story : L → Option (List Call)) (counts : L → LinkCounts) where
   -- Parts that were done

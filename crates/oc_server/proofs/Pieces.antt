@@ -1,17 +1,14 @@
 -- Pieces of contents that are read.
-use Rattle.std.proofs.Common.{◌≡◌, ◌-◌, ◌+◌, ℕ, true, false, Bool, Some, None, List, [], ◌∷◌, ◌++◌, length, take, drop, refl, sym, ap, subst, ◌∙◌, arith, cond, length-append}
-use Rattle.std.proofs.Math.Seq.{take-append_seam}
-use Rattle.std.proofs.lemmas.List.{append-nil}
+use Rattle.std.proofs.Common.{◌≡◌, ℕ, true, false, Bool, Some, None, List, [], ◌∷◌, take, drop, refl, sym, ap, subst, ◌∙◌, cond}
 use Rattle.std.specs.Option.{option_map}
 use Rattle.oc_base.specs.Groups.{bytes_of, group_of, or_empty, shelf, shelf_of}
 use Rattle.oc_base.specs.Named.{same_name}
 use Rattle.oc_base.specs.Shelves.{held_of, line_of}
 use Rattle.oc_base.specs.declared.group.Group.{Group}
 use Rattle.oc_base.specs.declared.shelf.Shelf.{Shelf}
-use Rattle.oc_chunked.specs.Texts.{chunked_text, chunks_written, end_written}
 use Rattle.oc_io.specs.DiskView.{DiskView}
 use Rattle.oc_keep.specs.KeptView.{IsHonest, KeptView, node_of}
-use Rattle.oc_routes.specs.Contents.{ending, part_of, pieces}
+use Rattle.oc_routes.specs.Contents.{part_of}
 use Rattle.oc_routes.proofs.PieceLaws.{drop_none, take_none}
 
 -- Groups that are not held
@@ -32,13 +29,3 @@ pub no_piece : {D : Type 0} (view : D → DiskView) (k : KeptView D) (g : List �
 no_piece view k g at w lines is none honest =
     let empty : bytes_of g (node_of k).groups ≡ [] = no_line g (node_of k).groups (subst (λ (ls : List Shelf). held_of g ls ≡ None) (is honest) none) in
     sym (ap (λ (bytes : List ℕ). take w (drop at bytes)) empty ∙ ap (λ (bytes : List ℕ). take w bytes) (drop_none at) ∙ take_none w)
-
--- Chunks
-
--- a chunked text without what ends it
-pub without_end : (bytes text : List ℕ) (n : ℕ) → text ≡ chunked_text bytes → n ≡ length text - 5 → take n text ≡ pieces true bytes ++ ending true false
-without_end bytes text n is last =
-    let chunks = chunks_written (length bytes) bytes in
-    let long : length text ≡ length chunks + 5 = ap (λ (t : List ℕ). length t) is ∙ length-append chunks end_written in
-    let front : n ≡ length chunks = omega (arith, long, last) in
-    ap (λ (t : List ℕ). take n t) is ∙ ap (λ (k : ℕ). take k (chunks ++ end_written)) front ∙ take-append_seam chunks end_written ∙ sym (append-nil chunks)

@@ -1,61 +1,33 @@
 -- Requests that are answered, or wait.
-use Rattle.std.proofs.Common.{◌≡◌, ℕ, Bool, true, false, Option, Some, List, [], ◌∷◌, ◌++◌, cond, is_some, length, refl, sym, ap, ◌∙◌}
+use Rattle.std.proofs.Common.{◌≡◌, ℕ, false, Option, Some, List, [], ◌∷◌, ◌++◌, length, refl, sym, ap, ◌∙◌}
 use Rattle.oc_base.specs.Groups.{shelf}
 use Rattle.oc_base.specs.declared.shelf.Shelf.{Shelf}
 use Rattle.oc_link.specs.declared.call.Call.{Call}
 use Rattle.oc_link.specs.declared.counts.LinkCounts.{LinkCounts}
 use Rattle.oc_io.specs.DiskView.{DiskView}
 use Rattle.oc_keep.specs.KeptView.{IsHonest, KeptView, node_of}
-use Rattle.oc_model.specs.Node.{Node}
 use Rattle.oc_model.specs.Step.{step}
 use Rattle.oc_model.specs.declared.answer.Answer.{Answer}
 use Rattle.oc_model.specs.declared.input.Input.{Input}
 use Rattle.oc_model.specs.declared.message.Message.{Message}
-use Rattle.oc_routes.specs.Conditions.{unmet}
 use Rattle.oc_routes.specs.Reports.{report_of}
-use Rattle.oc_routes.specs.Shown.{response_for}
-use Rattle.oc_routes.specs.declared.verdict.Request.{Request}
-use Rattle.oc_routes.specs.declared.refused.Refused.{Refused}
+use Rattle.oc_routes.specs.Routes.{response_for}
 use Rattle.oc_routes.specs.declared.response.Response.{Response}
-use Rattle.oc_server.specs.Asks.{answers_or_waits, has_to_wait, holding_in, refuses_or, replies, responds, takes_on, waiting}
-use Rattle.oc_server.specs.Deeds.{Replies, Running, Setting, Waits, back_to, sender_of}
-use Rattle.oc_server.specs.Hurries.{hurries_unless, request_hurries}
+use Rattle.oc_deeds.specs.Asks.{holding_in, replies, responds}
+use Rattle.oc_deeds.specs.Deeds.{Replies, back_to, sender_of}
 use Rattle.oc_server.specs.Looks.{LooksOnly}
-use Rattle.oc_server.specs.Parts.{Does, Part, Stops, nothing, one, ◌>>◌}
-use Rattle.oc_server.specs.Scenes.{Breaks, Did, Idle, running, setting}
-use Rattle.oc_server.specs.Telling.{accepts_in}
-use Rattle.oc_server.specs.Works.{pending}
+use Rattle.oc_server.specs.Parts.{Does, Stops}
+use Rattle.oc_deeds.specs.Parts.{Part, nothing, ◌>>◌}
+use Rattle.oc_server.specs.Scenes.{Breaks, Did, running, setting}
+use Rattle.oc_deeds.specs.Under.{Idle}
+use Rattle.oc_deeds.specs.Telling.{accepts_in}
 use Rattle.oc_server.specs.declared.ends.TurnEnd.{TurnEnd}
 use Rattle.oc_server.specs.declared.server.Server.{Server}
-use Rattle.oc_server.specs.declared.work.Pending.{Pending}
+use Rattle.oc_deeds.specs.declared.work.Pending.{Pending}
 use Rattle.oc_server.proofs.Lawful.{lawful_of}
 use Rattle.oc_server.proofs.Parts.{does_after, does_as, does_one, stops_after, stops_as, stops_in}
 use Rattle.oc_server.proofs.Steps.{did_look}
 use Rattle.oc_server.proofs.Stopping.{stops_idle}
-
--- Which deeds they are
-
--- by why a request is refused for its condition, if it is
-pub condition_part : (c now : ℕ) (request : Request) (why : Option Refused) (s : Setting) (a : Running) → unmet request.operation a.node.control.me (shelf a.node.groups) ≡ why
-    → takes_on c request now s a ≡ refuses_or why c request now s a
-condition_part c now request why s a is = ap (λ (o : Option Refused). refuses_or o c request now s a) is
-
--- and whether it hurries the next tick
-pub condition_hurries : (request : Request) (why : Option Refused) (n : Node) → unmet request.operation n.control.me (shelf n.groups) ≡ why
-    → request_hurries request.operation request.input n ≡ hurries_unless why request.operation request.input n
-condition_hurries request why n is = ap (λ (o : Option Refused). hurries_unless o request.operation request.input n) is
-
--- a request that is to wait
-pub waits_part : (c now : ℕ) (request : Request) (s : Setting) (a : Running) → has_to_wait request a.node ≡ true
-    → answers_or_waits c request now s a ≡ (nothing >> one (Waits (waiting c request now))) s a
-waits_part c now request s a is =
-    ap (λ (b : Bool). cond b (Waits (waiting c request now) ∷ []) (responds (pending c request (is_some request.input) false) request.input now s a)) is
-
--- and one that is answered
-pub answers_part : (c now : ℕ) (request : Request) (s : Setting) (a : Running) → has_to_wait request a.node ≡ false
-    → answers_or_waits c request now s a ≡ (nothing >> responds (pending c request (is_some request.input) false) request.input now) s a
-answers_part c now request s a is =
-    ap (λ (b : Bool). cond b (Waits (waiting c request now) ∷ []) (responds (pending c request (is_some request.input) false) request.input now s a)) is
 
 module _ {D L K : Type 0} (view : D → DiskView) (takes fails : K → List ℕ → K → Type 0) (faults : K → ℕ) (story : L → Option (List Call)) (counts : L → LinkCounts) where
   -- the files were looked at

@@ -19,15 +19,19 @@ use Rattle.oc_model.specs.declared.input.Input.{Input}
 use Rattle.oc_model.specs.Node.{Header, Node}
 use Rattle.oc_model.specs.Step.{step}
 use Rattle.oc_policy.specs.declared.deciding.TheConstants.{MAX_RULES}
-use Rattle.oc_server.specs.Deeds.{Deed, Running, Setting, after_all, calls_of, inputs_of, line, lines}
+use Rattle.oc_deeds.specs.Deeds.{Deed, Running, Setting, after_all, calls_of, inputs_of, line, lines}
 use Rattle.oc_server.specs.Looks.{Renews}
 use Rattle.oc_server.specs.Moments.{AtEachPrefix}
-use Rattle.oc_server.specs.Scenes.{AreDone, Breaks, BreaksBehind, Did, HasCause, IsPlaced, IsServing, KeepsAll, LeavesAt, LeavesUnder, Under, Idle, Taking, Noting, WritesAt, running, setting, under_line}
+use Rattle.oc_deeds.specs.Done.{AreDone}
+use Rattle.oc_server.specs.Scenes.{Breaks, BreaksBehind, Did, HasCause, IsServing, KeepsAll, LeavesAt, LeavesUnder, WritesAt, running, setting}
+use Rattle.oc_deeds.specs.Lawful.{IsPlaced}
+use Rattle.oc_deeds.specs.Under.{Under, Idle, Taking, Noting, under_line}
 use Rattle.oc_server.specs.declared.ends.TurnEnd.{TurnEnd}
 use Rattle.oc_server.specs.declared.ends.TurnEnd.TheVariants as ends
-use Rattle.oc_server.specs.declared.log.Log.{Log}
+use Rattle.oc_deeds.specs.declared.log.Log.{Log}
 use Rattle.oc_server.specs.declared.server.Server.{Server}
-use Rattle.oc_server.proofs.Chains.{after_append, calls_append, counts_append, counts_listening, inputs_append, lines_append, nodes_behind}
+use Rattle.oc_deeds.proofs.Chains.{after_append, calls_append, counts_append, counts_listening, inputs_append, lines_append}
+use Rattle.oc_server.proofs.Chains.{nodes_behind}
 use Rattle.oc_server.proofs.Moments.{prefix_then}
 use Rattle.oc_server.proofs.Looking.{go_on_none, keeps_no_fall, keeps_then, looks_none, named}
 

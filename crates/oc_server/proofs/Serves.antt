@@ -3,9 +3,10 @@ use Rattle.std.proofs.Common.{◌≡◌, ℕ, zero, suc, Bool, Option, List, [],
 use Rattle.oc_link.specs.declared.call.Call.{Call}
 use Rattle.oc_link.specs.declared.counts.LinkCounts.{LinkCounts}
 use Rattle.oc_io.specs.DiskView.{DiskView}
-use Rattle.oc_server.specs.Deeds.{Deed}
+use Rattle.oc_deeds.specs.Deeds.{Deed}
 use Rattle.oc_server.specs.Runs.{ServeEnds, Serves, ServesUpTo, Turned}
-use Rattle.oc_server.specs.Scenes.{BreaksBehind, Did, IsServing, Under}
+use Rattle.oc_server.specs.Scenes.{BreaksBehind, Did, IsServing}
+use Rattle.oc_deeds.specs.Under.{Under}
 use Rattle.oc_server.specs.declared.ends.TurnEnd.{TurnEnd}
 use Rattle.oc_server.specs.declared.ends.TurnEnd.TheVariants as ends
 use Rattle.oc_server.specs.declared.turns.Turns.{Turns}

@@ -16,18 +16,21 @@ use Rattle.oc_keep.specs.KeptView.{IsHonest, KeptView, NodeSurvives, disks_of, h
 use Rattle.oc_model.specs.declared.input.Input.{Input}
 use Rattle.oc_model.specs.declared.message.Message.{Message}
 use Rattle.oc_model.specs.Node.{Node}
-use Rattle.oc_server.specs.Deeds.{Deed, Running, after, calls, finish, input_of, line, with_input}
+use Rattle.oc_deeds.specs.Deeds.{Deed, Running, after, calls, finish, input_of, line, with_input}
 use Rattle.oc_server.specs.Giving.{LookBreaks}
 use Rattle.oc_server.specs.Looks.{LooksOnly, LookStops}
 use Rattle.oc_server.specs.Moments.{TakesOne}
 use Rattle.oc_server.specs.Noting.{LineStops, NoteBreaks}
-use Rattle.oc_server.specs.Scenes.{AreDone, Breaks, CountsAll, Did, IsLawful, IsLawfulWork, KeepsAll, Idle, running, setting}
-use Rattle.oc_server.specs.declared.dials.Dialling.{Dialling}
+use Rattle.oc_deeds.specs.Done.{AreDone, CountsAll}
+use Rattle.oc_server.specs.Scenes.{Breaks, Did, IsLawful, KeepsAll, running, setting}
+use Rattle.oc_deeds.specs.Lawful.{IsLawfulWork}
+use Rattle.oc_deeds.specs.Under.{Idle}
+use Rattle.oc_deeds.specs.declared.dials.Dialling.{Dialling}
 use Rattle.oc_server.specs.declared.ends.TurnEnd.{TurnEnd}
 use Rattle.oc_server.specs.declared.ends.TurnEnd.TheVariants as ends
 use Rattle.oc_server.specs.declared.server.Server.{Server}
-use Rattle.oc_server.specs.declared.work.Transfer.{Transfer}
-use Rattle.oc_server.specs.declared.work.Work.{Work}
+use Rattle.oc_deeds.specs.declared.work.Transfer.{Transfer}
+use Rattle.oc_deeds.specs.declared.work.Work.{Work}
 use Rattle.oc_server.proofs.Lawful.{lawful_of}
 use Rattle.oc_server.proofs.Looking.{go_on_none, looks_none, memory_looks}
 use Rattle.oc_server.proofs.Moments.{prefix_none, prefix_one}

@@ -5,11 +5,14 @@ use Rattle.oc_link.specs.declared.counts.LinkCounts.{LinkCounts}
 use Rattle.oc_io.specs.DiskView.{DiskView}
 use Rattle.oc_keep.specs.KeptView.{IsHonest}
 use Rattle.oc_model.specs.declared.input.Input.{Input}
-use Rattle.oc_server.specs.Deeds.{Accepts, Deed, Takes}
+use Rattle.oc_deeds.specs.Deeds.{Accepts, Deed, Takes}
 use Rattle.oc_server.specs.Giving.{LookBreaks}
 use Rattle.oc_server.specs.Noting.{NoteBreaks}
-use Rattle.oc_server.specs.Parts.{IsUnder, Part, Stops, under_of}
-use Rattle.oc_server.specs.Scenes.{Breaks, Idle, Noting, Taking, Under, running, setting}
+use Rattle.oc_deeds.specs.Under.{IsUnder, under_of}
+use Rattle.oc_deeds.specs.Parts.{Part}
+use Rattle.oc_server.specs.Parts.{Stops}
+use Rattle.oc_server.specs.Scenes.{Breaks, running, setting}
+use Rattle.oc_deeds.specs.Under.{Idle, Noting, Taking, Under}
 use Rattle.oc_server.specs.declared.ends.TurnEnd.{TurnEnd}
 use Rattle.oc_server.specs.declared.ends.TurnEnd.TheVariants as ends
 use Rattle.oc_server.specs.declared.server.Server.{Server}

@@ -27,20 +27,23 @@ use Rattle.oc_model.specs.declared.message.Message.{Message}
 use Rattle.oc_node.specs.OutcomeView.{OutcomeView}
 use Rattle.oc_routes.specs.Inputs.{HasLine}
 use Rattle.oc_wire.specs.Spelling.{HasSpelling}
-use Rattle.oc_server.specs.Deeds.{Accepts, Deed, Running, Takes, after, calls, for_outbox, input_of, line, sender_of, taken_line, with_input}
+use Rattle.oc_deeds.specs.Deeds.{Accepts, Deed, Running, Takes, after, calls, for_outbox, input_of, line, sender_of, taken_line, with_input}
 use Rattle.oc_server.specs.Noting.{LineStops}
 use Rattle.oc_server.specs.Moments.{TakesOne}
-use Rattle.oc_server.specs.Outboxes.{with_messages}
-use Rattle.oc_server.specs.Scenes.{Breaks, CountsAll, Did, IsLawfulDial, IsLawfulWork, KeepStops, KeepsAll, KeepsOne, Taking, end_of, running, setting}
-use Rattle.oc_server.specs.Sending.{AreSendable}
-use Rattle.oc_server.specs.declared.dials.Dialling.{Dialling}
+use Rattle.oc_deeds.specs.Outboxes.{with_messages}
+use Rattle.oc_server.specs.Scenes.{Breaks, Did, KeepStops, KeepsAll, KeepsOne, end_of, running, setting}
+use Rattle.oc_deeds.specs.Done.{CountsAll}
+use Rattle.oc_deeds.specs.Lawful.{IsLawfulDial, IsLawfulWork}
+use Rattle.oc_deeds.specs.Under.{Taking}
+use Rattle.oc_deeds.specs.Sending.{AreSendable}
+use Rattle.oc_deeds.specs.declared.dials.Dialling.{Dialling}
 use Rattle.oc_server.specs.declared.ends.TurnEnd.{TurnEnd}
 use Rattle.oc_server.specs.declared.ends.TurnEnd.TheVariants as ends
 use Rattle.oc_server.specs.declared.server.Server.{Server}
-use Rattle.oc_server.specs.declared.work.Work.{Work}
+use Rattle.oc_deeds.specs.declared.work.Work.{Work}
 use Rattle.oc_server.proofs.Looking.{go_on_none, keeps_one, named}
 use Rattle.oc_server.proofs.Moments.{prefix_one}
-use Rattle.oc_server.proofs.Messages.{lawful_are, kept_sendable, with_sendable}
+use Rattle.oc_deeds.proofs.Messages.{lawful_are, kept_sendable, with_sendable}
 use Rattle.oc_server.proofs.Lawful.{lawful_of}
 
 -- the messages of the step of a lawful node can be sent

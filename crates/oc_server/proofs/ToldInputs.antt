@@ -1,41 +1,28 @@
 -- Inputs that are taken, with what is told of them.
-use Rattle.std.proofs.Common.{◌≡◌, ℕ, false, Option, None, Some, List, [], ◌∷◌, ◌++◌, refl, ap, ◌∙◌}
-use Rattle.oc_base.specs.declared.cert.Child.{Child}
+use Rattle.std.proofs.Common.{◌≡◌, ℕ, false, Option, List, [], ◌∷◌, ◌++◌, refl, ap, ◌∙◌}
 use Rattle.oc_link.specs.declared.call.Call.{Call}
 use Rattle.oc_link.specs.declared.counts.LinkCounts.{LinkCounts}
 use Rattle.oc_io.specs.DiskView.{DiskView}
 use Rattle.oc_keep.specs.KeptView.{IsHonest, node_of}
 use Rattle.oc_model.specs.declared.answer.Answer.{Answer}
 use Rattle.oc_model.specs.declared.input.Input.{Input}
-use Rattle.oc_model.specs.declared.mode.Mode.{Mode}
-use Rattle.oc_model.specs.Node.{Control, Node}
+use Rattle.oc_model.specs.Node.{Node}
 use Rattle.oc_model.specs.Step.{step}
-use Rattle.oc_server.specs.Brief.{asked_line, at_stake, lost_lines, moved_line, told_input, told_of}
-use Rattle.oc_server.specs.Deeds.{Deed, Running, Says, after}
+use Rattle.oc_deeds.specs.Brief.{told_of}
+use Rattle.oc_deeds.specs.Deeds.{Deed, Running, Says, after}
 use Rattle.oc_server.specs.Noting.{NoteBreaks}
-use Rattle.oc_server.specs.Parts.{Does, IsUnder, Part, Stops, one, ◌>>◌}
-use Rattle.oc_server.specs.Scenes.{Breaks, Did, Taking, running, setting}
-use Rattle.oc_server.specs.Telling.{IsBefore, told_behind}
-use Rattle.oc_server.specs.declared.brief.Before.{Before}
+use Rattle.oc_server.specs.Parts.{Does, Stops}
+use Rattle.oc_deeds.specs.Under.{IsUnder}
+use Rattle.oc_deeds.specs.Parts.{Part, one, ◌>>◌}
+use Rattle.oc_server.specs.Scenes.{Breaks, Did, running, setting}
+use Rattle.oc_deeds.specs.Under.{Taking}
+use Rattle.oc_deeds.specs.Telling.{IsBefore, told_behind}
+use Rattle.oc_deeds.specs.declared.brief.Before.{Before}
 use Rattle.oc_server.specs.declared.ends.TurnEnd.{TurnEnd}
-use Rattle.oc_server.specs.declared.log.Log.{Log}
-use Rattle.oc_server.specs.declared.log.Log.TheVariants as logs
 use Rattle.oc_server.specs.declared.server.Server.{Server}
 use Rattle.oc_server.proofs.Parts.{does_after, does_as, does_one, stops_after, stops_as, stops_first}
 use Rattle.oc_server.proofs.Stopping.{note_stops}
-
--- what is told by what was known before an input is what is told of it
-pub told_same : (log : Log) (n : Node) (x : Control) (i : Input) (before : Option Before) (answer : Answer) → IsBefore log n.control i before → x ≡ (step n i).node.control → answer ≡ (step n i).answer
-    → told_behind before x answer ≡ told_of log n i
-told_same logs.Inputs n x i before answer known is says = ap (λ (o : Option Before). told_behind o x answer) known
-told_same logs.Record n x i before answer known is says = ap (λ (o : Option Before). told_behind o x answer) known
-told_same logs.Brief n x i None answer known is says = absurd known
-told_same logs.Brief n x i (Some b) answer known is says =
-    ap (λ (t : List ℕ). asked_line t answer ++ lost_lines x b.leased.items ++ moved_line b.mode x) known.told
-    ∙ ap (λ (cs : List Child). asked_line (told_input n.control.me i) answer ++ lost_lines x cs ++ moved_line b.mode x) known.leased
-    ∙ ap (λ (m : Mode). asked_line (told_input n.control.me i) answer ++ lost_lines x (at_stake n.control i) ++ moved_line m x) known.mode
-    ∙ ap (λ (a : Answer). asked_line (told_input n.control.me i) a ++ lost_lines x (at_stake n.control i) ++ moved_line n.control.kept.mode x) says
-    ∙ ap (λ (y : Control). asked_line (told_input n.control.me i) (step n i).answer ++ lost_lines y (at_stake n.control i) ++ moved_line n.control.kept.mode y) is
+use Rattle.oc_deeds.proofs.ToldInputs.{told_same}
 
 module _ {D L K : Type 0} (view : D → DiskView) (takes fails : K → List ℕ → K → Type 0) (faults : K → ℕ) (story : L → Option (List Call)) (counts : L → LinkCounts) (takes_nothing : (k : K) → takes k [] k)
     (takes_then : (a b c : K) (x y : List ℕ) → takes a x b → takes b y c → takes a (x ++ y) c)

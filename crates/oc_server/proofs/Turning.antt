@@ -1,7 +1,6 @@
 -- One turn, part by part.
-use Rattle.std.proofs.Common.{◌≡◌, ◌≢◌, ℕ, Bool, true, false, cond, Option, None, Some, List, [], ◌∷◌, ◌++◌, length, slice_get, inl, inr, refl, sym, ap, subst, ◌∙◌, arith}
+use Rattle.std.proofs.Common.{◌≡◌, ℕ, Bool, true, false, Option, None, Some, List, [], ◌∷◌, ◌++◌, length, slice_get, inl, inr, refl, sym, ap, subst, ◌∙◌, arith}
 use Rattle.std.specs.Prelude.{IsTrue}
-use Rattle.std.proofs.lemmas.Bool.{eq-eqb, ne_eqb}
 use Rattle.oc_base.specs.Groups.{shelf}
 use Rattle.oc_config.specs.Settings.{Settings}
 use Rattle.oc_link.specs.Stands.{may}
@@ -19,42 +18,27 @@ use Rattle.oc_probe.specs.declared.probing.Probing.{Probing}
 use Rattle.oc_routes.specs.Verdicts.{NodeTerms, terms_of}
 use Rattle.oc_base.specs.declared.shelf.Shelf.{Shelf}
 use Rattle.oc_model.specs.Node.{Header}
-use Rattle.oc_server.specs.Choices.{due_place, wait_for}
-use Rattle.oc_server.specs.Deeds.{Deed, Reads, Running, Sees, Setting, after_all, after, calls_of, dials_behind, errand_in}
-use Rattle.oc_server.specs.Pace.{looked, wait_until}
+use Rattle.oc_deeds.specs.Choices.{due_place, wait_for}
+use Rattle.oc_deeds.specs.Deeds.{Deed, Reads, Running, Sees, after_all, after, calls_of, dials_behind, errand_in}
 use Rattle.oc_server.specs.Looks.{Renews}
-use Rattle.oc_server.specs.Parts.{Does, Part, Stops, nothing, one, ◌>>◌}
-use Rattle.oc_server.specs.Runs.{CouldCome, DealStops, Dealt, IsLent, IsMeasured, IsRead, MayRead, behind_reading, due_in, is_something, is_served, lent_in, reads_by, NextStops, NextTaken, Turned, TurnStops}
-use Rattle.oc_server.specs.Scenes.{Breaks, Did, Idle, IsServing, running, setting}
-use Rattle.oc_server.specs.Hurries.{came_hurries}
-use Rattle.oc_server.specs.Turns.{Means, Observation, deals, happens, quickened, takes_due, ticks_and_sends, pace_behind, paced, probed, probing_behind, takes_at, takes_next, takes_one, ticked, ticks, turn}
-use Rattle.oc_server.specs.declared.came.Came.{Came}
-use Rattle.oc_server.specs.declared.came.Came.TheVariants as comes
-use Rattle.oc_server.specs.declared.dials.Errand.{Errand}
+use Rattle.oc_server.specs.Parts.{Does, Stops}
+use Rattle.oc_deeds.specs.Parts.{Part, one, ◌>>◌}
+use Rattle.oc_server.specs.Runs.{CouldCome, DealStops, Dealt, IsLent, IsRead, MayRead, behind_reading, due_in, lent_in, reads_by, NextStops, NextTaken, Turned, TurnStops}
+use Rattle.oc_deeds.specs.Measured.{IsMeasured}
+use Rattle.oc_deeds.specs.Served.{is_something, is_served}
+use Rattle.oc_server.specs.Scenes.{Breaks, Did, IsServing, running, setting}
+use Rattle.oc_deeds.specs.Under.{Idle}
+use Rattle.oc_deeds.specs.Hurries.{came_hurries}
+use Rattle.oc_deeds.specs.Turns.{Means, Observation, deals, happens, quickened, takes_due, ticks_and_sends, pace_behind, paced, probed, probing_behind, takes_at, takes_next, takes_one, ticks, turn}
+use Rattle.oc_deeds.specs.declared.came.Came.{Came}
+use Rattle.oc_deeds.specs.declared.came.Came.TheVariants as comes
+use Rattle.oc_deeds.specs.declared.dials.Errand.{Errand}
 use Rattle.oc_server.specs.declared.ends.TurnEnd.{TurnEnd}
-use Rattle.oc_server.specs.declared.pace.Pace.{Pace}
+use Rattle.oc_deeds.specs.declared.pace.Pace.{Pace}
 use Rattle.oc_server.specs.declared.server.Server.{Server}
 use Rattle.oc_server.specs.declared.turns.Turns.{Turns}
 use Rattle.oc_server.proofs.Parts.{does_after, does_as, does_then, one_then, stops_after, stops_as, stops_in}
 use Rattle.oc_server.proofs.Scenes.{breaks_behind, breaks_first, still_honest, still_renewed}
-
--- Ticks
-
--- none is due
-pub no_tick : (pace : Pace) (now wait seconds : ℕ) (s : Setting) (a : Running) → wait ≡ wait_until pace now → wait ≢ 0 → ticks pace now seconds s a ≡ []
-no_tick pace now wait seconds s a is some =
-    ap (λ (b : Bool). cond b (ticked pace.second seconds) nothing s a) (ne_eqb (wait_until pace now) 0 (λ e. some (is ∙ e)))
-
-pub no_tick_paced : (pace : Pace) (now wait seconds : ℕ) → wait ≡ wait_until pace now → wait ≢ 0 → pace ≡ paced pace now seconds
-no_tick_paced pace now wait seconds is some = sym (ap (λ (b : Bool). cond b (looked now seconds pace) pace) (ne_eqb (wait_until pace now) 0 (λ e. some (is ∙ e))))
-
--- one is due
-pub a_tick : (pace : Pace) (now wait seconds : ℕ) (s : Setting) (a : Running) → wait ≡ wait_until pace now → wait ≡ 0 → ticks pace now seconds s a ≡ ticked pace.second seconds s a
-a_tick pace now wait seconds s a is none =
-    ap (λ (b : Bool). cond b (ticked pace.second seconds) nothing s a) (eq-eqb (wait_until pace now) 0 (sym is ∙ none))
-
-pub a_tick_paced : (pace : Pace) (now wait seconds : ℕ) → wait ≡ wait_until pace now → wait ≡ 0 → looked now seconds pace ≡ paced pace now seconds
-a_tick_paced pace now wait seconds is none = sym (ap (λ (b : Bool). cond b (looked now seconds pace) pace) (eq-eqb (wait_until pace now) 0 (sym is ∙ none)))
 
 -- What was lent
 

@@ -1,100 +1,28 @@
 -- Turns one after another do their deeds in order.
-use Rattle.std.proofs.Common.{◌≡◌, ◌⊎◌, ◌<◌, ℕ, Bool, zero, suc, Option, None, Some, List, [], ◌∷◌, ◌++◌, length, inl, inr, refl, sym, ap, subst, ◌∙◌, arith}
-use Rattle.std.proofs.lemmas.List.{append_assoc, append-nil}
+use Rattle.std.proofs.Common.{◌≡◌, ℕ, Bool, zero, suc, Option, None, Some, List, [], ◌∷◌, ◌++◌, inl, inr, refl, sym, ap, subst, ◌∙◌}
+use Rattle.std.proofs.lemmas.List.{append-nil}
 use Rattle.oc_link.specs.Told.{AddsAll}
 use Rattle.oc_link.specs.declared.call.Call.{Call}
 use Rattle.oc_link.specs.declared.call.Call.TheVariants as acts
 use Rattle.oc_link.specs.declared.counts.LinkCounts.{LinkCounts}
-use Rattle.oc_link.specs.declared.phase.Phase.TheVariants.{Answering, Awaiting, Whole}
-use Rattle.oc_link.specs.declared.phase.Phase.{Phase}
 use Rattle.oc_io.specs.DiskView.{DiskView}
 use Rattle.oc_keep.specs.KeptView.{IsHonest}
-use Rattle.oc_probe.specs.declared.probing.Probing.{Probing}
-use Rattle.oc_server.proofs.Chains.{after_append, calls_append}
-use Rattle.oc_server.proofs.PartsOrdered.{IsToldAt, turning}
-use Rattle.oc_server.proofs.RepliedDeeds.{given_front, given_whole}
+use Rattle.oc_deeds.proofs.Chains.{after_append}
+use Rattle.oc_deeds.proofs.PartsOrdered.{IsToldAt, turning}
 use Rattle.oc_server.proofs.Scenes.{setting_stays, still_honest}
-use Rattle.oc_server.proofs.Settled.{IsOrderly, ordered_front, ordered_then, orderly_none, orderly_then}
-use Rattle.oc_server.specs.Choices.{wait_for}
-use Rattle.oc_server.specs.Deeds.{Deed, Reads, Running, Sees, Setting, after_all, calls_of, errand_in}
-use Rattle.oc_server.specs.Replying.{IsOrdered, phase_on, works_on}
+use Rattle.oc_deeds.proofs.Settled.{IsOrderly, ordered_front, ordered_then, orderly_none, orderly_then}
+use Rattle.oc_deeds.specs.Deeds.{Deed, Running, Setting, after_all, calls_of, errand_in}
+use Rattle.oc_deeds.specs.Replying.{IsOrdered}
 use Rattle.oc_server.specs.Runs.{CouldCome, MayRead, ServeEnds, Serves, ServesUpTo, Turned, TurnStops, behind_reading, due_in, reads_by}
 use Rattle.oc_server.specs.Scenes.{running, setting}
-use Rattle.oc_server.specs.Settled.{AreServed, Fits, IsSettled, deeds_of, deeds_until, deeds_up_to}
-use Rattle.oc_server.specs.Turns.{Observation, takes_at, turn}
+use Rattle.oc_deeds.specs.Settled.{AreServed, IsSettled}
+use Rattle.oc_server.specs.Settled.{deeds_of, deeds_until, deeds_up_to}
+use Rattle.oc_deeds.specs.Turns.{Observation, turn}
 use Rattle.oc_server.specs.declared.ends.TurnEnd.{TurnEnd}
 use Rattle.oc_server.specs.declared.ends.TurnEnd.TheVariants as ends
-use Rattle.oc_server.specs.declared.pace.Pace.{Pace}
 use Rattle.oc_server.specs.declared.server.Server.{Server}
 use Rattle.oc_server.specs.declared.turns.Turns.{Turns}
-use Rattle.oc_server.specs.declared.work.Work.{Work}
-
--- Stories
-
--- a story that is told now was told before
-was_told : (cs : List Call) (x : Option (List Call)) (z : List Call) → AddsAll cs x (Some z) → (made : List Call) × (x ≡ Some made) × (z ≡ made ++ cs)
-was_told cs None z adds = absurd adds
-was_told cs (Some made) z adds = (made, refl, adds)
-
-same_story : (x y : List Call) → Some x ≡ Some y → x ≡ y
-same_story x y is = cc
-
--- The first deeds of a turn
-
--- fewer than three deeds of these are a front of the first two
-short : (xs behind more : List Deed) (d e : Deed) → d ∷ e ∷ more ≡ xs ++ behind → length xs < 3 → (rest : List Deed) × (d ∷ e ∷ [] ≡ xs ++ rest)
-short [] behind more d e is few = (d ∷ e ∷ [], refl)
-short (x ∷ []) behind more d e is few =
-    let all : d ∷ e ∷ more ≡ x ∷ behind = is in
-    let first : d ≡ x = cc in
-    (e ∷ [], ap (λ (y : Deed). y ∷ e ∷ []) first)
-short (x ∷ y ∷ []) behind more d e is few =
-    let all : d ∷ e ∷ more ≡ x ∷ y ∷ behind = is in
-    let first : d ≡ x = cc in
-    let second : e ≡ y = cc in
-    ([], ap (λ (z : Deed). z ∷ e ∷ []) first ∙ ap (λ (z : Deed). x ∷ z ∷ []) second)
-short (x ∷ y ∷ z ∷ xs) behind more d e is few = absurd (omega (arith, few))
-
--- where one only asked what happened nothing else was done
-asked_only : (due : Option ℕ) (s : Setting) (made : List Call) (pace : Pace) (probing : Option Probing) (t : Observation) (a : Running) (deeds behind : List Deed) → due ≡ None
-    → Reads t.before ∷ takes_at due pace probing t s a ≡ deeds ++ behind → length deeds < 3 → IsOrdered s made deeds a
-asked_only (Some place) s made pace probing t a deeds behind none is few = let no : Some place ≡ None = none in absurd (cc no)
-asked_only None s made pace probing t a deeds behind none is few =
-    let front = short deeds behind _ (Reads t.before) (Sees t.event (wait_for pace a.works t.before) t.bytes) is few in
-    ordered_front s made deeds (front.0) a
-    (subst (λ (ds : List Deed). IsOrdered s made ds a) (front.1) (tt, (tt, tt)))
-
--- or some work was due
-due_or_asked : (due : Option ℕ) → (due ≡ None) ⊎ ((place : ℕ) × (due ≡ Some place))
-due_or_asked None = inl refl
-due_or_asked (Some place) = inr (place, refl)
-
--- Deeds after deeds
-
-calls_joined : (s : Setting) (made at later : List Call) (ds es : List Deed) (a : Running) → at ≡ made ++ calls_of s ds a → later ≡ at ++ calls_of s es (after_all ds a) → later ≡ made ++ calls_of s (ds ++ es) a
-calls_joined s made at later ds es a first second =
-    second
-    ∙ ap (λ (cs : List Call). cs ++ calls_of s es (after_all ds a)) first
-    ∙ append_assoc made (calls_of s ds a) (calls_of s es (after_all ds a))
-    ∙ ap (λ (cs : List Call). made ++ cs) (sym (calls_append s ds es a))
-
--- From nothing under way
-
-idle : (made : List Call) (ws : List Work) (c : ℕ) → IsSettled made ws → ws ≡ [] → phase_on c made ≡ Answering → ⊥
-idle made ws c settled none phase =
-    let fits : Fits Answering (works_on c ws) = subst (λ (x : Phase). Fits x (works_on c ws)) phase (settled c) in
-    let one : [] ≡ fits.0 ∷ [] = sym (ap (works_on c) none) ∙ fits.1 in
-    absurd (cc one)
-
-served_in_order : (s : Setting) (made later : List Call) (a : Running) (deeds : List Deed) → a.works ≡ [] → IsSettled made a.works → later ≡ made ++ calls_of s deeds a → IsOrdered s made deeds a → AreServed s made later deeds a
-served_in_order s made later a deeds none settled calls ordered = record {
-  calls = calls;
-  ordered = ordered;
-  front = λ (c : ℕ). given_front s made deeds a c none (idle made a.works c settled none) ordered;
-  whole = λ c ended.
-      given_whole s made deeds a c none (idle made a.works c settled none) ordered
-      (subst (λ (cs : List Call). (phase_on c cs ≡ Awaiting) ⊎ (phase_on c cs ≡ Whole)) calls ended);
-}
+use Rattle.oc_deeds.proofs.TurnOrdered.{asked_only, calls_joined, due_or_asked, same_story, served_in_order, was_told}
 
 module _ {D L K : Type 0} (view : D → DiskView) (takes fails : K → List ℕ → K → Type 0) (faults : K → ℕ) (story : L → Option (List Call)) (counts : L → LinkCounts) where
   -- what was read was told after these calls

@@ -3,7 +3,8 @@ use Rattle.std.specs.Prelude.{ℕ, Option, List}
 use Rattle.oc_link.specs.declared.call.Call.{Call}
 use Rattle.oc_link.specs.declared.counts.LinkCounts.{LinkCounts}
 use Rattle.oc_io.specs.DiskView.{DiskView}
-use Rattle.oc_server.specs.Scenes.{Breaks, Idle}
+use Rattle.oc_server.specs.Scenes.{Breaks}
+use Rattle.oc_deeds.specs.Under.{Idle}
 use Rattle.oc_server.specs.declared.ends.TurnEnd.{TurnEnd}
 use Rattle.oc_server.specs.declared.ends.TurnEnd.TheVariants as ends
 use Rattle.oc_server.specs.declared.server.Server.{Server}

@@ -6,7 +6,7 @@ use Rattle.oc_keep.specs.Trials.{after_inputs}
 use Rattle.oc_model.specs.declared.input.Input.{Input}
 use Rattle.oc_model.specs.Node.{Header, Node}
 use Rattle.oc_model.specs.Step.{step}
-use Rattle.oc_server.specs.Deeds.{Deed, input_of, with_input}
+use Rattle.oc_deeds.specs.Deeds.{Deed, input_of, with_input}
 use Rattle.oc_server.specs.Looks.{LooksOn, RunsSafely}
 
 -- the node after a deed

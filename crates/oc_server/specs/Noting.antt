@@ -5,7 +5,8 @@ use Rattle.oc_link.specs.declared.call.Call.{Call}
 use Rattle.oc_link.specs.declared.counts.LinkCounts.{LinkCounts}
 use Rattle.oc_io.specs.DiskView.{DiskView}
 use Rattle.oc_io.specs.Faults.{Rose}
-use Rattle.oc_server.specs.Scenes.{Breaks, Idle, Noting}
+use Rattle.oc_server.specs.Scenes.{Breaks}
+use Rattle.oc_deeds.specs.Under.{Idle, Noting}
 use Rattle.oc_server.specs.declared.ends.TurnEnd.{TurnEnd}
 use Rattle.oc_server.specs.declared.ends.TurnEnd.TheVariants as ends
 use Rattle.oc_server.specs.declared.server.Server.{Server}

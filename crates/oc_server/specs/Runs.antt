@@ -1,5 +1,5 @@
 -- A running node turn by turn: one turn that was done, turns one after another, and a turn that ended partway through.
-use Rattle.std.specs.Prelude.{◌≡◌, ◌⊎◌, ℕ, zero, suc, ◌<◌, Bool, true, false, IsTrue, Option, None, Some, List, [], ◌∷◌, ◌++◌, length}
+use Rattle.std.specs.Prelude.{◌≡◌, ◌⊎◌, ℕ, zero, suc, ◌<◌, Bool, IsTrue, Option, None, Some, List, [], ◌∷◌, ◌++◌, length}
 use Rattle.std.specs.Option.{option_map}
 use Rattle.oc_base.specs.Groups.{shelf}
 use Rattle.oc_link.specs.Stands.{may}
@@ -11,17 +11,16 @@ use Rattle.oc_link.specs.declared.event.LinkEvent.{LinkEvent}
 use Rattle.oc_link.specs.declared.event.LinkEvent.TheVariants as events
 use Rattle.oc_io.specs.DiskView.{DiskView}
 use Rattle.oc_keep.specs.KeptView.{IsHonest, node_of}
-use Rattle.oc_probe.specs.Rates.{IsMedian, rate_of, rates_of, with_rate}
-use Rattle.oc_probe.specs.declared.probing.Probing.{Probing}
 use Rattle.oc_routes.specs.Verdicts.{NodeTerms, terms_of}
-use Rattle.oc_server.specs.Choices.{due_place}
-use Rattle.oc_server.specs.Deeds.{dials_behind, errand_in}
-use Rattle.oc_server.specs.Hurries.{came_hurries}
+use Rattle.oc_deeds.specs.Measured.{IsMeasured}
+use Rattle.oc_deeds.specs.Served.{is_served, is_something}
+use Rattle.oc_deeds.specs.Choices.{due_place}
+use Rattle.oc_deeds.specs.Deeds.{dials_behind, errand_in}
+use Rattle.oc_deeds.specs.Hurries.{came_hurries}
 use Rattle.oc_server.specs.Looks.{Renews}
 use Rattle.oc_server.specs.Parts.{Does, Stops}
-use Rattle.oc_server.specs.Turns.{Means, Observation, deals, pace_behind, paced, probed, probing_behind, quickened, takes_next, turn}
-use Rattle.oc_server.specs.declared.came.Came.{Came}
-use Rattle.oc_server.specs.declared.came.Came.TheVariants as comes
+use Rattle.oc_deeds.specs.Turns.{Means, Observation, deals, pace_behind, paced, probed, probing_behind, quickened, takes_next, turn}
+use Rattle.oc_deeds.specs.declared.came.Came.{Came}
 use Rattle.oc_server.specs.declared.ends.TurnEnd.{TurnEnd}
 use Rattle.oc_server.specs.declared.ends.TurnEnd.TheVariants as ends
 use Rattle.oc_server.specs.declared.server.Server.{Server}
@@ -52,22 +51,6 @@ abbrev pub CouldCome : Option (List Call) → Option (List Call) → LinkEvent �
 CouldCome (Some calls) (Some now) event = IsTrue (may event calls)
 CouldCome old new event = Unit {0}
 
--- it is the median of the rates of a peer with this one, where they are measured
-abbrev pub IsMedianOf : Option Probing → ℕ → ℕ → ℕ → Type 0
-IsMedianOf None peer rate median = Unit {0}
-IsMedianOf (Some probing) peer rate median = IsMedian (with_rate (rates_of probing.gauge peer) rate) median
-
--- the median is that of the rates of the peer that was probed, with the rate between the two readings
-abbrev pub IsMeasured : Option Probing → Came → ℕ → ℕ → Type 0
-IsMeasured probing (comes.Probed peer since None) now median = IsMedianOf probing peer (rate_of since now) median
-IsMeasured probing came now median = Unit {0}
-
--- the median of the rates of a peer with this one, if they are measured at all
-abbrev pub IsMedianIn : Option Probing → ℕ → ℕ → Option ℕ → Type 0
-IsMedianIn None peer rate median = median ≡ None
-IsMedianIn (Some probing) peer rate None = ⊥
-IsMedianIn (Some probing) peer rate (Some median) = IsMedian (with_rate (rates_of probing.gauge peer) rate) median
-
 -- What came is what the link told, which was asked at that point of its story, as it was read.
 pub record IsRead {D L K : Type 0} (old : Turns D L K) (asked now : Option (List Call)) (t : Observation) : Type 0 where
   pub lent : List ℕ
@@ -86,11 +69,6 @@ MayRead story None old new t = IsRead old (behind_reading t.before (story old.se
 MayRead story (Some place) old new t = Unit {0}
 
 -- One thing that happened
-
--- whether something was served by what came
-abbrev pub is_something : Came → Bool
-is_something comes.Nothing = false
-is_something came = true
 
 -- What came was dealt with.
 pub record Dealt {D L K : Type 0} (view : D → DiskView) (takes : K → List ℕ → K → Type 0) (faults : K → ℕ) (story : L → Option (List Call)) (counts : L → LinkCounts) (came : Came) (now : ℕ) (old new : Turns D L K) : Type 0 where
@@ -128,11 +106,6 @@ pub record NextStops {D L K : Type 0} (view : D → DiskView) (takes fails : K �
   pub read : IsHonest view old.server.kept → (length stops.deeds < 2) ⊎ IsRead old (story old.server.link) (story new.server.link) told
 
 -- One turn
-
--- whether something was served
-abbrev pub is_served : Option ℕ → Came → Bool
-is_served (Some place) came = true
-is_served None came = is_something came
 
 -- A turn was done, and served something or not.
 pub record Turned {D L K : Type 0} (view : D → DiskView) (takes : K → List ℕ → K → Type 0) (faults : K → ℕ) (story : L → Option (List Call)) (counts : L → LinkCounts) (served : Bool) (old new : Turns D L K) : Type 0 where

@@ -1,13 +1,10 @@
 -- A running node with its files, its output and its link, from one moment to a later one.
-use Rattle.std.specs.Prelude.{◌≡◌, ◌≤◌, ◌⊎◌, ℕ, false, Option, IfSome, List, [], ◌∷◌, ◌++◌, length}
+use Rattle.std.specs.Prelude.{◌≡◌, ◌≤◌, ◌⊎◌, ℕ, false, Option, List, [], ◌∷◌, ◌++◌, length}
 use Rattle.std.specs.List.{AllByRecursion}
-use Rattle.oc_base.specs.Lawful.{IsNode}
 use Rattle.oc_link.specs.Calls.{IsFront}
-use Rattle.oc_link.specs.Counts.{CountsEvent, CountsFailure}
-use Rattle.oc_link.specs.Told.{AddsAll}
+use Rattle.oc_link.specs.Counts.{CountsFailure}
 use Rattle.oc_link.specs.declared.call.Call.{Call}
 use Rattle.oc_link.specs.declared.counts.LinkCounts.{LinkCounts}
-use Rattle.oc_http.specs.Writing.{IsHost}
 use Rattle.oc_io.specs.DiskView.{DiskView}
 use Rattle.oc_io.specs.Faults.{NoFall, Rose}
 use Rattle.oc_keep.specs.Calls.{DoesNothing}
@@ -19,28 +16,21 @@ use Rattle.oc_keep.specs.ReadyView.{told_of}
 use Rattle.oc_keep.specs.declared.errors.KeepError.{KeepError}
 use Rattle.oc_keep.specs.declared.errors.KeepError.TheVariants as keeps
 use Rattle.oc_model.specs.declared.input.Input.{Input}
-use Rattle.oc_model.specs.Lawful.{IsInput}
 use Rattle.oc_model.specs.Node.{Header, Node}
 use Rattle.oc_model.specs.Step.{step}
 use Rattle.oc_node.specs.OutcomeView.{OutcomeView}
 use Rattle.oc_policy.specs.declared.deciding.TheConstants.{MAX_RULES}
-use Rattle.oc_routes.specs.Lawful.{IsAsked}
-use Rattle.oc_routes.specs.Responses.{address_of}
-use Rattle.oc_server.specs.Deeds.{Deed, Sees, Running, Setting, after_all, calls_of, inputs_of, line, lines, taken_line}
+use Rattle.oc_deeds.specs.Done.{AreDone, CountsAll}
+use Rattle.oc_deeds.specs.Lawful.{IsLawfulDial, IsLawfulWork, IsPlaced}
+use Rattle.oc_deeds.specs.Under.{Idle, Noting, Taking, Under, under_line}
+use Rattle.oc_deeds.specs.Deeds.{Deed, Running, Setting, inputs_of, line, lines}
 use Rattle.oc_server.specs.Looks.{LooksOn, LooksOnly, RunsSafely}
 use Rattle.oc_server.specs.Moments.{AtEachPrefix}
-use Rattle.oc_server.specs.Sending.{AreSendable}
-use Rattle.oc_server.specs.Within.{IsWithin}
-use Rattle.oc_server.specs.Works.{client_input}
-use Rattle.oc_server.specs.declared.dials.Dialling.{Dialling}
-use Rattle.oc_server.specs.declared.dials.Errand.{Errand}
-use Rattle.oc_server.specs.declared.dials.Errand.TheVariants as errands
+use Rattle.oc_deeds.specs.Sending.{AreSendable}
+use Rattle.oc_deeds.specs.Within.{IsWithin}
 use Rattle.oc_server.specs.declared.ends.TurnEnd.{TurnEnd}
 use Rattle.oc_server.specs.declared.ends.TurnEnd.TheVariants as ends
 use Rattle.oc_server.specs.declared.server.Server.{Server}
-use Rattle.oc_server.specs.declared.work.Waiting.{Waiting}
-use Rattle.oc_server.specs.declared.work.Work.{Work}
-use Rattle.oc_server.specs.declared.work.Work.TheVariants as works
 
 -- What a server is seen as
 
@@ -51,29 +41,6 @@ abbrev pub setting : {D L K : Type 0} → Server D L K → Setting
 setting s = record { me = s.kept.node.control.me; addresses = s.config.addresses; key = s.config.key; log = s.log }
 
 -- What holds between any two calls
-
--- each node has an address
-pub record IsPlaced (nodes : ℕ) (addresses : List (List ℕ)) : Type 0 where
-  pub count : length addresses ≡ nodes
-  pub hosts : (x : ℕ) → IsNode nodes x → IsHost (address_of addresses x)
-
--- what is asked is within its ranges, and so is the input
-pub record IsLawfulWaiting (nodes me : ℕ) (w : Waiting) : Type 0 where
-  pub asks : IsAsked w.request.operation
-  pub input : IfSome (client_input w.request.operation w.request.hint) (IsInput nodes me)
-
--- a request that waits is lawful
-abbrev pub IsLawfulWork : ℕ → ℕ → Work → Type 0
-IsLawfulWork nodes me (works.Waits w) = IsLawfulWaiting nodes me w
-IsLawfulWork nodes me work = Unit {0}
-
--- the node that was dialled is one
-abbrev pub IsLawfulErrand : ℕ → Errand → Type 0
-IsLawfulErrand nodes (errands.Message to fetch) = IsNode nodes to
-IsLawfulErrand nodes (errands.Probe peer since) = IsNode nodes peer
-
-abbrev pub IsLawfulDial : ℕ → Dialling → Type 0
-IsLawfulDial nodes d = IsLawfulErrand nodes d.errand
 
 -- what is to be sent can be sent, and what is under way is lawful
 pub record IsLawful {D L K : Type 0} (s : Server D L K) : Type 0 where
@@ -111,17 +78,6 @@ abbrev pub KeepsAll : {D : Type 0} → (D → DiskView) → List Input → KeptV
 KeepsAll {D} view [] old new = LooksOnly view old new
 KeepsAll {D} view (i ∷ is) old new = (at next : KeptView D) × (outcome : OutcomeView) × LooksOnly view old at × KeepsOne view i outcome at next × KeepsAll view is next new
 
--- how the counts of a link change: an event tells of one failure at most and waits no longer than it may, and nothing else changes them
-abbrev pub CountsAll : List Deed → LinkCounts → LinkCounts → Type 0
-CountsAll [] old new = new ≡ old
-CountsAll (Sees event wait bytes ∷ ds) old new = (at : LinkCounts) × CountsEvent event wait old at × CountsAll ds at new
-CountsAll (d ∷ ds) old new = CountsAll ds old new
-
--- what deeds make of a running node, and of the story of its link
-pub record AreDone (s : Setting) (deeds : List Deed) (a b : Running) (old new : Option (List Call)) : Type 0 where
-  pub after : b ≡ after_all deeds a
-  pub calls : AddsAll (calls_of s deeds a) old new
-
 -- The deeds were done: their lines were written, no disk and no output failed, and no file was full for an input.
 pub record Did {D L K : Type 0} (view : D → DiskView) (takes : K → List ℕ → K → Type 0) (faults : K → ℕ) (story : L → Option (List Call)) (counts : L → LinkCounts) (deeds : List Deed) (old new : Server D L K) : Type 0 where
   pub is_open : new.kept.closed ≡ false
@@ -139,19 +95,6 @@ pub record Did {D L K : Type 0} (view : D → DiskView) (takes : K → List ℕ 
       → AtEachPrefix view (header_of old.kept.node.control) old.kept.node.control.me takes (line (setting old)) deeds (node_of old.kept) (disks_of old.kept) old.sink (disks_of new.kept) new.sink
 
 -- What is under way where it ends
-
-pub data Under : Type 0 where
-  Idle : Under
-  -- an input, which the files may have, and whose line may have been begun
-  Taking : Input → Under
-  -- a line of no input, which may have been begun
-  Noting : List ℕ → Under
-
--- the line that is under way
-abbrev pub under_line : Setting → Under → List ℕ
-under_line s Idle = []
-under_line s (Taking i) = taken_line s.log s.me i
-under_line s (Noting line) = line
 
 -- What every crash leaves where a disk or the output failed: with one more input under way, the node before it or after it.
 abbrev pub LeavesUnder : {D : Type 0} → (D → DiskView) → KeptView D → KeptView D → Node → Under → Type 0

@@ -1,28 +1,13 @@
 -- What is under way between any two turns, by the calls of the link, and what connections are given over turns.
-use Rattle.std.specs.Prelude.{◌≡◌, ◌⊎◌, ℕ, zero, suc, Option, List, [], ◌∷◌, ◌++◌}
-use Rattle.oc_link.specs.Calls.{IsFront}
-use Rattle.oc_link.specs.Traffic.{given}
+use Rattle.std.specs.Prelude.{ℕ, zero, suc, Option, List, [], ◌++◌}
 use Rattle.oc_link.specs.declared.call.Call.{Call}
 use Rattle.oc_link.specs.declared.counts.LinkCounts.{LinkCounts}
-use Rattle.oc_link.specs.declared.phase.Phase.{Phase}
-use Rattle.oc_link.specs.declared.phase.Phase.TheVariants.{Answering, Awaiting, Whole}
 use Rattle.oc_io.specs.DiskView.{DiskView}
-use Rattle.oc_server.specs.Deeds.{Deed, Running, Setting, after_all, calls_of}
-use Rattle.oc_server.specs.Replying.{IsOrdered, replies, phase_on, works_on}
+use Rattle.oc_deeds.specs.Deeds.{Deed}
 use Rattle.oc_server.specs.Runs.{ServeEnds, Serves, ServesUpTo}
 use Rattle.oc_server.specs.declared.ends.TurnEnd.{TurnEnd}
 use Rattle.oc_server.specs.declared.ends.TurnEnd.TheVariants as ends
 use Rattle.oc_server.specs.declared.turns.Turns.{Turns}
-use Rattle.oc_server.specs.declared.work.Work.{Work}
-
--- on a connection at this phase one work is under way where a reply is, and else none
-abbrev pub Fits : Phase → List Work → Type 0
-Fits Answering ws = (w : Work) × (ws ≡ w ∷ [])
-Fits phase ws = ws ≡ []
-
--- after these calls the works fit each connection
-abbrev pub IsSettled : List Call → List Work → Type 0
-IsSettled made ws = (c : ℕ) → Fits (phase_on c made) (works_on c ws)
 
 -- What was done over turns
 
@@ -46,11 +31,3 @@ deeds_until view takes fails faults story counts most ends.Disk old new ended = 
 deeds_until view takes fails faults story counts most ends.Full old new ended = deeds_up_to view takes fails faults story counts most ends.Full old new ended
 deeds_until view takes fails faults story counts most ends.Sink old new ended = deeds_up_to view takes fails faults story counts most ends.Sink old new ended
 deeds_until view takes fails faults story counts most ends.Memory old new ended = deeds_up_to view takes fails faults story counts most ends.Memory old new ended
-
--- From a moment at which nothing was under way these deeds were done in order, so that each connection was given a beginning of the replies to its
--- requests, and all of them where its next request is awaited or its last reply is whole.
-pub record AreServed (s : Setting) (made later : List Call) (deeds : List Deed) (a : Running) : Type 0 where
-  pub calls : later ≡ made ++ calls_of s deeds a
-  pub ordered : IsOrdered s made deeds a
-  pub front : (c : ℕ) → IsFront (given c (calls_of s deeds a)) (replies c deeds (after_all deeds a).node.groups)
-  pub whole : (c : ℕ) → (phase_on c later ≡ Awaiting) ⊎ (phase_on c later ≡ Whole) → given c (calls_of s deeds a) ≡ replies c deeds (after_all deeds a).node.groups

@@ -8,29 +8,31 @@ ghost use Rattle.oc_model.specs.Step.{step};
 ghost use Rattle.oc_routes.specs.Asks.{IsLawfulAsk, IsLawfulVerdict};
 ghost use Rattle.oc_routes.specs.Conditions as conditions;
 ghost use Rattle.oc_routes.specs.Reports.{report_of};
-ghost use Rattle.oc_routes.specs.Shown.{response_for};
+ghost use Rattle.oc_routes.specs.Routes.{response_for};
 ghost use Rattle.oc_routes.specs.Lawful.{IsAsked};
 ghost use Rattle.oc_wire.specs.Spelling.{HasSpelling};
-ghost use Rattle.oc_server.specs.Asks.{answer_now, answers_or_waits, has_to_wait, holding_in, obeys, replies, responds, takes_on};
-ghost use Rattle.oc_server.specs.Hurries.{hurries, input_hurries, request_hurries, verdict_hurries};
-ghost use Rattle.oc_server.specs.Asks as asks;
+ghost use Rattle.oc_deeds.specs.Asks.{answer_now, answers_or_waits, has_to_wait, holding_in, obeys, replies, responds, takes_on};
+ghost use Rattle.oc_deeds.specs.Hurries.{hurries, input_hurries, request_hurries, verdict_hurries};
 ghost use Rattle.oc_server.specs.Looks.{LooksOnly, LookStops, end_of_ready};
-ghost use Rattle.oc_server.specs.Parts.{Does, Stops, nothing};
-ghost use Rattle.oc_server.specs.Scenes.{Breaks, IsServing, Idle};
+ghost use Rattle.oc_server.specs.Parts.{Does, Stops};
+ghost use Rattle.oc_deeds.specs.Parts.{nothing};
+ghost use Rattle.oc_server.specs.Scenes.{Breaks, IsServing};
+ghost use Rattle.oc_deeds.specs.Under.{Idle};
 
 use crate::ends::TurnEnd;
 use crate::server::Server;
 use crate::taking::Accepted;
-use crate::work::{Pending, Waiting, client_input, pending_of};
-use oc_base::{Memory, Shelf};
+use oc_base::Memory;
 use oc_config::Config;
+use oc_deeds::asked::{holding_for, hurries, waiting};
+use oc_deeds::{Pending, client_input, pending_of};
 use oc_io::{Disk, Sink};
 use oc_keep::{Kept, ReadyError};
 use oc_link::{ConnectionId, Link};
 use oc_model::{Answer, Input};
 use oc_routes::{
-    Directory, Holding, Manner, Operation, Refused, Request, Response, Seen, StepOutcome, Verdict,
-    is_to_wait, report_of, respond_to,
+    Answered, Directory, Holding, Manner, Operation, Refusal, Request, Response, Seen, Verdict,
+    is_to_wait, report_of, respond,
 };
 use std::alloc::Global;
 
@@ -59,8 +61,8 @@ impl<D: Disk, L: Link, K: Sink> Server<D, L, K> {
                 self.permits(connection);
                 Ok(false)
             }
-            Verdict::Refuse(why) => {
-                self.refuses(connection, count, why)?;
+            Verdict::Refuse(refusal) => {
+                self.refuses(connection, count, refusal)?;
                 Ok(false)
             }
             Verdict::Ask(request) => self.takes_on(connection, request, now),
@@ -77,13 +79,13 @@ impl<D: Disk, L: Link, K: Sink> Server<D, L, K> {
         requires serving { IsServing self.old }
         requires request { IsLawfulAsk self.old.kept.node.control.nodes self.old.kept.node.control.me request }
         ensures did { OnOk result (Does D.view K.takes K.faults L.story L.counts (takes_on connection request now) self.old self.new) }
-        ensures hurries { IfOk result (λ hurries. IsHonest D.view self.old.kept → hurries ≡ request_hurries request.operation request.input (node_of self.old.kept)) }
+        ensures hurries { IfOk result (λ hurries. IsHonest D.view self.old.kept → hurries ≡ request_hurries request.asked.operation request.input (node_of self.old.kept)) }
         ensures breaks { IfErr result (λ end. Stops D.view K.takes K.fails K.faults L.story L.counts end (takes_on connection request now) self.old self.new) }
     {
         self.kept.recovers();
-        match unmet(&self.kept, &request.operation) {
-            Some(why) => {
-                self.refuses(connection, request.count, why)?;
+        match unmet(&self.kept, &request.asked.operation) {
+            Some(refusal) => {
+                self.refuses(connection, request.count, refusal)?;
                 Ok(false)
             }
             None => self.answers_or_waits(connection, request, now),
@@ -100,7 +102,7 @@ impl<D: Disk, L: Link, K: Sink> Server<D, L, K> {
         requires serving { IsServing self.old }
         requires request { IsLawfulAsk self.old.kept.node.control.nodes self.old.kept.node.control.me request }
         ensures did { OnOk result (Does D.view K.takes K.faults L.story L.counts (answers_or_waits connection request now) self.old self.new) }
-        ensures hurries { IfOk result (λ hurries. IsHonest D.view self.old.kept → hurries ≡ input_hurries request.operation request.input (node_of self.old.kept)) }
+        ensures hurries { IfOk result (λ hurries. IsHonest D.view self.old.kept → hurries ≡ input_hurries request.asked.operation request.input (node_of self.old.kept)) }
         ensures breaks { IfErr result (λ end. Stops D.view K.takes K.fails K.faults L.story L.counts end (answers_or_waits connection request now) self.old self.new) }
     {
         if self.has_to_wait(&request)? {
@@ -193,25 +195,8 @@ impl<D: Disk, L: Link, K: Sink> Server<D, L, K> {
     }
 }
 
-/// A request that waits on this connection since this time, without its input.
-fn waiting(connection: ConnectionId, request: Request, now: u64) -> Waiting
-    ensures { result ≡ asks.waiting connection request now }
-{
-    Waiting {
-        connection,
-        request: Request {
-            count: request.count,
-            operation: request.operation,
-            hint: request.hint,
-            input: None,
-            last: request.last,
-        },
-        since: now,
-    }
-}
-
 /// Why a node refuses what is asked for its condition, if it does.
-fn unmet<D: Disk>(kept: &Kept<D>, operation: &Operation) -> Option<Refused>
+fn unmet<D: Disk>(kept: &Kept<D>, operation: &Operation) -> Option<Refusal>
     ensures { IsHonest D.view kept.now → result ≡ conditions.unmet operation.now kept.now.node.control.me (shelf (node_of kept.now).groups) }
 {
     oc_routes::unmet(operation, kept.node().id(), kept.shelf())
@@ -231,31 +216,18 @@ fn response_to(
         (holding_in pending.now.asked.operation seen.now.shelf.now) config.now.addresses config.now.key
         (report_of pending.now.asked.operation seen.now.node.now.control seen.now.shelf.now seen.now.messages)) }
 {
-    let told = StepOutcome {
+    let report = report_of(alloc, &pending.asked.operation, seen)?;
+    let answered = Answered {
         answer: accepted.answer,
         back: accepted.back.as_ref(),
         holding: holding_for(&pending.asked.operation, seen.shelf),
+        report: &report,
     };
     let network = Directory {
         addresses: &config.addresses,
         key: config.key.as_ref(),
     };
-    let report = report_of(alloc, &pending.asked.operation, seen)?;
-    respond_to(alloc, pending.asked, pending.last, told, &network, &report)
-}
-
-/// What the node holds of the group that was asked for.
-fn holding_for(operation: &Operation, shelf: &[Shelf]) -> Holding
-    ensures { result ≡ holding_in operation.now shelf.now }
-{
-    match operation {
-        Operation::Client { group, .. } => Holding::in_shelf(shelf, group),
-        _ => Holding {
-            there: false,
-            held: 0,
-            sealed: false,
-        },
-    }
+    respond(alloc, pending.asked, pending.last, answered, &network)
 }
 
 /// Whether a request is to wait: it is of a client that follows a group and has all of it.
@@ -270,13 +242,13 @@ fn has_to_wait<D: Disk>(kept: &mut Kept<D>, request: &Request) -> Result<bool, T
         group,
         manner: Manner::Follow,
         ..
-    } = &request.operation
+    } = &request.asked.operation
     else {
         return Ok(false);
     };
-    let answer = answer_now(kept, client_input(&request.operation, request.hint))?;
+    let answer = answer_now(kept, client_input(&request.asked.operation, request.asked.hint))?;
     let holding = Holding::in_shelf(kept.shelf(), group);
-    Ok(is_to_wait(&request.operation, request.hint, answer, holding))
+    Ok(is_to_wait(&request.asked.operation, request.asked.hint, answer, holding))
 }
 
 /// The answer that an input would have now. Nothing of the node changes.
@@ -317,16 +289,5 @@ fn end_of(error: ReadyError) -> TurnEnd
     match error {
         ReadyError::Closed | ReadyError::Disk => TurnEnd::Disk,
         ReadyError::Memory => TurnEnd::Memory,
-    }
-}
-
-/// Whether the next tick is to come soon after this answer: what was asked added to a group, or closed it.
-fn hurries(operation: &Operation, answer: Answer) -> bool
-    ensures { result ≡ hurries operation.now answer }
-{
-    match operation {
-        Operation::Publish { .. } => answer == Answer::Ok,
-        Operation::Seal { .. } => answer == Answer::Ok || answer == Answer::Ignored,
-        _ => false,
     }
 }

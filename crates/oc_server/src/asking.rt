@@ -2,12 +2,13 @@
 
 ghost use Rattle.std.specs.Prelude.{◌≡◌, ◌∷◌, [], Ok, List, ℕ, IfErr, IfOk};
 ghost use Rattle.oc_link.specs.Told.{NextGives};
-ghost use Rattle.oc_server.specs.Deeds.{Reads, Sees, Tells, dials_behind, errand_in};
-ghost use Rattle.oc_server.specs.Scenes.{Breaks, Did, IsServing, Idle};
+ghost use Rattle.oc_deeds.specs.Deeds.{Reads, Sees, Tells, errand_in};
+ghost use Rattle.oc_server.specs.Scenes.{Breaks, Did, IsServing};
+ghost use Rattle.oc_deeds.specs.Under.{Idle};
 
-use crate::dials::{Dials, Errand};
 use crate::ends::TurnEnd;
 use crate::server::Server;
+use oc_deeds::{Errand, errand_in};
 use oc_io::{Disk, Sink};
 use oc_link::{Link, LinkEvent};
 
@@ -52,16 +53,5 @@ impl<D: Disk, L: Link, K: Sink> Server<D, L, K> {
         ensures { Did D.view K.takes K.faults L.story L.counts (Tells result ∷ []) self.old self.new }
     {
         self.link.now()
-    }
-}
-
-/// Takes out the dial whose reply an event is.
-fn errand_in(dials: &mut Dials, event: &LinkEvent) -> Option<Errand>
-    ensures errand { result ≡ errand_in event.now dials.old }
-    ensures rest { dials.new ≡ dials_behind event.now dials.old }
-{
-    match event {
-        LinkEvent::Reply(dial, _) => dials.take(*dial),
-        _ => None,
     }
 }

@@ -1,32 +1,26 @@
 //! What connections are given.
 
-ghost use Rattle.std.specs.Prelude.{◌≡◌, ◌≤◌, ◌∷◌, ◌++◌, [], OnErr, OnOk, IfErr, IfOk, List, ℕ, false, true, length, option_map, take, unwrap_or, vec_len};
-ghost use Rattle.oc_chunked.specs.Texts.{chunked_text};
+ghost use Rattle.std.specs.Prelude.{◌≡◌, ◌≤◌, ◌∷◌, ◌++◌, [], OnOk, IfErr, IfOk, false, length, option_map, take, unwrap_or, vec_len};
 ghost use Rattle.oc_link.specs.Told.{AddsAll};
 ghost use Rattle.oc_keep.specs.KeptView.{IsHonest, node_of};
-ghost use Rattle.oc_routes.specs.Contents.{ending, part_of, piece_of, pieces};
-ghost use Rattle.oc_routes.specs.Contents as contents;
-ghost use Rattle.oc_server.specs.Deeds.{BreaksOff, Gives, LaysAside, Permits, Replies, Waits, content_at, content_in, finish, first_piece, first_rest, piece, place_behind, rest, takes_request, with_content};
-ghost use Rattle.oc_server.specs.Deeds as deeds;
+ghost use Rattle.oc_routes.specs.Contents.{ending, part_of, piece_of};
+ghost use Rattle.oc_deeds.specs.Deeds.{BreaksOff, Gives, LaysAside, Permits, Replies, Waits, finish, first_piece, first_rest, piece, rest, takes_request};
 ghost use Rattle.oc_server.specs.Giving.{LookBreaks};
 ghost use Rattle.oc_server.specs.Looks.{LooksOnly, LookStops};
-ghost use Rattle.oc_server.specs.Scenes.{Breaks, Did, IsLawfulWaiting, IsServing, Idle};
+ghost use Rattle.oc_server.specs.Scenes.{Breaks, Did, IsServing};
+ghost use Rattle.oc_deeds.specs.Lawful.{IsLawfulWaiting};
+ghost use Rattle.oc_deeds.specs.Under.{Idle};
 
 use crate::ends::TurnEnd;
 use crate::server::Server;
-use crate::work::{Pending, Transfer, Waiting, Work};
-use crate::works::Works;
 use oc_base::{GroupName, Memory, put};
-use oc_chunked::chunk_text;
-use oc_http::Persistence;
+use oc_deeds::contents::{begin_rest, keeps, piece_text, place_behind, place_of};
+use oc_deeds::{Pending, Transfer, Waiting, Work};
 use oc_io::{Disk, Sink};
 use oc_keep::{Kept, KeptRead};
 use oc_link::{ConnectionId, Ending, Link};
-use oc_routes::{CONTINUE, GroupRange, Operation, PIECE_BYTES, Response, UnderWay};
+use oc_routes::{CONTINUE, PIECE_BYTES, Response, UnderWay};
 use std::alloc::Global;
-
-/// The end of a chunked text (RFC 9112, section 7.1).
-const LAST_CHUNK: &[u8] = b"0\r\n\r\n";
 
 /// The next piece of a content, as it is sent, and what is left of it.
 #[derive(Drop)]
@@ -128,62 +122,6 @@ impl<D: Disk, L: Link, K: Sink> Server<D, L, K> {
     }
 }
 
-/// The place from which the content of a response is given, if it has one.
-fn place_of(request: &Pending, response: &Response, now: u64) -> Option<Transfer>
-    ensures { result ≡ deeds.place_of request.now response.now now }
-{
-    let content = content_in(&request.asked.operation, response.content)?;
-    Some(Transfer {
-        connection: request.connection,
-        content,
-        keeps: keeps(response.connection),
-        told: request.told,
-        since: now,
-    })
-}
-
-/// The content of a response to a client, of which nothing was given yet.
-fn content_in(asked: &Operation, range: Option<GroupRange>) -> Option<UnderWay>
-    ensures { result ≡ content_in asked.now range }
-{
-    match asked {
-        Operation::Client { group, .. } => content_at(*group, range),
-        _ => None,
-    }
-}
-
-/// The content of a group in this range, if there is one.
-fn content_at(group: GroupName, range: Option<GroupRange>) -> Option<UnderWay>
-    ensures { result ≡ content_at group range }
-{
-    let range = range?;
-    if range.count > u64::MAX - range.start {
-        return None;
-    }
-    Some(UnderWay::begun(group, range))
-}
-
-/// What is left of a content is under way.
-fn begin_rest(works: &mut Works, left: &Option<Transfer>) -> Result<(), Memory>
-    ensures begun { OnOk result (works.new ≡ with_content left.now works.old) }
-    ensures fails { OnErr result (works.new ≡ works.old) }
-{
-    match left {
-        Some(left) => works.begin(Work::Content(*left)),
-        None => Ok(()),
-    }
-}
-
-/// Whether a connection is kept.
-fn keeps(connection: Persistence) -> bool
-    ensures { result ≡ deeds.keeps connection }
-{
-    match connection {
-        Persistence::Keep => true,
-        Persistence::Close => false,
-    }
-}
-
 /// Takes a request that was not taken before.
 fn take_request<L: Link>(link: &mut L, request: &Pending)
     ensures calls { AddsAll (takes_request request.now) (L.story link.old) (L.story link.new) }
@@ -270,20 +208,6 @@ fn next_piece<D: Disk>(
     Ok(Piece { text, rest })
 }
 
-/// The place after this many bytes more of its content, if anything is left.
-fn place_behind(place: &Transfer, count: usize, now: u64) -> Option<Transfer>
-    ensures { result ≡ place_behind place.now now count }
-{
-    let content = place.content.behind(count)?;
-    Some(Transfer {
-        connection: place.connection,
-        content,
-        keeps: place.keeps,
-        told: place.told,
-        since: now,
-    })
-}
-
 /// Reads the next bytes of a content, those of one piece.
 fn read_next<D: Disk>(
     alloc: Global,
@@ -334,27 +258,4 @@ fn read_piece<D: Disk>(
         Err(KeptRead::NoGroup) => Ok(0),
         Err(KeptRead::Disk | KeptRead::Closed) => Err(TurnEnd::Disk),
     }
-}
-
-/// Bytes of a content as they are sent: plain, or as chunks; what ends a reply goes with its last piece.
-fn piece_text(alloc: Global, content: &UnderWay, bytes: Vec<u8>) -> Result<Vec<u8>, Memory>
-    ensures { IfOk result (λ text. text.items ≡ contents.piece_text content.now bytes.items) }
-{
-    if !content.chunked {
-        return Ok(bytes);
-    }
-    let last = content.is_last(bytes.len());
-    let text = chunk_text(alloc, &bytes)?;
-    Ok(with_end(text, last))
-}
-
-/// A text of chunks, which ends with the last chunk; without it where the piece is not the last.
-fn with_end(mut text: Vec<u8>, last: bool) -> Vec<u8>
-    ensures { (bytes : List ℕ) → text.items ≡ chunked_text bytes → result.items ≡ pieces true bytes ++ ending true last }
-{
-    if last {
-        return text;
-    }
-    text.truncate(text.len().saturating_sub(LAST_CHUNK.len()));
-    text
 }

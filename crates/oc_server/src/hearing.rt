@@ -4,19 +4,20 @@ ghost use Rattle.std.specs.Prelude.{◌≡◌, ◌≤◌, IfErr, IfOk, IfSome, N
 ghost use Rattle.oc_link.specs.declared.event.LinkEvent.TheVariants as events;
 ghost use Rattle.oc_policy.specs.declared.deciding.TheConstants.{MAX_RULES};
 ghost use Rattle.oc_routes.specs.Verdicts.{terms_of};
-ghost use Rattle.oc_server.specs.Lawful.{IsLawfulCame};
+ghost use Rattle.oc_deeds.specs.Lawful.{IsLawfulCame};
 ghost use Rattle.oc_server.specs.Runs.{reads_by};
-ghost use Rattle.oc_server.specs.Scenes.{Breaks, Idle, IsLawfulErrand, IsServing};
-ghost use Rattle.oc_server.specs.Turns.{Means, MeansBack};
+ghost use Rattle.oc_server.specs.Scenes.{Breaks, IsServing};
+ghost use Rattle.oc_deeds.specs.Under.{Idle};
+ghost use Rattle.oc_deeds.specs.Lawful.{IsLawfulErrand};
+ghost use Rattle.oc_deeds.specs.Turns.{Means, MeansBack};
 
 use crate::asking::Happened;
-use crate::came::Came;
-use crate::dials::Errand;
 use crate::ends::TurnEnd;
-use crate::reading::{Hearer, comes_back};
 use crate::server::Server;
 use oc_base::Memory;
 use oc_config::Config;
+use oc_deeds::reading::{Hearer, comes_back};
+use oc_deeds::{Came, Errand};
 use oc_http::HeadReader;
 use oc_io::{Disk, Sink};
 use oc_keep::Kept;

@@ -1,19 +1,19 @@
 //! Lines that begin with `!`, and requests that are refused.
 
-ghost use Rattle.std.specs.Prelude.{◌≡◌, ◌++◌, ◌⊎◌, ◌∷◌, [], OnOk, IfErr, Some, codes, option_map, true};
-ghost use Rattle.oc_routes.specs.Refusals.{refusal_text, why_text};
+ghost use Rattle.std.specs.Prelude.{◌≡◌, ◌∷◌, [], OnOk, IfErr, Some, codes, option_map, true};
+ghost use Rattle.oc_routes.specs.Refusals.{why_text};
 ghost use Rattle.oc_link.specs.Told.{AddsAll};
 ghost use Rattle.oc_io.specs.Faults.{NoFall};
-ghost use Rattle.oc_server.specs.Deeds.{Drops, Notes, Refuses, drop_line, note_line, refuses};
+ghost use Rattle.oc_deeds.specs.Deeds.{Drops, Notes, Refuses, drop_line, note_line, refuses};
 ghost use Rattle.oc_server.specs.Noting.{LineStops, NoteBreaks};
-ghost use Rattle.oc_server.specs.Scenes.{Breaks, Did, IsServing};
+ghost use Rattle.oc_server.specs.Scenes.{Did, IsServing};
 
 use crate::ends::TurnEnd;
 use crate::server::Server;
-use oc_base::{Memory, put};
+use oc_deeds::lines::put_note;
 use oc_io::{Disk, Sink, write_all};
 use oc_link::{ConnectionId, Ending, Link};
-use oc_routes::{Refused, put_refusal_line, refusal_reply};
+use oc_routes::{Refusal, put_refusal_line, refusal_reply};
 
 /// The line of a reply that could not be sent.
 const WRITE_LINE: &[u8] = b"! write\n";
@@ -36,16 +36,16 @@ impl<D: Disk, L: Link, K: Sink> Server<D, L, K> {
         &mut self,
         connection: ConnectionId,
         count: u64,
-        why: Refused,
+        refusal: Refusal,
     ) -> Result<(), TurnEnd>
         requires { IsServing self.old }
-        ensures did { OnOk result (Did D.view K.takes K.faults L.story L.counts (Refuses connection count why ∷ []) self.old self.new) }
-        ensures breaks { IfErr result (λ end. NoteBreaks D.view K.takes K.fails K.faults L.story L.counts end (note_line (why_text why)) self.old self.new) }
+        ensures did { OnOk result (Did D.view K.takes K.faults L.story L.counts (Refuses connection count refusal ∷ []) self.old self.new) }
+        ensures breaks { IfErr result (λ end. NoteBreaks D.view K.takes K.fails K.faults L.story L.counts end (note_line (why_text refusal.why)) self.old self.new) }
     {
         self.kept.recovers();
-        let reply = refusal_reply(self.alloc, why)?;
+        let reply = refusal_reply(self.alloc, refusal)?;
         let mut line = Vec::new(self.alloc);
-        put_refusal_line(&mut line, why)?;
+        put_refusal_line(&mut line, refusal.why)?;
         write_line(&mut self.sink, &line)?;
         refuse(&mut self.link, connection, count, reply);
         Ok(())
@@ -113,13 +113,4 @@ pub(crate) fn write_line<K: Sink>(sink: &mut K, line: &[u8]) -> Result<(), TurnE
         Ok(()) => Ok(()),
         Err(_) => Err(TurnEnd::Sink),
     }
-}
-
-/// Puts the line `! WHY`.
-fn put_note(out: &mut Vec<u8>, why: &[u8]) -> Result<(), Memory>
-    ensures { OnOk result (out.new.items ≡ out.old.items ++ note_line why.now) }
-{
-    put(out, b"! ")?;
-    put(out, why)?;
-    put(out, b"\n")
 }

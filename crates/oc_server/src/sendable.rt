@@ -2,7 +2,7 @@
 
 ghost use Rattle.std.specs.Prelude.{◌≡◌};
 ghost use Rattle.std.specs.List.{list_all};
-ghost use Rattle.oc_server.specs.Sending.{AreSendable, can_send, has_text};
+ghost use Rattle.oc_deeds.specs.Sending.{AreSendable, can_send, has_text};
 
 use oc_keep::Outcome;
 use oc_model::{Body, Message};

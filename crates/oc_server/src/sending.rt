@@ -1,14 +1,14 @@
 //! The messages that a turn dials.
 
-ghost use Rattle.std.specs.Prelude.{◌≡◌, IfErr, OnOk};
+ghost use Rattle.std.specs.Prelude.{IfErr, OnOk};
 ghost use Rattle.oc_server.specs.Parts.{Does, Stops};
 ghost use Rattle.oc_server.specs.Scenes.{IsServing};
-ghost use Rattle.oc_server.specs.Sends.{sends};
-ghost use Rattle.oc_server.specs.declared.choosing.TheConstants.{MAX_DIALS as MOST};
+ghost use Rattle.oc_deeds.specs.Sends.{sends};
+ghost use Rattle.oc_deeds.specs.declared.choosing.TheConstants.{MAX_DIALS as MOST};
 
-use crate::choosing::{MAX_DIALS, free_number, next_to_dial};
 use crate::ends::TurnEnd;
 use crate::server::Server;
+use oc_deeds::choosing::{MAX_DIALS, free_number, next_to_dial};
 use oc_io::{Disk, Sink};
 use oc_link::Link;
 

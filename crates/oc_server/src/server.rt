@@ -1,8 +1,5 @@
-use crate::dials::Dials;
-use crate::log::Log;
-use crate::outbox::Outbox;
-use crate::works::Works;
 use oc_config::Config;
+use oc_deeds::{Dials, Log, Outbox, Works};
 use oc_http::HeadReader;
 use oc_io::{Disk, Sink};
 use oc_keep::Kept;

@@ -1,32 +1,32 @@
 //! Inputs that are taken.
 
-ghost use Rattle.std.specs.Prelude.{◌≡◌, List, [], ◌∷◌, false, IfOk, IfErr, IfSome, OnOk};
+ghost use Rattle.std.specs.Prelude.{◌≡◌, [], ◌∷◌, false, IfOk, IfErr, IfSome, OnOk};
 ghost use Rattle.hex.specs.Hex.{IsBytes};
 ghost use Rattle.oc_model.specs.Lawful.{IsInput};
 ghost use Rattle.oc_model.specs.Step.{step};
 ghost use Rattle.oc_keep.specs.KeptView.{IsHonest, node_of};
 ghost use Rattle.oc_routes.specs.Inputs as inputs;
 ghost use Rattle.oc_wire.specs.Spelling.{HasSpelling};
-ghost use Rattle.oc_server.specs.Deeds.{Accepts, Takes, back_to, others_than, sender_of, taken_line};
-ghost use Rattle.oc_server.specs.Deeds as deeds;
-ghost use Rattle.oc_server.specs.Records.{told_ahead};
+ghost use Rattle.oc_deeds.specs.Deeds.{Accepts, Takes, back_to, sender_of, taken_line};
+ghost use Rattle.oc_deeds.specs.Records.{told_ahead};
 ghost use Rattle.oc_server.specs.Scenes as scenes;
-ghost use Rattle.oc_server.specs.Scenes.{Breaks, Did, IsServing, KeepStops, KeepsOne, Taking};
-ghost use Rattle.oc_server.specs.Within.{BringsBytes, HasBytes};
+ghost use Rattle.oc_server.specs.Scenes.{Breaks, Did, IsServing, KeepStops, KeepsOne};
+ghost use Rattle.oc_deeds.specs.Under.{Taking};
+ghost use Rattle.oc_deeds.specs.Within.{BringsBytes, HasBytes};
 
 use crate::ends::TurnEnd;
-use crate::log::Log;
 use crate::noting::write_line;
-use crate::outbox::put_all;
 use crate::sendable::sendable;
 use crate::server::Server;
-use oc_base::{Memory, NodeId};
+use oc_base::Memory;
+use oc_deeds::asked::{held_back, sender_of};
+use oc_deeds::{Log, put_all};
 use oc_io::{Disk, Sink};
 use oc_keep::{KeepError, Kept, Outcome};
 use oc_laws_step::lawful_nodes_stay_lawful;
 use oc_link::Link;
 use oc_model::{Answer, Body, Input, Message};
-use oc_routes::{put_input_line, split_reply};
+use oc_routes::put_input_line;
 use oc_wire::spellings_are_read;
 use std::alloc::Global;
 
@@ -182,26 +182,5 @@ fn end_of(error: KeepError) -> TurnEnd
         KeepError::Closed | KeepError::Disk => TurnEnd::Disk,
         KeepError::Memory => TurnEnd::Memory,
         KeepError::Full => TurnEnd::Full,
-    }
-}
-
-/// Who sent the message that an input is.
-fn sender_of(input: &Input) -> Option<NodeId>
-    ensures { result ≡ deeds.sender_of input.now }
-{
-    match input {
-        Input::Delivered(message) => Some(message.from),
-        _ => None,
-    }
-}
-
-/// Splits messages into what goes back to a sender and all others.
-fn held_back(sender: Option<NodeId>, sends: Vec<Message>) -> (Option<Message>, Vec<Message>)
-    ensures back { result.0 ≡ back_to sender sends.items }
-    ensures others { result.1.items ≡ others_than sender sends.items }
-{
-    match sender {
-        Some(sender) => split_reply(sends, sender),
-        None => (None, sends),
     }
 }

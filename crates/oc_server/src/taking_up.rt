@@ -1,36 +1,25 @@
 //! What is due by itself, and what came back on dials.
 
-ghost use Rattle.std.specs.Prelude.{◌≡◌, ℕ, IfErr, IfOk, IfSome, OnOk, Some, is_some, slice_get, true};
+ghost use Rattle.std.specs.Prelude.{ℕ, IfErr, IfOk, IfSome, OnOk, Some, slice_get};
 ghost use Rattle.oc_base.specs.Lawful.{IsNode, IsRate};
 ghost use Rattle.oc_model.specs.Lawful.{IsInput};
-ghost use Rattle.oc_server.specs.Asks.{due_of, taken_up, takes_up};
+ghost use Rattle.oc_deeds.specs.Asks.{taken_up, takes_up};
 ghost use Rattle.oc_server.specs.Parts.{Does, Stops};
 ghost use Rattle.oc_server.specs.Scenes.{IsServing};
-ghost use Rattle.oc_server.specs.Works.{client_input, pending};
+ghost use Rattle.oc_deeds.specs.Works.{client_input, pending};
 ghost use Rattle.oc_routes.specs.Lawful.{IsAsked};
-ghost use Rattle.oc_server.specs.Turns.{brought, measured, notes_fault, probe_note, probes_it, ticked, ticks_if};
+ghost use Rattle.oc_deeds.specs.Turns.{brought, measured, notes_fault, probes_it, ticked, ticks_if};
 
-use crate::choosing::free_number;
 use crate::ends::TurnEnd;
-use crate::pace::Pace;
 use crate::server::Server;
-use crate::work::{Pending, Transfer, Waiting, Work, client_input, pending_of};
-use oc_base::{MAX_TIME, Memory, NodeId, put, put_number};
+use oc_base::{MAX_TIME, NodeId};
+use oc_deeds::choosing::free_number;
+use oc_deeds::lines::probe_note;
+use oc_deeds::{Due, Pace, Pending, client_input, due_at};
 use oc_io::{Disk, Sink};
 use oc_link::Link;
 use oc_model::Input;
 use oc_probe::ProbeFault;
-use std::alloc::Global;
-
-/// What is to be done with work that is due by itself.
-#[derive(Debug, Drop)]
-pub(crate) enum Due {
-    /// A content goes on.
-    Aside(Transfer),
-    /// A client that waits is answered.
-    Waits(Pending),
-    Nothing,
-}
 
 impl<D: Disk, L: Link, K: Sink> Server<D, L, K> {
     /// Takes up the work at a place that is due by itself: a content goes on, and a client that waits is answered.
@@ -132,39 +121,4 @@ impl<D: Disk, L: Link, K: Sink> Server<D, L, K> {
         let why = probe_note(self.alloc, peer, fault)?;
         self.notes(&why)
     }
-}
-
-/// What is to be done with the work at a place.
-fn due_at(works: &[Work], place: usize) -> Due
-    ensures { result ≡ due_of (slice_get works.now place) }
-{
-    match works.get(place) {
-        Some(Work::Aside(place)) => Due::Aside(*place),
-        Some(Work::Waits(waiting)) => Due::Waits(to_wake(waiting)),
-        Some(Work::Content(_)) => Due::Nothing,
-        None => Due::Nothing,
-    }
-}
-
-/// A request that waits is to be answered.
-fn to_wake(waiting: &Waiting) -> Pending
-    ensures { result ≡ pending waiting.now.connection waiting.now.request (is_some (client_input waiting.now.request.operation waiting.now.request.hint)) true }
-{
-    let request = &waiting.request;
-    let input = client_input(&request.operation, request.hint);
-    pending_of(waiting.connection, request, input.is_some(), true)
-}
-
-/// Why a probe took nothing.
-fn probe_note(alloc: Global, peer: NodeId, fault: ProbeFault) -> Result<Vec<u8>, Memory>
-    ensures { IfOk result (λ why. why.items ≡ probe_note peer fault) }
-{
-    let mut why = Vec::new(alloc);
-    put(&mut why, b"probe ")?;
-    put_number(&mut why, u64::from(peer.0))?;
-    match fault {
-        ProbeFault::Link => put(&mut why, b" link")?,
-        ProbeFault::Reply | ProbeFault::Memory => put(&mut why, b" reply")?,
-    }
-    Ok(why)
 }

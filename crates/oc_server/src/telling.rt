@@ -5,20 +5,21 @@ ghost use Rattle.oc_keep.specs.KeptView.{IsHonest, node_of};
 ghost use Rattle.oc_model.specs.Lawful.{IsInput};
 ghost use Rattle.oc_model.specs.Step.{step};
 ghost use Rattle.oc_wire.specs.Spelling.{HasSpelling};
-ghost use Rattle.oc_server.specs.Brief.{told_first};
-ghost use Rattle.oc_server.specs.Deeds.{Says, Takes, back_to, sender_of};
+ghost use Rattle.oc_deeds.specs.Brief.{told_first};
+ghost use Rattle.oc_deeds.specs.Deeds.{Says, Takes, back_to, sender_of};
 ghost use Rattle.oc_server.specs.Noting.{NoteBreaks};
 ghost use Rattle.oc_server.specs.Parts.{Does, Stops};
 ghost use Rattle.oc_server.specs.Scenes.{Did, IsServing};
-ghost use Rattle.oc_server.specs.Records.{told_ahead};
-ghost use Rattle.oc_server.specs.Telling.{accepts_in, accepts_told, takes_ahead, takes_in, takes_told, told_behind};
+ghost use Rattle.oc_deeds.specs.Records.{told_ahead};
+ghost use Rattle.oc_deeds.specs.Telling.{accepts_in, accepts_told, takes_ahead, takes_in, takes_told, told_behind};
 
-use crate::brief::{Before, behind, known_before};
 use crate::ends::TurnEnd;
 use crate::noting::write_line;
-use crate::record::{areas_of, first};
 use crate::server::Server;
 use crate::taking::{Accepted, line_ahead};
+use oc_config::Config;
+use oc_deeds::brief::{Before, behind, known_before};
+use oc_deeds::record::first;
 use oc_io::{Disk, Sink};
 use oc_link::Link;
 use oc_model::{Answer, Input};
@@ -141,4 +142,11 @@ impl<D: Disk, L: Link, K: Sink> Server<D, L, K> {
         self.kept.recovers();
         write_line(&mut self.sink, text)
     }
+}
+
+/// The areas of the nodes of a configuration.
+fn areas_of(config: &Config) -> &[u8]
+    ensures { result.now ≡ config.now.areas }
+{
+    &config.areas
 }

@@ -3,7 +3,8 @@
 ghost use Rattle.std.specs.Prelude.{◌≡◌, ◌+◌, IfErr, OnOk, [], false};
 ghost use Rattle.oc_keep.specs.KeptView.{IsRipe};
 ghost use Rattle.oc_server.specs.Looks.{LooksOnly, LookStops, end_of_tidy};
-ghost use Rattle.oc_server.specs.Scenes.{Breaks, Did, IsServing, Idle};
+ghost use Rattle.oc_server.specs.Scenes.{Breaks, Did, IsServing};
+ghost use Rattle.oc_deeds.specs.Under.{Idle};
 
 use crate::ends::TurnEnd;
 use crate::server::Server;

@@ -1,24 +1,24 @@
-ghost use Rattle.std.specs.Prelude.{◌≡◌, ℕ, IfErr, IfOk, IfSome, OnOk, length, option_map, slice_get, true, unwrap_or};
+ghost use Rattle.std.specs.Prelude.{◌≡◌, ℕ, IfErr, IfOk, OnOk, option_map, slice_get, true, unwrap_or};
 ghost use Rattle.oc_base.specs.Lawful.{IsNode};
 ghost use Rattle.oc_keep.specs.KeptView.{IsHonest, node_of};
-ghost use Rattle.oc_server.specs.Hurries.{came_hurries};
-ghost use Rattle.oc_server.specs.Lawful.{IsLawfulCame, IsReady};
+ghost use Rattle.oc_deeds.specs.Hurries.{came_hurries};
+ghost use Rattle.oc_deeds.specs.Lawful.{IsLawfulCame};
+ghost use Rattle.oc_server.specs.Lawful.{IsReady};
 ghost use Rattle.oc_server.specs.Parts.{Does, Stops};
-ghost use Rattle.oc_server.specs.Runs.{DealStops, Dealt, IsMeasured, IsMedianIn, IsMedianOf, NextStops, NextTaken, ServeEnds, Turned, TurnStops};
+ghost use Rattle.oc_server.specs.Runs.{DealStops, Dealt, NextStops, NextTaken, ServeEnds, Turned, TurnStops};
+ghost use Rattle.oc_deeds.specs.Measured.{IsMeasured, IsMedianOf};
 ghost use Rattle.oc_server.specs.Scenes.{IsServing};
-ghost use Rattle.oc_server.specs.Turns as turns;
-ghost use Rattle.oc_server.specs.Turns.{happens, measures, paced, probed, probes_next, quickened, rotated, takes_due, takes_median, ticks, ticks_and_sends, with_measure};
+ghost use Rattle.oc_deeds.specs.Turns as turns;
+ghost use Rattle.oc_deeds.specs.Turns.{happens, measures, paced, probed, probes_next, rotated, takes_due, takes_median, ticks, ticks_and_sends, with_measure};
 
-use crate::came::Came;
-use crate::choosing::{due_place, free_number, wait_for};
-use crate::dials::Dialling;
 use crate::ends::TurnEnd;
-use crate::pace::Pace;
 use crate::server::Server;
-use oc_base::{MAX_RATE, MAX_TIME, NodeId};
+use oc_base::{MAX_RATE, NodeId};
+use oc_deeds::choosing::{due_place, wait_for};
+use oc_deeds::probing::{measured, next_peer};
+use oc_deeds::{Came, Pace, quickened};
 use oc_io::{Disk, Sink};
 use oc_link::Link;
-use oc_model::Input;
 use oc_probe::{ProbeFault, Probing, rate_of};
 
 /// A running node turn by turn.
@@ -234,41 +234,5 @@ impl<D: Disk, L: Link, K: Sink> Turns<D, L, K> {
         let seconds = self.server.ticks(&self.pace)?;
         self.pace.look(now, seconds);
         Ok(())
-    }
-}
-
-/// The pace, with the next tick due as soon as it may be where that is so.
-fn quickened(mut pace: Pace, hurries: bool) -> Pace
-    ensures { result ≡ quickened hurries pace }
-{
-    if hurries {
-        pace.hurry();
-    }
-    pace
-}
-
-/// Keeps another rate of a peer, and gives the median of its last ones, where they are measured at all.
-fn measured(probing: &mut Option<Probing>, peer: NodeId, rate: u64) -> Option<u64>
-    requires { IfSome probing.old (λ p. IsNode (length p.gauge) peer) }
-    ensures kept { probing.new ≡ option_map (with_measure peer rate) probing.old }
-    ensures median { IsMedianIn probing.old peer rate result }
-{
-    match probing {
-        Some(probing) => Some(probing.gauge.put(peer, rate)),
-        None => None,
-    }
-}
-
-/// The next peer to be probed, where no dial is under way.
-fn next_peer(probing: &mut Option<Probing>, dials: &[Dialling]) -> Option<NodeId>
-    ensures peer { result ≡ turns.next_peer probing.old dials.now }
-    ensures rotated { probing.new ≡ option_map (rotated dials.now) probing.old }
-{
-    if !dials.is_empty() {
-        return None;
-    }
-    match probing {
-        Some(probing) => probing.rotation.next(),
-        None => None,
     }
 }

@@ -16,13 +16,13 @@ use Rattle.oc_routes.specs.Verdicts.{IsVerdict, NodeTerms, arrival}
 use Rattle.oc_routes.specs.declared.verdict.Verdict.{Verdict}
 use Rattle.oc_routes.specs.declared.verdict.Verdict.TheVariants as verdicts
 use Rattle.oc_routes.specs.Refusals.{refusal_text}
-use Rattle.oc_server.specs.Choices.{due_place, wait_for}
-use Rattle.oc_server.specs.Deeds.{Reads, Running, Sees, Setting, after, calls_of, refuses}
-use Rattle.oc_server.specs.Turns.{Means, Observation, takes_at, ticks_and_sends, turn}
-use Rattle.oc_server.specs.declared.came.Came.{Came}
-use Rattle.oc_server.specs.declared.came.Came.TheVariants as comes
-use Rattle.oc_server.specs.declared.dials.Errand.{Errand}
-use Rattle.oc_server.specs.declared.pace.Pace.{Pace}
+use Rattle.oc_deeds.specs.Choices.{due_place, wait_for}
+use Rattle.oc_deeds.specs.Deeds.{Reads, Running, Sees, Setting, after, calls_of, refuses}
+use Rattle.oc_deeds.specs.Turns.{Means, Observation, takes_at, ticks_and_sends, turn}
+use Rattle.oc_deeds.specs.declared.came.Came.{Came}
+use Rattle.oc_deeds.specs.declared.came.Came.TheVariants as comes
+use Rattle.oc_deeds.specs.declared.dials.Errand.{Errand}
+use Rattle.oc_deeds.specs.declared.pace.Pace.{Pace}
 use Rattle.oc_service.specs.Alike.{AreAlike, told_request}
 
 -- What a link lends
@@ -44,7 +44,7 @@ held_cut c d number next permitted permits coming later calls first more =
 
 -- Turns
 
--- how many bytes are refused makes no difference to what is given
+-- the number of refused bytes makes no difference to the bytes given
 refused_alike : (c d count more : ℕ) (text : Option (List ℕ)) (calls : List Call) → given c (refuses d count text ++ calls) ≡ given c (refuses d more text ++ calls)
 refused_alike c d count more None calls = refl
 refused_alike c d count more (Some text) calls = refl

@@ -17,6 +17,7 @@ use Rattle.oc_link.specs.declared.event.LinkEvent.TheVariants as events
 use Rattle.oc_link.specs.declared.event.Loss.{Loss}
 use Rattle.oc_link.specs.declared.event.Loss.TheVariants as losses
 use Rattle.oc_http.specs.Answers.{IsDecided}
+use Rattle.oc_http.specs.Requests.{begins_with_head}
 use Rattle.oc_http.specs.declared.fault.HttpFault.{HttpFault}
 use Rattle.oc_http.specs.declared.fault.HttpFault.TheVariants as http
 use Rattle.oc_http.specs.declared.head.Head.{Head}
@@ -29,7 +30,8 @@ use Rattle.oc_probe.specs.declared.probing.Probing.{Probing}
 use Rattle.oc_routes.specs.Conditions.{unmet, unmet_at, unmet_by}
 use Rattle.oc_routes.specs.Hints.{asked_with_hint}
 use Rattle.oc_routes.specs.Macs.{is_forged}
-use Rattle.oc_routes.specs.Verdicts.{IsVerdict, NodeTerms, answered, fault_met, is_none, routed, unfinished, unread, verdict_for, whole, with_body}
+use Rattle.oc_routes.specs.Refusals.{refusing}
+use Rattle.oc_routes.specs.Verdicts.{IsVerdict, NodeTerms, answered, fault_met, is_head, is_none, refuse, routed, taken, unfinished, unread, verdict_for, whole, with_body}
 use Rattle.oc_routes.specs.Waits.{holding}
 use Rattle.oc_routes.specs.declared.hint.Asked.{Asked}
 use Rattle.oc_routes.specs.declared.verdict.Request.{Request}
@@ -40,36 +42,37 @@ use Rattle.oc_routes.specs.declared.waiting.Prospect.TheVariants as prospects
 use Rattle.oc_routes.specs.Connections.{awaits_continue, is_last}
 use Rattle.oc_routes.specs.Routes.{input_asked}
 use Rattle.oc_routes.specs.declared.refused.Refused.{Refused}
+use Rattle.oc_routes.specs.declared.verdict.Refusal.{Refusal}
 use Rattle.oc_routes.specs.declared.refused.Refused.TheVariants as refusals
 use Rattle.oc_routes.specs.declared.routes.Operation.{Operation}
 use Rattle.oc_routes.specs.declared.routes.Operation.TheVariants as asks
-use Rattle.oc_server.specs.Asks.{has_to_wait, obeys, refuses_or, responds, takes_on, takes_up, waiting}
-use Rattle.oc_server.specs.Brought.{comes_back, fault_of, input_of}
-use Rattle.oc_server.specs.Choices.{due_place, next_to_dial, prospect_of, wait_for}
-use Rattle.oc_server.specs.Deeds.{Deed, Drops, Reads, Refuses, Running, Says, Sees, Setting, Takes, Tells, Waits, after, after_all, errand_in}
-use Rattle.oc_server.specs.Hurries.{came_hurries}
-use Rattle.oc_server.specs.Pace.{has_passed, wait_until}
-use Rattle.oc_server.specs.Parts.{nothing, one, ◌>>◌}
-use Rattle.oc_server.specs.Records.{told_ahead}
-use Rattle.oc_server.specs.Rooms.{goes_on, is_told, moves, room, room_for}
-use Rattle.oc_server.specs.Rooms as rooms
-use Rattle.oc_server.specs.Scenes.{CountsAll}
-use Rattle.oc_server.specs.Sends.{dials_at, dials_it, dials_next, sends}
-use Rattle.oc_server.specs.Turns.{Means, MeansBack, Observation, brought, deals, happens, measures, next_peer, probes_it, quickened, takes_at, takes_due, ticked, ticks, ticks_and_sends, ticks_if}
-use Rattle.oc_server.specs.Works.{client_input, pending, work_on}
-use Rattle.oc_server.specs.declared.came.Came.{Came}
-use Rattle.oc_server.specs.declared.came.Came.TheVariants as comes
-use Rattle.oc_server.specs.declared.choosing.TheConstants.{MAX_DIALS}
-use Rattle.oc_server.specs.declared.dials.Errand.{Errand}
-use Rattle.oc_server.specs.declared.dials.Errand.TheVariants as errands
-use Rattle.oc_server.specs.declared.pace.Pace.{Pace}
-use Rattle.oc_server.specs.declared.work.Pending.{Pending}
-use Rattle.oc_server.specs.declared.work.Transfer.{Transfer}
-use Rattle.oc_server.specs.declared.work.Work.{Work}
-use Rattle.oc_server.specs.declared.work.Work.TheVariants as works
+use Rattle.oc_deeds.specs.Asks.{has_to_wait, obeys, refuses_or, responds, takes_on, takes_up, waiting}
+use Rattle.oc_deeds.specs.Brought.{comes_back, fault_of, input_of}
+use Rattle.oc_deeds.specs.Choices.{due_place, next_to_dial, prospect_of, wait_for}
+use Rattle.oc_deeds.specs.Deeds.{Deed, Drops, Reads, Refuses, Running, Says, Sees, Setting, Takes, Tells, Waits, after, after_all, errand_in}
+use Rattle.oc_deeds.specs.Hurries.{came_hurries}
+use Rattle.oc_deeds.specs.Pace.{has_passed, wait_until}
+use Rattle.oc_deeds.specs.Parts.{nothing, one, ◌>>◌}
+use Rattle.oc_deeds.specs.Records.{told_ahead}
+use Rattle.oc_deeds.specs.Rooms.{goes_on, is_told, moves, room, room_for}
+use Rattle.oc_deeds.specs.Rooms as rooms
+use Rattle.oc_deeds.specs.Done.{CountsAll}
+use Rattle.oc_deeds.specs.Sends.{dials_at, dials_it, dials_next, sends}
+use Rattle.oc_deeds.specs.Turns.{Means, MeansBack, Observation, brought, deals, happens, measures, next_peer, probes_it, quickened, takes_at, takes_due, ticked, ticks, ticks_and_sends, ticks_if}
+use Rattle.oc_deeds.specs.Works.{client_input, pending, work_on}
+use Rattle.oc_deeds.specs.declared.came.Came.{Came}
+use Rattle.oc_deeds.specs.declared.came.Came.TheVariants as comes
+use Rattle.oc_deeds.specs.declared.choosing.TheConstants.{MAX_DIALS}
+use Rattle.oc_deeds.specs.declared.dials.Errand.{Errand}
+use Rattle.oc_deeds.specs.declared.dials.Errand.TheVariants as errands
+use Rattle.oc_deeds.specs.declared.pace.Pace.{Pace}
+use Rattle.oc_deeds.specs.declared.work.Pending.{Pending}
+use Rattle.oc_deeds.specs.declared.work.Transfer.{Transfer}
+use Rattle.oc_deeds.specs.declared.work.Work.{Work}
+use Rattle.oc_deeds.specs.declared.work.Work.TheVariants as works
 use Rattle.oc_updown.specs.declared.measure_lines.Measure.{Measure}
 use Rattle.oc_service.proofs.HeadFaults.{IsOther, IsSpared, body_spared, head_spared}
-use Rattle.oc_service.specs.Failures.{AreBorneOut, IsBorneOut, RiseForLines, RisesFor, told_last}
+use Rattle.oc_service.specs.Failures.{AreBorneOut, IsBorneOut, IsFailure, RiseForLines, RisesFor, told_last}
 use Rattle.oc_service.specs.WhatNodeDoes.{Machine, begins, begun, behind_turn, due_at, node_behind, node_deeds, own_measure, own_measures, turn_deeds, turns_deeds}
 use Rattle.oc_service.specs.WhatNodeHears.{AreHeard, MayHear, calls_behind}
 
@@ -154,21 +157,21 @@ mild_end pace now seconds s a =
 
 -- it is refused as a call that failed only where one failed
 abbrev FailsBy : Bool → Verdict → Type 0
-FailsBy failed (verdicts.Refuse why) = why ≡ refusals.Source → failed ≡ true
+FailsBy failed (verdicts.Refuse refusal) = refusal.why ≡ refusals.Source → failed ≡ true
 FailsBy failed v = Unit {0}
 
-other_fails : (failed : Bool) (why : Refused) → IsOther why → FailsBy failed (verdicts.Refuse why)
-other_fails failed why other = λ is. absurd (subst (λ (x : Refused). IsOther x) is other)
+other_fails : (failed head_alone : Bool) (why : Refused) → IsOther why → FailsBy failed (refuse head_alone why)
+other_fails failed head_alone why other = λ is. absurd (subst (λ (x : Refused). IsOther x) is other)
 
 unfinished_fails : (coming : Coming) (none : Bool) → FailsBy (has_failed coming) (unfinished coming none)
 unfinished_fails Open none = tt
 unfinished_fails Ended true = tt
-unfinished_fails Ended false = other_fails false refusals.Ended tt
+unfinished_fails Ended false = other_fails false false refusals.Ended tt
 unfinished_fails Failed none = λ is. refl
 
-answered_fails : (failed : Bool) (request : Request) (input : Result (Option Input) Refused) → IsSpared input → FailsBy failed (answered request input)
-answered_fails failed request (Ok input) spared = tt
-answered_fails failed request (Err why) spared = other_fails failed why spared
+answered_fails : (failed : Bool) (head : Head) (request : Request) (input : Result (Option Input) Refused) → IsSpared input → FailsBy failed (answered head request input)
+answered_fails failed head request (Ok input) spared = tt
+answered_fails failed head request (Err why) spared = other_fails failed (is_head head.method) why spared
 
 body_fails : (t : NodeTerms) (x : Arrival) (came : ℕ) (head : Head) (rest : List ℕ) (said : Asked) → FailsBy (has_failed x.coming) (with_body t x came head rest said)
 body_fails t x came head rest said = by_permit (awaits_continue head && not x.permitted)
@@ -176,8 +179,7 @@ body_fails t x came head rest said = by_permit (awaits_continue head && not x.pe
     request : Request
     request = record {
       count = came - length rest + head.length;
-      operation = said.operation;
-      hint = said.hint;
+      asked = said;
       input = None;
       last = is_last head x.number;
     }
@@ -185,9 +187,9 @@ body_fails t x came head rest said = by_permit (awaits_continue head && not x.pe
     body : List ℕ
     body = take head.length rest
 
-    by_mac : (b : Bool) → FailsBy (has_failed x.coming) (if b then verdicts.Refuse refusals.Mac else answered request (input_asked t.nodes t.me said.operation body))
-    by_mac true = other_fails (has_failed x.coming) refusals.Mac tt
-    by_mac false = answered_fails (has_failed x.coming) request (input_asked t.nodes t.me said.operation body) (body_spared t.nodes t.me said.operation body)
+    by_mac : (b : Bool) → FailsBy (has_failed x.coming) (if b then refuse (is_head head.method) refusals.Mac else answered head request (input_asked t.nodes t.me said.operation body))
+    by_mac true = other_fails (has_failed x.coming) (is_head head.method) refusals.Mac tt
+    by_mac false = answered_fails (has_failed x.coming) head request (input_asked t.nodes t.me said.operation body) (body_spared t.nodes t.me said.operation body)
 
     by_length : (b : Bool) → FailsBy (has_failed x.coming) (if b then unfinished x.coming false else whole t head request body)
     by_length true = unfinished_fails x.coming false
@@ -199,19 +201,19 @@ body_fails t x came head rest said = by_permit (awaits_continue head && not x.pe
 
 routed_fails : (t : NodeTerms) (x : Arrival) (came : ℕ) (head : Head) (rest : List ℕ) (asked : Result Asked Refused) → IsSpared asked → FailsBy (has_failed x.coming) (routed t x came head rest asked)
 routed_fails t x came head rest (Ok said) spared = body_fails t x came head rest said
-routed_fails t x came head rest (Err why) spared = other_fails (has_failed x.coming) why spared
+routed_fails t x came head rest (Err why) spared = other_fails (has_failed x.coming) (is_head head.method) why spared
 
 verdict_fails : (t : NodeTerms) (x : Arrival) (bytes rest : List ℕ) (answer : Result Head HttpFault) → IsDecided answer → FailsBy (has_failed x.coming) (verdict_for t x bytes rest answer)
 verdict_fails t x bytes rest (Ok head) decided = routed_fails t x (length bytes) head rest (asked_with_hint head t.rules) (head_spared head t.rules)
 verdict_fails t x bytes rest (Err http.Source) decided = absurd decided
 verdict_fails t x bytes rest (Err http.Ended) decided = unfinished_fails x.coming (is_none bytes)
-verdict_fails t x bytes rest (Err http.Head) decided = other_fails (has_failed x.coming) refusals.Head tt
-verdict_fails t x bytes rest (Err http.HeadLong) decided = other_fails (has_failed x.coming) refusals.HeadLong tt
-verdict_fails t x bytes rest (Err http.Fields) decided = other_fails (has_failed x.coming) refusals.Fields tt
-verdict_fails t x bytes rest (Err http.Host) decided = other_fails (has_failed x.coming) refusals.Host tt
-verdict_fails t x bytes rest (Err (http.Coding both)) decided = other_fails (has_failed x.coming) (refusals.Coding both) tt
-verdict_fails t x bytes rest (Err (http.Length missing)) decided = other_fails (has_failed x.coming) (refusals.Length missing) tt
-verdict_fails t x bytes rest (Err http.BodyLong) decided = other_fails (has_failed x.coming) refusals.BodyLong tt
+verdict_fails t x bytes rest (Err http.Head) decided = other_fails (has_failed x.coming) (begins_with_head (taken bytes rest)) refusals.Head tt
+verdict_fails t x bytes rest (Err http.HeadLong) decided = other_fails (has_failed x.coming) (begins_with_head (taken bytes rest)) refusals.HeadLong tt
+verdict_fails t x bytes rest (Err http.Fields) decided = other_fails (has_failed x.coming) (begins_with_head (taken bytes rest)) refusals.Fields tt
+verdict_fails t x bytes rest (Err http.Host) decided = other_fails (has_failed x.coming) (begins_with_head (taken bytes rest)) refusals.Host tt
+verdict_fails t x bytes rest (Err (http.Coding both)) decided = other_fails (has_failed x.coming) (begins_with_head (taken bytes rest)) (refusals.Coding both) tt
+verdict_fails t x bytes rest (Err (http.Length missing)) decided = other_fails (has_failed x.coming) (begins_with_head (taken bytes rest)) (refusals.Length missing) tt
+verdict_fails t x bytes rest (Err http.BodyLong) decided = other_fails (has_failed x.coming) (begins_with_head (taken bytes rest)) refusals.BodyLong tt
 verdict_fails t x bytes rest (Err http.Memory) decided = absurd decided
 
 read_fails : (t : NodeTerms) (x : Arrival) (bytes : List ℕ) (v : Verdict) → IsVerdict t x bytes v → FailsBy (has_failed x.coming) v
@@ -219,48 +221,51 @@ read_fails t x bytes v is = subst (λ (w : Verdict). FailsBy (has_failed x.comin
 
 -- What is done with a request
 
-refused : (event : LinkEvent) (c count : ℕ) (why : Refused) → (why ≡ refusals.Source → IsTrue (fails_reading event)) → IsBorneOut event (Refuses c count why)
-refused event c count refusals.Source fails = fails refl
-refused event c count why fails = tt
+is_failure : (why : Refused) (failed : Type 0) → (why ≡ refusals.Source → failed) → IsFailure why failed
+is_failure refusals.Source failed fails = fails refl
+is_failure why failed fails = tt
+
+refused : (event : LinkEvent) (c count : ℕ) (refusal : Refusal) → (refusal.why ≡ refusals.Source → IsTrue (fails_reading event)) → IsBorneOut event (Refuses c count refusal)
+refused event c count refusal fails = is_failure refusal.why (IsTrue (fails_reading event)) fails
 
 -- a condition that is not met is no failure
-unmet_by_other : (held : ℕ) (at : Option ℕ) (why : Refused) → unmet_by held at ≡ Some why → IsOther why
-unmet_by_other held None why is = let none : None ≡ Some why = is in absurd (cc none)
-unmet_by_other held (Some at) why is = by_test (held == at) is
+unmet_by_other : (held : ℕ) (at : Option ℕ) (refusal : Refusal) → unmet_by held at ≡ Some refusal → IsOther refusal.why
+unmet_by_other held None refusal is = let none : None ≡ Some refusal = is in absurd (cc none)
+unmet_by_other held (Some at) refusal is = by_test (held == at) is
   where
-    by_test : (b : Bool) → (if b then None else Some (refusals.At held)) ≡ Some why → IsOther why
-    by_test true is = let none : None ≡ Some why = is in absurd (cc none)
+    by_test : (b : Bool) → (if b then None else Some (refusing (refusals.At held))) ≡ Some refusal → IsOther refusal.why
+    by_test true is = let none : None ≡ Some refusal = is in absurd (cc none)
     by_test false is =
-        let some : Some (refusals.At held) ≡ Some why = is in
-        let same : refusals.At held ≡ why = cc in
-        subst (λ (x : Refused). IsOther x) same tt
+        let some : Some (refusing (refusals.At held)) ≡ Some refusal = is in
+        let same : refusing (refusals.At held) ≡ refusal = cc in
+        subst (λ (x : Refusal). IsOther x.why) same tt
 
-unmet_at_other : (me : ℕ) (group : List ℕ) (at : Option ℕ) (lines : List Shelf) (why : Refused) → unmet_at me group at lines ≡ Some why → IsOther why
-unmet_at_other me group at lines why is = by_test (me == 1) is
+unmet_at_other : (me : ℕ) (group : List ℕ) (at : Option ℕ) (lines : List Shelf) (refusal : Refusal) → unmet_at me group at lines ≡ Some refusal → IsOther refusal.why
+unmet_at_other me group at lines refusal is = by_test (me == 1) is
   where
-    by_test : (b : Bool) → (if b then unmet_by (holding group lines).held at else None) ≡ Some why → IsOther why
-    by_test true is = unmet_by_other (holding group lines).held at why is
-    by_test false is = let none : None ≡ Some why = is in absurd (cc none)
+    by_test : (b : Bool) → (if b then unmet_by (holding group lines).held at else None) ≡ Some refusal → IsOther refusal.why
+    by_test true is = unmet_by_other (holding group lines).held at refusal is
+    by_test false is = let none : None ≡ Some refusal = is in absurd (cc none)
 
-unmet_other : (asked : Operation) (me : ℕ) (lines : List Shelf) (why : Refused) → unmet asked me lines ≡ Some why → IsOther why
-unmet_other (asks.Publish group at) me lines why is = unmet_at_other me group at lines why is
-unmet_other (asks.Seal group at) me lines why is = unmet_at_other me group at lines why is
-unmet_other other me lines why is = let none : None ≡ Some why = is in absurd (cc none)
+unmet_other : (asked : Operation) (me : ℕ) (lines : List Shelf) (refusal : Refusal) → unmet asked me lines ≡ Some refusal → IsOther refusal.why
+unmet_other (asks.Publish group at) me lines refusal is = unmet_at_other me group at lines refusal is
+unmet_other (asks.Seal group at) me lines refusal is = unmet_at_other me group at lines refusal is
+unmet_other other me lines refusal is = let none : None ≡ Some refusal = is in absurd (cc none)
 
 mild_responds : (r : Pending) (input : Option Input) (now : ℕ) (s : Setting) (a : Running) → all_mild (responds r input now s a) ≡ true
 mild_responds r None now s a = refl
 mild_responds r (Some i) now s a = refl
 
 taken_on : (event : LinkEvent) (c : ℕ) (request : Request) (now : ℕ) (s : Setting) (a : Running) → AreBorneOut event (takes_on c request now s a)
-taken_on event c request now s a = by_condition (unmet request.operation a.node.control.me (shelf a.node.groups)) refl
+taken_on event c request now s a = by_condition (unmet request.asked.operation a.node.control.me (shelf a.node.groups)) refl
   where
     by_test : (b : Bool) → AreBorneOut event (if b then Waits (waiting c request now) ∷ [] else responds (pending c request (is_some request.input) false) request.input now s a)
     by_test true = (tt, tt)
     by_test false = borne_mild event (responds (pending c request (is_some request.input) false) request.input now s a) (mild_responds (pending c request (is_some request.input) false) request.input now s a)
 
-    by_condition : (why : Option Refused) → unmet request.operation a.node.control.me (shelf a.node.groups) ≡ why → AreBorneOut event (refuses_or why c request now s a)
+    by_condition : (why : Option Refusal) → unmet request.asked.operation a.node.control.me (shelf a.node.groups) ≡ why → AreBorneOut event (refuses_or why c request now s a)
     by_condition (Some why) is =
-        (refused event c request.count why (λ source. absurd (subst (λ (x : Refused). IsOther x) source (unmet_other request.operation a.node.control.me (shelf a.node.groups) why is))), tt)
+        (refused event c request.count why (λ source. absurd (subst (λ (x : Refused). IsOther x) source (unmet_other request.asked.operation a.node.control.me (shelf a.node.groups) why is))), tt)
     by_condition None is = by_test (has_to_wait request a.node)
 
 obeyed : (event : LinkEvent) (c count : ℕ) (v : Verdict) (now : ℕ) (s : Setting) (a : Running) → FailsBy (fails_reading event) v → AreBorneOut event (obeys c count v now s a)
@@ -301,7 +306,7 @@ mild_probe : (peer : Option ℕ) (started : ℕ) (s : Setting) (a : Running) →
 mild_probe None started s a = refl
 mild_probe (Some peer) started s a = refl
 
--- what came back on a dial
+-- the reply on a dial
 back_borne : (t : NodeTerms) (event : LinkEvent) (errand : Errand) (reading : Result Reply HttpFault) (probing : Option Probing) (now median started : ℕ) (s : Setting) (a : Running)
     → AreBorneOut event (happens probing (comes_back t.me t.nodes t.key errand reading) now median started s a)
 back_borne t event (errands.Message to fetch) reading probing now median started s a = borne_mild event (brought (input_of t.me t.nodes t.key to reading) s a) (mild_brought (input_of t.me t.nodes t.key to reading) s a)
@@ -317,7 +322,7 @@ back_means t event lent None coming came means probing now median started s a =
 back_means t event lent (Some errand) coming came means probing now median started s a =
     subst (λ (x : Came). AreBorneOut event (happens probing x now median started s a)) (sym (means.3)) (back_borne t event errand (means.0) probing now median started s a)
 
--- what is done with what an event means
+-- the deeds for the meaning of an event
 happened : (t : NodeTerms) (lent : List ℕ) (errand : Option Errand) (event : LinkEvent) (came : Came) → Means t lent errand event came
     → (probing : Option Probing) (now median started : ℕ) (s : Setting) (a : Running) → AreBorneOut event (happens probing came now median started s a)
 happened t lent errand (events.Request x) came means probing now median started s a =
@@ -339,7 +344,7 @@ taken_up None now s a = refl
 taken_up (Some (works.Content p)) now s a = refl
 taken_up (Some (works.Aside p)) now s a = mild_moves p now (prospect_of p (shelf a.node.groups) now)
 taken_up (Some (works.Waits w)) now s a =
-    mild_responds (pending w.connection w.request (is_some (client_input w.request.operation w.request.hint)) true) (client_input w.request.operation w.request.hint) now s a
+    mild_responds (pending w.connection w.request (is_some (client_input w.request.asked.operation w.request.asked.hint)) true) (client_input w.request.asked.operation w.request.asked.hint) now s a
 
 mild_due : (pace : Pace) (o : Option Work) (before seconds : ℕ) (s : Setting) (a : Running) → all_mild (takes_due pace o before seconds s a) ≡ true
 mild_due pace o before seconds s a =
@@ -390,7 +395,7 @@ node_borne event terms calls s ms ts m heard =
 
 -- An early end
 
--- no more deeds than this many are a front of these
+-- a list of at most this number of deeds is a prefix of these
 front_of : (xs ys gs : List Deed) (k : ℕ) → gs ≡ xs ++ ys → length xs ≤ k → (rest : List Deed) × (take k gs ≡ xs ++ rest)
 front_of [] ys gs k is few = (take k gs, refl)
 front_of (x ∷ xs) ys gs zero is few = absurd (omega (arith, few))
@@ -422,7 +427,7 @@ pub due_or_none : (due : Option ℕ) → (due ≡ None) ⊎ ((place : ℕ) × (d
 due_or_none None = inl refl
 due_or_none (Some place) = inr (place, refl)
 
--- what was done of all, and of one more turn, and the one deed under way
+-- the deeds of all turns, and of one more, and the one under way
 module _ (event : LinkEvent) (terms : NodeTerms) (calls : Option (List Call)) (s : Setting) (ms : List Measure) (ts : List Observation) (last : Observation) (m : Machine)
     (heard : AreHeard s terms calls ts (begun s ms m)) where
   abbrev all : List Deed
@@ -469,7 +474,11 @@ module _ (event : LinkEvent) (terms : NodeTerms) (calls : Option (List Call)) (s
 -- By the counts of the link
 
 rise_one : (event : LinkEvent) (wait : ℕ) (old now : LinkCounts) (d : Deed) → CountsEvent event wait old now → IsBorneOut event d → RisesFor d old now
-rise_one event wait old now (Refuses c count refusals.Source) counts borne = subst (λ (b : Bool). RisesAt b old.reading now.reading) borne counts.reading
+rise_one event wait old now (Refuses c count refusal) counts borne = by_why refusal.why borne
+  where
+    by_why : (why : Refused) → IsFailure why (IsTrue (fails_reading event)) → IsFailure why (Rose old.reading now.reading)
+    by_why refusals.Source borne = subst (λ (b : Bool). RisesAt b old.reading now.reading) borne counts.reading
+    by_why why borne = tt
 rise_one event wait old now (Drops c true) counts borne = subst (λ (b : Bool). RisesAt b old.writing now.writing) borne counts.writing
 rise_one event wait old now d counts borne = tt
 

@@ -1,4 +1,4 @@
--- What a whole head asks, and the body after it, are never refused as a call that failed.
+-- The request in a whole head, and the body after it, are never refused as a call that failed.
 use Rattle.std.proofs.Common.{ℕ, Option, Result, Ok, Err, List}
 use Rattle.oc_http.specs.declared.head.Head.{Head}
 use Rattle.oc_model.specs.declared.input.Input.{Input}

@@ -26,7 +26,7 @@ lawful_header s c areas same bytes = record {
   bytes = bytes;
 }
 
--- the header of a node that was loaded with what the settings say
+-- the header of a node that was loaded with these settings
 pub settings_header : (s : Settings) (nodes chain chunk : ℕ) (areas : List ℕ) → nodes ≡ length s.addresses → chain ≡ s.chain → chunk ≡ s.chunk → areas ≡ s.areas → header nodes chain chunk areas ≡ header_of_settings s
 settings_header s nodes chain chunk areas count links most same =
     ap (λ n. header n chain chunk areas) count ∙ ap (λ b. header (length s.addresses) chain b areas) most ∙ ap₂ (λ x a. header (length s.addresses) x s.chunk a) links same

@@ -12,15 +12,17 @@ use Rattle.oc_model.specs.Node.{Header, Node}
 use Rattle.oc_model.specs.declared.message.Message.{Message}
 use Rattle.oc_policy.specs.declared.deciding.TheConstants.{MAX_RULES}
 use Rattle.oc_probe.specs.declared.probing.Probing.{Probing}
-use Rattle.oc_server.specs.Lawful.{IsMadeFor, IsReady}
-use Rattle.oc_server.specs.Pace.{most_interval}
-use Rattle.oc_server.specs.Records.{is_record}
-use Rattle.oc_server.specs.Scenes.{IsLawfulDial, IsLawfulWork, IsPlaced, IsServing}
-use Rattle.oc_server.specs.Sending.{AreSendable}
-use Rattle.oc_server.specs.declared.dials.Dialling.{Dialling}
-use Rattle.oc_server.specs.declared.pace.Pace.{Pace}
+use Rattle.oc_deeds.specs.Lawful.{IsMadeFor}
+use Rattle.oc_server.specs.Lawful.{IsReady}
+use Rattle.oc_deeds.specs.Pace.{most_interval}
+use Rattle.oc_deeds.specs.Records.{is_record}
+use Rattle.oc_deeds.specs.Lawful.{IsLawfulDial, IsLawfulWork, IsPlaced}
+use Rattle.oc_server.specs.Scenes.{IsServing}
+use Rattle.oc_deeds.specs.Sending.{AreSendable}
+use Rattle.oc_deeds.specs.declared.dials.Dialling.{Dialling}
+use Rattle.oc_deeds.specs.declared.pace.Pace.{Pace}
 use Rattle.oc_server.specs.declared.turns.Turns.{Turns}
-use Rattle.oc_server.specs.declared.work.Work.{Work}
+use Rattle.oc_deeds.specs.declared.work.Work.{Work}
 use Rattle.oc_service.specs.Loading.{IsLoaded}
 use Rattle.oc_service.specs.OnSite.{header_of_settings, machine_on, probing_at_first}
 use Rattle.oc_service.specs.Running.{machine}
@@ -61,7 +63,7 @@ module _ {D L K : Type 0} (view : D → DiskView) (c : Settings) (me : ℕ) (pro
 pub loaded_areas : {D : Type 0} (view : D → DiskView) (c config : Settings) (me : ℕ) (d : Disks D) (k : KeptView D) → IsNodeOf view (header_of_settings c) me d k → config ≡ c → config.areas ≡ k.node.control.areas
 loaded_areas view c config me d k node is = ap (λ (x : Settings). x.areas) is ∙ sym (ap (λ (h : Header). h.areas) node.header)
 
--- as the machine of what a node does
+-- as the machine of the node's deeds
 pub loaded_machine : {D L K : Type 0} (view : D → DiskView) (c : Settings) (task : Task) (site : Site D L K) (turns : Turns D L K) → IsLoaded view c task site turns → AreHonest view (disks_in site.files)
     → machine turns ≡ machine_on view c task (disks_in site.files)
 loaded_machine view c task site turns loaded honest =

@@ -1,4 +1,4 @@
--- Turns of a server, as turns of the machine of what a node does.
+-- Turns of a server, as turns of the machine of a node's deeds.
 use Rattle.std.proofs.Common.{◌≡◌, ◌∙◌, ℕ, zero, suc, Bool, false, Option, None, Some, List, [], ◌∷◌, ◌++◌, length, refl, sym, ap, ap₂, subst}
 use Rattle.oc_config.specs.Settings.{Settings}
 use Rattle.oc_link.specs.Told.{AddsAll}
@@ -9,12 +9,12 @@ use Rattle.oc_keep.specs.KeptView.{IsHonest}
 use Rattle.oc_keep.specs.Promises.{IsSameNode}
 use Rattle.oc_model.specs.Node.{Header}
 use Rattle.oc_routes.specs.Verdicts.{NodeTerms, terms_of}
-use Rattle.oc_server.specs.Deeds.{Deed, Running, Setting, after_all, calls_of}
+use Rattle.oc_deeds.specs.Deeds.{Deed, Running, Setting, after_all, calls_of}
 use Rattle.oc_server.specs.Runs.{MayRead, Serves, Turned, due_in, reads_by}
 use Rattle.oc_server.specs.Scenes.{Did, running, setting}
 use Rattle.oc_server.specs.Settled.{deeds_of}
-use Rattle.oc_server.specs.Turns.{Observation, turn}
-use Rattle.oc_server.specs.declared.pace.Pace.{Pace}
+use Rattle.oc_deeds.specs.Turns.{Observation, turn}
+use Rattle.oc_deeds.specs.declared.pace.Pace.{Pace}
 use Rattle.oc_server.specs.declared.server.Server.{Server}
 use Rattle.oc_server.specs.declared.turns.Turns.{Turns}
 use Rattle.oc_probe.specs.declared.probing.Probing.{Probing}
@@ -28,7 +28,7 @@ use Rattle.oc_service.proofs.Stories.{Follows, follows_adds, follows_then, lent_
 abbrev pub machine_of : Running → Pace → Option Probing → Machine
 machine_of running pace probing = record { running = running; pace = pace; probing = probing }
 
--- by what requests are read stays
+-- the terms for reading requests are kept
 pub reads_stay : {D L K : Type 0} (a b : Server D L K) → IsSameNode a.kept.node.control b.kept.node.control → b.config ≡ a.config → reads_by b ≡ reads_by a
 reads_stay a b same config =
     ap (λ (me : ℕ). terms_of me b.kept.node.control.nodes b.config.rules b.config.key) same.me
@@ -50,7 +50,7 @@ module _ {D L K : Type 0} (view : D → DiskView) (takes fails : K → List ℕ 
     pub calls : IsHonest view old.server.kept → (all : Option (List Call)) → Follows (story new.server.link) all
         → until (story new.server.link) all ≡ all_calls_behind (setting old.server) told (machine old) (until (story old.server.link) all)
 
-  -- what came in a turn
+  -- the event of a turn
   pub heard_at : (due : Option ℕ) (old : Turns D L K) (new : Server D L K) (t : Observation) (all : Option (List Call)) → Follows (story new.link) all
       → MayRead story due old new t → MayHear (reads_by old.server) (until (story old.server.link) all) due t (machine old)
   heard_at None old new t all follows read = record {

@@ -1,14 +1,14 @@
--- The deeds of what was measured.
+-- The deeds for the measures.
 use Rattle.std.proofs.Common.{◌≡◌, ◌≢◌, ◌∙◌, ℕ, suc, ◌+◌, ◌<◌, ◌≤◌, List, [], ◌∷◌, ◌++◌, length, drop, get_or, ap, sym, eq-eqb, cond, append_assoc, append-nil, drop-cons, add-one}
 use Rattle.std.proofs.lemmas.List.{drop_all}
 use Rattle.std.proofs.lemmas.Bool.{ne_eqb}
 use Rattle.oc_updown.specs.declared.measure_lines.Measure.{Measure}
 use Rattle.oc_model.specs.declared.input.Input.TheVariants.{Measured}
-use Rattle.oc_server.specs.Deeds.{Deed, Says, Setting, Takes}
-use Rattle.oc_server.specs.Records.{told_ahead}
+use Rattle.oc_deeds.specs.Deeds.{Deed, Says, Setting, Takes}
+use Rattle.oc_deeds.specs.Records.{told_ahead}
 use Rattle.oc_service.specs.WhatNodeDoes.{own_measure, own_measures}
 
--- what is done with a measure of the node itself
+-- the deeds for a measure of the node itself
 abbrev pub taken : Setting → Measure → List Deed
 taken s m = Says (told_ahead s.log s.me (Measured m.peer m.rate m.hops)) ∷ Takes (Measured m.peer m.rate m.hops) ∷ []
 

@@ -1,4 +1,5 @@
--- What a loaded node did, told of the files from which it was loaded, of its link and of its output.
+-- The effect of a loaded node, on the files from which it was loaded, on its link and on its
+-- output.
 use Rattle.std.proofs.Common.{◌≡◌, ◌⊎◌, ◌∙◌, ℕ, ◌+◌, ◌<◌, false, Option, List, [], ◌∷◌, ◌++◌, length, inl, inr, refl, sym, ap, ap₂, subst}
 use Rattle.std.specs.List.{AllByRecursion}
 use Rattle.oc_content.specs.ContentFile.{groups_in}
@@ -22,17 +23,19 @@ use Rattle.oc_model.specs.Node.{Control, Header, Node}
 use Rattle.oc_model.specs.Step.{step}
 use Rattle.oc_routes.specs.Responses.{address_of}
 use Rattle.oc_routes.specs.Verdicts.{NodeTerms, terms_of}
-use Rattle.oc_server.specs.Answered.{AreAnswered}
-use Rattle.oc_server.specs.Deeds.{Deed, Setting, calls_of, inputs_of, line, lines}
+use Rattle.oc_deeds.specs.Answered.{AreAnswered}
+use Rattle.oc_deeds.specs.Deeds.{Deed, Setting, calls_of, inputs_of, line, lines}
 use Rattle.oc_server.specs.Moments.{AtEachPrefix}
-use Rattle.oc_server.specs.Parts.{Cuts}
+use Rattle.oc_deeds.specs.Under.{Cuts}
 use Rattle.oc_server.specs.Runs.{reads_by}
-use Rattle.oc_server.specs.Scenes.{BreaksBehind, CountsAll, Did, EndsOn, HasCause, Idle, LeavesAt, LeavesUnder, Noting, Taking, Under, WritesAt, running, setting, under_line}
-use Rattle.oc_server.specs.Turns.{Observation}
-use Rattle.oc_server.specs.Within.{IsWithin}
+use Rattle.oc_server.specs.Scenes.{BreaksBehind, Did, EndsOn, HasCause, LeavesAt, LeavesUnder, WritesAt, running, setting}
+use Rattle.oc_deeds.specs.Done.{CountsAll}
+use Rattle.oc_deeds.specs.Under.{Idle, Noting, Taking, Under, under_line}
+use Rattle.oc_deeds.specs.Turns.{Observation}
+use Rattle.oc_deeds.specs.Within.{IsWithin}
 use Rattle.oc_server.specs.declared.ends.TurnEnd.{TurnEnd}
 use Rattle.oc_server.specs.declared.ends.TurnEnd.TheVariants as ends
-use Rattle.oc_server.specs.declared.log.Log.{Log}
+use Rattle.oc_deeds.specs.declared.log.Log.{Log}
 use Rattle.oc_server.specs.declared.server.Server.{Server}
 use Rattle.oc_server.specs.declared.turns.Turns.{Turns}
 use Rattle.oc_server.proofs.Scenes.{broken_cause, broken_leaves, broken_text, did_node, setting_stays, still_honest}
@@ -95,7 +98,7 @@ module _ {D L K : Type 0} (view : D → DiskView) (takes fails : K → List ℕ 
       ap (λ (x : ℕ). terms_of x first.server.kept.node.control.nodes c.rules c.key) loaded.id
       ∙ ap (λ (x : Header). terms_of me x.nodes c.rules c.key) loaded.header
 
-  -- what is said of every crash under its own name is said under that of the files
+  -- a statement about every crash under the node's own name is one under that of the files
   named : (P : Header → ℕ → Type 0) → P (header_of first.server.kept.node.control) first.server.kept.node.control.me → P h me
   named P p = subst (λ (x : Header). P x me) loaded.header (subst (λ (x : ℕ). P (header_of first.server.kept.node.control) x) loaded.id p)
 
@@ -300,7 +303,7 @@ module _ {D L K : Type 0} (view : D → DiskView) (takes fails : K → List ℕ 
       moments_all end (at, did, breaks) honest =
           moments_on honest deeds at did under (breaks.moments (still_honest view takes fails faults story counts deeds l at did (honest_kept honest)))
 
-      -- what was written after the deeds
+      -- the bytes written after the deeds
       rest_on : (end : TurnEnd) (breaks : BreaksBehind view takes fails faults story counts end deeds under l last.server) → WritesAt takes fails breaks.0.sink last.server.sink end [] (under_line (setting_of c task) under)
       rest_on end (at, did, breaks) =
           subst (λ (x : Setting). WritesAt takes fails at.sink last.server.sink end [] (under_line x under)) (setting_stays view takes fails faults story counts l at did.same did.config did.log ∙ setting_is) breaks.text
@@ -417,7 +420,7 @@ abbrev pub EndsAs : {D L K : Type 0} → (D → DiskView) → (K → List ℕ �
 EndsAs view takes fails faults story counts s task d end e l m k j =
     NodeEnds (at_run view story counts takes fails s task d e l m k j) (λ text. takes k text j) (λ text. fails k text j × Rose (faults k) (faults j)) (setting_of s task) (Turned end)
 
--- the same of what it was handed and what came back
+-- the same for the objects given to the node and given back
 pub told_of : {D L K : Type 0} (view : D → DiskView) (takes fails : K → List ℕ → K → Type 0) (faults : K → ℕ) (story : L → Option (List Call)) (counts : L → LinkCounts)
     (takes_nothing : (k : K) → takes k [] k) (takes_then : (a b c : K) (x y : List ℕ) → takes a x b → takes b y c → takes a (x ++ y) c)
     (takes_fails : (a b c : K) (x y : List ℕ) → takes a x b → fails b y c → fails a (x ++ y) c)

@@ -6,7 +6,7 @@ use Rattle.oc_config.specs.Reading.{IsConfig}
 use Rattle.oc_config.specs.Settings.{Settings}
 use Rattle.oc_config.proofs.AddressBytes.{address_bytes}
 use Rattle.oc_http.specs.Writing.{IsHost}
-use Rattle.oc_server.specs.Scenes.{IsPlaced}
+use Rattle.oc_deeds.specs.Lawful.{IsPlaced}
 
 both : (a b : Bool) → (a && b) ≡ true → (a ≡ true) × (b ≡ true)
 both true true is = (refl, refl)

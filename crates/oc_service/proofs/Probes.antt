@@ -1,4 +1,4 @@
--- What is kept to probe, as it is made for a number of nodes.
+-- The state of probing, as it is made for a number of nodes.
 use Rattle.std.proofs.Common.{◌≡◌, ℕ, zero, suc, ◌+◌, ◌-◌, ◌≤◌, List, [], length, replicate, ap₂, sym, subst, arith}
 use Rattle.std.proofs.lemmas.List.{length-replicate}
 use Rattle.std.specs.List.{AllByRecursion}
@@ -6,7 +6,7 @@ use Rattle.oc_base.specs.Lawful.{IsNode}
 use Rattle.oc_base.proofs.Each.{all_append}
 use Rattle.oc_probe.specs.Turns.{RotationView, ids, others}
 use Rattle.oc_probe.specs.declared.probing.Probing.{Probing}
-use Rattle.oc_server.specs.Lawful.{IsMadeFor}
+use Rattle.oc_deeds.specs.Lawful.{IsMadeFor}
 use Rattle.oc_service.specs.OnSite.{probing_of}
 
 -- ids from one on that are within the nodes
@@ -28,6 +28,6 @@ made_for me nodes p is gauge rotation = record {
 abbrev probing_from : List (List ℕ) → RotationView → Probing
 probing_from gauge rotation = record { gauge = gauge; rotation = rotation }
 
--- and it is what a node begins with
+-- and a node begins with it
 pub first_is : (me nodes : ℕ) (p : Probing) → p.gauge ≡ replicate nodes [] → p.rotation ≡ record { me = me; nodes = nodes; coming = others me nodes } → p ≡ probing_of me nodes
 first_is me nodes p gauge rotation = ap₂ probing_from gauge rotation

@@ -5,16 +5,16 @@ use Rattle.oc_base.specs.Groups.{shelf}
 use Rattle.oc_model.specs.declared.input.Input.{Input}
 use Rattle.oc_model.specs.declared.input.Input.TheVariants.{Measured}
 use Rattle.oc_model.specs.Node.{Node}
-use Rattle.oc_server.specs.Brief.{told_first}
-use Rattle.oc_server.specs.Deeds.{Deed, Says, Setting, Takes, lines}
-use Rattle.oc_server.specs.Parts.{Cuts}
-use Rattle.oc_server.specs.Recorded.{IsRecordOf, IsRecorded}
-use Rattle.oc_server.specs.Records.{record_head, told_ahead}
-use Rattle.oc_server.specs.Scenes.{Under}
-use Rattle.oc_server.specs.Turns.{Observation}
-use Rattle.oc_server.specs.declared.log.Log.{Log}
-use Rattle.oc_server.specs.declared.log.Log.TheVariants as logs
-use Rattle.oc_server.proofs.Recorded.{Leads, inputs_told, leads_front, leads_taken, leads_text, leads_then, leads_turn, next_of}
+use Rattle.oc_deeds.specs.Brief.{told_first}
+use Rattle.oc_deeds.specs.Deeds.{Deed, Says, Setting, Takes, lines}
+use Rattle.oc_deeds.specs.Under.{Cuts}
+use Rattle.oc_deeds.specs.Recorded.{IsRecordOf, IsRecorded}
+use Rattle.oc_deeds.specs.Records.{record_head, told_ahead}
+use Rattle.oc_deeds.specs.Under.{Under}
+use Rattle.oc_deeds.specs.Turns.{Observation}
+use Rattle.oc_deeds.specs.declared.log.Log.{Log}
+use Rattle.oc_deeds.specs.declared.log.Log.TheVariants as logs
+use Rattle.oc_deeds.proofs.Recorded.{Leads, inputs_told, leads_front, leads_taken, leads_text, leads_then, leads_turn, next_of}
 use Rattle.oc_updown.specs.declared.measure_lines.Measure.{Measure}
 use Rattle.oc_service.specs.WhatNodeDoes.{Machine, begins, begun, behind_turn, node_behind, node_deeds, own_measure, own_measures, turn_deeds, turns_deeds}
 
@@ -42,7 +42,7 @@ module _ (s : Setting) (recorded : s.log ≡ logs.Record) where
   rest_whole : (ms : List Measure) (ts : List Observation) (m : Machine) → Whole (rest ms ts m)
   rest_whole ms ts m = leads_then s None None None (own_measures s ms) (turns_deeds s ts (begun s ms m)) (own_whole ms) (turns_whole ts (begun s ms m))
 
-  -- the beginning, and a front of what is done after it
+  -- the beginning, and a prefix of the deeds after it
   begun_record : (n : Node) (ds behind : List Deed) → Whole (ds ++ behind) → IsRecorded s (record_head n.control (shelf n.groups)) (Says (told_first s.log n.control (shelf n.groups)) ∷ ds) behind
   begun_record n ds behind whole =
       let front = leads_front s None None ds behind whole in

@@ -1,4 +1,4 @@
--- What a node gives its connections, from what its turns did.
+-- The replies that a node gives its connections, from the deeds of its turns.
 use Rattle.std.proofs.Common.{◌≡◌, ◌⊎◌, ◌∙◌, ℕ, Option, None, Some, List, [], ◌∷◌, ◌++◌, refl, sym, ap, subst}
 use Rattle.std.specs.Prelude.{◌==◌, if◌then◌else◌, Bool, true, false}
 use Rattle.std.proofs.lemmas.List.{append_assoc}
@@ -12,19 +12,19 @@ use Rattle.oc_model.specs.declared.answer.Answer.TheVariants as answers
 use Rattle.oc_model.specs.declared.input.Input.{Input}
 use Rattle.oc_model.specs.declared.input.Input.TheVariants.{Measured}
 use Rattle.oc_model.specs.declared.message.Message.{Message}
-use Rattle.oc_server.proofs.Answered.{turn_answers}
-use Rattle.oc_server.proofs.Chains.{after_append, calls_append}
-use Rattle.oc_server.proofs.RepliedDeeds.{given_front, given_whole}
-use Rattle.oc_server.proofs.Settled.{AllQuiet, all_quiet, ordered_front, ordered_then}
-use Rattle.oc_server.specs.Answered.{AreAnswered, AreAnsweredBy, answer_of, back_of}
-use Rattle.oc_server.specs.Deeds.{Deed, Running, Says, Setting, Takes, after, after_all, calls_of}
-use Rattle.oc_server.specs.Parts.{Cuts}
-use Rattle.oc_server.specs.Records.{told_ahead}
-use Rattle.oc_server.specs.Replying.{IsOrdered, phase_on}
-use Rattle.oc_server.specs.Scenes.{Under}
-use Rattle.oc_server.specs.Settled.{AreServed, Fits, IsSettled}
-use Rattle.oc_server.specs.Turns.{Observation}
-use Rattle.oc_server.specs.declared.work.Work.{Work}
+use Rattle.oc_deeds.proofs.Answered.{turn_answers}
+use Rattle.oc_deeds.proofs.Chains.{after_append, calls_append}
+use Rattle.oc_deeds.proofs.RepliedDeeds.{given_front, given_whole}
+use Rattle.oc_deeds.proofs.Settled.{AllQuiet, all_quiet, ordered_front, ordered_then}
+use Rattle.oc_deeds.specs.Answered.{AreAnswered, AreAnsweredBy, answer_of, back_of}
+use Rattle.oc_deeds.specs.Deeds.{Deed, Running, Says, Setting, Takes, after, after_all, calls_of}
+use Rattle.oc_deeds.specs.Under.{Cuts}
+use Rattle.oc_deeds.specs.Records.{told_ahead}
+use Rattle.oc_deeds.specs.Replying.{IsOrdered, phase_on}
+use Rattle.oc_deeds.specs.Under.{Under}
+use Rattle.oc_deeds.specs.Settled.{AreServed, Fits, IsSettled}
+use Rattle.oc_deeds.specs.Turns.{Observation}
+use Rattle.oc_deeds.specs.declared.work.Work.{Work}
 use Rattle.oc_updown.specs.declared.measure_lines.Measure.{Measure}
 use Rattle.oc_service.specs.WhatNodeDoes.{Machine, begins, begun, behind_turn, behind_turns, node_behind, node_deeds, own_measure, own_measures, turn_deeds, turns_deeds}
 use Rattle.oc_service.specs.WhatNodeGives.{ServesFrom}
@@ -151,7 +151,7 @@ own_answered answer back s (x ∷ ms) a =
     (one_answered answer back s (told_ahead s.log s.me (Measured x.peer x.rate x.hops)) (Measured x.peer x.rate x.hops) (x.from == s.me) a)
     (λ p q. own_answered p q s ms (after_all (own_measure s x) a))
 
--- a turn begins with a reading of the clock, so it is all the same what was answered before
+-- a turn begins with a reading of the clock, so the earlier answers make no difference
 turn_answered : (answer : Answer) (back : Option Message) (s : Setting) (t : Observation) (m : Machine) → AreAnsweredBy answer back s (turn_deeds s t m) m.running
 turn_answered answer back s t m = turn_answers m.pace m.probing t s m.running
 

@@ -1,4 +1,4 @@
--- What a run tells, where its output is told of in other words that follow.
+-- The end of a run, with its output stated in other relations that follow.
 use Rattle.std.proofs.Common.{ℕ, Option, List, [], ◌∷◌, ap}
 use Rattle.oc_config.specs.Settings.{Settings}
 use Rattle.oc_io.specs.DiskView.{DiskView}
@@ -7,9 +7,10 @@ use Rattle.oc_keep.specs.declared.errors.KeepLoad.{KeepLoad}
 use Rattle.oc_link.specs.declared.call.Call.{Call}
 use Rattle.oc_link.specs.declared.counts.LinkCounts.{LinkCounts}
 use Rattle.oc_model.specs.Node.{Header, Node}
-use Rattle.oc_server.specs.Deeds.{Deed}
+use Rattle.oc_deeds.specs.Deeds.{Deed}
 use Rattle.oc_server.specs.Moments.{AtEachPrefix, node_after}
-use Rattle.oc_server.specs.Scenes.{Under, WritesAt}
+use Rattle.oc_deeds.specs.Under.{Under}
+use Rattle.oc_server.specs.Scenes.{WritesAt}
 use Rattle.oc_server.specs.declared.ends.TurnEnd.{TurnEnd}
 use Rattle.oc_server.specs.declared.ends.TurnEnd.TheVariants as ends
 use Rattle.oc_service.specs.AtAnyMoment.{AlwaysRecovers}
@@ -23,7 +24,7 @@ pub record TellsRun (r q : OnRun) : Type 0 where
   pub stopped : (end : TurnEnd) (deeds : List Deed) (under : Under) → r.stopped end deeds under → q.stopped end deeds under
   pub deaf : r.deaf → q.deaf
 
--- An output that is seen as another one: what the one takes, the other takes
+-- An output that is seen as another one: each takes what the other takes
 module _ {D K J : Type 0} (view : D → DiskView) (takes fails : K → List ℕ → K → Type 0) (adds adds_less : J → List ℕ → J → Type 0) (seen : K → J)
     (added : (a b : K) (text : List ℕ) → takes a text b → adds (seen a) text (seen b)) (added_less : (a b : K) (text : List ℕ) → fails a text b → adds_less (seen a) text (seen b)) where
   -- at each prefix of deeds

@@ -1,4 +1,4 @@
--- A loaded node that listens, takes what was measured, and turns.
+-- A loaded node that listens, takes the measures, and turns.
 use Rattle.std.proofs.Common.{◌≡◌, ◌⊎◌, ◌∙◌, ℕ, ◌+◌, ◌<◌, Option, None, Some, List, [], ◌∷◌, ◌++◌, length, inl, inr, refl, sym, ap, ap₂, subst, arith, append-nil, length-append}
 use Rattle.std.specs.Prelude.{◌==◌, if◌then◌else◌, Bool, true, false}
 use Rattle.std.specs.Option.{option_map}
@@ -14,22 +14,24 @@ use Rattle.oc_keep.specs.KeptView.{IsHonest, KeptView, node_of}
 use Rattle.oc_model.specs.declared.input.Input.{Input}
 use Rattle.oc_model.specs.declared.input.Input.TheVariants.{Measured}
 use Rattle.oc_routes.specs.Verdicts.{NodeTerms}
-use Rattle.oc_server.specs.Deeds.{Deed, Running, Says, Setting, Takes, after_all, calls_of}
-use Rattle.oc_server.specs.Parts.{Cuts, Stops}
-use Rattle.oc_server.specs.Records.{told_ahead}
+use Rattle.oc_deeds.specs.Deeds.{Deed, Running, Says, Setting, Takes, after_all, calls_of}
+use Rattle.oc_deeds.specs.Under.{Cuts}
+use Rattle.oc_server.specs.Parts.{Stops}
+use Rattle.oc_deeds.specs.Records.{told_ahead}
 use Rattle.oc_server.specs.Runs.{MayRead, ServeEnds, ServesUpTo, TurnStops, due_in, reads_by}
 use Rattle.oc_server.specs.Scenes.{BreaksBehind, Did, running, setting}
-use Rattle.oc_server.specs.Settled.{AreServed, IsSettled, deeds_until, deeds_up_to}
-use Rattle.oc_server.specs.Turns.{Observation}
-use Rattle.oc_server.specs.declared.came.Came.TheVariants as comes
+use Rattle.oc_deeds.specs.Settled.{AreServed, IsSettled}
+use Rattle.oc_server.specs.Settled.{deeds_until, deeds_up_to}
+use Rattle.oc_deeds.specs.Turns.{Observation}
+use Rattle.oc_deeds.specs.declared.came.Came.TheVariants as comes
 use Rattle.oc_server.specs.declared.ends.TurnEnd.{TurnEnd}
 use Rattle.oc_server.specs.declared.ends.TurnEnd.TheVariants as ends
 use Rattle.oc_server.specs.declared.server.Server.{Server}
 use Rattle.oc_server.specs.declared.turns.Turns.{Turns}
-use Rattle.oc_server.specs.declared.work.Work.{Work}
+use Rattle.oc_deeds.specs.declared.work.Work.{Work}
 use Rattle.oc_updown.specs.declared.measure_lines.Measure.{Measure}
-use Rattle.oc_server.proofs.Chains.{calls_append}
-use Rattle.oc_server.proofs.Parts.{cuts_behind, cuts_more}
+use Rattle.oc_deeds.proofs.Chains.{calls_append}
+use Rattle.oc_deeds.proofs.Cuts.{cuts_behind, cuts_more}
 use Rattle.oc_server.proofs.Scenes.{breaks_then, did_then, setting_stays, still_honest}
 use Rattle.oc_service.specs.Measuring.{begins_with}
 use Rattle.oc_service.specs.Running.{Halts, Listens, RunEnds, Runs, machine}
@@ -40,7 +42,7 @@ use Rattle.oc_service.proofs.Machines.{Made, heard_at, machine_of, made, made_de
 use Rattle.oc_service.proofs.Replies.{begins_quiet, begins_works, serves_behind, serves_front}
 use Rattle.oc_service.proofs.Stories.{Follows, follows_adds, follows_self, follows_then, until_then}
 
--- taking what was measured makes no call
+-- taking the measures makes no call
 one_calls : (s : Setting) (text : List ℕ) (i : Input) (a : Running) (b : Bool) → calls_of s (if b then Says text ∷ Takes i ∷ [] else []) a ≡ []
 one_calls s text i a true = refl
 one_calls s text i a false = refl
@@ -62,7 +64,7 @@ module _ {D L K : Type 0} (view : D → DiskView) (takes fails : K → List ℕ 
   abbrev s : Setting
   s = setting old.server
 
-  -- what is done before the first turn
+  -- the deeds before the first turn
   abbrev own : List Deed
   own = begins_on s old.server.config.measures old.server.kept.node.control old.server.kept.content.shelves
 
@@ -95,7 +97,7 @@ module _ {D L K : Type 0} (view : D → DiskView) (takes fails : K → List ℕ 
   honest_listening : IsHonest view old.server.kept → IsHonest view listening.kept
   honest_listening honest = subst (λ (k : KeptView D). IsHonest view k) (sym kept_is) honest
 
-  -- what the law of turns says of deeds since this server
+  -- the law of turns for the deeds since this server
   abbrev IsServedSince : Server D L K → List Deed → Option (List Call) → Type 0
   IsServedSince at ds z =
       (made later : List Call) → IsHonest view at.kept → story at.link ≡ Some made → z ≡ Some later → at.works ≡ [] → IsSettled made at.works → AreServed (setting at) made later ds (running at)
@@ -128,7 +130,7 @@ module _ {D L K : Type 0} (view : D → DiskView) (takes fails : K → List ℕ 
         subst (λ (r : Running). AddsAll (calls_of s own r) (story listening.link) (story at.link)) listening_running
         (subst (λ (x : Setting). AddsAll (calls_of x own (running listening)) (story listening.link) (story at.link)) listening_setting (did.done (honest_listening honest)).calls)
 
-    -- what is served by deeds since then is so by all since the node listens
+    -- replies served by the deeds since then are so by all deeds since the node listens
     serves_all : (ds all : List Deed) (z : Option (List Call)) → own ++ ds ≡ all → (IsHonest view old.server.kept → Follows (story at.link) z) → IsServedSince at ds z
         → IsHonest view old.server.kept → old.server.works ≡ [] → ServesFrom s all (running old.server) (story listening.link) z
     serves_all ds all z is follows served honest none =
@@ -139,7 +141,7 @@ module _ {D L K : Type 0} (view : D → DiskView) (takes fails : K → List ℕ 
         subst (λ (x : Setting). AreServed x made later ds (running at)) setting_at
         (served made later (honest_at honest) told behind left (subst (λ (ws : List Work). IsSettled made ws) (sym left) settled))))
 
-    -- taking what was measured makes no call
+    -- taking the measures makes no call
     calls_at : IsHonest view old.server.kept → (all : Option (List Call)) → Follows (story at.link) all → until (story at.link) all ≡ until (story listening.link) all
     calls_at honest all follows =
         until_then (calls_of (setting listening) own (running listening)) (story listening.link) (story at.link) all (did.done (honest_listening honest)).calls follows
@@ -199,7 +201,7 @@ module _ {D L K : Type 0} (view : D → DiskView) (takes fails : K → List ℕ 
         serves = serves_all turns.deeds all_deeds (story last.server.link) refl follows_made served;
       }
 
-      -- what a turn that ended partway through was told
+      -- the observation of a turn that ended partway through
       module _ (end : TurnEnd) (new : Turns D L K) (few : n < most) (turn_stops : TurnStops view takes fails faults story counts end last new) where
         abbrev last_told : Observation
         last_told = turn_stops.told

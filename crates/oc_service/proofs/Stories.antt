@@ -36,7 +36,7 @@ until_then cs x None (Some all) adds follows = absurd follows
 until_then cs None (Some q) (Some all) adds follows = absurd adds
 until_then cs (Some p) (Some q) (Some all) adds follows = ap Some adds
 
--- what was lent, by the calls until then
+-- the bytes lent, by the calls until then
 pub lent_until : (before : ℕ) (x y all : Option (List Call)) (event : LinkEvent) (bytes lent : List ℕ) → Follows y all
     → IsLent (behind_reading before x) y event bytes lent → IsLent (behind_reading before (until x all)) (until x all) event bytes lent
 lent_until before None y None event bytes lent follows is = tt

@@ -7,7 +7,7 @@ use Rattle.oc_keep.specs.Promises.{IsSameNode}
 use Rattle.oc_model.specs.declared.input.Input.{Input}
 use Rattle.oc_model.specs.Node.{Header}
 use Rattle.oc_server.specs.Scenes.{KeepsAll}
-use Rattle.oc_server.specs.Within.{IsWithin}
+use Rattle.oc_deeds.specs.Within.{IsWithin}
 
 -- at a moment of the same node
 within_same : {D : Type 0} (i : Input) (old new : KeptView D) → IsSameNode old.node.control new.node.control

@@ -1,17 +1,19 @@
--- What every crash leaves, at whichever moment of a run.
+-- The state after every crash, at any moment of a run.
 use Rattle.std.specs.Prelude.{ℕ, List}
 use Rattle.oc_io.specs.DiskView.{DiskView}
 use Rattle.oc_keep.specs.Files.{Disks, IsLeft}
 use Rattle.oc_keep.specs.Trials.{after_inputs, first_node}
 use Rattle.oc_model.specs.Node.{Header, Node}
-use Rattle.oc_server.specs.Deeds.{Deed, inputs_of}
+use Rattle.oc_deeds.specs.Deeds.{Deed, inputs_of}
 use Rattle.oc_server.specs.Looks.{RunsSafely}
 use Rattle.oc_server.specs.Moments.{AtEachPrefix}
-use Rattle.oc_server.specs.Scenes.{EndsOn, Under}
+use Rattle.oc_server.specs.Scenes.{EndsOn}
+use Rattle.oc_deeds.specs.Under.{Under}
 
--- From these files to those, and from this output to that one: while the node was loaded every crash left what one at the start would have left, and
--- nothing was written; then, at each prefix of its deeds, what these say was written, and every crash leaves the node of their inputs, or with that
--- of the next deed; and with this under way after them all, so too.
+-- From these files to those, and from this output to that one: while the node was loaded every
+-- crash left the files as a crash at the start would have left them, and nothing was written; then,
+-- at each prefix of its deeds, their lines were written, and every crash leaves the node of their
+-- inputs, or with that of the next deed; and the same with this under way after them all.
 pub record AlwaysRecovers {D K : Type 0} (view : D → DiskView) (h : Header) (me : ℕ) (takes : K → List ℕ → K → Type 0) (says : Deed → List ℕ) (deeds : List Deed) (under : Under) (old new : Disks D) (sink written : K) : Type 0 where
   pub loaded : Disks D
   pub done : Disks D

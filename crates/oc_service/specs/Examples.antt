@@ -8,15 +8,16 @@ use Rattle.oc_link.specs.declared.event.LinkEvent.{LinkEvent}
 use Rattle.oc_link.specs.declared.event.LinkEvent.TheVariants as events
 use Rattle.oc_link.specs.declared.event.Loss.TheVariants as losses
 use Rattle.oc_model.specs.Node.{new_node}
+use Rattle.oc_routes.specs.Refusals.{refusing}
 use Rattle.oc_routes.specs.Verdicts.{arrival}
 use Rattle.oc_routes.specs.declared.verdict.Verdict.TheVariants as verdicts
 use Rattle.oc_routes.specs.declared.refused.Refused.{Refused}
 use Rattle.oc_routes.specs.declared.refused.Refused.TheVariants as refusals
-use Rattle.oc_server.specs.Deeds.{Deed, Drops, Reads, Refuses, Running, Sees, Setting, lines}
-use Rattle.oc_server.specs.Turns.{Observation, turn}
-use Rattle.oc_server.specs.declared.came.Came.TheVariants as comes
-use Rattle.oc_server.specs.declared.log.Log.TheVariants.{Inputs}
-use Rattle.oc_server.specs.declared.pace.Pace.{Pace}
+use Rattle.oc_deeds.specs.Deeds.{Deed, Drops, Reads, Refuses, Running, Sees, Setting, lines}
+use Rattle.oc_deeds.specs.Turns.{Observation, turn}
+use Rattle.oc_deeds.specs.declared.came.Came.TheVariants as comes
+use Rattle.oc_deeds.specs.declared.log.Log.TheVariants.{Inputs}
+use Rattle.oc_deeds.specs.declared.pace.Pace.{Pace}
 use Rattle.oc_service.specs.Alike.{AreAlike, told_request}
 use Rattle.oc_service.specs.Failures.{AreBorneOut}
 
@@ -30,7 +31,7 @@ idle = record { node = new_node (record { nodes = 2; chain = 1; chunk = 4096; ar
 abbrev ticked : Pace
 ticked = record { last = Some 0; interval = 100; most = 1000; whole = false; second = None }
 
--- what a quiet turn is told
+-- the observation of a quiet turn
 abbrev quiet : Observation
 quiet = record { before = 0; event = events.Quiet; bytes = []; came = comes.Nothing; now = 5; median = 0; started = 5; seconds = 7 }
 
@@ -40,18 +41,18 @@ request coming = events.Request (arrival 8 1 false coming)
 
 -- A turn that is told such a request, by which these bytes came new, and of which this many are held, and which refuses it.
 abbrev refuses : Coming → List ℕ → ℕ → Refused → List Deed
-refuses coming bytes count why = turn ticked None (told_request quiet (arrival 8 1 false coming) bytes (comes.Request 8 count (verdicts.Refuse why))) example idle
+refuses coming bytes count why = turn ticked None (told_request quiet (arrival 8 1 false coming) bytes (comes.Request 8 count (verdicts.Refuse (refusing why)))) example idle
 
 pub record AreTold : Type 0 where
   -- `! source` after a read that failed, and `! write` after a reply that could not be sent
-  pub reads : refuses comings.Failed (codes "GE") 2 refusals.Source ≡ Reads 0 ∷ Sees (request comings.Failed) 100 (codes "GE") ∷ Reads 5 ∷ Refuses 8 2 refusals.Source ∷ []
+  pub reads : refuses comings.Failed (codes "GE") 2 refusals.Source ≡ Reads 0 ∷ Sees (request comings.Failed) 100 (codes "GE") ∷ Reads 5 ∷ Refuses 8 2 (refusing refusals.Source) ∷ []
   pub read : AreBorneOut events.Quiet (refuses comings.Failed (codes "GE") 2 refusals.Source)
   pub sent : AreBorneOut events.Quiet (Sees (events.Gone 8 losses.Failed) 100 [] ∷ Reads 5 ∷ Drops 8 true ∷ [])
   -- and not after a request that ended, nor a connection that gave way
   pub ended : AreBorneOut events.Quiet (refuses comings.Ended (codes "GE") 2 refusals.Source) → ⊥
   pub gave_way : AreBorneOut events.Quiet (Sees (events.Gone 8 losses.GaveWay) 100 [] ∷ Reads 5 ∷ Drops 8 true ∷ []) → ⊥
   -- nor a turn later
-  pub late : AreBorneOut events.Quiet (Sees (request comings.Failed) 100 [] ∷ Sees events.Quiet 100 [] ∷ Refuses 8 2 refusals.Source ∷ []) → ⊥
+  pub late : AreBorneOut events.Quiet (Sees (request comings.Failed) 100 [] ∷ Sees events.Quiet 100 [] ∷ Refuses 8 2 (refusing refusals.Source) ∷ []) → ⊥
 
 pub record AreCut : Type 0 where
   -- a request in two pieces

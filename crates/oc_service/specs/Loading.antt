@@ -10,15 +10,17 @@ use Rattle.oc_keep.specs.Promises.{IsNodeOf, LoadsSafely, RefusesNode}
 use Rattle.oc_keep.specs.declared.errors.KeepLoad.{KeepLoad}
 use Rattle.oc_model.specs.declared.message.Message.{Message}
 use Rattle.oc_probe.specs.declared.probing.Probing.{Probing}
-use Rattle.oc_server.specs.Lawful.{IsMadeFor, IsReady}
-use Rattle.oc_server.specs.Pace.{first_pace, most_interval}
-use Rattle.oc_server.specs.Records.{is_record}
+use Rattle.oc_deeds.specs.Lawful.{IsMadeFor}
+use Rattle.oc_server.specs.Lawful.{IsReady}
+use Rattle.oc_deeds.specs.Pace.{first_pace, most_interval}
+use Rattle.oc_deeds.specs.Records.{is_record}
 use Rattle.oc_server.specs.declared.turns.Turns.{Turns}
 use Rattle.oc_service.specs.OnSite.{header_of_settings, probing_at_first}
 use Rattle.oc_service.specs.declared.running.Task.{Task}
 use Rattle.oc_service.specs.declared.site.Site.{Site}
 
--- what a node keeps besides its files: the areas, nothing to be sent, and what it probes by
+-- the state of a node besides its files: the areas, no messages to send, and the state of its
+-- probing
 pub record IsEquipped (c : Settings) (probes : Bool) (me : ℕ) (areas : List ℕ) (outbox : List Message) (probing : Option Probing) : Type 0 where
   pub same : areas ≡ c.areas
   pub bytes : AllByRecursion (λ a. a ≤ MAX_AREA) areas
@@ -26,7 +28,8 @@ pub record IsEquipped (c : Settings) (probes : Bool) (me : ℕ) (areas : List �
   pub first : probing ≡ probing_at_first probes me (length c.addresses)
   pub made : IfSome probing (IsMadeFor (length c.addresses))
 
--- It is the node that the files recover, ready to turn, with nothing to send and nothing under way.
+-- The node recovered from the files, ready to turn, with no message to send and no request under
+-- way.
 pub record IsLoaded {D L K : Type 0} (view : D → DiskView) (c : Settings) (task : Task) (site : Site D L K) (turns : Turns D L K) : Type 0 where
   pub ready : IsReady turns
   pub node : IsNodeOf view (header_of_settings c) task.me (disks_in site.files) turns.server.kept
@@ -41,7 +44,7 @@ pub record IsLoaded {D L K : Type 0} (view : D → DiskView) (c : Settings) (tas
   pub link : turns.server.link ≡ site.link
   pub sink : turns.server.sink ≡ site.sink
 
--- It was not loaded, for this cause, and what it was to run on came back.
+-- The node was not loaded, for this reason, and its site was given back.
 pub record IsUnloaded {D L K : Type 0} (view : D → DiskView) (c : Settings) (me : ℕ) (site back : Site D L K) (error : KeepLoad) : Type 0 where
   pub refuses : RefusesNode view (length c.addresses) (disks_in site.files) (disks_in back.files) error
   pub safely : LoadsSafely view (header_of_settings c) me (disks_in site.files) (disks_in back.files)

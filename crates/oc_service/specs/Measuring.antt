@@ -1,8 +1,8 @@
--- What was measured, as a part of what a node does.
+-- The measures, as a part of a node's deeds.
 use Rattle.std.specs.Prelude.{List}
 use Rattle.oc_model.specs.declared.input.Input.{Input}
 use Rattle.oc_model.specs.declared.input.Input.TheVariants.{Measured}
-use Rattle.oc_server.specs.Parts.{Part}
+use Rattle.oc_deeds.specs.Parts.{Part}
 use Rattle.oc_service.specs.WhatNodeDoes.{begins, own_measure, own_measures}
 use Rattle.oc_updown.specs.declared.measure_lines.Measure.{Measure}
 
@@ -10,14 +10,14 @@ use Rattle.oc_updown.specs.declared.measure_lines.Measure.{Measure}
 abbrev pub input_of : Measure → Input
 input_of m = Measured m.peer m.rate m.hops
 
--- it is taken, if it is the node's own
+-- a measure is taken, if it is the node's own
 abbrev pub takes_own_measure : Measure → Part
 takes_own_measure m s a = own_measure s m
 
--- each of these is
+-- each of these measures is taken, if it is the node's own
 abbrev pub takes_own_measures : List Measure → Part
 takes_own_measures ms s a = own_measures s ms
 
--- how a node begins with these
+-- the beginning of a node with these measures
 abbrev pub begins_with : List Measure → Part
 begins_with ms s a = begins s ms a.node

@@ -1,4 +1,4 @@
--- What the run of a node does to its three files, its link and its output.
+-- The effect of a node's run on its three files, its link and its output.
 use Rattle.std.specs.Prelude.{◌≡◌, ◌⊎◌, ℕ, ◌+◌, ◌<◌, Bool, true, false, Option, Some, None, List, [], ◌∷◌, ◌++◌, length, replicate, take}
 use Rattle.std.specs.List.{AllByRecursion}
 use Rattle.std.specs.Option.{option_map}
@@ -25,14 +25,16 @@ use Rattle.oc_probe.specs.Turns.{others}
 use Rattle.oc_probe.specs.declared.probing.Probing.{Probing}
 use Rattle.oc_routes.specs.Responses.{address_of}
 use Rattle.oc_routes.specs.Verdicts.{NodeTerms, terms_of}
-use Rattle.oc_server.specs.Deeds.{Deed, Setting, calls_of, inputs_of, line, lines}
-use Rattle.oc_server.specs.Pace.{most_interval}
-use Rattle.oc_server.specs.Parts.{Cuts}
-use Rattle.oc_server.specs.Recorded.{IsRecordOf}
-use Rattle.oc_server.specs.Records.{is_record}
-use Rattle.oc_server.specs.Scenes.{CountsAll, CountsAt, Idle, Taking, Under, WritesAt, under_line}
-use Rattle.oc_server.specs.Turns.{Observation}
-use Rattle.oc_server.specs.Within.{IsWithin}
+use Rattle.oc_deeds.specs.Deeds.{Deed, Setting, calls_of, inputs_of, line, lines}
+use Rattle.oc_deeds.specs.Pace.{most_interval}
+use Rattle.oc_deeds.specs.Under.{Cuts}
+use Rattle.oc_deeds.specs.Recorded.{IsRecordOf}
+use Rattle.oc_deeds.specs.Records.{is_record}
+use Rattle.oc_deeds.specs.Done.{CountsAll}
+use Rattle.oc_server.specs.Scenes.{CountsAt, WritesAt}
+use Rattle.oc_deeds.specs.Under.{Idle, Taking, Under, under_line}
+use Rattle.oc_deeds.specs.Turns.{Observation}
+use Rattle.oc_deeds.specs.Within.{IsWithin}
 use Rattle.oc_server.specs.declared.ends.TurnEnd.{TurnEnd}
 use Rattle.oc_server.specs.declared.ends.TurnEnd.TheVariants as ends
 use Rattle.oc_service.specs.AtAnyMoment.{AlwaysRecovers}
@@ -46,19 +48,20 @@ use Rattle.oc_service.specs.declared.running.Task.{Task}
 
 -- A node of a configuration
 
--- among which nodes it is
+-- the header of the node's network
 abbrev pub header_of_settings : Settings → Header
 header_of_settings c = header (length c.addresses) c.chain c.chunk c.areas
 
--- which node it is, the addresses of all, the key of the network, and what is written of inputs
+-- the number of the node, the addresses of all nodes, the key of the network, and the form of the
+-- log
 abbrev pub setting_of : Settings → Task → Setting
 setting_of c task = record { me = task.me; addresses = c.addresses; key = c.key; log = task.log }
 
--- by what it reads requests
+-- the terms by which the node reads requests
 abbrev pub terms_in : Settings → ℕ → NodeTerms
 terms_in c me = terms_of me (length c.addresses) c.rules c.key
 
--- by what it probes at first: no rate of any peer, and all other nodes in turn
+-- the state of probing at first: no rates of peers, and all other nodes in turn
 abbrev pub probing_of : ℕ → ℕ → Probing
 probing_of me nodes = record { gauge = replicate nodes []; rotation = record { me = me; nodes = nodes; coming = others me nodes } }
 
@@ -66,13 +69,13 @@ abbrev pub probing_at_first : Bool → ℕ → ℕ → Option Probing
 probing_at_first true me nodes = Some (probing_of me nodes)
 probing_at_first false me nodes = None
 
--- the node that its files recover, as the machine of what a node does
+-- the machine of the node recovered from its files
 abbrev pub machine_on : {D : Type 0} → (D → DiskView) → Settings → Task → Disks D → Machine
 machine_on view c task d = at_first (is_record task.log) (most_interval task.probes task.me) (probing_at_first task.probes task.me (length c.addresses)) (first_node view (header_of_settings c) task.me d)
 
 -- Its link
 
--- it waits where the node listens, and then each deed makes its calls
+-- the link listens, and then each deed makes its calls
 abbrev pub node_calls : Settings → Task → List Deed → Machine → List Call
 node_calls c task ds m = acts.Listen (address_of c.listens task.me) ∷ calls_of (setting_of c task) ds m.running
 
@@ -82,9 +85,11 @@ heard_before c me old new = option_map (λ (cs : List Call). cs ++ acts.Listen (
 
 -- All turns
 
--- The deeds are those of what a node does, in this many turns, by what its link told. Each made its calls, each connection was given the
--- replies to its requests, a line of a failure was written only where its link told of one, a record tells their inputs, which are within
--- their ranges, and every crash leaves the node that took them, at every moment of the run those of a prefix, whose lines were written.
+-- The deeds are those of the machine, in this number of turns, for the reports of the link. Each
+-- deed made its calls, each connection was given the replies to its requests, a line of a failure
+-- was written only if the link reported one, a record has their inputs, which are within their
+-- ranges, and every crash leaves the node that took them; at every moment of the run the same holds
+-- of a prefix of the deeds, whose lines were written.
 pub record DidOn {D L K : Type 0} (view : D → DiskView) (story : L → Option (List Call)) (counts : L → LinkCounts) (takes : K → List ℕ → K → Type 0) (c : Settings) (task : Task) (deeds : List Deed) (old new : Disks D) (link after : L) (sink written : K) : Type 0 where
   pub told : List Observation
   pub many : length told ≡ task.turns
@@ -103,7 +108,8 @@ pub record DidOn {D L K : Type 0} (view : D → DiskView) (story : L → Option 
 
 -- An early end
 
--- what every crash leaves where it ended so with this under way: where a disk or the output failed, perhaps with one more input
+-- the state after every crash if the run ended with this under way: if a disk or the output failed,
+-- perhaps with one more input
 abbrev pub LeavesOne : {D : Type 0} → (D → DiskView) → Header → ℕ → Disks D → Node → Under → Type 0
 LeavesOne view h me d n (Taking i) = Leaves view h me d (SameAsEither n (step n i).node)
 LeavesOne view h me d n under = Survives view h me d n
@@ -117,7 +123,8 @@ LeavesBehind view h me d end n under = LeavesOne view h me d n Idle
 abbrev pub IsFullFor : {D : Type 0} → (D → DiskView) → Input → Node → Disks D → Disks D → Type 0
 IsFullFor view i n old new = AreHonest view old → IsFullOn view new n i
 
--- why it ended, where its output is not to blame: a file is full for the input that is under way, and for nothing else
+-- the reason why the run ended, if the output is not to blame: a file is full for the input that is
+-- under way, and for no other
 abbrev pub HasCauseOn : {D : Type 0} → (D → DiskView) → TurnEnd → Under → Node → Disks D → Disks D → LinkCounts → LinkCounts → Type 0
 HasCauseOn view ends.Disk under n old new before behind = OneRose view old new
 HasCauseOn view ends.Link under n old new before behind = Rose before.listening behind.listening
@@ -126,15 +133,16 @@ HasCauseOn view ends.Full under n old new before behind = ⊥
 HasCauseOn view ends.Served under n old new before behind = ⊥
 HasCauseOn view end under n old new before behind = Unit {0}
 
--- how the counts of the link change over these deeds, after which it ended so
+-- the change of the link's counts over these deeds, up to this end
 abbrev pub CountsUntil : TurnEnd → List Deed → LinkCounts → LinkCounts → Type 0
 CountsUntil end deeds old new = (at : LinkCounts) × CountsAll deeds old at × CountsAt end at new
 
--- It ended so after these deeds, a front of what a node does: after whole turns, in the midst of one that is told `last`, or before the
--- first. What came in that one was read, where more was done in it than to ask the link. Each connection was given the replies to its requests
--- until then, and a line of a failure was written, or begun, only where its link told of one. A record tells the inputs of these deeds, which
--- are within their ranges, and perhaps the one that was to be taken next. At every moment the lines of a prefix of the deeds were written, and
--- every crash leaves its node.
+-- The run ended after these deeds, a prefix of those of the machine: after whole turns, in the
+-- midst of a turn with the observation `last`, or before the first. In a turn with more deeds than
+-- the asking of the link, the event was read. Each connection was given the replies to its requests
+-- until then, and a line of a failure was written, or begun, only if the link reported one. A
+-- record has the inputs of these deeds, which are within their ranges, and perhaps the next input.
+-- At every moment the lines of a prefix of the deeds were written, and every crash leaves its node.
 pub record StoppedOn {D L K : Type 0} (view : D → DiskView) (story : L → Option (List Call)) (counts : L → LinkCounts) (takes fails : K → List ℕ → K → Type 0) (c : Settings) (task : Task) (end : TurnEnd) (deeds : List Deed) (under : Under) (old new : Disks D) (link after : L) (sink written : K) : Type 0 where
   pub told : List Observation
   pub last : Observation
@@ -163,7 +171,7 @@ pub record StoppedOn {D L K : Type 0} (view : D → DiskView) (story : L → Opt
   pub moments : AreHonest view old → AlwaysRecovers view (header_of_settings c) task.me takes (line (setting_of c task)) deeds under old new sink so_far
   pub cause : HasCauseOn view end under (after_inputs (first_node view (header_of_settings c) task.me old) (inputs_of deeds)) old new (counts link) (counts after)
 
--- its link could not wait where the node listens: nothing was done
+-- the link could not listen: nothing was done
 pub record WasDeaf {D L K : Type 0} (view : D → DiskView) (story : L → Option (List Call)) (counts : L → LinkCounts) (takes : K → List ℕ → K → Type 0) (c : Settings) (task : Task) (old new : Disks D) (link after : L) (sink written : K) : Type 0 where
   pub goes_on : AllGoOn view old new
   pub survives : AreHonest view old → Survives view (header_of_settings c) task.me new (first_node view (header_of_settings c) task.me old)
@@ -173,20 +181,21 @@ pub record WasDeaf {D L K : Type 0} (view : D → DiskView) (story : L → Optio
 
 -- All ends
 
--- the lines of these deeds were written; where the output is to blame, some prefix of the one under way after them, and then it failed
+-- the lines of these deeds were written; if the output is to blame, a prefix of the line under way
+-- after them, and then it failed
 abbrev pub Writes : (List ℕ → Type 0) → (List ℕ → Type 0) → Setting → TurnEnd → List Deed → Under → Type 0
 Writes written cut_off s ends.Sink deeds under = (front : List ℕ) × IsFront front (under_line s under) × cut_off (lines s deeds ++ front)
 Writes written cut_off s end deeds under = written (lines s deeds)
 
--- what can be said of the files and the link of a run, and of its output at each moment
+-- the knowledge of the files and the link of a run, and of its output at each moment
 pub record OnRun : Type 1 where
   -- the node was not loaded, for this cause, and nothing was done
   pub refused : KeepLoad → Type 0
-  -- all its turns were made, by these deeds
+  -- all turns were made, by these deeds
   pub did : List Deed → Type 0
-  -- it ended so after these deeds, with this under way
+  -- the run ended after these deeds, with this under way
   pub stopped : TurnEnd → List Deed → Under → Type 0
-  -- its link could not wait where it listens
+  -- the link could not listen
   pub deaf : Type 0
 
 abbrev pub at_run : {D L K : Type 0} → (D → DiskView) → (L → Option (List Call)) → (L → LinkCounts) → (K → List ℕ → K → Type 0) → (K → List ℕ → K → Type 0) → Settings → Task → Disks D → Disks D → L → L → K → K → OnRun
@@ -201,7 +210,8 @@ module _ (run : OnRun) (written cut_off : List ℕ → Type 0) (s : Setting) whe
   abbrev pub Stops : TurnEnd → Type 0
   Stops end = (deeds : List Deed) × (under : Under) × Writes written cut_off s end deeds under × run.stopped end deeds under
 
-  -- How the run of a node with this setting ended: it was not loaded, or made all its turns, or ended before.
+  -- The end of a node's run with this setting: it was not loaded, or made all its turns, or ended
+  -- early.
   abbrev pub NodeEnds : NodeEnd → Type 0
   NodeEnds (Load error) = run.refused error × written []
   NodeEnds (Turned ends.Served) = (deeds : List Deed) × written (lines s deeds) × run.did deeds

@@ -1,4 +1,4 @@
--- A loaded node that listens, takes what was measured, and turns.
+-- A loaded node that listens, takes its measures, and turns.
 use Rattle.std.specs.Prelude.{◌≡◌, ◌⊎◌, ℕ, ◌+◌, ◌<◌, Option, List, [], ◌++◌, length}
 use Rattle.oc_link.specs.Counts.{CountsFailure}
 use Rattle.oc_link.specs.Told.{Adds}
@@ -8,11 +8,12 @@ use Rattle.oc_link.specs.declared.counts.LinkCounts.{LinkCounts}
 use Rattle.oc_io.specs.DiskView.{DiskView}
 use Rattle.oc_keep.specs.KeptView.{IsHonest, node_of}
 use Rattle.oc_routes.specs.Responses.{address_of}
-use Rattle.oc_server.specs.Deeds.{Deed}
-use Rattle.oc_server.specs.Parts.{Cuts}
+use Rattle.oc_deeds.specs.Deeds.{Deed}
+use Rattle.oc_deeds.specs.Under.{Cuts}
 use Rattle.oc_server.specs.Runs.{reads_by}
-use Rattle.oc_server.specs.Scenes.{BreaksBehind, Did, Under, running, setting}
-use Rattle.oc_server.specs.Turns.{Observation}
+use Rattle.oc_server.specs.Scenes.{BreaksBehind, Did, running, setting}
+use Rattle.oc_deeds.specs.Under.{Under}
+use Rattle.oc_deeds.specs.Turns.{Observation}
 use Rattle.oc_server.specs.declared.ends.TurnEnd.{TurnEnd}
 use Rattle.oc_server.specs.declared.ends.TurnEnd.TheVariants as ends
 use Rattle.oc_server.specs.declared.server.Server.{Server}
@@ -25,20 +26,20 @@ use Rattle.oc_service.specs.WhatNodeHears.{AreHeard, MayHear, all_calls_behind, 
 abbrev pub machine : {D L K : Type 0} → Turns D L K → Machine
 machine t = record { running = running t.server; pace = t.pace; probing = t.probing }
 
--- its link waits there, and nothing else changed
+-- the link listens, and nothing else changed
 pub record Listens {D L K : Type 0} (story : L → Option (List Call)) (counts : L → LinkCounts) (old new : Server D L K) : Type 0 where
   pub rest : new ≡ record old { link = new.link }
   pub calls : Adds (acts.Listen (address_of old.config.listens old.kept.node.control.me)) (story old.link) (story new.link)
   pub counted : counts new.link ≡ counts old.link
 
--- it could not, and nothing changed
+-- the link could not listen, and nothing changed
 pub record IsDeaf {D L K : Type 0} (story : L → Option (List Call)) (counts : L → LinkCounts) (end : TurnEnd) (old new : Server D L K) : Type 0 where
   pub link : end ≡ ends.Link
   pub rest : new ≡ record old { link = new.link }
   pub calls : story new.link ≡ story old.link
   pub counted : CountsFailure (counts old.link) (counts new.link)
 
--- It listened and did these deeds: what was measured, and then this many turns.
+-- The node listened and did these deeds: its measures, and then this number of turns.
 pub record Runs {D L K : Type 0} (view : D → DiskView) (takes : K → List ℕ → K → Type 0) (faults : K → ℕ) (story : L → Option (List Call)) (counts : L → LinkCounts) (most : ℕ) (old new : Turns D L K) : Type 0 where
   pub listening : Server D L K
   pub listens : Listens story counts old.server listening
@@ -51,8 +52,8 @@ pub record Runs {D L K : Type 0} (view : D → DiskView) (takes : K → List ℕ
       → AreHeard (setting old.server) (reads_by old.server) (until (story listening.link) (story new.server.link)) told (begun (setting old.server) old.server.config.measures (machine old))
   pub serves : IsHonest view old.server.kept → old.server.works ≡ [] → ServesFrom (setting old.server) deeds (running old.server) (story listening.link) (story new.server.link)
 
--- It listened, and ended so after these deeds: after whole turns, in the midst of one, or before the first. What came was read, where
--- more was done in that one than to ask for it.
+-- The node listened, and ended after these deeds: after whole turns, in the midst of one, or before
+-- the first. In a turn with more deeds than the asking of the link, the event was read.
 pub record Halts {D L K : Type 0} (view : D → DiskView) (takes fails : K → List ℕ → K → Type 0) (faults : K → ℕ) (story : L → Option (List Call)) (counts : L → LinkCounts) (most : ℕ) (end : TurnEnd) (old new : Turns D L K) : Type 0 where
   pub listening : Server D L K
   pub listens : Listens story counts old.server listening
@@ -74,7 +75,7 @@ pub record Halts {D L K : Type 0} (view : D → DiskView) (takes fails : K → L
       (due_at last (node_behind (setting old.server) old.server.config.measures told (machine old))) last (node_behind (setting old.server) old.server.config.measures told (machine old))
   pub serves : IsHonest view old.server.kept → old.server.works ≡ [] → ServesFrom (setting old.server) deeds (running old.server) (story listening.link) (story new.server.link)
 
--- how a loaded node ran
+-- the run of a loaded node
 abbrev pub RunEnds : {D L K : Type 0} → (D → DiskView) → (K → List ℕ → K → Type 0) → (K → List ℕ → K → Type 0) → (K → ℕ) → (L → Option (List Call)) → (L → LinkCounts) → ℕ → TurnEnd → Turns D L K → Turns D L K → Type 0
 RunEnds view takes fails faults story counts most ends.Served old new = Runs view takes faults story counts most old new
 RunEnds view takes fails faults story counts most ends.Link old new = IsDeaf story counts ends.Link old.server new.server ⊎ Halts view takes fails faults story counts most ends.Link old new

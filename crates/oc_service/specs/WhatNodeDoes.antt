@@ -1,18 +1,19 @@
--- What a node does, on one page: a machine whose steps are turns, by what the link and the clock tell in each. What a turn does is said by
--- `turn` of oc_server, and what a deed makes of the node, writes and calls by its `after`, `line` and `calls`.
+-- A node's deeds on one page: a machine whose steps are turns, given the reports of the link and
+-- the clock in each. `turn` of oc_server gives the deeds of a turn, and `after`, `line` and `calls`
+-- of a deed give the node after it, its line and its calls.
 use Rattle.std.specs.Prelude.{ℕ, Bool, ◌==◌, if◌then◌else◌, Option, List, [], ◌∷◌, ◌++◌}
 use Rattle.oc_base.specs.Groups.{shelf}
 use Rattle.oc_base.specs.declared.shelf.Shelf.{Shelf}
 use Rattle.oc_model.specs.declared.input.Input.TheVariants.{Measured}
 use Rattle.oc_model.specs.Node.{Control, Node}
 use Rattle.oc_probe.specs.declared.probing.Probing.{Probing}
-use Rattle.oc_server.specs.Brief.{told_first}
-use Rattle.oc_server.specs.Choices.{due_place}
-use Rattle.oc_server.specs.Deeds.{Deed, Running, Says, Setting, Takes, after_all}
-use Rattle.oc_server.specs.Pace.{first_pace}
-use Rattle.oc_server.specs.Records.{told_ahead}
-use Rattle.oc_server.specs.Turns.{Observation, pace_behind, probing_behind, turn}
-use Rattle.oc_server.specs.declared.pace.Pace.{Pace}
+use Rattle.oc_deeds.specs.Brief.{told_first}
+use Rattle.oc_deeds.specs.Choices.{due_place}
+use Rattle.oc_deeds.specs.Deeds.{Deed, Running, Says, Setting, Takes, after_all}
+use Rattle.oc_deeds.specs.Pace.{first_pace}
+use Rattle.oc_deeds.specs.Records.{told_ahead}
+use Rattle.oc_deeds.specs.Turns.{Observation, pace_behind, probing_behind, turn}
+use Rattle.oc_deeds.specs.declared.pace.Pace.{Pace}
 use Rattle.oc_updown.specs.declared.measure_lines.Measure.{Measure}
 
 -- a node between two turns
@@ -21,11 +22,12 @@ pub record Machine : Type 0 where
   pub pace : Pace
   pub probing : Option Probing
 
--- at first: nothing to send, nothing under way, and no tick yet; in a record ticks are whole seconds apart, and this is the greatest interval else
+-- the machine at first: no messages to send, no request under way, and no tick yet; in a record
+-- ticks are whole seconds apart, otherwise they are at most this interval apart
 abbrev pub at_first : Bool → ℕ → Option Probing → Node → Machine
 at_first whole most probing n = record { running = record { node = n; outbox = []; works = []; dials = [] }; pace = first_pace whole most; probing = probing }
 
--- each measure that is its own is taken as an input
+-- each of the node's own measures is taken as an input
 abbrev pub own_measure : Setting → Measure → List Deed
 own_measure s m = if m.from == s.me then Says (told_ahead s.log s.me (Measured m.peer m.rate m.hops)) ∷ Takes (Measured m.peer m.rate m.hops) ∷ [] else []
 
@@ -33,8 +35,8 @@ abbrev pub own_measures : Setting → List Measure → List Deed
 own_measures s [] = []
 own_measures s (m ∷ ms) = own_measure s m ++ own_measures s ms
 
--- how a node with this control part and these groups begins: it tells where it is in the tree or begins its record, where that is told, and
--- takes what was measured
+-- the beginning of a node with this control part and these groups: it reports its position in the
+-- tree or begins its record, as the log asks, and takes the measures
 abbrev pub begins_on : Setting → List Measure → Control → List Shelf → List Deed
 begins_on s ms n shelves = Says (told_first s.log n shelves) ∷ own_measures s ms
 
@@ -44,7 +46,7 @@ begins s ms n = begins_on s ms n.control (shelf n.groups)
 abbrev pub begun : Setting → List Measure → Machine → Machine
 begun s ms m = record m { running = after_all (begins s ms m.running.node) m.running }
 
--- the deeds of a turn by what it is told, and the node after it
+-- the deeds of a turn for this observation, and the node after it
 abbrev pub turn_deeds : Setting → Observation → Machine → List Deed
 turn_deeds s t m = turn m.pace m.probing t s m.running
 
@@ -67,7 +69,7 @@ abbrev pub behind_turns : Setting → List Observation → Machine → Machine
 behind_turns s [] m = m
 behind_turns s (t ∷ ts) m = behind_turns s ts (behind_turn s t m)
 
--- All that a node does: it begins, and turns.
+-- All deeds of a node: it begins, and turns.
 abbrev pub node_deeds : Setting → List Measure → List Observation → Machine → List Deed
 node_deeds s ms ts m = begins s ms m.running.node ++ turns_deeds s ts (begun s ms m)
 

@@ -1,14 +1,16 @@
--- What the turns of a node are told is what its link told, as it was read.
+-- The observations of a node's turns are the reports of its link, as they were read.
 use Rattle.std.specs.Prelude.{ℕ, Option, None, Some, List, [], ◌∷◌, ◌++◌}
 use Rattle.std.specs.Option.{option_map}
 use Rattle.oc_link.specs.declared.call.Call.{Call}
 use Rattle.oc_routes.specs.Verdicts.{NodeTerms}
-use Rattle.oc_server.specs.Deeds.{Setting, calls_of, errand_in}
-use Rattle.oc_server.specs.Runs.{IsLent, IsMeasured, behind_reading}
-use Rattle.oc_server.specs.Turns.{Means, Observation}
+use Rattle.oc_deeds.specs.Deeds.{Setting, calls_of, errand_in}
+use Rattle.oc_server.specs.Runs.{IsLent, behind_reading}
+use Rattle.oc_deeds.specs.Measured.{IsMeasured}
+use Rattle.oc_deeds.specs.Turns.{Means, Observation}
 use Rattle.oc_service.specs.WhatNodeDoes.{Machine, behind_turn, due_at, turn_deeds}
 
--- What came is what the link told, read by these terms. If the link tells its story, these calls were made before the turn.
+-- The event is that reported by the link, read by these terms. If the link tells its story, these
+-- calls were made before the turn.
 pub record IsHeard (terms : NodeTerms) (calls : Option (List Call)) (t : Observation) (m : Machine) : Type 0 where
   pub lent : List ℕ
   pub is_lent : IsLent (behind_reading t.before calls) calls t.event t.bytes lent
@@ -24,12 +26,12 @@ MayHear terms calls (Some place) t m = Unit {0}
 abbrev pub calls_behind : Setting → Observation → Machine → Option (List Call) → Option (List Call)
 calls_behind s t m calls = option_map (λ (cs : List Call). cs ++ calls_of s (turn_deeds s t m) m.running) calls
 
--- so it is in each turn
+-- the same for each of the turns
 abbrev pub AreHeard : Setting → NodeTerms → Option (List Call) → List Observation → Machine → Type 0
 AreHeard s terms calls [] m = Unit {0}
 AreHeard s terms calls (t ∷ ts) m = MayHear terms calls (due_at t m) t m × AreHeard s terms (calls_behind s t m calls) ts (behind_turn s t m)
 
--- and after turns
+-- the calls after these turns
 abbrev pub all_calls_behind : Setting → List Observation → Machine → Option (List Call) → Option (List Call)
 all_calls_behind s [] m calls = calls
 all_calls_behind s (t ∷ ts) m calls = all_calls_behind s ts (behind_turn s t m) (calls_behind s t m calls)

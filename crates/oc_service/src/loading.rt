@@ -1,4 +1,4 @@
-//! A node that is loaded, with nothing to send and nothing under way.
+//! A node after its load, with no message to send and no request under way.
 
 ghost use Rattle.std.specs.Prelude.{◌≡◌, ◌≤◌, [], IfErr, IfOk, IfSome, length};
 ghost use Rattle.std.specs.List.{AllByRecursion};
@@ -7,7 +7,7 @@ ghost use Rattle.oc_base.specs.declared.limits.TheConstants.{MAX_AREA, MAX_NODES
 ghost use Rattle.oc_config.specs.Reading.{IsConfig};
 ghost use Rattle.oc_keep.specs.Files.{disks_in};
 ghost use Rattle.oc_keep.specs.Promises.{LoadsSafely, RefusesNode};
-ghost use Rattle.oc_server.specs.Lawful.{IsMadeFor};
+ghost use Rattle.oc_deeds.specs.Lawful.{IsMadeFor};
 ghost use Rattle.oc_service.specs.Loading.{IsEquipped, IsLoaded, IsUnloaded};
 ghost use Rattle.oc_service.specs.OnSite.{header_of_settings, probing_at_first};
 
@@ -16,15 +16,17 @@ use crate::running::Task;
 use crate::site::Site;
 use oc_base::{Memory, NodeId};
 use oc_config::Config;
+use oc_deeds::{Dials, Outbox, Pace, Works, most_interval};
 use oc_http::HeadReader;
 use oc_io::{Disk, Sink};
 use oc_keep::{KeepLoad, Kept, Seat};
 use oc_link::Link;
+use oc_model::{Header, Sizes};
 use oc_probe::Probing;
-use oc_server::{Dials, Outbox, Pace, Server, Turns, Works, most_interval};
+use oc_server::{Server, Turns};
 use std::alloc::Global;
 
-/// What a running node keeps besides its files. Its memory is taken before they are read.
+/// The state of a running node besides its files. Its memory is taken before the files are read.
 #[derive(Drop)]
 struct Equipment {
     areas: Vec<u8>,
@@ -33,7 +35,7 @@ struct Equipment {
     probing: Option<Probing>,
 }
 
-/// Loads the node of a task. Where it is not loaded, what it runs on comes back.
+/// Loads the node of a task. If the load fails, its site is given back.
 pub(crate) fn load<D: Disk, L: Link, K: Sink>(
     alloc: Global,
     config: Config,
@@ -57,10 +59,14 @@ pub(crate) fn load<D: Disk, L: Link, K: Sink>(
     let Site { files, link, sink } = site;
     let seat = Seat {
         id: task.me,
-        nodes: nodes_of(&config),
-        chain: config.chain,
-        chunk: config.chunk(),
-        areas,
+        header: Header {
+            sizes: Sizes {
+                nodes: nodes_of(&config),
+                chain: config.chain,
+                chunk: config.chunk(),
+            },
+            areas,
+        },
     };
     match Kept::load(alloc, files, seat) {
         Ok(kept) => Ok(Turns {
@@ -83,7 +89,8 @@ pub(crate) fn load<D: Disk, L: Link, K: Sink>(
     }
 }
 
-/// What the node keeps besides its files: the areas of all, nothing to be sent, and what it probes by.
+/// The state of the node besides its files: the areas of all nodes, no messages to send, and the
+/// state of its probing.
 fn equip(alloc: Global, config: &Config, me: NodeId, probes: bool) -> Result<Equipment, Memory>
     requires config { IsConfig config.now }
     requires me { IsNode (length config.now.addresses) me }
@@ -97,7 +104,7 @@ fn equip(alloc: Global, config: &Config, me: NodeId, probes: bool) -> Result<Equ
     })
 }
 
-/// How many nodes a configuration has.
+/// The number of nodes in a configuration.
 fn nodes_of(config: &Config) -> u32
     requires { length config.now.addresses ≤ MAX_NODES }
     ensures { result ≡ length config.now.addresses }
@@ -105,7 +112,7 @@ fn nodes_of(config: &Config) -> u32
     config.addresses.len() as u32
 }
 
-/// The areas of the nodes, one by one: each that is read is within its range.
+/// The areas of the nodes, copied one by one: each that is read is within its range.
 fn copy_areas(alloc: Global, areas: &[u8]) -> Result<Vec<u8>, Memory>
     ensures same { IfOk result (λ copy. copy.items ≡ areas.now) }
     ensures bytes { IfOk result (λ copy. AllByRecursion (λ a. a ≤ MAX_AREA) copy.items) }

@@ -1,4 +1,4 @@
-//! What was measured before a node runs.
+//! The measures of rates from before the run of a node.
 
 ghost use Rattle.std.specs.Prelude.{◌≡◌, All, IfErr, OnOk};
 ghost use Rattle.oc_server.specs.Parts.{Stops};
@@ -13,7 +13,8 @@ use oc_model::Input;
 use oc_server::{Server, TurnEnd};
 use oc_updown::Measure;
 
-/// Tells where the node is in the tree, or begins its record, where that is told, and takes what was measured.
+/// Reports the node's position in the tree, or begins its record, as the log asks, and takes the
+/// measures.
 pub(crate) fn begin<D: Disk, L: Link, K: Sink>(server: &mut Server<D, L, K>) -> Result<(), TurnEnd>
     requires serving { IsServing server.old }
     requires lawful { All (IsMeasure server.old.kept.node.control.nodes) server.old.config.measures }
@@ -28,7 +29,7 @@ pub(crate) fn begin<D: Disk, L: Link, K: Sink>(server: &mut Server<D, L, K>) -> 
     take_measures(server)
 }
 
-/// Takes each measure of the configuration that is the node's own as an input, in their order.
+/// Takes each of the node's own measures in the configuration as an input, in order.
 fn take_measures<D: Disk, L: Link, K: Sink>(server: &mut Server<D, L, K>) -> Result<(), TurnEnd>
     requires serving { IsServing server.old }
     requires lawful { All (IsMeasure server.old.kept.node.control.nodes) server.old.config.measures }

@@ -1,16 +1,16 @@
-//! What a node keeps to probe its peers.
+//! The state of a node's probing.
 
 ghost use Rattle.std.specs.Prelude.{◌≡◌, ◌≤◌, IfOk, IfSome};
 ghost use Rattle.oc_base.specs.Lawful.{IsNode};
-ghost use Rattle.oc_server.specs.Lawful.{IsMadeFor};
+ghost use Rattle.oc_deeds.specs.Lawful.{IsMadeFor};
 ghost use Rattle.oc_service.specs.OnSite.{probing_at_first, probing_of};
 
 use oc_base::{Memory, NodeId};
 use oc_probe::{Gauge, Probing, Rotation};
 use std::alloc::Global;
 
-/// What a node that probes keeps at first: no rate of any peer, and all other nodes in turn. Nothing for one that does
-/// not.
+/// The state of probing at first: no rates of peers, and all other nodes in turn. None for a node
+/// that does not probe.
 pub(crate) fn first_probing(
     alloc: Global,
     me: NodeId,
@@ -28,7 +28,8 @@ pub(crate) fn first_probing(
     }
 }
 
-/// No rate yet of any peer, and the first peer to be probed, for this node among `nodes` nodes.
+/// The state of probing for this node among `nodes` nodes, without rates, and with the first peer
+/// as the next.
 fn make_probing(alloc: Global, me: NodeId, nodes: u32) -> Result<Probing, Memory>
     requires { IsNode nodes me }
     ensures first { IfOk result (λ probing. probing ≡ probing_of me nodes) }

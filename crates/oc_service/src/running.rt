@@ -20,44 +20,45 @@ use crate::measuring::begin;
 use crate::site::Site;
 use oc_base::NodeId;
 use oc_config::Config;
+use oc_deeds::Log;
 use oc_io::{Disk, Sink};
 use oc_keep::{Files, KeepLoad};
 use oc_link::Link;
 use oc_routes::address_of;
-use oc_server::{Log, Server, TurnEnd, Turns, turns_are_in_order};
+use oc_server::{Server, TurnEnd, Turns, turns_are_in_order};
 use std::alloc::Global;
 
-/// What a node is asked to do.
+/// The task of a node.
 #[derive(Clone, Copy)]
 pub struct Task {
-    /// The node.
+    /// The number of the node.
     pub me: NodeId,
-    /// How many turns it makes.
+    /// The number of turns to make.
     pub turns: u64,
-    /// Whether it probes its peers.
+    /// Whether the node probes its peers.
     pub probes: bool,
-    /// What it writes of its inputs.
+    /// The form in which the node logs its inputs.
     pub log: Log,
 }
 
-/// How the run of a node ended.
+/// The end of a node's run.
 #[derive(Clone, Copy, Debug, PartialEq, Eq)]
 pub enum NodeEnd {
     /// The node was not loaded from its files.
     Load(KeepLoad),
-    /// It was loaded, and its turns ended so: `Served` where all were made.
+    /// The node was loaded, and its turns ended in this way: `Served` if all were made.
     Turned(TurnEnd),
 }
 
-/// How the run of a node ended, and what it ran on.
+/// The end of a node's run, and its site.
 #[derive(Drop)]
 pub struct Ran<D: Disk, L: Link, K: Sink> {
     pub end: NodeEnd,
     pub site: Site<D, L, K>,
 }
 
-/// Runs a node of a configuration: loads it from its files, waits where it listens, tells where it is in the tree where
-/// that is told, takes what was measured before, and makes its turns.
+/// Runs a node of a configuration: loads it from its files, has its link listen, reports its
+/// position in the tree if the log asks for that, takes the measures, and makes its turns.
 pub fn run_node<D: Disk, L: Link, K: Sink>(
     alloc: Global,
     config: Config,
@@ -67,17 +68,18 @@ pub fn run_node<D: Disk, L: Link, K: Sink>(
     requires config { IsConfig config }
     requires me { IsNode (length config.addresses) task.me }
 
-    // What it did: with all its turns made, exactly what a node does in them. Where it ended before: a front of
-    // that, and why. Where it was not loaded: which file is to blame. And what its connections were given, and what
-    // every crash leaves and what was written, at every moment.
+    // The deeds of the node: with all its turns made, exactly those of the machine. If the run
+    // ended early: a prefix of these, and the reason. If the node was not loaded: the file with the
+    // fault. And the bytes given to its connections, the files after every crash and the bytes
+    // written, at every moment.
     ensures ends { NodeEnds
         (at_run D.view L.story L.counts K.takes K.fails config task (disks_in site.files) (disks_in result.site.files) site.link result.site.link site.sink result.site.sink)
         (λ text. K.takes site.sink text result.site.sink)
         (λ text. K.fails site.sink text result.site.sink × Rose (K.faults site.sink) (K.faults result.site.sink))
         (setting_of config task) result.end }
 
-    // Over the files of a node on honest disks, where neither a disk nor the output fails, nor the link in being asked,
-    // all turns are made, unless there is no memory or a file is full.
+    // With the files of a node on honest disks, if neither a disk nor the output nor the asking of
+    // the link fails, all turns are made, unless memory runs out or a file is full.
     ensures unfailed { AreHonest D.view (disks_in site.files)
         → HoldFiles D.view (length config.addresses) (disks_in site.files)
         → (OneRose D.view (disks_in site.files) (disks_in result.site.files) → ⊥)
@@ -85,7 +87,7 @@ pub fn run_node<D: Disk, L: Link, K: Sink>(
         → (Rose (K.faults site.sink) (K.faults result.site.sink) → ⊥)
         → EndsUnfailed result.end }
 
-    // Where all turns are made the output's count of faults does not fall.
+    // If all turns are made, the output's count of faults does not fall.
     ensures count { result.end ≡ NodeEnd.Turned TurnEnd.Served → NoFall (K.faults site.sink) (K.faults result.site.sink) }
 {
     let most = task.turns;
@@ -104,7 +106,7 @@ pub fn run_node<D: Disk, L: Link, K: Sink>(
     }
 }
 
-/// Begins, and makes this many turns, of which a law says what connections are given.
+/// Begins the run, and makes `most` turns; a law states what connections are given.
 fn run<D: Disk, L: Link, K: Sink>(turns: &mut Turns<D, L, K>, most: u64) -> TurnEnd
     requires ready { IsReady turns.old }
     requires measures { All (IsMeasure turns.old.server.kept.node.control.nodes) turns.old.server.config.measures }
@@ -123,7 +125,7 @@ fn run<D: Disk, L: Link, K: Sink>(turns: &mut Turns<D, L, K>, most: u64) -> Turn
     }
 }
 
-/// Has the link wait where the node listens, which others may know by another address.
+/// Has the link listen at the node's own address, which may differ from the one that others use.
 fn listen<D: Disk, L: Link, K: Sink>(server: &mut Server<D, L, K>) -> Result<(), TurnEnd>
     ensures listens { OnOk result (Listens L.story L.counts server.old server.new) }
     ensures deaf { IfErr result (λ end. IsDeaf L.story L.counts end server.old server.new) }
@@ -137,20 +139,22 @@ fn listen<D: Disk, L: Link, K: Sink>(server: &mut Server<D, L, K>) -> Result<(),
     }
 }
 
-/// Where a node listens: its `listen` in the configuration, or its address where it has none.
+/// The address at which a node listens: its `listen` in the configuration, or its address if there
+/// is none.
 fn listen_of(config: &Config, node: NodeId) -> &str
     ensures { result.now ≡ address_of config.now.listens node }
 {
     address_of(&config.listens, node)
 }
 
-/// What a node ran on.
+/// The site of the node, given back.
 fn leave<D: Disk, L: Link, K: Sink>(turns: Turns<D, L, K>) -> Site<D, L, K>
     ensures files { disks_in result.files ≡ disks_of turns.server.kept }
     ensures link { result.link ≡ turns.server.link }
     ensures sink { result.sink ≡ turns.server.sink }
 
-    // While no disk failed, every crash leaves the node, and files that are full for the same inputs.
+    // As long as no disk failed, every crash leaves the node, and files that are full for the same
+    // inputs.
     ensures survives { turns.server.kept.closed ≡ false → IsHonest D.view turns.server.kept
         → NodeSurvives D.view turns.server.kept (node_of turns.server.kept) }
     ensures full { turns.server.kept.closed ≡ false → IsHonest D.view turns.server.kept

@@ -11,7 +11,7 @@ use Rattle.oc_updown.proofs.Entries.{no_entries_past}
 use Rattle.oc_updown.proofs.Lines.{rows_at}
 use Rattle.oc_state.specs.Children.{other_child_of_row, told_of_row, told_children}
 
--- what is not so is not so, whatever else holds
+-- a conjunction with a false fact is false
 and_no : (b : Bool) → (b && false) ≡ false
 and_no true = refl
 and_no false = refl
@@ -44,7 +44,7 @@ chain_here (Some c) rows y chain x k e member = by_tests (is_lease_of y c) refl 
   by_tests true h true g = let none : other_child_of_row y x (Some c) ≡ None = rw (h, g) in absurd cc
   by_tests false h b g = let none : other_child_of_row y x (Some c) ≡ None = rw h in absurd cc
 
--- such a child is its row's node
+-- the child of a row is the row's node
 child_is_node : (nodes z : ℕ) (row : Option Cert) (rows : List (Option Cert)) (y x k : ℕ) → AreRowsFrom nodes z (row ∷ rows) → other_child_of_row y x row ≡ Some k → k ≡ z
 child_is_node nodes z None rows y x k fit e = absurd cc
 child_is_node nodes z (Some c) rows y x k fit e = by_test (is_lease_of y c && not (c.subject == x)) refl where
@@ -65,13 +65,13 @@ chain_none (Some k ∷ rows) nodes z y chain x fit past = by_test (chain_none ro
 
 -- The steps of the loop over the rows
 
--- past a row without such a child the rest gives what all give
+-- without a child in this row, the result of the rest is the result of all rows
 pub chain_goes_on : (rows : List (Option Cert)) (i : ℕ) (row : Option Cert) (y chain x : ℕ) (whole : Option ℕ) → i < length rows → row ≡ get_or rows i row → other_child_of_row y x row ≡ None → chain_among (drop i rows) y chain x ≡ whole → chain_among (drop (i + 1) rows) y chain x ≡ whole
 chain_goes_on rows i row y chain x whole within e none so =
     let here : chain_among (drop i rows) y chain x ≡ chain_among (drop (i + 1) rows) y chain x = ap (λ (rs : List (Option Cert)). chain_among rs y chain x) (rows_at rows i row within e) ∙ chain_past row (drop (i + 1) rows) y chain x none in
     sym here ∙ so
 
--- at a row with such a child, within the chain, it is what all give
+-- with a child in this row that is in the chain, that child is the result of all rows
 pub chain_found : (rows : List (Option Cert)) (i : ℕ) (row : Option Cert) (y chain x : ℕ) (whole found : Option ℕ) → i < length rows → row ≡ get_or rows i row → AreRowsFrom (length rows) (i + 1) (drop i rows) → i < chain → found ≡ other_child_of_row y x row → (k : ℕ) → found ≡ Some k → chain_among (drop i rows) y chain x ≡ whole → found ≡ whole
 chain_found rows i row y chain x whole found within e fit member is k some so =
     let fit' : AreRowsFrom (length rows) (i + 1) (row ∷ drop (i + 1) rows) = subst (λ (rs : List (Option Cert)). AreRowsFrom (length rows) (i + 1) rs) (rows_at rows i row within e) fit in
@@ -97,7 +97,7 @@ told_cons y rates (Some k) rows = by_test (is_lease_of y k) refl where
   by_test true h = rw h
   by_test false h = rw h
 
--- with the child of a row put at the end, what the rest gives is still the whole
+-- after the child of a row was added, the rest still completes the whole
 pub told_go_on : (y : ℕ) (rates : List ℕ) (rows : List (Option Cert)) (i : ℕ) (row : Option Cert) (before after whole : List Child) → i < length rows → row ≡ get_or rows i row → after ≡ before ++ told_of_row y rates row → before ++ told_children (entries_of (drop i rows)) y rates ≡ whole → after ++ told_children (entries_of (drop (i + 1) rows)) y rates ≡ whole
 told_go_on y rates rows i row before after whole within e put so =
     let here : told_children (entries_of (drop i rows)) y rates ≡ told_of_row y rates row ++ told_children (entries_of (drop (i + 1) rows)) y rates = ap (λ (rs : List (Option Cert)). told_children (entries_of rs) y rates) (rows_at rows i row within e) ∙ told_cons y rates row (drop (i + 1) rows) in

@@ -1,4 +1,4 @@
--- What is durable, one record after another.
+-- The durable state, one record after another.
 use Rattle.std.proofs.Common.{◌≡◌, ℕ, zero, suc, ◌+◌, ◌-◌, ◌<◌, ◌≤◌, max, ◌^◌, ◌⊎◌, inl, inr, true, ◌==◌, nat_lt, if◌then◌else◌, Some, List, [], ◌∷◌, ◌++◌, length, drop, get_or, refl, ap, sym, subst, ◌∙◌, arith, length-append, length-drop}
 use Rattle.std.specs.List.{AllByRecursion}
 use Rattle.std.proofs.lemmas.Bool.{cond_both}
@@ -25,7 +25,7 @@ use Rattle.oc_state.proofs.Lists.{drop_at}
 
 -- Sound
 
--- a whole log, all of it acknowledged
+-- a whole log that is acknowledged to its end
 sound_based : (m : Mode) (d : Durable) (n : ℕ) → is_joined m ≡ true → IsSoundAs m d → IsSoundAs m (record d { log = acked_whole n })
 sound_based modes.Idle d n joined here = absurd cc
 sound_based (modes.Asking p) d n joined here = absurd cc
@@ -41,7 +41,7 @@ sound_base nodes d n sound =
 sound_new : (nodes : ℕ) → IsSoundDurable nodes (new_durable nodes)
 sound_new nodes = record { table = tt; mode = refl; own = λ _. refl; ancestors = omega arith; measures = length-replicate nodes no_reading }
 
--- each lawful record, of a snapshot too, keeps what is durable sound
+-- each lawful record, also one of a snapshot, keeps the durable state sound
 sound_one : (nodes : ℕ) (d : Durable) (r : Record) → IsRecord nodes r → IsSoundDurable nodes d → IsSoundDurable nodes (fold_one d r)
 sound_one nodes d (records.Ask s p) ok sound = sound_fold_one nodes d (records.Ask s p) (λ e. omega (arith, e, ok.0.0)) sound
 sound_one nodes d (records.Joined p r) ok sound = sound_fold_one nodes d (records.Joined p r) tt sound
@@ -58,7 +58,7 @@ sound_one nodes d (records.Snapshot g) ok sound = subst (λ (n : ℕ). IsSoundDu
 sound_one nodes d (records.Entry c) ok sound = sound_fold_one nodes d (records.Entry c) tt sound
 sound_one nodes d (records.Info number clients) ok sound = sound_fold_one nodes d (records.Info number clients) (λ e. omega (arith, e, ok.0.0)) sound
 
--- a lawful record keeps what is durable as it may be
+-- a lawful record keeps the durable state within its ranges
 pub kept_one : (nodes : ℕ) (d : Durable) (r : Record) → IsRecord nodes r → IsKept nodes d → IsKept nodes (fold_one d r)
 kept_one nodes d r ok kept = record { few = kept.few; sound = sound_one nodes d r ok kept.sound; lawful = lawful_fold_one nodes d r ok kept.lawful }
 
@@ -90,7 +90,7 @@ pub rows_most : (room more rows memory now : ℕ) → (0 < room → rows ≤ mem
 rows_most room zero rows memory now was is grows some = rows_more room rows memory now was grows (omega (arith, some))
 rows_most room (suc more) rows memory now was is grows some = is (omega arith)
 
--- and it has it where there is room for one
+-- there is memory for all rows, if there is room for one
 pub rows_there : (room rows memory waiting : ℕ) → (0 < room → rows ≤ memory) → waiting + 1 ≤ room → rows ≤ memory
 rows_there room rows memory waiting was one = was (omega (arith, one))
 
@@ -119,12 +119,12 @@ brought_few (records.Snapshot g) = none_few
 brought_few (records.Entry c) = one_few
 brought_few (records.Info number clients) = none_few
 
--- and so no list more than it is long
+-- a list of records brings at most as many as it has records
 pub brought_most : (rs : List Record) → brought_by rs ≤ length rs
 brought_most [] = omega arith
 brought_most (r ∷ rs) = let most : brought r + brought_by rs ≤ suc (length rs) = omega (arith, brought_few r, brought_most rs) in most
 
--- what is counted so far, and what the rest brings, is all
+-- the count so far and the number that the rest brings are the whole
 pub brought_on : (rs : List Record) (i : ℕ) (r : Record) (count : ℕ) → i < length rs → r ≡ get_or rs i r → count + brought_by (drop i rs) ≡ brought_by rs → count + brought r + brought_by (drop (i + 1) rs) ≡ brought_by rs
 brought_on rs i r count within e so =
     let here : brought_by (drop i rs) ≡ brought r + brought_by (drop (i + 1) rs) = ap brought_by (drop_at rs i r within e) in
@@ -135,7 +135,7 @@ brought_end rs i count over so =
     let none : brought_by (drop i rs) ≡ 0 = ap brought_by (drop_of_length-le rs over) in
     omega (arith, so, none)
 
--- the log after a record that brings this many: so many more wait, or the whole table of this many rows, or a new base
+-- the log after a record that brings this number: so many more wait, or the whole table of this number of rows, or a new base
 record Follows (rows more : ℕ) (was now : Log) : Type 0 where
   waiting : (length now.waiting ≤ length was.waiting + more) ⊎ (length now.waiting ≤ rows)
   length : (now.length ≤ was.length + more) ⊎ (now.length ≤ MAX_BASE_ACKED)
@@ -249,7 +249,7 @@ length_one nodes d r most ok kept base less = by_length ((follows_one nodes d r 
 
 -- The steps of a list
 
--- so far, and what the rest makes, is the whole; this many were folded
+-- the state so far and the effect of the rest are the whole; this number of records was folded
 pub record FoldsList (first now : DurableView) (all rest : List Record) (done : ℕ) : Type 0 where
   pub folds : folded now.kept rest ≡ folded first.kept all
   pub nodes : now.nodes ≡ first.nodes
@@ -283,7 +283,7 @@ list_end first now all i over on = let none : drop i all ≡ [] = drop_of_length
 
 -- The steps of the loop
 
--- so far, and what the rest makes, is the whole
+-- the state so far and the effect of the rest are the whole
 pub record FoldsOn (first now : DurableView) (all rest : List Record) : Type 0 where
   pub folds : folded now.kept rest ≡ folded first.kept all
   pub nodes : now.nodes ≡ first.nodes

@@ -68,7 +68,7 @@ lawful_rates nodes x (r ∷ rs) least most all =
     (λ _. rest)
     (λ _. (((least, omega (arith, most)), all.0.0, all.0.1), rest))
 
--- those of a lawful state are, under a generation that is a number, where no more is acknowledged than a base may have
+-- the records of a snapshot of a lawful state are lawful, if its generation is a number and no more is acknowledged than a base may have
 pub lawful_snapshot : (nodes generation : ℕ) (d : Durable) → 1 ≤ nodes → IsCount generation → length d.measures ≡ nodes → d.log.length ≤ MAX_BASE_ACKED → IsLawfulDurable nodes d → AreRecords nodes (snapshot generation d)
 lawful_snapshot nodes generation d some count readings short ok =
     let P = IsRecord nodes in

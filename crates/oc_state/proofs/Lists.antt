@@ -28,7 +28,7 @@ take_few zero xs = let e : min (length xs) 0 ≡ 0 = omega arith in ap (λ (n : 
 take_few {X = X} (suc n) [] = let e : min 0 (suc n) ≡ 0 = omega arith in ap (λ (n : ℕ). take {A = X} n []) e
 take_few {X = X} (suc n) (x ∷ xs) = let e : min (suc (length xs)) (suc n) ≡ suc (min (length xs) n) = omega arith in ap (λ (n : ℕ). take n (x ∷ xs)) e ∙ ap (λ (ys : List X). x ∷ ys) (take_few n xs)
 
--- at an item, what follows is that item and the rest
+-- the rest from an index on is the item there and the rest after it
 pub drop_at : {X : Type 0} → (xs : List X) (i : ℕ) (x : X) → i < length xs → x ≡ get_or xs i x → drop i xs ≡ x ∷ drop (i + 1) xs
 drop_at [] i x within e = absurd (omega arith)
 drop_at {X = X} (y ∷ ys) zero x within e = ap (λ (z : X). z ∷ ys) (sym e)

@@ -23,13 +23,13 @@ line_found g ls i l whole within e same so =
     let here : line_of g (drop i ls) ≡ Some l = ap (line_of g) (drop_at ls i l within e) ∙ ap (λ (b : Bool). if b then Some l else line_of g (drop (i + 1) ls)) same in
     sym here ∙ so
 
--- it is further on
+-- the line is further on
 pub line_goes_on : (g : List ℕ) (ls : List Shelf) (i : ℕ) (l : Shelf) (whole : Option Shelf) → i < length ls → l ≡ get_or ls i l → same_name g l.group ≡ false → line_of g (drop i ls) ≡ whole → line_of g (drop (i + 1) ls) ≡ whole
 line_goes_on g ls i l whole within e other so =
     let here : line_of g (drop i ls) ≡ line_of g (drop (i + 1) ls) = ap (line_of g) (drop_at ls i l within e) ∙ ap (λ (b : Bool). if b then Some l else line_of g (drop (i + 1) ls)) other in
     sym here ∙ so
 
--- the same of the first line in which the other is behind
+-- the same for the first line of which the other has less
 pub behind_found : (have ls : List Shelf) (i : ℕ) (l : Shelf) (whole : Option Shelf) → i < length ls → l ≡ get_or ls i l → is_behind (line_of l.group have) l ≡ true → first_behind have (drop i ls) ≡ whole → Some l ≡ whole
 behind_found have ls i l whole within e behind so =
     let here : first_behind have (drop i ls) ≡ Some l = ap (first_behind have) (drop_at ls i l within e) ∙ ap (λ (b : Bool). if b then Some l else first_behind have (drop (i + 1) ls)) behind in
@@ -61,7 +61,7 @@ with_found l [] i found = absurd found
 with_found l (k ∷ ks) zero found = rw (found, names_even l.group)
 with_found l (k ∷ ks) (suc i) found = rw found.0 (ap (λ (ls : List Shelf). k ∷ ls) (with_found l ks i found.1))
 
--- or goes where it would be
+-- a line whose name is absent goes to the place where it would be
 pub with_free : (l : Shelf) (ls : List Shelf) (i : ℕ) → IsFreeAt (λ (k : Shelf). k.group) ls l.group i → with_line l ls ≡ insert ls i l
 with_free l [] zero free = refl
 with_free l (k ∷ ks) zero free = rw (free.0)
@@ -92,18 +92,18 @@ held_bound g ls is = bound_in g ls is.0 where
 
 -- All that is held
 
--- it is no more than all lines may hold
+-- the sum of the lengths is at most that of full groups
 held_few : (ls : List Shelf) → AreLines ls → held_in_all ls ≤ length ls * MAX_GROUP_BYTES
 held_few [] are = omega arith
 held_few (l ∷ ls) are = let rest : held_in_all ls ≤ length ls * MAX_GROUP_BYTES = held_few ls are.2 in omega (arith, sum_by-cons (λ (k : Shelf). k.held) l ls, are.0.1, rest)
 
--- and it fits a number of 64 bits
+-- the sum of the lengths fits 64 bits
 pub held_short : (ls : List Shelf) → IsShelf ls → held_in_all ls < 2 ^ 64
 held_short ls is = omega (arith, held_few ls is.0, is.1)
 
 -- Whose turn it is
 
--- the first line in a list and then another, in which the other is behind
+-- the first line of which the other has less, in a list and then in another
 pub behind_first : (have xs ys : List Shelf) (l : Shelf) → first_behind have xs ≡ Some l → first_behind have (xs ++ ys) ≡ Some l
 behind_first have [] ys l e = absurd cc
 behind_first have (k ∷ ks) ys l e = by_test (is_behind (line_of k.group have) k) (behind_first have ks ys l) e where

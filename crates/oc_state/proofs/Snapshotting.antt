@@ -55,9 +55,9 @@ rates_go_on ms i before after whole within put so =
     ap (rates_from (i + 1)) (readings_at ms i within) ∙ rates_cons (i + 1) (get_or ms i no_reading) (drop (i + 1) ms) ∙ ap (λ (r : Reading). rate_record (i + 1) r ++ rest) (sym own) in
     ap (λ (rs : List Record). rs ++ rest) put ∙ append_assoc before (rate_record (i + 1) (reading_of ms (i + 1))) rest ∙ sym (ap (λ (rs : List Record). before ++ rs) here) ∙ so
 
--- What a snapshot stands for
+-- The state of a snapshot
 
--- what follows of a value follows where there is one
+-- a conclusion about a value holds if there is one
 pub if_ok_then : {A E : Type 0} (r : Result A E) (P Q : A → Type 0) → ((a : A) → P a → Q a) → IfOk r P → IfOk r Q
 if_ok_then (Ok a) P Q f here = f a here
 if_ok_then (Err e) P Q f here = tt

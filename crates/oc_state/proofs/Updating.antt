@@ -6,7 +6,7 @@ use Rattle.oc_base.specs.declared.cert.Cert.{Cert}
 use Rattle.oc_state.specs.declared.list_update.ListUpdate.{ListUpdate}
 use Rattle.oc_state.specs.ListUpdates.{IsListUpdate, leases_by, rates_by, counts_by, leases_after, rates_after, counts_after}
 
--- at a update, what is left is that one and the rest
+-- the rest from an update on is that update and the rest after it
 updates_at : (us : List ListUpdate) (i : ℕ) (u : ListUpdate) → i < length us → u ≡ get_or us i u → drop i us ≡ u ∷ drop (i + 1) us
 updates_at us i u within e = drop_more us i u within ∙ ap (λ (v : ListUpdate). v ∷ drop (i + 1) us) (sym e)
 
@@ -17,7 +17,7 @@ update_here nodes us i u within e all = (subst (λ (vs : List ListUpdate). AllBy
 pub updates_left : (nodes : ℕ) (us : List ListUpdate) (i : ℕ) (u : ListUpdate) → i < length us → u ≡ get_or us i u → AllByRecursion (IsListUpdate nodes) (drop i us) → AllByRecursion (IsListUpdate nodes) (drop (i + 1) us)
 updates_left nodes us i u within e all = (subst (λ (vs : List ListUpdate). AllByRecursion (IsListUpdate nodes) vs) (updates_at us i u within e) all).1
 
--- with one update done, what the rest does is still the whole
+-- after one update, the effect of the rest still completes the whole
 pub leases_go_on : (t : List Cert) (me : ℕ) (us : List ListUpdate) (i : ℕ) (u : ListUpdate) (ends new whole : List (Option ℕ)) → i < length us → u ≡ get_or us i u → new ≡ leases_by t me ends u → leases_after t me ends (drop i us) ≡ whole → leases_after t me new (drop (i + 1) us) ≡ whole
 leases_go_on t me us i u ends new whole within e did so =
     ap (λ (l : List (Option ℕ)). leases_after t me l (drop (i + 1) us)) did ∙ sym (ap (leases_after t me ends) (updates_at us i u within e)) ∙ so

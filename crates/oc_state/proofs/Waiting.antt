@@ -1,11 +1,11 @@
--- What waits in a change log.
+-- The waiting certificates of a change log.
 use Rattle.std.proofs.Common.{◌≡◌, ℕ, zero, suc, ◌≤◌, Option, Some, None, List, [], ◌∷◌, length, take, drop, replicate, ap, arith}
 use Rattle.std.proofs.lemmas.List.{take_all}
 use Rattle.oc_base.specs.declared.cert.Cert.{Cert}
 use Rattle.oc_updown.proofs.Entries.{no_entries_past}
 use Rattle.oc_updown.specs.TableView.{entries_of}
 
--- all of them are taken
+-- all certificates are taken
 pub all_are_taken : (cs : List Cert) (n : ℕ) → length cs ≤ n → take n cs ≡ cs
 all_are_taken cs n few = take_all n cs few
 

@@ -1,4 +1,4 @@
--- What a contract sees of the durable parts of a node.
+-- The durable parts of a node, as a contract sees them.
 use Rattle.std.specs.Prelude.{ℕ, ◌+◌, ◌≤◌, ◌<◌, ◌^◌, List, [], ◌∷◌, length}
 use Rattle.oc_base.specs.declared.cert.Cert.{Cert}
 use Rattle.oc_base.specs.declared.limits.TheConstants.{MAX_NODES, MAX_BASE_ACKED}
@@ -10,7 +10,7 @@ use Rattle.oc_laws_step.specs.LawfulNode.{IsLawfulDurable}
 use Rattle.oc_laws_step.specs.Sound.{IsSoundDurable}
 use Rattle.oc_state.specs.declared.position.Position.{Position}
 
--- the number of nodes, the durable state, and for how many certificates and rates there is room
+-- the number of nodes, the durable state, and the number of certificates and rates for which there is room
 pub record DurableView : Type 0 where
   pub nodes : ℕ
   pub kept : Durable
@@ -30,7 +30,7 @@ durable_of s table log ancestors measures = record {
   measures = measures;
 }
 
--- how many certificates and rates a record brings
+-- the number of certificates and rates that a record brings
 abbrev pub brought : Record → ℕ
 brought (records.Entry c) = 1
 brought (records.OldEntry x s p dead) = 1
@@ -41,14 +41,14 @@ abbrev pub brought_by : List Record → ℕ
 brought_by [] = 0
 brought_by (r ∷ rs) = brought r + brought_by rs
 
--- there is room to fold records that bring this many certificates and rates: each lets at most one more wait, or the whole table
+-- there is room to fold records with this number of certificates and rates: each adds at most one waiting certificate, or the whole table
 pub record HasRoom (v : DurableView) (more : ℕ) : Type 0 where
   pub waiting : length v.kept.log.waiting + more ≤ v.room
   pub rows : length v.kept.table + more ≤ v.room
   pub places : v.kept.log.length + more < 2 ^ 63
   pub based : MAX_BASE_ACKED + more < 2 ^ 63
 
--- what is durable of a node among `nodes` nodes, as it may be
+-- the durable state of a node in a network of `nodes` nodes, within the ranges in which the code keeps it
 pub record IsKept (nodes : ℕ) (d : Durable) : Type 0 where
   pub few : nodes ≤ MAX_NODES
   pub sound : IsSoundDurable nodes d

@@ -8,7 +8,7 @@ ghost use Rattle.oc_state.specs.Children.{child_of_row, other_child_of_row, told
 use oc_base::{Cert, Child, Memory, NodeId, Slots};
 use std::alloc::Global;
 
-/// The subject of a row, if it is a leased child of this node.
+/// The row's subject, if it is a leased child of this node.
 fn child_of_row(row: &Option<Cert>, me: NodeId) -> Option<NodeId>
     ensures { result ≡ child_of_row me row.now }
 {
@@ -18,7 +18,7 @@ fn child_of_row(row: &Option<Cert>, me: NodeId) -> Option<NodeId>
     }
 }
 
-/// The subject of a row, if it is a leased child of this node other than the asker.
+/// The row's subject, if it is a leased child of this node other than the asker.
 fn other_child_of_row(row: &Option<Cert>, me: NodeId, asker: NodeId) -> Option<NodeId>
     ensures { result ≡ other_child_of_row me asker row.now }
 {
@@ -30,7 +30,7 @@ fn other_child_of_row(row: &Option<Cert>, me: NodeId, asker: NodeId) -> Option<N
     }
 }
 
-/// The least leased child of this node that is a member of the chain and not the asker.
+/// The least leased child of this node that is a chain member and not the asker.
 pub fn chain_child(
     rows: &Slots<Option<Cert>>,
     me: NodeId,
@@ -51,7 +51,7 @@ pub fn chain_child(
     None
 }
 
-/// The rate that a child told last, 0 where it told none.
+/// The rate that a child told last; 0 if it told none.
 fn rate_of(rates: &Slots<u64>, child: NodeId) -> u64
     ensures { result ≡ at rates.now.items child 0 }
 {
@@ -59,7 +59,7 @@ fn rate_of(rates: &Slots<u64>, child: NodeId) -> u64
     rates.get_or(place, 0)
 }
 
-/// Puts the child of a row at the end, if it has one.
+/// Adds the child of a row at the end, if it has one.
 fn push_child(
     children: &mut Vec<Child>,
     row: &Option<Cert>,

@@ -14,19 +14,19 @@ use oc_updown::{ChangeLog, Measures, Table};
 use std::alloc::Global;
 use std::marker::Model;
 
-/// What a stop leaves of a node: all of its control state that is in its records. Contracts see the
-/// model's record, the number of nodes, and for how many certificates and rates there is room.
+/// The durable part of a node: all of its control state that its records give. Contracts see the model's
+/// record, the number of nodes, and the number of certificates and rates for which there is room.
 #[derive(Drop)]
 pub struct Durable {
     nodes: u32,
     position: Position,
     table: Table,
     log: ChangeLog,
-    /// For how many certificates and rates room was made in the log; with any, the table has memory for all rows, and
-    /// there is memory for all that may be measured. A recovery that runs out of memory leaves it as it was, though
+    /// The number of certificates and rates for which the log has room; unless it is 0, the table has memory for all
+    /// rows, and the measures for all peers. A recovery that runs out of memory leaves this number unchanged, though
     /// the log, the table and the measures keep the memory that they have.
     room: usize,
-    /// Nearest first.
+    /// The nodes above, nearest first.
     ancestors: IdList,
     measures: Measures,
     alloc: Global,
@@ -49,7 +49,7 @@ impl Model for Durable {
 }
 
 impl Durable {
-    /// The durable parts of a new node, among this many.
+    /// The durable part of a new node, in a network of this number of nodes.
     pub fn new(alloc: Global, nodes: u32) -> Result<Durable, Memory>
         requires least { 1 ≤ nodes }
         requires most { nodes ≤ MAX_NODES }
@@ -108,8 +108,8 @@ impl Durable {
         &self.measures
     }
 
-    /// Makes room to fold these records: for each certificate or rate that they bring one in the log, or the whole
-    /// table. Where there is none, it takes no memory.
+    /// Makes room to fold these records: in the log for each certificate and rate that they bring, or for the whole
+    /// table. Takes no memory if they bring none.
     pub fn reserve(&mut self, changes: &[Record]) -> Result<(), Memory>
         ensures room { OnOk result (length self.new.kept.log.waiting + (length self.new.kept.table + brought_by changes.now) ≤ self.new.room) }
         ensures stays { self.old.room ≤ self.new.room }
@@ -119,7 +119,7 @@ impl Durable {
         self.reserve_more(brought_by(changes))
     }
 
-    /// Makes room for this many certificates and rates.
+    /// Makes room for this number of certificates and rates.
     #[tactic(auto, using(crate::proofs::Folding::rows_more, crate::proofs::Folding::rows_most))]
     fn reserve_more(&mut self, brought: usize) -> Result<(), Memory>
         ensures room { OnOk result (length self.new.kept.log.waiting + (length self.new.kept.table + brought) ≤ self.new.room) }
@@ -137,7 +137,7 @@ impl Durable {
         Ok(())
     }
 
-    /// Does what these records say to what is durable of a new node. If memory runs out, it stays new.
+    /// Folds these records into the durable part of a new node. If memory runs out, it stays new.
     pub fn recover(&mut self, list: &[Record]) -> Result<(), Memory>
         requires new { self.old.kept ≡ new_durable self.old.nodes }
         requires most { self.old.nodes ≤ MAX_NODES }
@@ -156,7 +156,7 @@ impl Durable {
         folded
     }
 
-    /// Makes it what is durable of a new node. Takes no memory.
+    /// Makes this the durable part of a new node. Takes no memory.
     fn clear(&mut self)
         ensures { self.new ≡ record self.old { kept = new_durable (length self.old.kept.measures) } }
     {
@@ -167,7 +167,7 @@ impl Durable {
         self.measures.clear();
     }
 
-    /// Does what these records say, one after another. The log is at most `MAX_BASE_ACKED` long before.
+    /// Folds these records, one after another. The log must be at most `MAX_BASE_ACKED` long.
     fn fold_list(&mut self, list: &[Record]) -> Result<(), Memory>
         requires lawful { AreRecords self.old.nodes list.now }
         requires kept { IsKept self.old.nodes self.old.kept }
@@ -184,7 +184,7 @@ impl Durable {
         Ok(())
     }
 
-    /// Does what a record says, and takes the memory for that.
+    /// Folds a copy of a record, for which it takes memory.
     #[tactic(auto, using(crate::proofs::Folding::length_one, crate::proofs::Folding::room_for))]
     fn fold_copy(&mut self, change: &Record) -> Result<(), Memory>
         requires lawful { IsRecord self.old.nodes change.now }
@@ -201,7 +201,7 @@ impl Durable {
         Ok(())
     }
 
-    /// Does what these records say, one after another. Takes no memory.
+    /// Folds these records, one after another. Takes no memory.
     pub fn fold_all(&mut self, changes: Vec<Record>)
         requires lawful { AreRecords self.old.nodes changes.items }
         requires kept { IsKept self.old.nodes self.old.kept }
@@ -213,7 +213,7 @@ impl Durable {
         }
     }
 
-    /// Does what a record says. Takes no memory.
+    /// Folds a record. Takes no memory.
     #[tactic(auto, using(crate::proofs::Folding::rows_few, crate::proofs::Folding::rows_there))]
     pub fn fold(&mut self, change: Record)
         requires lawful { IsRecord self.old.nodes change }
@@ -259,7 +259,7 @@ impl Durable {
     }
 }
 
-/// How many certificates and rates these records bring.
+/// The number of certificates and rates that these records bring.
 #[tactic(auto, using(crate::proofs::Folding::brought_on, crate::proofs::Folding::brought_end))]
 fn brought_by(changes: &[Record]) -> usize
     ensures { result ≡ brought_by changes.now }
@@ -271,7 +271,7 @@ fn brought_by(changes: &[Record]) -> usize
     count
 }
 
-/// How many certificates and rates a record brings.
+/// The number of certificates and rates that a record brings.
 fn brought(change: &Record) -> usize
     ensures value { result ≡ brought change.now }
     ensures few { result ≤ 1 }
@@ -282,7 +282,7 @@ fn brought(change: &Record) -> usize
     }
 }
 
-/// Takes the memory for the rows of a table, where any room is wanted.
+/// Takes the memory for the rows of a table, unless no room is wanted.
 fn reserve_rows(table: &mut Table, room: usize) -> Result<(), Memory>
     ensures room { OnOk result (0 < room → table.new.nodes ≤ table.new.room) }
     ensures stays { table.old.room ≤ table.new.room }
@@ -294,7 +294,7 @@ fn reserve_rows(table: &mut Table, room: usize) -> Result<(), Memory>
     table.reserve()
 }
 
-/// Takes the memory for what may be measured, where any room is wanted.
+/// Takes the memory for the measures, unless no room is wanted.
 fn reserve_rates(measures: &mut Measures, room: usize) -> Result<(), Memory>
     ensures room { OnOk result (0 < room → length measures.new.readings ≤ measures.new.room) }
     ensures stays { measures.old.room ≤ measures.new.room }
@@ -306,7 +306,7 @@ fn reserve_rates(measures: &mut Measures, room: usize) -> Result<(), Memory>
     measures.reserve()
 }
 
-/// How many rows of a table are in use, at least as many as there are certificates.
+/// The number of rows in use, which is at least the number of certificates.
 fn rows_in_use(table: &Table) -> usize
     ensures { length table.now.entries ≤ result }
 {

@@ -1,14 +1,14 @@
-//! The state of a node that its rules read and change, in parts.
+//! The state of a node, in the parts that its rules read and change.
 //!
-//! [`Durable`] is what a stop leaves: records alone change it, one after another, and a snapshot of it is a
-//! few records that stand for all before them. [`Position`] is its small part: the position in the tree, and
-//! what the node counted. What a start clears is in three parts: [`Volatile`], the nodes still to be asked
+//! [`Durable`] is the part that a stop leaves: only records change it, and a snapshot of it has few records
+//! that replace all earlier ones. [`Position`] is its small part: the position in the tree, and the node's
+//! counts. The part that a start clears has three pieces: [`Volatile`], the nodes still to be asked
 //! ([`Tries`]), and the lists with an item for each node, which a [`ListUpdate`] changes.
 //!
-//! `modes`, `ranks`, `children` and `shelves` are the questions that the rules ask of these parts.
+//! The modules `modes`, `ranks`, `children` and `shelves` answer the questions that the rules ask.
 //!
-//! The layers above rest on this: folding records gives the model's `folded`, a snapshot is the model's
-//! `snapshot`, and each question gives what the model's definition of its name says.
+//! The layers above rely on these: folding records gives the model's `folded`, a snapshot is the model's
+//! `snapshot`, and each question is answered as the model's definition of the same name says.
 #![tactic(auto)]
 
 pub mod children;

@@ -11,18 +11,18 @@ use oc_updown::{Leases, Table};
 /// redirection counts.
 #[derive(Clone, Copy)]
 pub enum ListUpdate {
-    /// Each leased child without a lease end gets one, a lease's time from now.
+    /// Each leased child without a lease end gets one, 30 seconds from now.
     Start { now: u64 },
     /// The lease of a child begins anew.
     Renew { child: NodeId, now: u64 },
     /// A child told this rate.
     Tell { child: NodeId, rate: u64 },
-    /// A client is sent to this node.
+    /// A client was sent to this node.
     Redirect { node: NodeId },
 }
 
-/// Makes these changes, one after another, of the lists of the node `me`, which has this table. There is memory for
-/// them. Takes no memory.
+/// Makes these changes, one after another, in the lists of the node `me`, which has this table. There must be memory
+/// for them. Takes no memory.
 pub fn update_all(
     updates: &[ListUpdate],
     table: &Table,
@@ -65,7 +65,7 @@ fn update_one(
     }
 }
 
-/// Takes the memory for these changes: none where there are none.
+/// Takes the memory for these changes; none if there is no change.
 pub fn reserve_lists(
     updates: &[ListUpdate],
     leases: &mut Leases,
@@ -87,7 +87,7 @@ pub fn reserve_lists(
     counts.reserve()
 }
 
-/// One client more was sent to this node.
+/// Counts one more client that was sent to this node.
 fn count(counts: &mut Slots<u64>, node: NodeId)
     requires node { IsNode (length counts.old.items) node }
     requires room { length counts.old.items ≤ counts.old.room }

@@ -8,9 +8,9 @@ use oc_model::Mode;
 use oc_updown::{ChangeLog, Table};
 use std::alloc::Global;
 
-/// Merges a certificate into the table of a node in this mode; where the node is joined, puts it at the end
-/// of the log too. Takes no memory: the table has it for all rows, and the log has room for one more, which is asked
-/// in every mode, so that callers need not look at it.
+/// Merges a certificate into the table of a node in this mode; if the node is joined, adds it at the end of the
+/// log too. Takes no memory: the table must have memory for all rows, and the log room for one more. The room is
+/// required in every mode, so that callers need not look at the mode.
 pub(crate) fn enter(table: &mut Table, log: &mut ChangeLog, mode: Mode, cert: &Cert)
     requires cert { IsCert table.old.nodes cert.now }
     requires nodes { log.old.nodes ≡ table.old.nodes }
@@ -26,7 +26,7 @@ pub(crate) fn enter(table: &mut Table, log: &mut ChangeLog, mode: Mode, cert: &C
     }
 }
 
-/// All certificates that wait in the log, in their order.
+/// Copies all waiting certificates of the log, in their order.
 #[tactic(auto, using(crate::proofs::Waiting::all_are_taken))]
 pub(crate) fn all_waiting(alloc: Global, log: &ChangeLog) -> Result<Vec<Cert>, Memory>
     ensures { IfOk result (λ certs. certs.items ≡ log.now.log.waiting) }

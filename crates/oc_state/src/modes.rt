@@ -8,7 +8,7 @@ ghost use Rattle.oc_state.specs.Modes.{is_idle, is_descending, is_reviewing};
 use oc_base::NodeId;
 use oc_model::{Mode, Search};
 
-// What a mode and a search say of another node.
+// Answers that a mode and a search give about another node.
 
 /// Whether a node of this mode is in the tree.
 pub fn in_tree(mode: Mode) -> bool
@@ -33,7 +33,7 @@ pub fn parent_of(mode: Mode) -> Option<NodeId>
     }
 }
 
-/// Whether a node of this mode asks `peer` to be its parent.
+/// Whether a node of this mode has asked `peer` to be its parent.
 pub fn is_asking(mode: Mode, peer: NodeId) -> bool
     ensures { result ≡ is_asking mode peer }
 {
@@ -43,7 +43,7 @@ pub fn is_asking(mode: Mode, peer: NodeId) -> bool
     }
 }
 
-/// Whether `peer` is the parent of a node of this mode, or is asked to be.
+/// Whether `peer` is the parent of a node of this mode, or has been asked to be.
 pub fn is_peer(mode: Mode, peer: NodeId) -> bool
     ensures { result ≡ is_peer mode peer }
 {
@@ -54,8 +54,8 @@ pub fn is_peer(mode: Mode, peer: NodeId) -> bool
     }
 }
 
-/// Whether a chain member would rather be beneath this node: it is a root, or its parent is an earlier
-/// member than that one.
+/// Whether a chain member prefers `peer` as its parent (rule 12, the line of the chain): it is acting, or its
+/// parent is an earlier member than `peer`.
 pub fn prefers(mode: Mode, peer: NodeId) -> bool
     ensures { result ≡ prefers mode peer }
 {
@@ -66,7 +66,7 @@ pub fn prefers(mode: Mode, peer: NodeId) -> bool
     }
 }
 
-/// Whether this node was asked on the way down to a place.
+/// Whether the node is on a descent at `peer`.
 pub fn is_descending(search: &Option<Search>, peer: NodeId) -> bool
     ensures { result ≡ is_descending search.now peer }
 {
@@ -76,7 +76,7 @@ pub fn is_descending(search: &Option<Search>, peer: NodeId) -> bool
     }
 }
 
-/// Whether the parent was asked for the other places near by.
+/// Whether the node reviews its place.
 pub fn is_reviewing(search: Option<Search>) -> bool
     ensures { result ≡ is_reviewing search }
 {

@@ -6,20 +6,20 @@ ghost use Rattle.oc_state.specs.Position.{position_of, new_position};
 use oc_base::Rank;
 use oc_model::{Mode, Record};
 
-/// The position of a node in the tree, and what it counted: the small parts of what is durable.
+/// The small durable parts of a node: its position in the tree, and its counts.
 #[derive(Clone, Copy)]
 pub struct Position {
-    /// The number of its last ask.
+    /// The number of the node's last ask.
     pub seq: u64,
     pub mode: Mode,
     pub rank: Option<Rank>,
-    /// Its own number, and its count of clients.
+    /// The node's own number, and its client count.
     pub number: u64,
     pub clients: u64,
 }
 
 impl Position {
-    /// That of a new node.
+    /// The position of a new node.
     pub fn new() -> Position
         ensures { result ≡ new_position }
     {
@@ -39,7 +39,7 @@ impl Position {
         matches!(self.mode, Mode::Joined(_))
     }
 
-    /// What a record makes of it.
+    /// The position after a record.
     pub fn after(self, change: &Record) -> Position
         ensures { (d : Durable) → position_of d ≡ self → result ≡ position_of (fold_one d change.now) }
     {

@@ -7,7 +7,7 @@ use oc_base::{IdList, MAX_ANCESTORS, MAX_DEPTH, Memory, NodeId, Rank};
 use oc_place::{raise, take_rank};
 use std::alloc::Global;
 
-/// A rank, or the last of all where there is none.
+/// The rank, or for a node without one the last of all ranks.
 pub fn rank_or_last(rank: Option<Rank>) -> Rank
     ensures { result ≡ rank_or_last rank }
 {
@@ -20,14 +20,14 @@ pub fn rank_or_last(rank: Option<Rank>) -> Rank
     }
 }
 
-/// The epoch after that of a rank, or the last one.
+/// The epoch after that of a rank, or the last epoch if there is no later one.
 pub fn next_epoch(rank: Rank) -> u64
     ensures { result ≡ next_epoch rank }
 {
     raise(rank.epoch).unwrap_or(rank.epoch)
 }
 
-/// Whether a rank precedes that of a node, or the node has none.
+/// Whether a rank precedes that of a node; every rank precedes that of a node without one.
 pub fn precedes_any(rank: Rank, other: Option<Rank>) -> bool
     ensures { result ≡ precedes_any rank other }
 {
@@ -37,7 +37,7 @@ pub fn precedes_any(rank: Rank, other: Option<Rank>) -> bool
     }
 }
 
-/// The ancestors of a child of this parent, whose own are these: at most 1,000, nearest first.
+/// The ancestors of a child of this parent, from the parent's own ones: at most 1,000, nearest first.
 #[tactic(auto, using(crate::proofs::Lists::take_few))]
 pub fn ancestors_by(alloc: Global, parent: NodeId, above: &[NodeId]) -> Result<IdList, Memory>
     ensures { IfOk result (λ ids. ids ≡ ancestors_by parent above.now) }
@@ -49,7 +49,7 @@ pub fn ancestors_by(alloc: Global, parent: NodeId, above: &[NodeId]) -> Result<I
     Ok(IdList::of(ids))
 }
 
-/// The rank beneath the one that was told, where it is better than the node's own.
+/// The rank beneath the told one, if that is better than the node's own.
 #[tactic(auto, using(crate::proofs::Better::better_left, crate::proofs::Better::better_found))]
 pub fn better_rank(own: Option<Rank>, told: Rank) -> Option<Rank>
     ensures { result ≡ better_rank own told }

@@ -9,9 +9,9 @@ use oc_base::{
 use oc_model::Answer;
 use std::alloc::Global;
 
-// What one shelf lacks of another.
+// The difference between two shelves.
 
-/// Whether a line is that of a group.
+/// Whether a line is the line of a group.
 fn is_line_of(line: &Shelf, group: &GroupName) -> bool
     ensures { result ≡ same_name group.now line.now.group }
 {
@@ -30,7 +30,7 @@ pub fn line_of(shelf: &[Shelf], group: &GroupName) -> Option<Shelf>
     None
 }
 
-/// The line of a group, where an absent one has no bytes.
+/// The line of a group; a group that is absent has 0 bytes.
 pub fn line_at(shelf: &[Shelf], group: &GroupName) -> Shelf
     ensures { result ≡ line_at group.now shelf.now }
 {
@@ -44,7 +44,7 @@ pub fn line_at(shelf: &[Shelf], group: &GroupName) -> Shelf
     }
 }
 
-/// The shelf with this line in place of the one at an index.
+/// The shelf with this line in place of the line at an index.
 fn replace_line(
     alloc: Global,
     shelf: &[Shelf],
@@ -59,7 +59,7 @@ fn replace_line(
     Ok(made)
 }
 
-/// The shelf with this line at an index, before those from there on.
+/// The shelf with this line inserted at an index.
 fn insert_line(
     alloc: Global,
     shelf: &[Shelf],
@@ -74,7 +74,7 @@ fn insert_line(
     Ok(made)
 }
 
-/// The shelf with this line in place of that of its group.
+/// The shelf with this line in place of the line of the same group.
 #[tactic(auto, using(crate::proofs::ShelfLines::lines_ascend, crate::proofs::ShelfLines::with_found, crate::proofs::ShelfLines::with_free, crate::proofs::ShelfLines::found_within, crate::proofs::ShelfLines::free_within))]
 pub fn with_line(alloc: Global, shelf: &[Shelf], line: &Shelf) -> Result<Vec<Shelf>, Memory>
     requires { IsShelf shelf.now }
@@ -86,7 +86,7 @@ pub fn with_line(alloc: Global, shelf: &[Shelf], line: &Shelf) -> Result<Vec<She
     }
 }
 
-/// The limit that a group would pass, if it grew to this length.
+/// The limit that a group would exceed at this length in bytes, if any.
 pub fn limit(shelf: &[Shelf], group: &GroupName, end: u64) -> Option<Answer>
     ensures { result ≡ limit shelf.now group.now end }
 {
@@ -99,8 +99,8 @@ pub fn limit(shelf: &[Shelf], group: &GroupName, end: u64) -> Option<Answer>
     }
 }
 
-/// Whether the other has less than this line: it lacks the group, holds less of it, or as much without
-/// the seal that is here.
+/// Whether the other node has less of a group: no such group, fewer bytes, or as many without the seal that
+/// is here.
 fn is_behind(other: &Option<Shelf>, line: &Shelf) -> bool
     ensures { result ≡ is_behind other.now line.now }
 {
@@ -112,7 +112,7 @@ fn is_behind(other: &Option<Shelf>, line: &Shelf) -> bool
     }
 }
 
-/// The first line in which the other is behind.
+/// The first group of which the other node has less.
 fn first_behind(have: &[Shelf], shelf: &[Shelf]) -> Option<Shelf>
     ensures { result ≡ first_behind have.now shelf.now }
 {
@@ -124,7 +124,7 @@ fn first_behind(have: &[Shelf], shelf: &[Shelf]) -> Option<Shelf>
     None
 }
 
-/// The place of the line whose turn it is, after chunks of this size: with each that came, the next one's.
+/// The index of the line whose turn it is: each chunk of this size that the other holds moves the turn on by one.
 #[tactic(auto, using(crate::proofs::ShelfLines::held_short))]
 fn turn(have: &[Shelf], shelf: &[Shelf], chunk: u64) -> usize
     requires have { IsShelf have.now }
@@ -136,7 +136,7 @@ fn turn(have: &[Shelf], shelf: &[Shelf], chunk: u64) -> usize
     (held_in_all(have) / chunk % shelf.len() as u64) as usize
 }
 
-/// The first line in which the other is behind, from that on whose turn it is.
+/// The first group of which the other node has less, from the group on whose turn it is.
 #[tactic(auto, using(crate::proofs::ShelfLines::behind_empty))]
 pub fn next_behind(have: &[Shelf], shelf: &[Shelf], chunk: u64) -> Option<Shelf>
     requires have { IsShelf have.now }

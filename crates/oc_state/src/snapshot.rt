@@ -14,9 +14,9 @@ use oc_model::{Mode, Record};
 use oc_updown::Measures;
 use std::alloc::Global;
 
-// A snapshot: records that give one state, whatever was before them.
+// A snapshot: records that give one state, whatever the state before them.
 
-/// Puts an entry for a row at the end, if it has a certificate.
+/// Adds an entry for a row, if it has a certificate.
 fn push_row(list: &mut Vec<Record>, row: &Option<Cert>) -> Result<(), Memory>
     ensures { OnOk result (list.new.items ≡ list.old.items ++ entries (entries_of (row.now ∷ []))) }
 {
@@ -26,7 +26,7 @@ fn push_row(list: &mut Vec<Record>, row: &Option<Cert>) -> Result<(), Memory>
     Ok(())
 }
 
-/// Puts an entry for each of these rows at the end.
+/// Adds an entry for each of these rows that has a certificate.
 fn push_rows(list: &mut Vec<Record>, rows: &Slots<Option<Cert>>) -> Result<(), Memory>
     requires { AreTableRows rows.now }
     ensures { OnOk result (list.new.items ≡ list.old.items ++ entries (entries_of rows.now.items)) }
@@ -38,7 +38,7 @@ fn push_rows(list: &mut Vec<Record>, rows: &Slots<Option<Cert>>) -> Result<(), M
     Ok(())
 }
 
-/// Puts an entry for each of these certificates at the end.
+/// Adds an entry for each of these certificates.
 fn push_entries(list: &mut Vec<Record>, certs: &[Cert]) -> Result<(), Memory>
     ensures { OnOk result (list.new.items ≡ list.old.items ++ entries certs.now) }
 {
@@ -48,7 +48,7 @@ fn push_entries(list: &mut Vec<Record>, certs: &[Cert]) -> Result<(), Memory>
     Ok(())
 }
 
-/// Puts at the end what was measured of a peer, if anything was.
+/// Adds the reading of a peer, if it was measured.
 fn push_rate(list: &mut Vec<Record>, measures: &Measures, peer: NodeId) -> Result<(), Memory>
     ensures { OnOk result (list.new.items ≡ list.old.items ++ rate_record peer (reading_of measures.now.readings peer)) }
 {
@@ -59,7 +59,7 @@ fn push_rate(list: &mut Vec<Record>, measures: &Measures, peer: NodeId) -> Resul
     Ok(())
 }
 
-/// Puts at the end what was measured of each peer.
+/// Adds the readings of all peers.
 fn push_rates(list: &mut Vec<Record>, measures: &Measures, nodes: u32) -> Result<(), Memory>
     requires { length measures.now.readings ≡ nodes }
     ensures { OnOk result (list.new.items ≡ list.old.items ++ rates_from 1 measures.now.readings) }
@@ -70,7 +70,7 @@ fn push_rates(list: &mut Vec<Record>, measures: &Measures, nodes: u32) -> Result
     Ok(())
 }
 
-/// The peer of a mode, and node 1 where it has none.
+/// The peer of a mode, or node 1 for a mode without one.
 fn peer_or_first(mode: Mode) -> NodeId
     ensures { result ≡ peer_or_first mode }
 {
@@ -82,7 +82,7 @@ fn peer_or_first(mode: Mode) -> NodeId
 }
 
 impl Durable {
-    /// The snapshot under this running number.
+    /// The snapshot with this running number.
     pub fn snapshot(&self, alloc: Global, generation: u64) -> Result<Vec<Record>, Memory>
         requires { length self.now.kept.measures ≡ self.now.nodes }
         ensures { IfOk result (λ list. list.items ≡ snapshot generation self.now.kept) }
@@ -99,7 +99,7 @@ impl Durable {
         Ok(list)
     }
 
-    /// Puts at the end the own number and the count of clients, if there were any.
+    /// Adds the own number and the client count, for a node that has any.
     fn push_pair(&self, list: &mut Vec<Record>) -> Result<(), Memory>
         ensures { OnOk result (list.new.items ≡ list.old.items ++ own_pair self.now.kept) }
     {
@@ -114,7 +114,7 @@ impl Durable {
         Ok(())
     }
 
-    /// Puts the last ask at the end, where there was one.
+    /// Adds the last ask, if there was one.
     fn push_ask(&self, list: &mut Vec<Record>) -> Result<(), Memory>
         ensures { OnOk result (list.new.items ≡ list.old.items ++ last_ask self.now.kept) }
     {
@@ -126,7 +126,7 @@ impl Durable {
         Ok(())
     }
 
-    /// Puts the mode at the end, as it goes on from the last ask, and for a joined node the log.
+    /// Adds the mode, for a node whose last ask is recorded; for a joined node its log too.
     fn push_mode(&self, alloc: Global, list: &mut Vec<Record>, mode: Mode) -> Result<(), Memory>
         ensures { OnOk result (list.new.items ≡ list.old.items ++ mode_records mode self.now.kept) }
     {
@@ -145,7 +145,7 @@ impl Durable {
         }
     }
 
-    /// Puts at the end that there is no parent, if there was an ask.
+    /// Adds that there is no parent, if there was an ask.
     fn push_lost(&self, list: &mut Vec<Record>) -> Result<(), Memory>
         ensures { OnOk result (list.new.items ≡ list.old.items ++ mode_records Mode.Idle self.now.kept) }
     {
@@ -155,7 +155,7 @@ impl Durable {
         Ok(())
     }
 
-    /// Puts at the end how much of the log is acknowledged, and what waits.
+    /// Adds the acknowledged length of the log, and the waiting certificates.
     fn push_log(&self, alloc: Global, list: &mut Vec<Record>) -> Result<(), Memory>
         ensures { OnOk result (list.new.items ≡ list.old.items ++ Record.Base self.now.kept.log.acked ∷ entries self.now.kept.log.waiting) }
     {
@@ -165,7 +165,7 @@ impl Durable {
         push_entries(list, &waiting)
     }
 
-    /// Puts the rank at the end, where there is one and the mode has not told it.
+    /// Adds the rank, if there is one that the mode's records do not tell.
     fn push_rank(&self, list: &mut Vec<Record>, mode: Mode) -> Result<(), Memory>
         ensures { OnOk result (list.new.items ≡ list.old.items ++ rank_records mode self.now.kept) }
     {
@@ -175,7 +175,7 @@ impl Durable {
         }
     }
 
-    /// Puts the ancestors at the end, where there are any.
+    /// Adds the ancestors, if there are any.
     fn push_ancestors(&self, alloc: Global, list: &mut Vec<Record>) -> Result<(), Memory>
         ensures { OnOk result (list.new.items ≡ list.old.items ++ ancestor_records self.now.kept.ancestors) }
     {
@@ -188,7 +188,7 @@ impl Durable {
     }
 }
 
-/// Puts a rank at the end, if there is one.
+/// Adds a rank, if there is one.
 fn push_ranked(list: &mut Vec<Record>, rank: Option<Rank>) -> Result<(), Memory>
     ensures { OnOk result (list.new.items ≡ list.old.items ++ map (λ r. Record.Ranked r) (option_to_list rank)) }
 {

@@ -9,7 +9,7 @@ use std::marker::Model;
 #[derive(Drop)]
 pub struct Tries {
     list: IdList,
-    /// How many of the list are taken off.
+    /// The number of nodes that are taken off the list.
     taken: usize,
 }
 
@@ -31,14 +31,14 @@ impl Tries {
         Tries::of(IdList::of(Vec::new(alloc)))
     }
 
-    /// These nodes, none of which is taken off yet.
+    /// A list of these nodes, with none taken off.
     pub fn of(list: IdList) -> Tries
         ensures { result ≡ list }
     {
         Tries { list, taken: 0 }
     }
 
-    /// The one after the first `place` of those that are left.
+    /// The node at an index, among those that are left.
     pub fn get(&self, place: usize) -> Option<NodeId>
         ensures first { result ≡ first_of (drop place self.now) }
         ensures fits { IfSome result (λ _. place + 1 < 2 ^ 64) }
@@ -47,7 +47,7 @@ impl Tries {
         left.get(place).copied()
     }
 
-    /// Takes off the first `count`, or all where fewer are left.
+    /// Takes off the first `count` nodes, or all if fewer are left.
     #[tactic(auto, using(crate::proofs::Lists::drop_more))]
     pub fn skip(&mut self, count: usize)
         ensures { self.new ≡ drop count self.old }
@@ -56,7 +56,7 @@ impl Tries {
         self.taken += count.min(left);
     }
 
-    /// Replaces them by `set`, if there is one, and then takes off the first `count`.
+    /// Replaces the list by `set`, if there is one, and then takes off the first `count` nodes.
     pub fn step(&mut self, set: Option<Tries>, count: usize)
         ensures { self.new ≡ drop count (unwrap_or set self.old) }
     {

@@ -4,36 +4,36 @@ ghost use Rattle.oc_state.specs.Volatile.{new_volatile};
 use oc_base::NodeId;
 use oc_model::Search;
 
-/// The small parts of what a start clears: all of it except the lists.
+/// The small parts that a start clears; the lists by node are not among them.
 #[derive(Clone, Copy)]
 pub struct Volatile {
     /// The time, in seconds.
     pub clock: u64,
-    /// When the next check is due.
+    /// The second of the next check.
     pub due: Option<u64>,
     /// No node has refused since the tries were last set.
     pub silent: bool,
     /// A node has refused since the last check in time.
     pub refused: bool,
-    /// When the parent was last told what is new, in seconds.
+    /// The second of the last check-in.
     pub checked: Option<u64>,
     pub search: Option<Search>,
-    /// The clients served that are not in the node's own count yet.
+    /// The clients served since the node last took clients into its own count.
     pub served: u64,
-    /// The place that reviews gave, until the node has a parent anew.
+    /// The place that reviews speak for, until the node has a parent anew.
     pub wish: Option<NodeId>,
-    /// The parent from which the wish was last asked for, or the node was moved while it had one.
+    /// The parent that the node left when it last asked for its wish, or was moved while it had one.
     pub left: Option<NodeId>,
-    /// How many reviews gave the wish, less those that gave another place since.
+    /// The number of reviews that spoke for the wish, less those that spoke for another place.
     pub waits: u64,
-    /// How many reviews more than two have to give the wish before it is asked for.
+    /// The number of reviews above two that have to speak for a wish before the node asks for it.
     pub patience: u8,
-    /// How often a review led to an ask, since a measure changed.
+    /// The number of reviews that made the node ask since a measure last changed.
     pub moves: u8,
 }
 
 impl Volatile {
-    /// Those after a start.
+    /// The parts of a node that just started.
     pub fn new() -> Volatile
         ensures { result ≡ new_volatile }
     {

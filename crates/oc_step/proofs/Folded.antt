@@ -1,4 +1,4 @@
--- What records say of one part of a node is what folding them makes of it.
+-- The effect of records on one part of a node agrees with folding them.
 use Rattle.std.proofs.Common.{◌≡◌, ℕ, Bool, true, false, ◌||◌, ◌==◌, if◌then◌else◌, Option, Some, List, [], ◌∷◌, ◌++◌, refl, sym, ◌∙◌, ap, eqb-true, append_assoc, append-nil, true≢false}
 use Rattle.std.proofs.lemmas.Bool.{eqb-false}
 use Rattle.std.specs.List.{list_any}
@@ -37,7 +37,7 @@ ancestors_folded_one d (records.Snapshot g) = refl
 ancestors_folded_one d (records.Entry c) = refl
 ancestors_folded_one d (records.Info number clients) = refl
 
--- and many
+-- the same for many records
 pub ancestors_folded : (d : Durable) (rs : List Record) → (folded d rs).ancestors ≡ ancestors_over d.ancestors rs
 ancestors_folded d [] = refl
 ancestors_folded d (r ∷ rs) = ancestors_folded (fold_one d r) rs ∙ ap (λ (xs : List ℕ). ancestors_over xs rs) (ancestors_folded_one d r)
@@ -80,7 +80,7 @@ entry_folded_one d (records.Snapshot g) x = refl
 entry_folded_one d (records.Entry c) x = newest_merged d.table c x
 entry_folded_one d (records.Info number clients) x = refl
 
--- and many
+-- the same for many records
 pub entry_folded : (d : Durable) (rs : List Record) (x : ℕ) → newest (folded d rs).table x ≡ entry_over x (newest d.table x) rs
 entry_folded d [] x = refl
 entry_folded d (r ∷ rs) x = entry_folded (fold_one d r) rs x ∙ ap (λ (was : Option Cert). entry_over x was rs) (entry_folded_one d r x)
@@ -105,7 +105,7 @@ mode_told d (records.Entry c ∷ rs) told = mode_told (fold_one d (records.Entry
 mode_told d (records.Info number clients ∷ rs) told = mode_told (fold_one d (records.Info number clients)) rs told.1
 mode_told d (r ∷ rs) told = absurd (told.0)
 
--- and let their certificates wait, at a joined node
+-- the certificates of the records wait, at a joined node
 noted_waiting : (m : Mode) (l : Log) (c : Cert) → is_joined m ≡ true → (noted m l c).waiting ≡ l.waiting ++ c ∷ []
 noted_waiting modes.Idle l c joined = absurd (true≢false (sym joined))
 noted_waiting (modes.Asking p) l c joined = absurd (true≢false (sym joined))

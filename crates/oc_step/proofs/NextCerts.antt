@@ -26,7 +26,7 @@ pushed_none n cs few = sym (ap (λ (zs : List Cert). take n zs) (append-nil cs) 
 pub pushed_one : (n : ℕ) (cs : List Cert) (c : Cert) → length cs < n → cs ++ c ∷ [] ≡ take n (cs ++ c ∷ [])
 pushed_one n cs c room = sym (take_all n (cs ++ c ∷ []) (omega (arith, length-append cs (c ∷ []))))
 
--- with the certificate of a record put, what the rest gives is still the whole
+-- after the certificate of a record was added, the rest still completes the whole
 pub certs_go_on : (n : ℕ) (rs : List Record) (i : ℕ) (r : Record) (before after whole : List Cert) → i < length rs → r ≡ get_or rs i r → after ≡ take n (before ++ certs_of r) → take n (before ++ certs_in (drop i rs)) ≡ whole → take n (after ++ certs_in (drop (i + 1) rs)) ≡ whole
 certs_go_on n rs i r before after whole within e put so =
     let rest = certs_in (drop (i + 1) rs) in
@@ -51,12 +51,12 @@ certs_end n rs i cs whole few over so =
 pub take_twice : (n : ℕ) (first rest made all : List Cert) → all ≡ first ++ rest → made ≡ take n (([] ++ take n first) ++ rest) → made ≡ take n all
 take_twice n first rest made all e put = put ∙ take_again n first rest ∙ ap (λ (zs : List Cert). take n zs) (sym e)
 
--- some wait where the log is longer than what is acknowledged
+-- certificates wait if the log is longer than its acknowledged part
 pub waits_length : (cs : List Cert) (acked length_of : ℕ) → length_of ≡ acked + length cs → nat_lt acked length_of ≡ waits cs
 waits_length [] acked length_of e = le-ltb acked length_of (omega (arith, e))
 waits_length (c ∷ cs) acked length_of e = lt-ltb acked length_of (omega (arith, e))
 
--- some wait in two lists where some wait in one of them
+-- certificates wait in two lists if some wait in one of them
 pub waits-append : (cs ds : List Cert) → waits (cs ++ ds) ≡ (waits cs || waits ds)
 waits-append [] ds = refl
 waits-append (c ∷ cs) ds = refl

@@ -16,7 +16,7 @@ but_cons xs c cs = by_test (not (has xs c.id)) refl where
   by_test true e = rw e
   by_test false e = rw e
 
--- with a child put at the end, what the rest gives is still the whole
+-- after a child was added, the rest still completes the whole
 pub but_go_on : (xs : List ℕ) (cs : List Child) (i : ℕ) (c : Child) (before after whole : List Child) → i < length cs → c ≡ get_or cs i c → after ≡ before ++ but xs (c ∷ []) → before ++ but xs (drop i cs) ≡ whole → after ++ but xs (drop (i + 1) cs) ≡ whole
 but_go_on xs cs i c before after whole within e put so =
     let here : but xs (drop i cs) ≡ but xs (c ∷ []) ++ but xs (drop (i + 1) cs) = ap (but xs) (drop_at cs i c within e) ∙ but_cons xs c (drop (i + 1) cs) in

@@ -1,4 +1,4 @@
--- What a contract sees of a node.
+-- A node, as a contract sees it.
 use Rattle.std.specs.Prelude.{ℕ, Option, List}
 use Rattle.oc_model.specs.declared.soft.Soft.{Soft}
 use Rattle.oc_base.specs.Lawful.{IsNode}
@@ -7,13 +7,13 @@ use Rattle.oc_model.specs.Node.{Control, Durable}
 use Rattle.oc_laws_step.specs.LawfulNode.{IsLawfulControl}
 use Rattle.oc_laws_step.specs.Sound.{IsSound}
 
--- for how many nodes there is memory in the lists that have an item for each
+-- the number of nodes for which each list by node has memory
 pub record ListRooms : Type 0 where
   pub leases : ℕ
   pub rates : ℕ
   pub counts : ℕ
 
--- the control state, how many certificates there is room for in its change log, and the memory of its lists
+-- the control state, the room in the change log in certificates, and the memory of the lists
 pub record NodeView : Type 0 where
   pub control : Control
   pub room : ℕ
@@ -34,7 +34,7 @@ control_of me nodes chain chunk areas kept soft leases rates counts = record {
   counts = counts;
 }
 
--- a node as every input and every start leaves it: sound, and its numbers within their ranges
+-- a node in a state that every input and every start keeps: sound, with its numbers within their ranges
 pub record IsReached (n : Control) : Type 0 where
   pub header : IsHeader (record { nodes = n.nodes; chain = n.chain; chunk = n.chunk; areas = n.areas })
   pub me : IsNode n.nodes n.me

@@ -1,4 +1,4 @@
--- What a contract sees of a plan, and what the plan makes of a node.
+-- A plan, as a contract sees it, and its effect on a node.
 use Rattle.std.specs.Prelude.{◌≡◌, ℕ, ◌≤◌, false, Bool, Option, Some, None, unwrap_or, List, [], ◌∷◌, drop, map}
 use Rattle.oc_model.specs.declared.answer.Answer.{Answer}
 use Rattle.oc_model.specs.declared.answer.Answer.TheVariants as words
@@ -15,9 +15,9 @@ use Rattle.oc_state.specs.declared.volatile.Volatile.{Volatile}
 use Rattle.oc_state.specs.ListUpdates.{leases_after, rates_after, counts_after}
 use Rattle.oc_state.specs.Volatile.{soft_of}
 
--- what a plan changes of a node: the durable changes; the small parts of what a start clears; the nodes still to be asked, if they are
--- set anew, and how many of them are taken off; what it updates of the lists by number. And what it sends, answers, wants and keeps;
--- `room` is how many bytes can be filled into its chunk
+-- the changes of a plan: the durable ones; the small parts that a start clears; the nodes still to be asked, if they are set anew, and
+-- the number of them taken off; the updates of the lists by node. Besides: the messages, the answer, the bytes wanted and kept; `room` is
+-- the number of bytes that can be filled into the chunk
 pub record PlanView : Type 0 where
   pub records : List Record
   pub volatile : Volatile
@@ -31,7 +31,7 @@ pub record PlanView : Type 0 where
   pub seals : Bool
   pub room : ℕ
 
--- a plan of nothing, at a node with these small parts
+-- the plan without changes, at a node with these small parts
 abbrev pub empty_plan : Volatile → PlanView
 empty_plan v = record {
   records = [];
@@ -47,7 +47,7 @@ empty_plan v = record {
   room = 0;
 }
 
--- what a start clears, after the plan
+-- the state that a start clears, after the plan
 abbrev pub soft_after : Soft → PlanView → Soft
 soft_after s p = soft_of p.volatile (drop p.taken (unwrap_or p.tries s.tries))
 
@@ -61,7 +61,7 @@ control_after n p = record n {
   counts = counts_after n.counts p.updates;
 }
 
--- the step under way that the plan is, at this node
+-- the model's step under way that this plan is, at this node
 abbrev pub planned : Control → PlanView → Plan
 planned n p = record {
   node = control_after n p;
@@ -75,7 +75,7 @@ planned n p = record {
 
 -- Filling
 
--- the plan wants this many bytes: its one message is the chunk, and there is room for them
+-- the plan wants this number of bytes: its only message is the chunk, and there is room for them
 pub record IsWanting (p : PlanView) (count : ℕ) : Type 0 where
   pub wants : (w : Want) × (p.wants ≡ Some w) × (w.count ≡ count)
   pub chunk : (m : Message) × (p.sends ≡ m ∷ [])

@@ -1,4 +1,4 @@
--- What records say of one part of a node, one after another.
+-- The effect of records on single parts of a node.
 use Rattle.std.specs.Prelude.{ℕ, ◌&&◌, ◌==◌, if◌then◌else◌, Option, Some, None, List, [], ◌∷◌, ◌++◌}
 use Rattle.std.specs.List.{AllByRecursion}
 use Rattle.oc_base.specs.declared.cert.Cert.{Cert}
@@ -34,7 +34,7 @@ abbrev pub entry_over : ℕ → Option Cert → List Record → Option Cert
 entry_over x was [] = was
 entry_over x was (r ∷ rs) = entry_over x (entry_by x was r) rs
 
--- a record that tells something, and leaves the rest: a certificate for the table, or the own pair
+-- a record that tells a fact and changes no other part: a certificate for the table, or the own number and client count
 abbrev pub IsTold : Record → Type 0
 IsTold (records.Entry c) = Unit {0}
 IsTold (records.Info number clients) = Unit {0}

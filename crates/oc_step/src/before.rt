@@ -17,7 +17,7 @@ use oc_updown::{ChangeLog, Leases, Measures, Table, select};
 use std::alloc::Global;
 use std::marker::Model;
 
-/// A node as it is before a step, lent to the step. Contracts see the model's control state.
+/// A node before a step, lent to the step. Contracts see the model's control state.
 #[derive(Drop)]
 pub struct Before<'a> {
     pub id: NodeId,
@@ -33,7 +33,7 @@ pub struct Before<'a> {
     pub leases: &'a Leases,
     /// The rate that each child told last, by its number.
     pub rates: &'a Slots<u64>,
-    /// How many clients each node was sent, by its number.
+    /// The number of clients that each node was sent, by its number.
     pub counts: &'a Slots<u64>,
     pub alloc: Global,
 }
@@ -99,7 +99,7 @@ impl Before<'_> {
         self.tries
     }
 
-    /// The newest certificate of each node below, as far as the node knows.
+    /// The newest certificate of each node below that the node knows.
     pub(crate) fn table(&self) -> &Table
         ensures { result.now.entries ≡ self.now.kept.table }
     {
@@ -120,7 +120,7 @@ impl Before<'_> {
         self.durable.ancestors()
     }
 
-    /// What was measured of each peer.
+    /// The reading of each peer.
     pub(crate) fn measures(&self) -> &Measures
         ensures { result.now.readings ≡ self.now.kept.measures }
     {
@@ -134,7 +134,7 @@ impl Before<'_> {
         children(self.alloc, self.durable.table().rows(), self.id, self.rates)
     }
 
-    /// The leased children that are no ancestors, ascending, with the rates that they told last.
+    /// The leased children without ancestors, ascending, with the rates that they told last.
     pub(crate) fn children(&self) -> Result<Vec<Child>, Memory>
         ensures { IfOk result (λ made. made.items ≡ children self.now) }
     {
@@ -142,7 +142,7 @@ impl Before<'_> {
         leave_out(self.alloc, &all, self.ancestors())
     }
 
-    /// The least leased child past a number whose lease has ended.
+    /// The leased child with the least id past `after` whose lease has ended.
     pub(crate) fn next_ended(&self, after: u32, now: u64) -> Option<NodeId>
         ensures { result ≡ next_ended self.now.kept.table self.now.me self.now.leases after now }
     {
@@ -150,7 +150,7 @@ impl Before<'_> {
             .next_ended(self.durable.table(), self.id, after, now)
     }
 
-    /// The node to which a client of this area is sent, if there is one for it.
+    /// The node to which a client of this area is sent, if there is one.
     #[tactic(auto, using(crate::proofs::Servers::server_is_node))]
     pub(crate) fn select(&self, area: u8) -> Option<NodeId>
         ensures server { result ≡ selected self.now.kept.table self.now.me self.now.chain self.now.areas self.now.counts area }

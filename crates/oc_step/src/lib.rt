@@ -1,13 +1,13 @@
-//! One step of a node, under way, and the plan that it ends in.
+//! The step of a node under way, and the plan as its result.
 //!
-//! A [`Step`] lends the node as it is [`Before`] the step, and holds what the step changes, so a step costs
-//! what its rules look at. A rule leads it on in the few ways that it has: one more record, one more message,
-//! an answer, bytes that are kept or wanted, and changes of what a start clears.
+//! A [`Step`] borrows the node as it is [`Before`] the step, and holds only the changes, so the cost of a step
+//! depends on the parts that its rules look at. A rule leads the step on in a few ways: by a record, a message,
+//! an answer, bytes that are kept or wanted, and changes of the parts that a start clears.
 //!
-//! The [`Plan`] that it ends in holds all memory that the step takes, and comes apart into its [`Changes`].
+//! The resulting [`Plan`] holds all memory that the step takes, and is taken apart into its [`Changes`].
 //!
-//! The layer above rests on this: a contract sees a [`Step`] as the model's step under way (`Plan` of
-//! `oc_model`), each of those ways gives the model's definition of it, and a finished plan is the step so far.
+//! The layer above relies on this: a contract sees a [`Step`] as the model's step under way (`Plan` of
+//! `oc_model`), each way to lead it on is the model's definition, and a finished plan is the step so far.
 #![tactic(auto)]
 
 mod before;

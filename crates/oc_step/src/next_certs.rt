@@ -19,7 +19,7 @@ fn cert_of(change: &Record) -> Option<Cert>
     }
 }
 
-/// Puts a certificate at the end, if there is one and there are fewer than a check-in may have.
+/// Adds a certificate at the end, if there is one and a check-in has room for more.
 fn push_cert(certs: &mut Vec<Cert>, cert: Option<Cert>) -> Result<(), Memory>
     requires { vec_len certs.old ≤ MAX_CHECK_IN_CERTS }
     ensures certs { OnOk result (certs.new.items ≡ take MAX_CHECK_IN_CERTS (certs.old.items ++ option_to_list cert)) }
@@ -34,7 +34,7 @@ fn push_cert(certs: &mut Vec<Cert>, cert: Option<Cert>) -> Result<(), Memory>
     Ok(())
 }
 
-/// Puts the certificates of these records at the end, no more than a check-in may have.
+/// Adds the certificates of these records at the end, up to the limit of a check-in.
 pub(crate) fn push_certs(certs: &mut Vec<Cert>, records: &[Record]) -> Result<(), Memory>
     requires { vec_len certs.old ≤ MAX_CHECK_IN_CERTS }
     ensures certs { OnOk result (certs.new.items ≡ take MAX_CHECK_IN_CERTS (certs.old.items ++ certs_in records.now)) }
@@ -53,14 +53,14 @@ fn has_cert(change: &Record) -> bool
     matches!(change, Record::Entry { .. })
 }
 
-/// Whether any of these records has one.
+/// Whether any of these records has a certificate.
 pub(crate) fn have_certs(records: &[Record]) -> bool
     ensures { result ≡ list_any (λ r. waits (certs_of r)) records.now }
 {
     records.iter().any(|change| has_cert(change))
 }
 
-/// Whether a log has certificates that are not acknowledged.
+/// Whether a log has waiting certificates.
 #[tactic(auto, using(crate::proofs::NextCerts::waits_length))]
 pub(crate) fn has_waiting(log: &ChangeLog) -> bool
     ensures { result ≡ waits log.now.log.waiting }

@@ -13,16 +13,16 @@ use oc_state::{ListUpdate, Tries, Volatile};
 use std::alloc::Global;
 use std::marker::Model;
 
-/// What one input will do to a node, before anything is done: its records, its messages and its answer,
-/// and what changes of the parts of the node that no record keeps. It holds all memory that the step
+/// The effect of one input on a node, before it is applied: its records, its messages, its answer, and the
+/// changes of the parts of the node that no record keeps. It holds all memory that the step
 /// takes.
 #[derive(Drop)]
 pub struct Plan {
     records: Vec<Record>,
     volatile: Volatile,
-    /// The nodes still to be asked, where they are set anew.
+    /// The nodes still to be asked, if the step sets them anew.
     tries: Option<Tries>,
-    /// How many of the nodes still to be asked are taken off.
+    /// The number of nodes that the step takes off the nodes still to be asked.
     taken: usize,
     updates: Vec<ListUpdate>,
     sends: Vec<Message>,
@@ -30,7 +30,7 @@ pub struct Plan {
     wants: Option<Want>,
     keeps: Option<u64>,
     seals: bool,
-    /// Nothing, with room for the bytes that the step wants.
+    /// An empty buffer, with room for the bytes that the step wants.
     buffer: Vec<u8>,
 }
 
@@ -58,7 +58,7 @@ impl Model for Plan {
 }
 
 impl Plan {
-    /// A plan of nothing, at a node with these small parts.
+    /// The plan without changes, at a node with these small parts.
     pub(crate) fn new(alloc: Global, volatile: Volatile) -> Plan
         ensures { result ≡ empty_plan volatile }
     {
@@ -84,44 +84,43 @@ impl Plan {
         &self.records
     }
 
-    /// What the step changes of the lists that have an item for each node.
+    /// The changes of the lists that have an item for each node.
     pub fn updates(&self) -> &[ListUpdate]
         ensures { result.now ≡ self.now.updates }
     {
         &self.updates
     }
 
-    /// The messages that the step sends. Where the plan wants bytes, the chunk has them once it is
-    /// filled.
+    /// The messages to send. If the plan wants bytes, the chunk has them after `fill`.
     pub fn sends(&self) -> &[Message]
         ensures { result.now ≡ self.now.sends }
     {
         &self.sends
     }
 
-    /// What the step answers.
+    /// The answer to the input.
     pub fn answer(&self) -> Answer
         ensures { result ≡ self.now.answer }
     {
         self.answer
     }
 
-    /// The bytes that the step sends in a chunk, if it sends any: the group, the place and the number.
+    /// The bytes for the chunk that the step sends, if it sends one with bytes: the group, the offset and the number.
     pub fn wants(&self) -> Option<Want>
         ensures { result ≡ self.now.wants }
     {
         self.wants
     }
 
-    /// The place in the input's group at which the input's bytes begin; there is one exactly where the step
-    /// writes a frame of content.
+    /// The offset in the input's group at which its bytes begin; it is set exactly if the step writes a frame
+    /// of content.
     pub fn keeps(&self) -> Option<u64>
         ensures { result ≡ self.now.keeps }
     {
         self.keeps
     }
 
-    /// Whether the step keeps a seal.
+    /// Whether the step seals the input's group.
     pub fn seals(&self) -> bool
         ensures { result ≡ self.now.seals }
     {
@@ -140,7 +139,7 @@ impl Plan {
         self.volatile = volatile;
     }
 
-    /// One more durable change.
+    /// Adds a durable change.
     pub(crate) fn write(&mut self, change: Record) -> Result<(), Memory>
         ensures ok { OnOk result (self.new ≡ record self.old { records = self.old.records ++ change ∷ [] }) }
         ensures err { OnErr result (self.new ≡ self.old) }
@@ -149,7 +148,7 @@ impl Plan {
         Ok(())
     }
 
-    /// One more message.
+    /// Adds a message.
     pub(crate) fn send(&mut self, message: Message) -> Result<(), Memory>
         ensures ok { OnOk result (self.new ≡ record self.old { sends = self.old.sends ++ message ∷ [] }) }
         ensures err { OnErr result (self.new ≡ self.old) }
@@ -158,7 +157,7 @@ impl Plan {
         Ok(())
     }
 
-    /// One more change of the lists that have an item for each node.
+    /// Adds a change of the lists that have an item for each node.
     pub(crate) fn update(&mut self, update: ListUpdate) -> Result<(), Memory>
         ensures ok { OnOk result (self.new ≡ record self.old { updates = self.old.updates ++ update ∷ [] }) }
         ensures err { OnErr result (self.new ≡ self.old) }
@@ -173,7 +172,7 @@ impl Plan {
         self.answer = answer;
     }
 
-    /// The nodes still to be asked become these.
+    /// Sets the nodes still to be asked.
     pub(crate) fn set_tries(&mut self, list: IdList)
         ensures { self.new ≡ record self.old { tries = Some list; taken = 0 } }
     {
@@ -181,7 +180,7 @@ impl Plan {
         self.taken = 0;
     }
 
-    /// Takes off the first of the nodes still to be asked, which were these.
+    /// Takes off the first of the nodes still to be asked; `before` is the list of the node.
     pub(crate) fn take_try(&mut self, before: &Tries) -> Option<NodeId>
         ensures first { result ≡ first_of (drop self.old.taken (unwrap_or self.old.tries before.now)) }
         ensures none { IfNone result (self.new ≡ self.old) }
@@ -193,7 +192,7 @@ impl Plan {
         Some(first)
     }
 
-    /// The input's bytes are kept in their group, at this place. They may close it.
+    /// Keeps the input's bytes in their group, from this offset on, and closes the group if `closes`.
     pub(crate) fn keep(&mut self, at: u64, closes: bool)
         ensures { self.new ≡ record self.old { keeps = Some at; seals = closes } }
     {
@@ -201,7 +200,7 @@ impl Plan {
         self.seals = closes;
     }
 
-    /// Bytes of content are wanted, if there are any, and there is room for them.
+    /// Wants bytes of content, if there are any, and makes room for them.
     #[tactic(auto, using(crate::proofs::Rooms::room_grows))]
     pub(crate) fn want(&mut self, wanted: Option<Want>) -> Result<(), Memory>
         requires { IfSome self.old.wants (λ w. w.count ≤ self.old.room) }
@@ -218,7 +217,7 @@ impl Plan {
         Ok(())
     }
 
-    /// Puts the bytes that the step wants into its chunk. Takes no memory, and copies nothing.
+    /// Fills the wanted bytes into the chunk. Takes no memory, and copies nothing.
     pub fn fill(&mut self, bytes: Vec<u8>)
         requires { IsWanting self.old (length bytes.items) }
         ensures fills { self.new ≡ filled_with bytes.items self.old }
@@ -230,7 +229,7 @@ impl Plan {
         }
     }
 
-    /// What it changes, says and answers.
+    /// Takes the plan apart into its changes, messages and answer.
     pub fn into_changes(self) -> Changes
         ensures records { result.records.items ≡ self.records }
         ensures volatile { result.volatile ≡ self.volatile }
@@ -252,21 +251,21 @@ impl Plan {
     }
 }
 
-/// What a plan changes of a node, says and answers.
+/// The changes, the messages and the answer of a plan.
 #[derive(Drop)]
 pub struct Changes {
     pub records: Vec<Record>,
     pub volatile: Volatile,
-    /// The nodes still to be asked, where they are set anew.
+    /// The nodes still to be asked, if the step sets them anew.
     pub tries: Option<Tries>,
-    /// How many of the nodes still to be asked are taken off.
+    /// The number of nodes that the step takes off the nodes still to be asked.
     pub taken: usize,
     pub updates: Vec<ListUpdate>,
     pub sends: Vec<Message>,
     pub answer: Answer,
 }
 
-/// Puts bytes into a message, if it is a chunk.
+/// Fills bytes into a message, if it is a chunk.
 fn fill_message(message: &mut Message, filling: Vec<u8>)
     ensures { message.new ≡ fill filling.items message.old }
 {

@@ -5,7 +5,7 @@ ghost use Rattle.oc_step.specs.Since.{ancestors_by, ancestors_over, entry_with, 
 use oc_base::{Cert, NodeId};
 use oc_model::Record;
 
-/// The ancestors after these records, of a node that had these before.
+/// The ancestors after these records, from those before.
 pub(crate) fn ancestors_since<'a>(before: &'a [NodeId], records: &'a [Record]) -> &'a [NodeId]
     ensures { result.now ≡ ancestors_over before.now records.now }
 {
@@ -27,7 +27,7 @@ fn ancestors_by<'a>(before: &'a [NodeId], change: &'a Record) -> &'a [NodeId]
     }
 }
 
-/// The entry of a node after these records, where it was this one before.
+/// The entry of a node after these records, from the one before.
 pub(crate) fn entry_since(before: Option<Cert>, subject: NodeId, records: &[Record]) -> Option<Cert>
     requires { IfSome before (λ entry. entry.subject ≡ subject) }
     ensures entry { result ≡ entry_over subject before records.now }
@@ -70,7 +70,7 @@ fn entry_by(before: Option<Cert>, subject: NodeId, change: &Record) -> Option<Ce
     }
 }
 
-/// The entry of a node after a certificate came.
+/// The entry of a node after a certificate.
 fn entry_with(before: Option<Cert>, subject: NodeId, cert: &Cert) -> Option<Cert>
     requires { IfSome before (λ entry. entry.subject ≡ subject) }
     ensures entry { result ≡ entry_with subject before cert.now }
@@ -83,7 +83,7 @@ fn entry_with(before: Option<Cert>, subject: NodeId, cert: &Cert) -> Option<Cert
     }
 }
 
-/// Whether a certificate outranks the entry of its subject, or there is none.
+/// Whether a certificate is news: there is no entry of its subject, or the certificate outranks it.
 pub(crate) fn is_news_to(entry: &Option<Cert>, cert: &Cert) -> bool
     requires { IfSome entry.now (λ entry. entry.subject ≡ cert.now.subject) }
     ensures { result ≡ is_news_to entry.now cert.now }

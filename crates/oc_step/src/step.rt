@@ -34,13 +34,13 @@ use oc_state::{ListUpdate, Position, Volatile};
 use std::alloc::Global;
 use std::marker::Model;
 
-/// A step under way. A rule leads it on, and the node is only looked at.
+/// A step under way. A rule leads it on; the node itself is only read.
 ///
 /// Contracts see the node before the step, and the model's step under way.
 #[derive(Drop)]
 pub struct Step<'a> {
     node: Before<'a>,
-    /// The small durable parts, after the records so far.
+    /// The small durable parts of the node, after the records so far.
     position: Position,
     plan: Plan,
 }
@@ -66,7 +66,7 @@ impl<'a> Model for Step<'a> {
 }
 
 impl<'a> Step<'a> {
-    /// Before the first rule.
+    /// The step before its first rule.
     pub fn of(node: Before<'a>) -> Step<'a>
         ensures reached { IsReached result.base }
         ensures base { result.base ≡ node.entry }
@@ -127,7 +127,7 @@ impl<'a> Step<'a> {
         self.plan.volatile()
     }
 
-    /// The nodes above, nearest first.
+    /// The nodes above, nearest first, after the records so far.
     #[tactic(auto, using(crate::proofs::Folded::ancestors_folded))]
     pub fn ancestors(&self) -> &[NodeId]
         ensures { result.now ≡ self.now.plan.node.kept.ancestors }
@@ -135,14 +135,14 @@ impl<'a> Step<'a> {
         ancestors_since(self.node.ancestors(), self.plan.records())
     }
 
-    /// A list of the nodes above, nearest first.
+    /// A copy of the nodes above, nearest first.
     pub fn ancestor_list(&self) -> Result<IdList, Memory>
         ensures { IfOk result (λ ids. ids ≡ self.now.plan.node.kept.ancestors) }
     {
         Ok(IdList::of(self.ancestors().to_vec(self.alloc())?))
     }
 
-    /// The table's entry of a node.
+    /// The table's entry of a node, after the records so far.
     #[tactic(auto, using(crate::proofs::Folded::entry_folded))]
     pub fn entry(&self, subject: NodeId) -> Option<Cert>
         ensures entry { result ≡ newest self.now.plan.node.kept.table subject }
@@ -162,7 +162,7 @@ impl<'a> Step<'a> {
         is_news_to(&self.entry(cert.subject), cert)
     }
 
-    /// The least leased chain member other than the asker.
+    /// The chain member with the least id that is a leased child, other than the asker.
     pub fn chain_child(&self, asker: NodeId) -> Option<NodeId>
         requires { self.now.plan.node.kept.table ≡ self.now.base.kept.table }
         ensures { result ≡ chain_child self.now.plan.node.kept.table self.now.plan.node.me self.now.plan.node.chain asker }
@@ -170,7 +170,7 @@ impl<'a> Step<'a> {
         chain_child(self.node.table().rows(), self.id(), self.chain(), asker)
     }
 
-    /// The leased children that are no ancestors, ascending, with the rates that they told last.
+    /// The leased children without ancestors, ascending, with the rates that they told last.
     pub fn children(&self) -> Result<Vec<Child>, Memory>
         requires { self.now.plan ≡ begun self.now.base }
         ensures { IfOk result (λ made. made.items ≡ children self.now.plan.node) }
@@ -178,7 +178,7 @@ impl<'a> Step<'a> {
         self.node.children()
     }
 
-    /// What was measured of a peer: bytes per second, and hops.
+    /// The reading of a peer: bytes per second, and hops.
     #[tactic(auto, using(crate::proofs::Folded::measures_told))]
     pub fn reading(&self, peer: NodeId) -> (u64, u8)
         requires { AreTold self.now.plan.records }
@@ -188,7 +188,7 @@ impl<'a> Step<'a> {
         self.node.measures().get(peer)
     }
 
-    /// The rate to a peer in bytes per second, 0 where it is not measured.
+    /// The rate to a peer in bytes per second, 0 if it was not measured.
     pub fn rate_to(&self, peer: NodeId) -> u64
         requires { AreTold self.now.plan.records }
         ensures { result ≡ rate_to self.now.plan.node peer }
@@ -209,7 +209,7 @@ impl<'a> Step<'a> {
         Ok(certs)
     }
 
-    /// Whether the log has certificates that are not acknowledged.
+    /// Whether the log has waiting certificates.
     pub fn is_waiting(&self) -> bool
         requires told { AreTold self.now.plan.records }
         requires joined { is_joined self.now.plan.node.kept.mode ≡ true }
@@ -218,7 +218,7 @@ impl<'a> Step<'a> {
         has_waiting(self.node.log()) || have_certs(self.plan.records())
     }
 
-    /// How many certificates of the log are acknowledged.
+    /// The number of acknowledged certificates of the log.
     #[tactic(auto, using(crate::proofs::Folded::acked_told))]
     pub fn acked(&self) -> u64
         requires { AreTold self.now.plan.records }
@@ -228,7 +228,7 @@ impl<'a> Step<'a> {
         self.node.log().acked()
     }
 
-    /// Whether acknowledging up to this place tells anything new.
+    /// Whether an acknowledgement up to this place is new.
     pub fn is_ahead(&self, upto: u64) -> bool
         requires { self.now.plan.node.kept.log ≡ self.now.base.kept.log }
         ensures { result ≡ is_ahead self.now.plan.node.kept.log upto }
@@ -237,14 +237,14 @@ impl<'a> Step<'a> {
         log.acked() < upto && upto <= log.length()
     }
 
-    /// The least leased child past a number whose lease has ended at the beginning of the step.
+    /// The leased child with the least id past `after` whose lease has ended, at the beginning of the step.
     pub fn next_ended(&self, after: u32, now: u64) -> Option<NodeId>
         ensures { result ≡ next_ended self.now.base.kept.table self.now.base.me self.now.base.leases after now }
     {
         self.node.next_ended(after, now)
     }
 
-    /// The node to which a client of this area is sent, if it is sent on.
+    /// The node to which a chain member sends a client of this area, if there is one.
     pub fn server_for(&self, area: u8) -> Option<NodeId>
         requires { self.now.plan ≡ begun self.now.base }
         ensures server { result ≡ server_for self.now.plan.node area }
@@ -257,7 +257,7 @@ impl<'a> Step<'a> {
         }
     }
 
-    /// The input's bytes are kept in their group, at this place. They may close it.
+    /// Keeps the input's bytes in their group, from this offset on, and closes the group if `closes`.
     pub fn keep(&mut self, at: u64, closes: bool) -> Result<(), Memory>
         ensures { OnOk result (self.new ≡ goes self.old (keeps self.old.plan at closes)) }
     {
@@ -265,14 +265,14 @@ impl<'a> Step<'a> {
         Ok(())
     }
 
-    /// These bytes are wanted, if there are any.
+    /// Wants these bytes for the chunk, if there are any.
     pub fn want(&mut self, wanted: Option<Want>) -> Result<(), Memory>
         ensures { OnOk result (self.new ≡ goes self.old (record self.old.plan { wants = wanted })) }
     {
         self.plan.want(wanted)
     }
 
-    /// A durable change: its record is written, and does what it says.
+    /// Makes a durable change: writes its record, and applies it.
     #[tactic(auto, using(crate::proofs::Steps::folded_more))]
     pub fn write(&mut self, change: Record) -> Result<(), Memory>
         ensures { OnOk result (self.new ≡ goes self.old (write self.old.plan change)) }
@@ -283,7 +283,7 @@ impl<'a> Step<'a> {
         Ok(())
     }
 
-    /// One more message.
+    /// Adds a message.
     pub fn send(&mut self, to: NodeId, body: Body) -> Result<(), Memory>
         ensures { OnOk result (self.new ≡ goes self.old (send self.old.plan to body)) }
     {
@@ -299,7 +299,7 @@ impl<'a> Step<'a> {
         Ok(())
     }
 
-    /// Nothing happens.
+    /// Answers that the input changes nothing.
     pub fn ignore(&mut self) -> Result<(), Memory>
         ensures { OnOk result (self.new ≡ goes self.old (ignored self.old.plan)) }
     {
@@ -313,7 +313,7 @@ impl<'a> Step<'a> {
         self.plan.set_volatile(volatile);
     }
 
-    /// What the node looks for from now on.
+    /// Sets the node's search, or ends it.
     pub fn search(&mut self, search: Option<Search>)
         ensures { self.new ≡ goes self.old (searching self.old.plan search) }
     {
@@ -332,7 +332,7 @@ impl<'a> Step<'a> {
         self.note_update(update)
     }
 
-    /// Whether an update finds nothing to change: where no node has a certificate, no lease begins.
+    /// Whether an update changes nothing: at a node without certificates no lease begins.
     #[tactic(auto, using(crate::proofs::Steps::none_start))]
     fn changes_nothing(&self, update: &ListUpdate) -> bool
         ensures { IsTrue result → updates self.now.base update.now self.now.plan ≡ self.now.plan }
@@ -343,7 +343,7 @@ impl<'a> Step<'a> {
         }
     }
 
-    /// One more update in the plan.
+    /// Adds an update to the plan.
     #[tactic(auto, using(crate::proofs::Steps::leases_more, crate::proofs::Steps::rates_more, crate::proofs::Steps::counts_more, crate::proofs::Steps::updates_more))]
     fn note_update(&mut self, update: ListUpdate) -> Result<(), Memory>
         requires { IsListUpdate self.old.base.nodes update }
@@ -352,7 +352,7 @@ impl<'a> Step<'a> {
         self.plan.update(update)
     }
 
-    /// The nodes still to be asked become those of a round, except for one. No node has refused since.
+    /// Sets the nodes still to be asked to those of a round, except for one; none of them has refused yet.
     pub fn set_tries(&mut self, without: Option<NodeId>) -> Result<(), Memory>
         ensures { OnOk result (self.new ≡ goes self.old (set_tries self.old.plan without)) }
     {
@@ -373,7 +373,7 @@ impl<'a> Step<'a> {
         Ok(())
     }
 
-    /// No node is left to be asked.
+    /// Clears the nodes still to be asked.
     pub fn clear_tries(&mut self)
         ensures { self.new ≡ goes self.old (with_tries self.old.plan []) }
     {
@@ -391,7 +391,7 @@ impl<'a> Step<'a> {
         self.plan.take_try(self.node.tries())
     }
 
-    /// The plan of the step that was made.
+    /// The plan of this step, which is done.
     pub fn done(self) -> Plan
         ensures plan { planned self.entry.base result ≡ self.entry.plan }
         ensures updates { AllByRecursion (IsListUpdate self.entry.base.nodes) result.updates }

@@ -5,16 +5,16 @@ ghost use Rattle.oc_step.specs.Told.{but};
 use oc_base::{Child, Memory, NodeId};
 use std::alloc::Global;
 
-// Which children are told to other nodes.
+// The children that a node tells to other nodes.
 
-/// Whether an id is none of these.
+/// Whether an id is not in the list.
 fn is_none_of(id: NodeId, ids: &[NodeId]) -> bool
     ensures { result ≡ not (has ids.now id) }
 {
     !ids.contains(&id)
 }
 
-/// Puts a child at the end, unless it is one of these nodes.
+/// Adds a child at the end, unless it is one of these nodes.
 fn push_but(told: &mut Vec<Child>, child: &Child, out: &[NodeId]) -> Result<(), Memory>
     ensures { OnOk result (told.new.items ≡ told.old.items ++ but out.now (child.now ∷ [])) }
 {
@@ -24,7 +24,7 @@ fn push_but(told: &mut Vec<Child>, child: &Child, out: &[NodeId]) -> Result<(), 
     Ok(())
 }
 
-/// These children without those that are among the nodes left out, in their order.
+/// The children without those that are among these nodes, in their order.
 pub(crate) fn leave_out(
     alloc: Global,
     children: &[Child],

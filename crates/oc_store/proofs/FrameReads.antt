@@ -7,7 +7,7 @@ use Rattle.oc_record.specs.declared.fault.RecordFault.{RecordFault}
 use Rattle.oc_record.specs.Reading.{decoded}
 use Rattle.oc_store.specs.ControlFiles.{or_none, records_in, records_of, bad_or, first_bad}
 
--- the frames before a number are read: these are their records, and none of them is bad
+-- the frames before an index are read: these are their records, and none of them is bad
 pub record IsRead (nodes : ℕ) (frames : List (List ℕ)) (records : List Record) (number : ℕ) : Type 0 where
   pub whole : records ++ records_of nodes (drop number frames) ≡ records_of nodes frames
   pub good : first_bad nodes frames ≡ option_map (λ k. number + k) (first_bad nodes (drop number frames))
@@ -62,7 +62,7 @@ ends_all nodes frames records number le so_far =
 pub one_frame : (nodes : ℕ) (body : List ℕ) → records_of nodes (body ∷ []) ≡ records_in nodes body
 one_frame nodes body = flat_map-cons (records_in nodes) body [] ∙ append-nil (records_in nodes body)
 
--- and of one more
+-- the records of one more frame
 pub one_frame_more : (nodes : ℕ) (frames : List (List ℕ)) (body : List ℕ) → records_of nodes (frames ++ body ∷ []) ≡ records_of nodes frames ++ records_in nodes body
 one_frame_more nodes frames body =
     flat_map-append (records_in nodes) frames (body ∷ []) ∙ ap (λ (rs : List Record). records_of nodes frames ++ rs) (one_frame nodes body)

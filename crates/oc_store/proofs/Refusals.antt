@@ -19,7 +19,7 @@ refused_one nodes old new causes.NotJournal why sure honest good = absurd (good.
 refused_one nodes old new (causes.BadFrame number) why sure honest good = let bad = why honest in absurd (cc (bad.1, good.1))
 refused_one nodes old new causes.Memory why sure honest good = refl
 
--- and so are two
+-- two good files on reliable disks are refused only if memory runs out
 pub refused_memory : (nodes : ℕ) (a b a2 b2 : DiskView) (side : Side) (cause : FileError) → RefusesSide nodes a b a2 b2 side cause
     → IsTrue a.reliable → IsTrue b.reliable → IsTrue a.honest → IsTrue b.honest → IsGood nodes a.seen → IsGood nodes b.seen
     → cause ≡ causes.Memory

@@ -43,7 +43,7 @@ generation_spelled nodes [] lawful = refl
 generation_spelled nodes (Snapshot generation ∷ records) lawful = snapshot_first generation records lawful.0.1
 generation_spelled nodes (r ∷ records) lawful = ap generation_in (flat_map-cons record_bytes r records)
 
--- and so has a body that is read as them
+-- a body that is read as these records has their generation
 pub generation_read : (nodes : ℕ) (body : List ℕ) (records : List Record) → IsBytes body → decoded nodes body ≡ Ok records → generation_in body ≡ begun_generation records
 generation_read nodes body records fits read =
     let spelled = is_spelled nodes body records fits read in

@@ -16,7 +16,7 @@ use Rattle.oc_store.specs.Turning.{IsReplaced}
 abbrev pub IsCurrent : Side → List (List ℕ) → List (List ℕ) → Type 0
 IsCurrent side current other = current_side (at_side side current other) (at_side side other current) ≡ side
 
--- it stays current with a frame more
+-- the side stays current with one more frame
 pub current_more : (side : Side) (frames other : List (List ℕ)) (body : List ℕ) → IsCurrent side frames other → IsCurrent side (frames ++ body ∷ []) other
 current_more First [] [] body h = refl
 current_more First [] (x ∷ other) body h = absurd cc
@@ -24,7 +24,7 @@ current_more First (x ∷ frames) other body h = h
 current_more Second [] other body h = absurd cc
 current_more Second (x ∷ frames) other body h = h
 
--- it stays current beside a file without frames
+-- the side stays current beside a file without frames
 pub current_alone : (side : Side) (frames other : List (List ℕ)) → IsCurrent side frames other → IsCurrent side frames []
 current_alone First frames other h = refl
 current_alone Second [] other h = absurd cc

@@ -1,4 +1,4 @@
--- What the calls of a store promise.
+-- The promises of the calls of a store.
 use Rattle.std.specs.Prelude.{◌≡◌, ℕ, ◌+◌, ◌<◌, ◌≤◌, false, true, IsTrue, List, [], ◌∷◌, ◌++◌, length, unwrap_or}
 use Rattle.oc_io.specs.DiskView.{DiskView, Takes, Fails, FailsToRead, HasNoFault}
 use Rattle.oc_journal.specs.declared.errors.FileError.{FileError}
@@ -16,23 +16,23 @@ use Rattle.oc_store.specs.StoreView.{StoreView, first_disk, second_disk, AreGood
 
 -- Loading
 
--- a control file that is read: what an honest disk holds is good
+-- a control file that was read: the content of an honest disk is good
 abbrev pub HasGood : ℕ → DiskView → Type 0
 HasGood nodes v = IsTrue v.honest → IsGood nodes v.seen
 
--- why one control file was not loaded: a call failed, it is no journal, or this is its first frame that is no list of records
+-- the reason why a control file was not loaded: a failed call, no journal, or its first frame that is not a list of records
 abbrev pub RefusesFile : ℕ → DiskView → DiskView → FileError → Type 0
 RefusesFile nodes old new causes.Disk = FailsToRead old new
 RefusesFile nodes old new causes.NotJournal = IsTrue old.honest → IsNoJournal old.seen
 RefusesFile nodes old new (causes.BadFrame number) = IsTrue old.honest → IsBadAt nodes number old.seen
 RefusesFile nodes old new causes.Memory = Unit {0}
 
--- the same of one of two control files: what is said of the second comes only where the first is good
+-- the same for one of two control files; the second is refused only if the first is good
 abbrev pub RefusesSide : ℕ → DiskView → DiskView → DiskView → DiskView → Side → FileError → Type 0
 RefusesSide nodes a b a2 b2 First cause = RefusesFile nodes a a2 cause
 RefusesSide nodes a b a2 b2 Second cause = HasGood nodes a × RefusesFile nodes b b2 cause
 
--- why two control files were not loaded
+-- the reason why two control files were not loaded
 abbrev pub RefusesFiles : ℕ → DiskView → DiskView → DiskView → DiskView → StoreError → Type 0
 RefusesFiles nodes a b a2 b2 error = RefusesSide nodes a b a2 b2 error.side error.cause
 
@@ -41,7 +41,7 @@ pub record LoadBothSafely (a b a2 b2 : DiskView) : Type 0 where
   pub first : LoadsSafely a a2
   pub second : LoadsSafely b b2
 
--- the store of two disks and its records, all of them lawful: those that what reads gave recovers, and every crash now leaves them
+-- the store of two disks and its records, all of them lawful: those of the current file as read, which every crash now leaves
 pub record IsStoreOf {D : Type 0} (view : D → DiskView) (nodes : ℕ) (first second : D) (store : StoreView D) (records : List Record) : Type 0 where
   pub lawful : AreRecords nodes records
   pub records_are : IsTrue (view first).honest → IsTrue (view second).honest → records ≡ recovered nodes (view first).seen (view second).seen
@@ -59,7 +59,7 @@ pub record IsStoreOf {D : Type 0} (view : D → DiskView) (nodes : ℕ) (first s
 
 -- Reserving
 
--- a call that reserved room in the current file: all else is as it was
+-- a call that reserved room in the current file; all else is unchanged
 pub record ReservesCurrent {D : Type 0} (view : D → DiskView) (old new : StoreView D) : Type 0 where
   pub current : OnlyReads view old.current new.current
   pub none_failed : NoneFailed view old.current new.current
@@ -68,7 +68,7 @@ pub record ReservesCurrent {D : Type 0} (view : D → DiskView) (old new : Store
   pub generation : new.generation ≡ old.generation
   pub closed : new.closed ≡ old.closed
 
--- a call that reserved room in the other file: all else is as it was
+-- a call that reserved room in the other file; all else is unchanged
 pub record ReservesOther {D : Type 0} (view : D → DiskView) (old new : StoreView D) : Type 0 where
   pub current : new.current ≡ old.current
   pub other : OnlyReads view old.other new.other
@@ -89,7 +89,7 @@ pub record Commits {D : Type 0} (view : D → DiskView) (body : List ℕ) (old n
   pub was_open : old.closed ≡ false
   pub unclosed : new.closed ≡ false
 
--- a commit to an open store: at every moment the old frames are recovered, or those and the new one; the other file is not touched
+-- a commit to an open store: at every moment the old frames are recovered, with or without the new one; the other file is not touched
 pub record CommitsSafely {D : Type 0} (view : D → DiskView) (body : List ℕ) (old new : StoreView D) : Type 0 where
   pub any_moment : old.closed ≡ false → AreHonest view old → RecoversEither view old new old.current.frames (old.current.frames ++ body ∷ [])
   pub later : old.closed ≡ false → IsTrue (view old.current.disk).honest → (view old.current.disk).moment ≤ (view new.current.disk).moment
@@ -105,7 +105,7 @@ pub record ClosesByCommit {D : Type 0} (view : D → DiskView) (body : List ℕ)
 
 -- Turning over
 
--- a snapshot was written to the other file of an open store, which is current now, and every crash leaves it; no memory was taken
+-- a snapshot was written to the other file of an open store, which now is the current one, and every crash leaves it; no memory was taken
 pub record TurnsOver {D : Type 0} (view : D → DiskView) (snapshot : List ℕ) (old new : StoreView D) : Type 0 where
   pub frames : IsTrue (view old.other.disk).honest → new.current.frames ≡ snapshot ∷ []
   pub kept : AreHonest view old → Recovers view new (snapshot ∷ [])
@@ -120,7 +120,7 @@ pub record TurnsOver {D : Type 0} (view : D → DiskView) (snapshot : List ℕ) 
   pub was_open : old.closed ≡ false
   pub unclosed : new.closed ≡ false
 
--- a turning over that failed, which closes the store and keeps what is current
+-- a failed turn, which closes the store and keeps its current side and generation
 pub record ClosesByTurn {D : Type 0} (view : D → DiskView) (snapshot : List ℕ) (old new : StoreView D) : Type 0 where
   pub fails : Fails (length snapshot + 7) 6 (view old.other.disk) (view new.other.disk)
   pub later : IsTrue (view old.other.disk).honest → (view old.other.disk).moment ≤ (view new.other.disk).moment

@@ -12,10 +12,10 @@ pub enum Side {
     Second,
 }
 
-/// Why a store was not loaded.
+/// Why a store was not loaded, and which of its files was refused.
 #[derive(Clone, Copy, Debug, PartialEq, Eq)]
 pub struct StoreError {
-    /// The file that was not loaded.
+    /// The file that was refused.
     pub side: Side,
     pub cause: FileError,
 }
@@ -40,7 +40,7 @@ impl fmt::Display for StoreError {
 impl Error for StoreError {}
 
 impl Side {
-    /// The other side.
+    /// The opposite side.
     pub fn opposite(self) -> Side
         ensures { result ≡ opposite self }
     {

@@ -6,7 +6,7 @@ use oc_journal::{Frame, FrameFault};
 use oc_record::{Record, encode};
 use std::alloc::Global;
 
-/// A frame of records.
+/// Makes a frame of records.
 pub fn framed(alloc: Global, list: &[Record]) -> Result<Frame, Memory>
     requires spelled { HaveSpellings list.now }
     requires fits { length (records_bytes list.now) ≤ MAX_FRAME_BYTES }

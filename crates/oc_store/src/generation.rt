@@ -9,10 +9,10 @@ use oc_journal::{Frame, FrameError, Journal};
 use oc_record::CODES;
 use std::alloc::Global;
 
-/// The code of a snapshot.
+/// The code of a snapshot record.
 const SNAPSHOT: u8 = CODES[11].code;
 
-/// The generation of a snapshot that begins a body, or 0.
+/// The generation of the snapshot that begins a body; 0 if none does.
 pub fn generation_in(body: &[u8]) -> u64
     ensures { result ≡ generation_in body.now }
 {
@@ -22,7 +22,7 @@ pub fn generation_in(body: &[u8]) -> u64
     }
 }
 
-/// The generation of the snapshot that begins a frame, or 0.
+/// The generation of the snapshot that begins a frame; 0 if none does.
 pub fn generation_in_frame(frame: &Frame) -> u64
     ensures { result ≡ generation_in frame.now }
 {
@@ -30,8 +30,8 @@ pub fn generation_in_frame(frame: &Frame) -> u64
     generation_in(&bytes[4..bytes.len() - 1])
 }
 
-/// Whether a file of generation `second` is current beside one of generation `first`: only where its
-/// generation is the greater one. A file without frames has none, which is below each.
+/// Whether the second file is current: only if its generation is greater than that of the first. A file
+/// without frames has no generation, which counts as smaller than all.
 pub fn is_below(first: Option<u64>, second: Option<u64>) -> bool
     ensures { result ≡ is_below first second }
 {
@@ -42,7 +42,7 @@ pub fn is_below(first: Option<u64>, second: Option<u64>) -> bool
     }
 }
 
-/// The generation of a control file, or none where it has no frame.
+/// The generation of a control file; none if it has no frame.
 pub fn generation_of<D: Disk>(
     alloc: Global,
     journal: &mut Journal<D>,
@@ -61,7 +61,7 @@ pub fn generation_of<D: Disk>(
     }
 }
 
-/// The generation of a control file with this frame added: that of its first frame.
+/// The generation of a control file after this frame is added: that of its first frame.
 pub fn generation_with<D: Disk>(journal: &Journal<D>, generation: u64, frame: &Frame) -> u64
     ensures first { journal.now.frames ≡ [] → result ≡ generation_in frame.now }
     ensures later { 0 < length journal.now.frames → result ≡ generation }

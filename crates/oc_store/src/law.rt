@@ -7,7 +7,7 @@ ghost use Rattle.oc_store.specs.ControlFiles.{records_in, records_of, first_bad,
 
 use oc_record::spellings_are_read;
 
-/// A frame of lawful records has these records, and one more frame adds its records.
+/// A frame of lawful records is read back as these records, and one more frame adds its records.
 pub fn frames_add_their_records()
     ensures read { (nodes : ℕ) (list : List Record) → nodes < 2 ^ 32 → AreRecords nodes list
         → records_in nodes (records_bytes list) ≡ list }
@@ -20,7 +20,7 @@ pub fn frames_add_their_records()
     spellings_are_read();
 }
 
-/// The generation of a body of records is that of a snapshot that begins them, and 0 where none does.
+/// The generation of a body is that of the snapshot that begins its records, and 0 if none does.
 pub fn generations_are_of_snapshots()
     ensures { (nodes : ℕ) (body : List ℕ) (list : List Record) → ((i : ℕ) → get_or body i 0 < 256)
         → decoded nodes body ≡ Ok list → generation_in body ≡ begun_generation list }

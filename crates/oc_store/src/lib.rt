@@ -1,18 +1,18 @@
-//! The control state of a node on two journals: what was committed is there after a crash at any
-//! moment, and the files do not grow without end.
+//! The control state of a node in two journals: a commit survives a crash at any moment, and the files do
+//! not grow without end.
 //!
-//! Each of the two control files is a journal whose frames are lists of control records. The one of
-//! the greater generation is current, and the first where both have the same: the generation is that of
-//! a snapshot record that begins its first frame. A commit appends a frame to the current file. When
-//! that file is long, it is turned over: a snapshot with a greater generation is written to the other
-//! file, as its only frame, and that file is the current one then and not before.
+//! Each of the two control files is a journal whose frames are lists of control records. The current file
+//! is the one of the greater generation, or the first at a tie; the generation is that of the snapshot
+//! record that begins its first frame. A commit appends a frame to the current file. When that file is
+//! long, the store turns over: it writes a snapshot with a greater generation to the other file, as its
+//! only frame, and at that moment the other file becomes the current one.
 //!
-//! `specs/ControlFiles` says which file is current and what the two recover, `specs/StoreView` what a
-//! contract sees of a [`Store`], and `specs/Promises` what each call promises.
+//! `specs/ControlFiles` defines the current file and the records that the two recover, `specs/StoreView`
+//! the view of a [`Store`] in contracts, and `specs/Promises` the promises of each call.
 //!
-//! The contracts used above: the list of all records kept, over every image of both files; a commit
-//! adds its frame, and at every moment each image has it or not; at every moment of a turning over each
-//! image recovers the list before it or the snapshot's, and a refusal leaves the current side and the
+//! The contracts that the crates above use speak of the list of all records, over every image of both
+//! files: a commit adds its frame, and at every moment each image has it or not; at every moment of a turn
+//! each image recovers the old list or that of the snapshot, and a refusal leaves the current side and the
 //! generation.
 #![tactic(auto)]
 

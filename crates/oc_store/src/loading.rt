@@ -12,23 +12,23 @@ use oc_journal::{FileError, Journal};
 use oc_record::{Record, RecordFault, decode};
 use std::alloc::Global;
 
-/// A control file that is loaded.
+/// A loaded control file: its journal and its content.
 #[derive(Drop)]
 pub struct ControlFile<D: Disk> {
     pub journal: Journal<D>,
     pub contents: Contents,
 }
 
-/// What the frames of a control file say.
+/// The content of a control file.
 #[derive(Drop)]
 pub struct Contents {
     /// All records, in order.
     pub list: Vec<Record>,
-    /// The generation, where there is a frame.
+    /// The generation; none if there is no frame.
     pub generation: Option<u64>,
 }
 
-/// Loads the journal of one control file, and reads all its records in order. On a refusal the disk
+/// Loads the journal of one control file, and reads all its records in order. After a refusal the disk
 /// comes back.
 pub fn load_file<D: Disk>(
     alloc: Global,
@@ -57,7 +57,7 @@ pub fn load_file<D: Disk>(
     }
 }
 
-/// What the frames say.
+/// Reads the records and the generation.
 fn read<D: Disk>(alloc: Global, nodes: u32, journal: &mut Journal<D>) -> Result<Contents, FileError>
     ensures lawful { IfOk result (λ contents. AreRecords nodes contents.list.items) }
     ensures list { IfOk result (λ contents. IsTrue (D.view journal.old.disk).honest

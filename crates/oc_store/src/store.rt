@@ -22,8 +22,8 @@ use oc_record::Record;
 use std::alloc::Global;
 use std::marker::Model;
 
-/// Control records on two journals. A contract sees the journal of the current file and the other one,
-/// which side the current one is, its generation, and whether the store is closed since a disk failed.
+/// Control records in two journals. A contract sees the journal of the current file and the other one,
+/// the current side, its generation, and whether the store is closed since a disk failed.
 #[derive(Drop)]
 pub struct Store<D: Disk> {
     alloc: Global,
@@ -45,8 +45,8 @@ impl<D: Disk> Model for Store<D> {
 }
 
 impl<D: Disk> Store<D> {
-    /// Loads two control files of a system of `nodes` nodes, the first before the second, and gives the
-    /// records of the current one in order. On a refusal the disks come back.
+    /// Loads the two control files of a node in a network of `nodes` nodes, the first before the second; gives
+    /// the records of the current one in order. After a refusal the disks come back.
     pub fn load(
         alloc: Global,
         first: D,
@@ -96,20 +96,20 @@ impl<D: Disk> Store<D> {
         }
     }
 
-    /// The generation of the current file, 0 where it has no frame.
+    /// The generation of the current file; 0 if it has no frame.
     pub fn generation(&self) -> u64
         ensures generation { result ≡ self.now.generation }
         ensures of_file { self.now.closed ≡ false → IsTrue (D.view self.now.current.disk).honest
             → result ≡ unwrap_or (generation_of self.now.current.frames) 0 }
 
-        // While no call failed, every crash leaves the frames of the current file.
+        // Every crash leaves the frames of the current file, unless a call has failed.
         ensures kept { self.now.closed ≡ false → AreHonest D.view self.now
             → Recovers D.view self.now self.now.current.frames }
     {
         self.generation
     }
 
-    /// Whether the current file is to be turned over: its frames end past `DUE_BYTES`, and a greater
+    /// Whether it is time to turn over: the frames of the current file end past `DUE_BYTES`, and a greater
     /// generation is left.
     pub fn due(&self) -> bool
         ensures { IsTrue result ↔ ((DUE_BYTES < self.now.current.end) × (self.now.generation < 2 ^ 64 - 1)) }
@@ -117,14 +117,14 @@ impl<D: Disk> Store<D> {
         self.current.end() > DUE_BYTES && self.generation < u64::MAX
     }
 
-    /// The offset in the current file where its frames end.
+    /// The offset of the end of the frames in the current file.
     pub fn end(&self) -> u64
         ensures { result ≡ self.now.current.end }
     {
         self.current.end()
     }
 
-    /// Makes a frame of records, and reserves its room in the current file.
+    /// Makes a frame of records, and reserves room for it in the current file.
     pub fn prepare(&mut self, list: &[Record]) -> Result<Frame, Memory>
         requires spelled { HaveSpellings list.now }
         requires fits { length (records_bytes list.now) ≤ MAX_FRAME_BYTES }
@@ -137,8 +137,8 @@ impl<D: Disk> Store<D> {
         Ok(frame)
     }
 
-    /// Makes a frame of records that begin with a snapshot of a greater generation, and reserves its
-    /// room in the other file.
+    /// Makes a frame of records that begin with a snapshot of a greater generation, and reserves room for
+    /// it in the other file.
     pub fn prepare_snapshot(&mut self, list: &[Record]) -> Result<Frame, Memory>
         requires above { BeginsAbove self.old.generation list.now }
         requires spelled { HaveSpellings list.now }
@@ -153,14 +153,14 @@ impl<D: Disk> Store<D> {
         Ok(frame)
     }
 
-    /// Appends a frame that was prepared to the current file. It takes no memory. After `Disk` the
-    /// store is closed.
+    /// Appends a prepared frame to the current file. It takes no memory. After `Disk` the store is
+    /// closed.
     pub fn commit(&mut self, frame: &Frame) -> Result<(), AppendError>
         requires { 0 < self.old.current.spare }
         ensures commits { OnOk result (Commits D.view frame.now self.old self.new) }
         ensures safely { CommitsSafely D.view frame.now self.old self.new }
 
-        // When it refuses, and what it leaves then.
+        // The refusals, and the store after each.
         ensures closed { IsErrOf result AppendError.Closed ↔ IsTrue self.old.closed }
         ensures full { IsErrOf result AppendError.Full
             ↔ ((self.old.closed ≡ false) × IsFullFor (length frame.now) self.old.current) }
@@ -168,7 +168,7 @@ impl<D: Disk> Store<D> {
         ensures disk { IsErrOf result AppendError.Disk
             → ClosesByCommit D.view frame.now self.old self.new }
 
-        // An open store on a reliable disk with the room takes it.
+        // On a reliable disk with the room, an open store takes the frame.
         ensures works { self.old.closed ≡ false
             → CannotFail (length frame.now + 6) 4 (D.view self.old.current.disk) → IsOk result }
     {
@@ -190,8 +190,8 @@ impl<D: Disk> Store<D> {
         }
     }
 
-    /// Writes a snapshot that was prepared to the other file, and makes that file the current one. It
-    /// takes no memory. After `Disk` the store is closed.
+    /// Writes a prepared snapshot to the other file, and makes that file the current one. It takes no
+    /// memory. After `Disk` the store is closed.
     pub fn turn_over(&mut self, snapshot: &Frame) -> Result<(), RestartError>
         requires spare { 0 < self.old.other.spare }
         requires above { self.old.generation < generation_in snapshot.now }
@@ -201,13 +201,13 @@ impl<D: Disk> Store<D> {
         ensures any_moment { self.old.closed ≡ false → AreHonest D.view self.old
             → RecoversEither D.view self.old self.new self.old.current.frames (snapshot.now ∷ []) }
 
-        // When it refuses, and what it leaves then.
+        // The refusals, and the store after each.
         ensures closed { IsErrOf result RestartError.Closed ↔ IsTrue self.old.closed }
         ensures unchanged { IsErrOf result RestartError.Closed → self.new ≡ self.old }
         ensures disk { IsErrOf result RestartError.Disk
             → ClosesByTurn D.view snapshot.now self.old self.new }
 
-        // An open store on a reliable disk with the room is turned over.
+        // On a reliable disk with the room, an open store turns over.
         ensures works { self.old.closed ≡ false
             → CannotFail (length snapshot.now + 7) 6 (D.view self.old.other.disk) → IsOk result }
     {
@@ -224,12 +224,12 @@ impl<D: Disk> Store<D> {
         Ok(())
     }
 
-    /// The disks, the first before the second.
+    /// Hands back the disks, the first before the second.
     pub fn into_disks(self) -> (D, D)
         ensures first { result.0 ≡ first_disk self }
         ensures second { result.1 ≡ second_disk self }
 
-        // While no call failed, every crash leaves journals with the frames of the files.
+        // Every crash leaves journals with the frames of the files, unless a call has failed.
         ensures holds { self.closed ≡ false → AreHonest D.view self → HoldsJournals D.view self }
     {
         match self.side {
@@ -247,9 +247,9 @@ impl Store<MemDisk> {
         requires open { self.closed ≡ false }
         requires room { CanStop (length frame.now) self.current }
 
-        // The frames of the current file are recovered, with the new one exactly after four calls, or after
-        // three with an image that opens the gate, and every crash leaves them, in journals. All of that file is
-        // safe, and the other one is as it was.
+        // The recovered frames are those of the current file, with the new one exactly after four calls, or after
+        // three with an image that opens the gate, and every crash leaves them, in journals. All bytes of that file
+        // are durable, and the other file is unchanged.
         ensures frames { recovered_frames result.0.bytes result.1.bytes
             ≡ frames_after calls image self.current.frames frame.now }
         ensures kept { (a b : List ℕ) → (view_of result.0).may_leave a → (view_of result.1).may_leave b
@@ -277,7 +277,7 @@ impl Store<MemDisk> {
     }
 }
 
-/// A store over two files that are loaded, with the records of the current one.
+/// Makes a store of two loaded files, with the records of the current one.
 fn over<D: Disk>(
     alloc: Global,
     side: Side,

@@ -19,7 +19,7 @@ pub fn turn_over<D: Disk>(
     ensures replaces { OnOk result (HoldsOnly D.view snapshot.now other.old current.new) }
     ensures safely { OnOk result (ReplacesSafely D.view snapshot.now other.old current.new) }
 
-    // Where a call fails, the current one is as it was, and the other one is closed.
+    // If a call fails, the current journal is unchanged and the other one is closed.
     ensures stays { OnErr result (current.new ≡ current.old) }
     ensures safely_err { OnErr result (ReplacesSafely D.view snapshot.now other.old other.new) }
     ensures fails { OnErr result (FailsToReplace D.view snapshot.now other.old other.new) }
@@ -29,7 +29,7 @@ pub fn turn_over<D: Disk>(
     Ok(())
 }
 
-/// Begins an open journal again, with this one frame.
+/// Replaces the frames of an open journal by this one.
 fn put_in_place<D: Disk>(journal: &mut Journal<D>, frame: &Frame) -> Result<(), Failed>
     requires spare { 0 < journal.old.spare }
     requires open { journal.old.closed ≡ false }
@@ -45,7 +45,7 @@ fn put_in_place<D: Disk>(journal: &mut Journal<D>, frame: &Frame) -> Result<(), 
     match journal.append(frame) {
         Ok(()) => Ok(()),
         Err(AppendError::Disk) => Err(Failed),
-        // It is open, and a frame fits a journal without frames.
+        // The journal is open, and a frame fits a journal without frames.
         Err(AppendError::Closed | AppendError::Full) => unreachable!(),
     }
 }

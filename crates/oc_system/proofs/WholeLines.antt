@@ -1,4 +1,4 @@
--- What is known of bytes by the lines that have ended of them.
+-- Knowledge of bytes from the finished lines among them.
 use Rattle.std.proofs.Common.{◌≡◌, ℕ, inl, inr, List, [], ◌∷◌, ◌++◌, length, drop, sym, ap, ◌∙◌, subst, arith, length-append}
 use Rattle.std.proofs.lemmas.List.{append_assoc, drop-append-le}
 use Rattle.httparse.specs.Ascii.{line_feed}
@@ -59,7 +59,7 @@ outlined_lines bytes lines outline are of =
       coded = of.coded;
     }
 
--- what is told of the lines that have ended is told of the bytes
+-- the progress by the finished lines is that of the bytes
 pub told_by_lines : (room : ℕ) (bytes lines : List ℕ) (told : HeadProgress) → AreWholeLines bytes lines → ¬ (lines ≡ []) → IsLinesExtent room lines told → IsRequestExtent room bytes told
 told_by_lines room bytes lines progress.Open are some of = elim are.ended [
   | inl none ↦ absurd (some none)

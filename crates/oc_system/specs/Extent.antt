@@ -1,4 +1,4 @@
--- Where the message ends that some bytes begin.
+-- The end of the message that begins with some bytes.
 use Rattle.std.specs.Prelude.{◌≡◌, ◌⊎◌, ◌==◌, ℕ, ◌≤◌, if◌then◌else◌, Option, Some, None, List, [], ◌∷◌, ◌++◌, drop, length}
 use Rattle.std.specs.Str.Parse.{digits_value}
 use Rattle.httparse.specs.Ascii.{line_feed}
@@ -12,7 +12,7 @@ use Rattle.oc_system.specs.declared.extent.HeadProgress.{HeadProgress}
 use Rattle.oc_system.specs.declared.extent.HeadProgress.TheVariants as progress
 use Rattle.oc_system.specs.declared.extent.Outline.{Outline}
 
--- the number of the first Content-Length, if there is one; 0 where it is no number
+-- the number in the first Content-Length, if there is one; 0 if it is no number
 abbrev pub body_length : List (List ℕ) → Option ℕ
 body_length [] = None
 body_length (value ∷ more) = Some (if is_length value then digits_value 10 value else 0)
@@ -21,14 +21,14 @@ body_length (value ∷ more) = Some (if is_length value then digits_value 10 val
 abbrev pub response_length : ℕ → List (List ℕ) → Option ℕ
 response_length status values = if status == 204 then Some 0 else body_length values
 
--- these are the lines that have ended of the bytes
+-- the finished lines of the bytes
 pub record AreWholeLines (bytes lines : List ℕ) : Type 0 where
   pub rest : List ℕ
   pub split : bytes ≡ lines ++ rest
   pub begun : HasNoLineEnd rest
   pub ended : (lines ≡ []) ⊎ ((line : List ℕ) × (lines ≡ line ++ line_feed ∷ []))
 
--- the outline is that of a request whose head these bytes begin with
+-- the outline of the request whose head begins the bytes
 pub record OutlinesRequest (bytes : List ℕ) (outline : Outline) : Type 0 where
   pub head : RequestHead
   pub fits : outline.head ≤ length bytes
@@ -37,30 +37,30 @@ pub record OutlinesRequest (bytes : List ℕ) (outline : Outline) : Type 0 where
   pub expects : outline.expects ≡ expects head.minor (named head.fields)
   pub coded : outline.coded ≡ is_present (codings (named head.fields))
 
--- how far a request has come of which there are these lines; room is that for fields
+-- the progress of a request with these lines; room is the greatest number of fields
 abbrev pub IsLinesExtent : ℕ → List ℕ → HeadProgress → Type 0
 IsLinesExtent room lines progress.Open = HasNoRequest lines × MayBecomeRequest lines
 IsLinesExtent room lines progress.Never = NeverHasRequest lines ⊎ RequestExceeds room lines
 IsLinesExtent room lines (progress.Begun outline) = OutlinesRequest lines outline
 
--- whatever follows, the bytes begin with no head, and at the end of a line that has come this is known
+-- no head can begin with the bytes, and this is known at the end of one of their lines
 abbrev pub IsNoRequest : List ℕ → Type 0
 IsNoRequest bytes = NeverHasRequest bytes × ¬ (IsUnfinished ReadsRequest bytes)
 
--- how far a request has come of which there are these bytes, for a reader who looks at the end of each line; room is that
--- for fields
+-- the progress of a request with these bytes, for a reader who looks at the end of each line; room
+-- is the greatest number of fields
 abbrev pub IsRequestExtent : ℕ → List ℕ → HeadProgress → Type 0
 IsRequestExtent room bytes progress.Open = IsUnfinished ReadsRequest bytes
 IsRequestExtent room bytes progress.Never = IsNoRequest bytes ⊎ RequestExceeds room bytes
 IsRequestExtent room bytes (progress.Begun outline) = OutlinesRequest bytes outline
 
--- the outline is that of a response whose head these bytes begin with
+-- the outline of the response whose head begins the bytes
 pub record OutlinesResponse (bytes : List ℕ) (outline : Outline) : Type 0 where
   pub head : ResponseHead
   pub reads : ReadsResponse bytes head (drop outline.head bytes)
   pub body : outline.body ≡ response_length (status_code head) (lengths (named head.fields))
 
--- how far a response has come of which there are these bytes; room is that for fields
+-- the progress of a response with these bytes; room is the greatest number of fields
 abbrev pub IsResponseExtent : ℕ → List ℕ → HeadProgress → Type 0
 IsResponseExtent room bytes progress.Open = HasNoResponse bytes
 IsResponseExtent room bytes progress.Never = NeverHasResponse bytes ⊎ ResponseExceeds room bytes

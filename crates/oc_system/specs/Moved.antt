@@ -1,9 +1,9 @@
--- How much a call on a socket moved.
+-- The number of bytes that a call on a socket moved.
 use Rattle.std.specs.Prelude.{ℕ, ◌≤◌, ⊤}
 use Rattle.oc_system.specs.declared.socket.Moved.{Moved}
 use Rattle.oc_system.specs.declared.socket.Moved.TheVariants as moved
 
--- no more bytes than this
+-- at most this number of bytes were moved
 abbrev pub MovesAtMost : ℕ → Moved → Type 0
 MovesAtMost most (moved.Bytes count) = count ≤ most
 MovesAtMost most moved.Nothing = ⊤

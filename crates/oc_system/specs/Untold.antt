@@ -1,4 +1,4 @@
--- What is known of a real disk: its size and counts, and nothing of what it holds.
+-- Knowledge of a real disk: its size and counts, and nothing of its content.
 use Rattle.std.specs.Prelude.{ℕ, ◌^◌, false, []}
 use Rattle.oc_io.specs.DiskView.{DiskView}
 

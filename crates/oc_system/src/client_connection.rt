@@ -13,14 +13,14 @@ pub(crate) struct ClientConnection<'a, R> {
     rt: &'a R,
     alloc: Global,
     outgoing: Option<TimedStream>,
-    /// Where the outgoing connection leads, if it may be kept for further requests; and the further request
-    /// on it, if no byte of its reply has come.
+    /// The address of the outgoing connection, and the further request on it as long as no byte of
+    /// its reply has come.
     address: String,
     asked: Vec<u8>,
 }
 
 impl<'a, R: Net<Stream = TcpStream> + Clock> ClientConnection<'a, R> {
-    /// No outgoing connection, over the sockets of this runtime.
+    /// Starts without a connection, over the sockets of this runtime.
     pub(crate) fn new(rt: &'a R, alloc: Global) -> ClientConnection<'a, R> {
         ClientConnection {
             rt,
@@ -31,12 +31,12 @@ impl<'a, R: Net<Stream = TcpStream> + Clock> ClientConnection<'a, R> {
         }
     }
 
-    /// Where the outgoing connection leads, or the last one did.
+    /// The address of the outgoing connection, or of the last one.
     pub(crate) fn address(&self) -> &str {
         self.address.as_str()
     }
 
-    /// Connects, and writes what is to be said first.
+    /// Connects, and writes the first bytes.
     pub(crate) fn reach(&mut self, address: &str, bytes: &[u8]) -> io::Result<()> {
         self.asked.clear();
         self.address.clear();
@@ -45,7 +45,7 @@ impl<'a, R: Net<Stream = TcpStream> + Clock> ClientConnection<'a, R> {
         self.say(bytes)
     }
 
-    /// Makes the outgoing connection, in the place of the one before.
+    /// Makes the outgoing connection, and drops the previous one.
     fn connect(&mut self) -> io::Result<()> {
         self.outgoing = None;
         let made = TimedStream::reach(self.rt, self.alloc, self.address.as_str())?;
@@ -72,7 +72,7 @@ impl<'a, R: Net<Stream = TcpStream> + Clock> ClientConnection<'a, R> {
         }
     }
 
-    /// Makes the further request on a new connection, once.
+    /// Repeats the further request on a new connection, once.
     fn ask_anew(&mut self) -> io::Result<()> {
         self.connect()?;
         let asked = mem::replace(&mut self.asked, Vec::new(self.alloc));
@@ -91,7 +91,7 @@ impl<'a, R: Net<Stream = TcpStream> + Clock> ClientConnection<'a, R> {
         Ok(self.give(buf))
     }
 
-    /// Gives what came on the outgoing connection and was not given yet.
+    /// Copies bytes that were read from the outgoing connection and not given yet.
     fn give(&mut self, buf: &mut [u8]) -> usize
         ensures within { result ≤ length buf.old }
         ensures length { length buf.new ≡ length buf.old }
@@ -115,7 +115,7 @@ impl<'a, R: Net<Stream = TcpStream> + Clock> ClientConnection<'a, R> {
         filled
     }
 
-    /// Reads another piece from the outgoing connection, and answers its length.
+    /// Reads another piece from the outgoing connection. Gives its length in bytes.
     fn refill(&mut self) -> io::Result<usize> {
         match &mut self.outgoing {
             Some(outgoing) => outgoing.fill(self.rt),

@@ -5,11 +5,13 @@ use std::rt::Files;
 /// The number of the last of the three standard streams.
 const LAST_STREAM: i32 = 2;
 
-/// What has the numbers of those standard streams that were closed when the program was started, as long as it is kept.
+/// A guard that occupies the numbers of the standard streams that were closed at the start of the
+/// program.
 ///
-/// The system gives the number of a closed stream to what is opened next. That would be a file of a node or a
-/// connection, and each line for the stream would be written there. A folder has the number instead: a read
-/// of it and a write to it fail, as those of a closed stream do.
+/// The system gives the number of a closed stream to the next file or socket that is opened.
+/// Without the guard that would be a file of a node or a connection, and each line for the stream
+/// would be written there. The guard opens a folder at the number instead: reads and writes of it
+/// fail, as those of a closed stream do.
 #[derive(Drop)]
 pub struct ClosedStreams {
     _first: Option<File>,
@@ -18,7 +20,7 @@ pub struct ClosedStreams {
 }
 
 impl ClosedStreams {
-    /// Takes the numbers of the streams that are closed. It is to be called before anything is opened.
+    /// Occupies the numbers of the streams that are closed. Call this before anything is opened.
     pub fn hold<R: Files<File = File>>(rt: &R) -> ClosedStreams {
         ClosedStreams {
             _first: held(rt),
@@ -28,7 +30,7 @@ impl ClosedStreams {
     }
 }
 
-/// Something at the lowest free number, if that is one of a standard stream.
+/// An open folder at the lowest free number, if that number belongs to a standard stream.
 fn held<R: Files<File = File>>(rt: &R) -> Option<File> {
     let folder = File::open(rt, "/").ok()?;
     (folder.as_raw_fd() <= LAST_STREAM).then_some(folder)

@@ -16,95 +16,97 @@ use oc_link::{Arrival, Coming, ConnectionId, Ending, LinkEvent};
 use std::alloc::Global;
 use std::net::Shutdown;
 
-/// What a connection is doing.
+/// The stage of a connection.
 #[derive(Clone, Copy, PartialEq, Eq)]
 pub(crate) enum ConnectionStage {
-    /// Its next request comes, once all of the last reply has gone out.
+    /// The connection waits for its next request; the last reply has gone out whole.
     Awaiting,
-    /// Its request was taken, and its reply was not given whole.
+    /// The request was taken, and the reply is not complete.
     Answering,
-    /// Its last reply was given whole, and goes out.
+    /// The last reply is complete, and goes out.
     Finishing,
-    /// All went out, and the peer was told so; what still comes is dropped.
+    /// All bytes went out, and the peer was told so; bytes that still come are dropped.
     Lingering,
-    /// There is nothing more to do on it.
+    /// The connection is finished.
     Over,
 }
 
-/// What is to be done about a connection.
+/// The next action for a connection.
 #[derive(Clone, Copy)]
 pub(crate) enum Fate {
-    /// It waits for its peer or for whoever answers it.
+    /// Nothing: the connection waits for its peer or for its answer.
     Stays,
-    /// This is to be told of it.
+    /// The event is reported.
     Tells(LinkEvent),
-    /// It is to be dropped, and that it failed is to be told.
+    /// The connection is dropped, and its failure is reported.
     Lost,
-    /// It is to be dropped.
+    /// The connection is dropped.
     Over,
 }
 
-/// What holds a place. The first kind gives way first.
+/// The kinds of connections that hold a place, in the order in which they give way.
 #[derive(Clone, Copy, PartialEq, Eq, PartialOrd, Ord)]
 pub(crate) enum ClaimKind {
-    /// It is only read out.
+    /// A connection whose remaining bytes are read and dropped.
     ReadOut,
-    /// Its request has not come whole.
+    /// A connection whose request is not complete.
     Request,
-    /// Its reply is under way.
+    /// A connection whose reply is under way.
     Content,
-    /// Its request was taken, and it was given nothing yet.
+    /// A connection whose request was taken, and that was sent nothing so far.
     Follower,
 }
 
-/// What holds a place, and since when. Of one kind, that which holds it longest gives way first.
+/// The claim of a connection to its place: its kind, and the time since when. Within one kind the
+/// oldest gives way first.
 #[derive(Clone, Copy, PartialEq, Eq, PartialOrd, Ord)]
 pub(crate) struct Claim {
     kind: ClaimKind,
     since: u64,
 }
 
-/// A connection that came in. No call on it waits.
+/// An incoming connection. No call on it blocks.
 #[derive(Drop)]
 pub(crate) struct Connection {
     stream: TcpStream,
     pub(crate) id: u64,
     pub(crate) stage: ConnectionStage,
-    /// Which request is awaited or answered.
+    /// The number of the request that is awaited or answered.
     number: u64,
     pub(crate) incoming: Incoming,
-    /// Whether it has one of the places for large requests, and since when.
+    /// Whether the connection has one of the places for large requests, and since when.
     pub(crate) is_large: bool,
     large_at: u64,
-    /// Whether the request as it is was told.
+    /// Whether the request in its present state was reported.
     is_told: bool,
-    /// Whether its time ran out.
+    /// Whether the connection's time ran out.
     is_late: bool,
-    /// Whether it was given something since its request was awaited, taken, or there was room.
+    /// Whether the connection was given bytes since its request was awaited or taken, or since
+    /// there was room.
     is_fed: bool,
-    /// Whether its reply has begun, and when it was given something last.
+    /// Whether the reply has begun, and when bytes were last given.
     has_begun: bool,
     fed_at: u64,
-    /// Whether it is to be told where its last reply does not go out.
+    /// Whether the loss of the last reply is to be reported.
     is_watched: bool,
-    /// Whether its request was all that came, and how many bytes of its replies there were.
+    /// Whether the request was all that came, and the number of bytes of the replies.
     is_all: bool,
     went: usize,
-    /// How many bytes were read and dropped after its last reply.
+    /// The number of bytes that were read and dropped after the last reply.
     dropped: usize,
     unsent: Unsent,
-    /// Since when it is at its stage, and until when it may be.
+    /// The time since when the connection is at its stage, and the time until which it may be.
     since: u64,
     deadline: Deadline,
-    /// Whether a read and a write may find something to do.
+    /// Whether a read and a write may make progress.
     pub(crate) is_readable: bool,
     pub(crate) is_writable: bool,
-    /// Whether the system tells when its socket is ready.
+    /// Whether the system reports when the socket is ready.
     is_registered: bool,
 }
 
 impl Connection {
-    /// A connection of this stream, which does not block.
+    /// A connection of this stream, which is set not to block.
     pub(crate) fn new(stream: TcpStream, alloc: Global, id: u64, now: u64) -> Connection {
         Connection {
             stream,
@@ -132,16 +134,16 @@ impl Connection {
         }
     }
 
-    /// Has the system tell when its socket is ready. A connection whose request comes at once, and whose reply goes
-    /// out at once, does without: that is most of them, and a call less for each. The system tells at once of what
-    /// came before it was asked to.
+    /// Registers the socket with the system, which then reports when it is ready. Most connections
+    /// need no registration, since their request comes at once and their reply goes out at once:
+    /// that saves a call for each. The system reports bytes from before the registration at once.
     pub(crate) fn register(&mut self, registry: &Registry, token: usize) {
         if self.is_registered {
             return;
         }
         self.is_registered = true;
-        // Without it the end of a piece may wait until the peer acknowledges what came before. One that ends at
-        // once needs it not: its end sends all.
+        // Without this option the end of a piece may wait until the peer acknowledges earlier
+        // bytes. A connection that ends at once does without: its end sends all bytes.
         let _set = self.stream.set_nodelay(true).is_ok();
         let both = Interest::READABLE | Interest::WRITABLE;
         if registry
@@ -152,7 +154,8 @@ impl Connection {
         }
     }
 
-    /// Does what can be done on it now: sends, and then reads at most until `most` bytes came, or ends it.
+    /// Makes all progress that is possible now: sends, and then reads up to `most` bytes, or ends
+    /// the connection.
     pub(crate) fn advance(&mut self, tools: &mut Tools, now: u64, most: usize) {
         self.send(tools, now);
         match self.stage {
@@ -165,7 +168,7 @@ impl Connection {
         }
     }
 
-    /// Sends what its socket takes now.
+    /// Sends the bytes that the socket takes now.
     fn send(&mut self, tools: &mut Tools, now: u64) {
         if !self.is_writable || self.unsent.is_empty() {
             return;
@@ -184,7 +187,8 @@ impl Connection {
         }
     }
 
-    /// All that it was given has gone out. Where its next request is awaited, its time begins now.
+    /// Notes that all given bytes have gone out. If the next request is awaited, its time begins
+    /// now.
     fn note_sent(&mut self, now: u64) {
         self.deadline = Deadline::never();
         if self.stage == ConnectionStage::Awaiting && !self.is_fed {
@@ -208,7 +212,8 @@ impl Connection {
         self.deadline = Deadline::after(now, BODY_MILLIS).with_pause(now, BODY_PAUSE_MILLIS);
     }
 
-    /// Reads what came of its next request. While its last reply goes out, that waits in the socket.
+    /// Reads the bytes that came of the next request. While the last reply goes out, they wait in
+    /// the socket.
     fn receive(&mut self, tools: &mut Tools, now: u64, most: usize) {
         if !self.is_readable || !self.unsent.is_empty() || self.incoming.is_over() {
             return;
@@ -221,7 +226,7 @@ impl Connection {
         if intake.has_come {
             self.deadline.progress(now);
         }
-        // Nothing more comes after an end, so that is new too.
+        // Nothing more comes after an end, so an end counts as new, too.
         if intake.has_come || self.incoming.is_over() {
             self.is_told = false;
         }
@@ -230,7 +235,8 @@ impl Connection {
         }
     }
 
-    /// Whether it has as many bytes as a request may have without one of the places for large ones.
+    /// Whether the request has as many bytes as it may have without one of the places for large
+    /// requests.
     pub(crate) fn is_held(&self) -> bool {
         self.stage == ConnectionStage::Awaiting
             && !self.is_large
@@ -238,13 +244,14 @@ impl Connection {
             && !self.incoming.is_ripe(self.is_fed)
     }
 
-    /// It has one of the places for large requests from now on.
+    /// Gives the connection one of the places for large requests.
     pub(crate) fn enlarge(&mut self, now: u64) {
         self.is_large = true;
         self.large_at = now;
     }
 
-    /// Whether it has had one of the places for large requests for longer than what has come is worth.
+    /// Whether the connection has held its place for large requests longer than the received bytes
+    /// allow.
     pub(crate) fn is_slow(&self, now: u64) -> bool {
         let worth = self.incoming.len() as u64 / LARGE_BYTES_A_MILLI;
         self.stage == ConnectionStage::Awaiting
@@ -253,8 +260,8 @@ impl Connection {
             && now.saturating_sub(self.large_at) > HEAD_MILLIS.saturating_add(worth)
     }
 
-    /// Gives it bytes to send: they go out at once as far as its socket takes them, and what is left is kept. A
-    /// connection for which that is too much fails.
+    /// Sends bytes: those that the socket takes go out at once, and the rest is kept. A connection
+    /// with too many bytes to keep fails.
     pub(crate) fn give(&mut self, tools: &mut Tools, bytes: &[u8], now: u64) {
         let is_open = matches!(
             self.stage,
@@ -284,7 +291,7 @@ impl Connection {
         }
     }
 
-    /// Writes what the socket takes now of these bytes, where nothing is to go out before them; answers the rest.
+    /// Writes the bytes that the socket takes now, if no earlier bytes wait; gives the rest.
     fn write<'b>(&mut self, bytes: &'b [u8]) -> &'b [u8] {
         let mut rest = bytes;
         for _ in 0..bytes.len() {
@@ -305,14 +312,16 @@ impl Connection {
         rest
     }
 
-    /// Takes back what was lent of its request and not taken: it was left, unless it got the permission to send more.
+    /// Takes back lent bytes of the request that were not taken: the request was left, unless it
+    /// got the permission to send more.
     pub(crate) fn take_back(&mut self, bytes: Vec<u8>)
         ensures { self.new.incoming.was_left ≡ self.old.is_told }
     {
         self.incoming.take_back(bytes, self.is_told);
     }
 
-    /// Takes that many of these bytes, which are all that came, as its request, whose reply is then under way.
+    /// Takes the first `count` of these bytes, which are all that came, as the request. Its reply
+    /// is under way then.
     pub(crate) fn take(&mut self, tools: &mut Tools, bytes: &[u8], count: u64, now: u64) {
         self.is_all = self.incoming.is_all(bytes, count);
         let count = usize::try_from(count).unwrap_or(usize::MAX);
@@ -330,7 +339,7 @@ impl Connection {
         }
     }
 
-    /// Its reply was given whole.
+    /// Notes that the reply is complete.
     pub(crate) fn finish(&mut self, ending: Ending, now: u64) {
         self.is_fed = false;
         self.is_watched = ending.watched;
@@ -346,9 +355,10 @@ impl Connection {
         }
     }
 
-    /// Once all went out, tells the peer that nothing more comes, and gives it time to end. Were the socket closed
-    /// while something comes, the system would send a reset, which may overtake the reply. Where the whole request
-    /// came and nothing after it, and the reply is short, a close is as good.
+    /// Once all bytes went out, tells the peer that nothing more comes, and gives it time to end.
+    /// Closing a socket while bytes still come makes the system send a reset, which may overtake
+    /// the reply. After a whole request with nothing after it and a short reply, a close does no
+    /// harm.
     fn end(&mut self, now: u64) {
         if !self.unsent.is_empty() || self.incoming.has_failed {
             return;
@@ -366,7 +376,7 @@ impl Connection {
         }
     }
 
-    /// Drops what has come, until the peer's end, or until that was as much as is dropped.
+    /// Drops incoming bytes, up to the peer's end or the greatest number of bytes to drop.
     fn drain(&mut self, tools: &mut Tools) {
         for _ in 0..MOST_READS {
             if !self.is_readable || self.stage != ConnectionStage::Lingering {
@@ -386,8 +396,8 @@ impl Connection {
         }
     }
 
-    /// Whether its time has run out and nothing was done about that so far. That of a request stands still as long as
-    /// it waits for others.
+    /// Whether the connection's time has run out and nothing was done about that so far. The time
+    /// of a request stops while it waits for other requests.
     pub(crate) fn is_due(&mut self, now: u64) -> bool {
         if self.is_held() {
             self.deadline.progress(now);
@@ -395,8 +405,8 @@ impl Connection {
         !self.is_late && self.deadline.is_over(now)
     }
 
-    /// Notes that its time has run out, where it has. Its request is told as one that failed, unless it can be looked at
-    /// and was not told yet.
+    /// Notes that the connection's time has run out, if it has. Its request is reported as failed,
+    /// unless it is complete enough to be looked at and was not reported yet.
     pub(crate) fn expire(&mut self, now: u64) {
         if !self.is_due(now) {
             return;
@@ -411,7 +421,7 @@ impl Connection {
         }
     }
 
-    /// What is to be done about it.
+    /// The next action for the connection.
     pub(crate) fn fate(&self) -> Fate {
         if self.incoming.has_failed && self.is_missed() {
             return Fate::Lost;
@@ -428,9 +438,10 @@ impl Connection {
         }
     }
 
-    /// The same while its next request is awaited. One that ends, fails or runs out of its time without a byte of a
-    /// request goes without a word; so does one that fails before its last reply has gone out, which nobody asked
-    /// to be told. Where the permission to send a body did not go out, its request has failed.
+    /// The next action while the next request is awaited. A connection that ends, fails or runs out
+    /// of time without a byte of a request is dropped without a report; so is one that fails before
+    /// its last reply has gone out, if nobody asked for a report. If the permission to send a body
+    /// did not go out, the request has failed.
     fn fate_of_request(&self) -> Fate {
         let has_failed = self.incoming.has_failed;
         if !self.unsent.is_empty() && !(has_failed && self.is_fed) {
@@ -447,7 +458,7 @@ impl Connection {
         Fate::Tells(LinkEvent::Request(self.arrival()))
     }
 
-    /// Its request as it is told. Of one that came whole it does not matter what came after it.
+    /// The event that reports the request. For a whole request the bytes after it do not matter.
     fn arrival(&self) -> Arrival {
         let is_ripe = self.incoming.is_ripe(self.is_fed);
         let coming = if !is_ripe && (self.incoming.has_failed || self.is_late) {
@@ -465,7 +476,7 @@ impl Connection {
         }
     }
 
-    /// What was to be told of it was told.
+    /// Notes that the pending event was reported.
     pub(crate) fn note_told(&mut self)
         ensures { self.old.stage ≡ stages.Awaiting → self.new.is_told ≡ true }
     {
@@ -475,7 +486,7 @@ impl Connection {
         }
     }
 
-    /// Whether there may be more to read than `advance` read: it would not be told again.
+    /// Whether there may be more to read than `advance` read: the system would not report it again.
     pub(crate) fn is_busy(&self, most: usize) -> bool {
         let is_read = match self.stage {
             ConnectionStage::Awaiting => {
@@ -490,7 +501,8 @@ impl Connection {
         self.is_readable && is_read
     }
 
-    /// The system told that its socket failed. Where it is read, the reading tells.
+    /// Notes the system's report that the socket failed. If the socket is still read, the read
+    /// shows the failure.
     pub(crate) fn note_failure(&mut self) {
         if matches!(
             self.stage,
@@ -500,13 +512,14 @@ impl Connection {
         }
     }
 
-    /// Whether anything of what it was given has still to go out, or its peer to end.
+    /// Whether bytes have still to go out, or the peer has still to end.
     pub(crate) fn is_leaving(&self) -> bool {
         !self.unsent.is_empty() || self.stage == ConnectionStage::Lingering
     }
 
-    /// Whether it is to be told where it is dropped: its reply was not given whole, or did not go out whole and that
-    /// is to be told. Once all went out it is not watched any more, or leaves these stages.
+    /// Whether dropping the connection is to be reported: its reply is not complete, or did not go
+    /// out whole and is watched. Once all bytes went out the connection is no longer watched, or
+    /// leaves these stages.
     pub(crate) fn is_missed(&self) -> bool {
         match self.stage {
             ConnectionStage::Answering => true,
@@ -515,9 +528,10 @@ impl Connection {
         }
     }
 
-    /// What it has to say for its place, where it may be asked for it. One whose request has come may not, unless it was
-    /// left, and neither one that has still to be read: its request may be there. Else of many that come at once each
-    /// would drop the one before.
+    /// The claim of the connection to its place, if it may be asked to give way. A connection whose
+    /// request has come may not be asked, unless the request was left; nor one that has bytes to
+    /// read, since they may be its request. Otherwise each of many new connections would drop the
+    /// one before.
     pub(crate) fn claim(&self) -> Option<Claim>
         ensures left { self.now.stage ≡ stages.Awaiting → self.now.incoming.was_left ≡ true
             → self.now.is_readable ≡ false → IsSome result }
@@ -537,7 +551,7 @@ impl Connection {
         Some(Claim { kind, since })
     }
 
-    /// Whether its request was told, with nothing more to come, and was not taken.
+    /// Whether the request was reported, with nothing more to come, and was not taken.
     pub(crate) fn is_left(&self) -> bool {
         self.stage == ConnectionStage::Awaiting
             && self.is_told

@@ -9,35 +9,35 @@ use oc_link::{Coming, DialId};
 use std::io::ErrorKind;
 use std::net::SocketAddr;
 
-/// How far a dial is.
+/// The stage of a dial.
 #[derive(Clone, Copy, PartialEq, Eq)]
 pub(crate) enum DialStage {
-    /// It is not connected yet.
+    /// The connection is not made yet.
     Connecting,
-    /// Its request goes out.
+    /// The request goes out.
     Asking,
-    /// Its reply has not begun.
+    /// The reply has not begun.
     Waiting,
-    /// Its reply comes.
+    /// The reply comes.
     Hearing,
-    /// It could not be connected to this address; another one may be tried.
+    /// This address could not be connected; another one may be tried.
     Refused,
-    /// It is over.
+    /// The dial is finished.
     Over,
 }
 
-/// A connection that is made, to ask one thing. No call on it waits.
+/// An outgoing connection for one request. No call on it blocks.
 #[derive(Drop)]
 pub(crate) struct Dial {
     pub(crate) id: DialId,
     stream: Option<TcpStream>,
     pub(crate) stage: DialStage,
-    /// Where it may be connected to, and how many of these were tried.
+    /// The addresses to try, and the number of those tried.
     addresses: Vec<SocketAddr>,
     tried: usize,
     unsent: Unsent,
     reply: Reply,
-    /// How its reply ends, once the stage is `Over`.
+    /// The end of the reply, once the stage is `Over`.
     coming: Coming,
     begun: u64,
     deadline: Deadline,
@@ -46,7 +46,8 @@ pub(crate) struct Dial {
 }
 
 impl Dial {
-    /// A dial that has no connection yet, with what it asks. It is over where there is no memory for that.
+    /// A dial with a request and no connection yet. It is finished at once if there is no memory
+    /// for the request.
     pub(crate) fn new(
         tools: &Tools,
         id: DialId,
@@ -76,7 +77,7 @@ impl Dial {
         }
     }
 
-    /// This is the stream on which it is being connected, for as long as one address may take.
+    /// Notes the stream that is being connected, and starts the time for one address.
     pub(crate) fn begin(&mut self, stream: TcpStream, now: u64) {
         self.stream = Some(stream);
         self.stage = DialStage::Connecting;
@@ -86,26 +87,26 @@ impl Dial {
         self.is_writable = false;
     }
 
-    /// The next address to be tried.
+    /// The next address to try.
     pub(crate) fn next_address(&mut self) -> Option<SocketAddr> {
         let address = self.addresses.get(self.tried).copied()?;
         self.tried = self.tried.saturating_add(1);
         Some(address)
     }
 
-    /// It failed.
+    /// Ends the dial as failed.
     pub(crate) fn fail(&mut self) {
         self.end(Coming::Failed);
     }
 
-    /// It is over, and its reply ends so.
+    /// Ends the dial with this end of its reply.
     fn end(&mut self, coming: Coming) {
         self.stage = DialStage::Over;
         self.coming = coming;
         self.stream = None;
     }
 
-    /// Does what can be done on it now.
+    /// Makes all progress that is possible now.
     pub(crate) fn advance(&mut self, tools: &mut Tools, now: u64) {
         let Some(mut stream) = self.stream.take() else {
             return;
@@ -127,8 +128,8 @@ impl Dial {
         }
     }
 
-    /// Looks whether it is connected. The system tells that a socket can be written where it is, and where it
-    /// failed to be.
+    /// Checks whether the connection is made. The system reports a socket as writable once it is
+    /// connected, and also if connecting failed.
     fn connect(&mut self, stream: &mut TcpStream, now: u64) {
         if !self.is_writable {
             return;
@@ -143,7 +144,8 @@ impl Dial {
                     self.stage = DialStage::Refused;
                     return;
                 }
-                // Without it a request that is written in two pieces may wait for an acknowledgement.
+                // Without this option a request that is written in two pieces may wait for an
+                // acknowledgement.
                 let _set = stream.set_nodelay(true).is_ok();
                 self.stage = DialStage::Asking;
                 let end = self.left(now, BEGIN_MILLIS);
@@ -154,13 +156,13 @@ impl Dial {
         }
     }
 
-    /// How much is left of a time that is counted from its beginning.
+    /// The rest of a time limit that is counted from its beginning, in milliseconds.
     fn left(&self, now: u64, time: u64) -> u64 {
         self.begun.saturating_add(time).saturating_sub(now)
     }
 
-    /// Sends its request. Where that fails, a reply may have come before: a peer that refuses a request need not
-    /// read all of it.
+    /// Sends the request. A reply may have come before a write fails: a peer that refuses a request
+    /// need not read all of it.
     fn ask(&mut self, stream: &mut TcpStream, tools: &mut Tools, now: u64) {
         if !self.is_writable {
             return;
@@ -183,7 +185,7 @@ impl Dial {
         }
     }
 
-    /// Reads what has come of its reply.
+    /// Reads the bytes that came of the reply.
     fn hear(&mut self, stream: &mut TcpStream, tools: &mut Tools, now: u64) {
         for _ in 0..MOST_READS {
             if !self.is_readable || self.stage == DialStage::Over {
@@ -205,7 +207,7 @@ impl Dial {
         }
     }
 
-    /// Some of its reply came.
+    /// Notes progress of the reply.
     fn note_progress(&mut self, now: u64) {
         if self.stage != DialStage::Hearing {
             self.stage = DialStage::Hearing;
@@ -215,13 +217,13 @@ impl Dial {
         self.deadline.progress(now);
     }
 
-    /// Whether its time has run out.
+    /// Whether the dial's time has run out.
     pub(crate) fn is_due(&self, now: u64) -> bool {
         self.stage != DialStage::Over && self.deadline.is_over(now)
     }
 
-    /// Ends it where its time has run out. Where nobody answered at one of its addresses, another one may be tried: a
-    /// name may have addresses that lead nowhere.
+    /// Ends the dial if its time has run out. If nobody answered at one address, another one may be
+    /// tried: some addresses of a name may lead nowhere.
     pub(crate) fn expire(&mut self, now: u64) {
         if !self.is_due(now) {
             return;
@@ -235,24 +237,25 @@ impl Dial {
         }
     }
 
-    /// Whether there may be more to read than `advance` read: it would not be told again.
+    /// Whether there may be more to read than `advance` read: the system would not report it again.
     pub(crate) fn is_busy(&self) -> bool {
         self.is_readable && matches!(self.stage, DialStage::Waiting | DialStage::Hearing)
     }
 
-    /// What came of its reply, and how that ends.
+    /// The reply so far, and its end.
     pub(crate) fn outcome(&mut self, tools: &Tools) -> (Coming, Vec<u8>) {
         (self.coming, self.reply.take(tools))
     }
 
-    /// The stream, to be registered.
+    /// The stream, for registration.
     pub(crate) fn stream_mut(&mut self) -> Option<&mut TcpStream> {
         self.stream.as_mut()
     }
 }
 
-/// Whether a socket is connected with itself: of a port of this machine at which nobody listens, the system may have chosen
-/// the same port for this side, and the node whose port it is could not listen at it.
+/// Whether a socket is connected to itself. For a port of this machine at which nobody listens, the
+/// system may have chosen the same port for this side, and the node that owns the port could not
+/// listen there.
 fn is_own(stream: &TcpStream, peer: SocketAddr) -> bool {
     match stream.local_addr() {
         Ok(own) => own == peer,

@@ -1,5 +1,5 @@
-//! Where a message ends, as far as its head tells. This is all that the sockets know of HTTP; what else a head
-//! says is for whoever reads it.
+//! The end of a message, as far as its head tells. The sockets know no more of HTTP; the rest of a
+//! head is for other readers.
 
 ghost use Rattle.std.specs.Prelude.{◌≡◌, false, length, unwrap_or};
 ghost use Rattle.oc_http.specs.Fields.{is_unusable, length_of, lengths};
@@ -9,32 +9,33 @@ use httparse::spans::{HeaderSpan, parse_request, parse_response};
 use httparse::{Error, Status};
 use oc_http::{FieldMatch, Fields, length_of};
 
-/// What the head of a message tells of its extent.
+/// The parts of a message's head that tell its extent.
 #[derive(Clone, Copy)]
 pub(crate) struct Outline {
-    /// How many bytes the head has.
+    /// The length of the head, in bytes.
     pub(crate) head: usize,
     /// The Content-Length; 0 where it is no number, and none where there is no such field.
     pub(crate) body: Option<u64>,
     /// Whether the body is sent only after `100 Continue`.
     pub(crate) expects: bool,
-    /// Whether something other than the Content-Length says where the body ends.
+    /// Whether a field other than the Content-Length determines the end of the body.
     pub(crate) coded: bool,
 }
 
-/// How far a message has come.
+/// The progress of a message.
 #[derive(Clone, Copy)]
 pub(crate) enum HeadProgress {
-    /// Its head has not come whole.
+    /// The head is not complete.
     Open,
-    /// Whatever follows, it is no head.
+    /// No head can begin with these bytes.
     Never,
-    /// Its head has come.
+    /// The head is complete.
     Begun(Outline),
 }
 
-/// How far a request has come (RFC 9112, sections 2 to 6), for a reader who looks at its head at the end of each line:
-/// a line that has not ended tells nothing. The spans are room for its fields; more fields than that are no head.
+/// The progress of a request (RFC 9112, sections 2 to 6), for a reader who looks at the head at the
+/// end of each line: an unfinished line tells nothing. The spans are room for the fields; a head
+/// with more fields is refused.
 pub(crate) fn request_extent(bytes: &[u8], spans: &mut [HeaderSpan]) -> HeadProgress
     ensures { IsRequestExtent (length spans.old) bytes.now result }
 {
@@ -45,7 +46,7 @@ pub(crate) fn request_extent(bytes: &[u8], spans: &mut [HeaderSpan]) -> HeadProg
     lines_extent(lines, spans)
 }
 
-/// The same of lines that have ended.
+/// The progress of a request, given its finished lines.
 fn lines_extent(lines: &[u8], spans: &mut [HeaderSpan]) -> HeadProgress
     ensures { IsLinesExtent (length spans.old) lines.now result }
 {
@@ -66,7 +67,7 @@ fn lines_extent(lines: &[u8], spans: &mut [HeaderSpan]) -> HeadProgress
     }
 }
 
-/// The lines that have ended of these bytes.
+/// The finished lines of these bytes.
 fn whole_lines(bytes: &[u8]) -> &[u8]
     ensures { AreWholeLines bytes.now result.now }
 {
@@ -79,7 +80,7 @@ fn whole_lines(bytes: &[u8]) -> &[u8]
     lines
 }
 
-/// How far a response has come (RFC 9112, sections 2 to 6), in the same way.
+/// The progress of a response (RFC 9112, sections 2 to 6), in the same way.
 pub(crate) fn response_extent(bytes: &[u8], spans: &mut [HeaderSpan]) -> HeadProgress
     ensures { IsResponseExtent (length spans.old) bytes.now result }
 {
@@ -110,8 +111,8 @@ fn response_length(status: u16, fields: &Fields) -> Option<u64>
     }
 }
 
-/// The number of the first Content-Length: where a reader of heads finds no fault in it, the length of the body that it
-/// waits for.
+/// The number in the first Content-Length: the length of the body, if a reader of heads finds no
+/// fault in it.
 fn told_length(fields: &Fields) -> Option<u64>
     ensures number { result ≡ body_length (lengths fields.now) }
     ensures read { is_unusable (lengths fields.now) ≡ false → unwrap_or result 0 ≡ unwrap_or (length_of (lengths fields.now)) 0 }

@@ -6,7 +6,7 @@ use oc_io::Failed;
 use std::alloc::Global;
 use std::io;
 
-/// The calls that failed: how many, and the last of them.
+/// The number of calls that failed, and the last of them.
 #[derive(Drop)]
 pub(crate) struct Failures {
     pub(crate) count: u64,
@@ -14,7 +14,7 @@ pub(crate) struct Failures {
 }
 
 impl Failures {
-    /// None so far.
+    /// No failures so far.
     pub(crate) fn new(alloc: Global) -> Failures
         ensures { result.count ≡ 0 }
     {
@@ -24,7 +24,7 @@ impl Failures {
         }
     }
 
-    /// Counts a call that failed, and keeps where it did, and why.
+    /// Counts a call that failed, and keeps its address and its error.
     pub(crate) fn keep(&mut self, address: &str, error: io::Error) -> Failed
         ensures count { NoFall self.old.count self.new.count }
         ensures cause { Rose self.old.count self.new.count }
@@ -34,13 +34,13 @@ impl Failures {
         Failed
     }
 
-    /// Why the last call that failed did, if it was kept.
+    /// The reason of the last failure, if it was kept.
     pub(crate) fn trouble(&self) -> Option<Trouble<'_>> {
         self.last.trouble()
     }
 }
 
-/// At which address the last call that failed did, and why, if there was the memory to keep it.
+/// The address and the error of the last call that failed, if there was memory to keep them.
 #[derive(Drop)]
 pub(crate) struct LastFailure {
     place: String,
@@ -48,7 +48,7 @@ pub(crate) struct LastFailure {
 }
 
 impl LastFailure {
-    /// No call has failed so far.
+    /// No failure so far.
     pub(crate) fn none(alloc: Global) -> LastFailure {
         LastFailure {
             place: String::new(alloc),
@@ -56,7 +56,7 @@ impl LastFailure {
         }
     }
 
-    /// Keeps where a call failed, and why.
+    /// Keeps the address and the error of a call that failed.
     pub(crate) fn keep(&mut self, address: &str, error: io::Error) {
         self.place.clear();
         self.error = match self.place.push_str(address) {
@@ -65,7 +65,7 @@ impl LastFailure {
         };
     }
 
-    /// Why it failed, if it was kept.
+    /// The reason of the failure, if it was kept.
     pub(crate) fn trouble(&self) -> Option<Trouble<'_>> {
         match self.error {
             Some(error) => Some(Trouble {

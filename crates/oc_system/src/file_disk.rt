@@ -12,12 +12,14 @@ use std::rt::Files;
 
 /// A file as a disk.
 ///
-/// The file is opened at the first call, and made where there is none; then its folder is synced, so that the
-/// file is still there after a crash. It is locked as long as it is open, so that two programs never write to
-/// one file. A call that cannot open or lock it fails, and the next one tries again.
+/// The file is opened at the first call, and made if it is missing; then its folder is synced, so
+/// that the file is still there after a crash. The file is locked as long as it is open, so that
+/// two programs never write to it. A call that cannot open or lock it fails, and the next call
+/// tries again.
 ///
-/// After a sync that failed the system may hold what it could not write as if it were written, and the sync of a
-/// program that is started next would succeed. So those pages are written to again: that sync has to write them.
+/// After a failed sync the system may treat bytes that it could not write as written, and the sync
+/// of the next program would succeed. Therefore those pages are written again, which makes the next
+/// sync write them.
 #[derive(Drop)]
 pub struct FileDisk<'a, R> {
     rt: &'a R,
@@ -25,14 +27,14 @@ pub struct FileDisk<'a, R> {
     file: Option<File>,
     size: u64,
     faults: u64,
-    /// Where what was written since the last sync that succeeded begins and ends.
+    /// The range of bytes written since the last sync that succeeded.
     unsure_from: u64,
     unsure_to: u64,
-    /// Why the last call that failed did.
+    /// The error of the last call that failed.
     error: Option<io::Error>,
 }
 
-/// Where a file is: its path, which begins with that of its folder, and its name in it.
+/// The place of a file: its path, which begins with that of its folder, and its name in the folder.
 #[derive(Clone, Copy)]
 pub struct FilePlace<'a> {
     pub folder: &'a str,
@@ -55,7 +57,7 @@ impl<'a, R: Files<File = File>> FileDisk<'a, R> {
         }
     }
 
-    /// Why a call failed, if one did.
+    /// The reason of the last failure, if a call failed.
     pub fn trouble(&self) -> Option<Trouble<'a>> {
         match self.error {
             Some(error) => Some(Trouble {
@@ -66,7 +68,7 @@ impl<'a, R: Files<File = File>> FileDisk<'a, R> {
         }
     }
 
-    /// Counts a failure, and keeps why.
+    /// Counts a failure, and keeps the error.
     fn fault(&mut self, error: io::Error) -> Failed
         ensures count { Rose self.old.faults self.new.faults }
         ensures faults { self.old.faults ≤ self.new.faults }
@@ -93,9 +95,10 @@ fn opened<'f, R: Files<File = File>>(
     }
 }
 
-/// Opens the file and takes its lock; makes it where there is none. The folder is synced each time: an
-/// earlier program may have made the file and been stopped before it had done so. A device or a pipe is refused: the
-/// system tells no size of it, so that all it holds would seem to be gone at the next start.
+/// Opens the file and takes its lock; makes the file if it is missing. The folder is synced each
+/// time: an earlier program may have made the file and been stopped before the sync. A device or a
+/// pipe is refused: the system gives no size for it, so that all its bytes would seem to be gone at
+/// the next start.
 fn open_locked<R: Files<File = File>>(rt: &R, place: FilePlace<'_>) -> io::Result<File> {
     let mut how = OpenOptions::new();
     how.read(true).write(true).create(true);
@@ -172,7 +175,7 @@ impl<R: Files<File = File>> Disk for FileDisk<'_, R> {
     }
 }
 
-/// How many of `most` bytes from this offset on are within the size.
+/// The number of bytes, at most `most`, from this offset up to the size.
 fn within(at: u64, size: u64, most: usize) -> usize
     ensures { result ≡ min most (size - at) }
 {
@@ -218,8 +221,8 @@ fn sync_data<R: Files<File = File>>(
     opened(rt, place, file)?.sync_data()
 }
 
-/// Writes a byte of each page from one offset to another as it is, so that the system has to write these pages again.
-/// What can't be read or written is left.
+/// Writes one byte of each page in a range again, unchanged, so that the system has to write these
+/// pages. Pages that can't be read or written are left.
 fn touch_pages(file: &File, from: u64, to: u64) {
     let mut byte = [0u8];
     let mut at = from;

@@ -9,24 +9,26 @@ use oc_base::{MAX_BODY_BYTES, MAX_HEAD_BYTES};
 use std::alloc::Global;
 use std::mem;
 
-/// How reading what has come ended.
+/// The result of reading the bytes that came.
 #[derive(Clone, Copy)]
 pub(crate) struct Intake {
     /// Whether anything came.
     pub(crate) has_come: bool,
-    /// Whether all was read that has come.
+    /// Whether all bytes that came were read.
     pub(crate) is_drained: bool,
 }
 
-/// What came on a connection and was not taken as a request, and what is known of the request that it begins.
+/// The bytes that came on a connection and were not taken as a request, with the progress of the
+/// request that they begin.
 #[derive(Drop)]
 pub(crate) struct Incoming {
     pub(crate) bytes: Vec<u8>,
-    /// What its head tells, once it has come.
+    /// The outline of the head, once it is complete.
     pub(crate) outline: Option<Outline>,
-    /// Whether no head begins so.
+    /// Whether no head can begin with these bytes.
     is_hopeless: bool,
-    /// Whether it was told as it is and left, so that more of it is wanted.
+    /// Whether the request was reported in its present state and left, so that more bytes are
+    /// wanted.
     was_left: bool,
     /// Whether the peer sends no more, and whether a call failed.
     pub(crate) has_ended: bool,
@@ -54,7 +56,7 @@ impl Incoming {
         self.has_ended || self.has_failed
     }
 
-    /// Reads what has come, until there are `most` bytes or the request can be looked at.
+    /// Reads until there are `most` bytes or the request can be looked at.
     pub(crate) fn read(
         &mut self,
         stream: &mut TcpStream,
@@ -85,7 +87,7 @@ impl Incoming {
         }
     }
 
-    /// Reads one piece, and looks at it. Want of memory for it counts as a failure, as it does of a call.
+    /// Reads one piece, and looks at it. Lack of memory counts as a failure, as of a call.
     fn read_piece(&mut self, stream: &mut TcpStream, tools: &mut Tools, most: usize) -> Moved {
         let room = most.saturating_sub(self.bytes.len()).min(tools.piece.len());
         let moved = read_some(stream, &mut tools.piece[..room]);
@@ -101,9 +103,9 @@ impl Incoming {
         moved
     }
 
-    /// Looks at the head, where a line of it ended after the first `before` bytes or it is as long as it may be.
-    /// So it is looked at once a line, however slowly its bytes come. Of a line that has not ended nothing is told:
-    /// whoever reads the head waits for its end.
+    /// Looks at the head, if one of its lines ended after the first `before` bytes or the head has
+    /// its greatest length. So the head is looked at once a line, however slowly its bytes come. An
+    /// unfinished line tells nothing: a reader of heads waits for its end.
     pub(crate) fn look(&mut self, tools: &mut Tools, before: usize) {
         if self.outline.is_some() || self.is_hopeless {
             return;
@@ -121,8 +123,9 @@ impl Incoming {
         }
     }
 
-    /// Whether the request can be looked at: it is whole, or its head asks for the permission to send the body, or
-    /// it has more than a request may have, or no head begins so. One that was left cannot, until more of it came.
+    /// Whether the request can be looked at: it is whole, or its head asks for the permission to
+    /// send the body, or it is longer than a request may be, or no head can begin with its bytes. A
+    /// request that was left can be looked at only after more of it came.
     pub(crate) fn is_ripe(&self, permitted: bool) -> bool
         ensures left { self.now.was_left ≡ true → result ≡ false }
     {
@@ -140,7 +143,7 @@ impl Incoming {
         }
     }
 
-    /// Whether `count` bytes are a whole request, and all that came, which is `bytes`.
+    /// Whether the request is whole, has `count` bytes, and is all that came, which is `bytes`.
     pub(crate) fn is_all(&self, bytes: &[u8], count: u64) -> bool {
         match &self.outline {
             Some(outline) => {
@@ -153,12 +156,13 @@ impl Incoming {
         }
     }
 
-    /// Lends what came, which is given back or taken.
+    /// Lends the bytes that came, which are given back or taken.
     pub(crate) fn lend(&mut self, tools: &Tools) -> Vec<u8> {
         mem::replace(&mut self.bytes, Vec::new(tools.alloc))
     }
 
-    /// Takes back what was lent and not taken. Where it was left, more of it is wanted before it is told again.
+    /// Takes back lent bytes that were not taken. If the request was left, more bytes are wanted
+    /// before it is reported again.
     pub(crate) fn take_back(&mut self, bytes: Vec<u8>, was_left: bool)
         ensures { self.new.was_left ≡ was_left }
     {
@@ -166,8 +170,8 @@ impl Incoming {
         self.was_left = was_left;
     }
 
-    /// Takes that many of these bytes, which are all that came, as a request, and looks at what follows them. False
-    /// where there is no memory for it.
+    /// Takes the first `count` of these bytes, which are all that came, as a request, and looks at
+    /// the rest. False if there is no memory.
     pub(crate) fn take(&mut self, tools: &mut Tools, bytes: &[u8], count: usize) -> bool {
         self.bytes = Vec::new(tools.alloc);
         self.outline = None;

@@ -13,13 +13,13 @@ pub enum Input<'a, R> {
     Named(NamedFile<'a, R>),
 }
 
-/// A file by its path in the folder that the program runs in.
+/// A file, by its path in the folder in which the program runs.
 #[derive(Drop)]
 pub struct NamedFile<'a, R> {
     rt: &'a R,
     path: &'a str,
     file: Option<File>,
-    /// Why the last read that failed did.
+    /// The error of the last read that failed.
     error: Option<io::Error>,
 }
 
@@ -36,7 +36,7 @@ impl<'a, R: Files<File = File>> NamedFile<'a, R> {
 }
 
 impl<'a, R: Files<File = File>> Input<'a, R> {
-    /// Why a read of a file failed, if one did.
+    /// The reason of the last failure, if a read of a file failed.
     pub fn trouble(&self) -> Option<Trouble<'a>> {
         match self {
             Input::Standard(_) => None,
@@ -61,7 +61,7 @@ impl<R: Files<File = File>> Read for NamedFile<'_, R> {
     }
 }
 
-/// Reads from a file, which is opened if it was not open yet.
+/// Reads from a file, and opens it first if it is not open yet.
 fn read_from<R: Files<File = File>>(
     rt: &R,
     path: &str,

@@ -7,12 +7,12 @@
 //! lengths alone, and no story. Each counts its failures, makes interrupted calls again, and keeps why its last call
 //! failed ([`Trouble`]).
 //!
-//! No socket of a node blocks: one thread and one wait serve the connections that come in, and the dials.
-//! [`SocketLink`] hands out one thing that happened, by turns over all connections and dials that have one; whatever
-//! it is told to send goes out as far as a socket takes it, and the rest as the socket has room. That the link is
-//! safe, that each of its calls ends, and that only `next` waits, and no longer than it may, is proved. Where a
-//! message ends is a pure function of its bytes, with an exact contract (`specs/Extent.antt`), and all that the link
-//! knows of HTTP.
+//! No socket of a node blocks: one thread and one wait serve the incoming connections and the
+//! dials. [`SocketLink`] hands out one event at a time, in turns over all connections and dials
+//! that have one; bytes to send go out as far as a socket takes them, and the rest as the socket
+//! has room. The safety of the link is proved, and that each of its calls ends, and that only
+//! `next` waits, and no longer than it may. The end of a message is a pure function of its bytes,
+//! with an exact contract (`specs/Extent.antt`); the link knows no more of HTTP.
 #![tactic(auto)]
 
 mod client_connection;

@@ -16,23 +16,23 @@ use std::rt::Clock;
 use std::time::Duration;
 use std::{io, mem};
 
-/// Sockets as a link. It tells no story.
+/// A link over sockets. It tells no story.
 #[derive(Drop)]
 pub struct SocketLink<'a, R> {
     rt: &'a R,
     alloc: Global,
     watch: Watch,
-    /// There are none until it listens.
+    /// The sockets; none before the link listens.
     sockets: Option<Sockets>,
-    /// Dials that could not begin, which is to be told.
+    /// Dials that could not begin, and are still to be reported.
     stray: VecDeque<DialId>,
-    /// What the last event lends, and whose it is as long as it was not taken.
+    /// The bytes that the last event lends, and their connection as long as they were not taken.
     lent: Vec<u8>,
     lender: Option<ConnectionId>,
     counts: LinkCounts,
-    /// The node that waits for connections, if one does.
+    /// The node that waits for connections, if one runs.
     node: Option<u64>,
-    /// Where it could not wait, and why.
+    /// The address and the error of the last failure to listen.
     failure: LastFailure,
 }
 
@@ -55,12 +55,12 @@ impl<'a, R: Net<Stream = TcpStream> + Clock + Eprint> SocketLink<'a, R> {
         }
     }
 
-    /// At which address it could not wait for connections, and why, if it could not.
+    /// The reason why the link could not listen, if it could not.
     pub fn trouble(&self) -> Option<Trouble<'_>> {
         self.failure.trouble()
     }
 
-    /// Sends on what it was given and has not gone out, for a short time. Replies that were not given whole are
+    /// Sends for a short time the bytes that have not gone out. Replies that are not complete are
     /// broken off, and so are dials.
     pub fn send_rest(&mut self) {
         if let Some(sockets) = &mut self.sockets {
@@ -68,7 +68,7 @@ impl<'a, R: Net<Stream = TcpStream> + Clock + Eprint> SocketLink<'a, R> {
         }
     }
 
-    /// Gives back to its connection what the last event lent and was not taken.
+    /// Gives the lent bytes of the last event back to their connection, if they were not taken.
     fn give_back(&mut self) {
         let bytes = mem::replace(&mut self.lent, Vec::new(self.alloc));
         if let Some(lender) = self.lender.take() {
@@ -78,7 +78,7 @@ impl<'a, R: Net<Stream = TcpStream> + Clock + Eprint> SocketLink<'a, R> {
         }
     }
 
-    /// One thing that happened. Without sockets there is nothing to wait for but the time.
+    /// The next event. Without sockets the link only waits.
     fn happened(&mut self, wait: u64) -> io::Result<SocketEvent> {
         if let Some(dial) = self.stray.pop_front() {
             return Ok(SocketEvent {
@@ -99,7 +99,8 @@ impl<'a, R: Net<Stream = TcpStream> + Clock + Eprint> SocketLink<'a, R> {
     }
 }
 
-/// Says on the error output where a node waits for connections. Where that fails, nothing else happens.
+/// Reports on the error output the address at which a node waits for connections. A failure of the
+/// output changes nothing.
 fn announce<R: Eprint>(rt: &R, node: Option<u64>, address: &str) {
     if let Some(id) = node {
         let _ = eprintln!(rt; "overcast: node {id} listens at {address}");
@@ -198,8 +199,8 @@ impl<R: Net<Stream = TcpStream> + Clock + Eprint> Link for SocketLink<'_, R> {
             None => false,
         };
         if !has_begun {
-            // Whoever dials has at most `DIALS` dials under way, so there is a place for it, and memory for it
-            // is wanted only before the link listens.
+            // At most `DIALS` dials are under way, so there is a place for it; and memory is needed
+            // only before the link listens.
             let _noted = self.stray.push_back(dial).is_ok();
         }
     }
@@ -213,7 +214,7 @@ impl<R: Net<Stream = TcpStream> + Clock + Eprint> Link for SocketLink<'_, R> {
     }
 }
 
-/// Whose bytes an event lends.
+/// The connection whose bytes an event lends.
 fn lender_of(event: &LinkEvent) -> Option<ConnectionId> {
     match event {
         LinkEvent::Request(arrival) => Some(arrival.connection),

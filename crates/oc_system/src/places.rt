@@ -2,12 +2,12 @@ use crate::connection::{Claim, Connection};
 use crate::limits::PLACES;
 use std::alloc::{AllocError, Global};
 
-/// The connections, each at a place of its own: so one that is ready is found at once, however many others there
-/// are. The number of a connection names its place, and is never used again.
+/// The connections, each at a place of its own: so a ready connection is found at once, however
+/// many others there are. The number of a connection names its place, and is never used again.
 #[derive(Drop)]
 pub(crate) struct ConnectionPlaces {
     slots: Vec<Option<Connection>>,
-    /// The places that are free.
+    /// The free places.
     free: Vec<usize>,
     last_round: u64,
 }
@@ -38,7 +38,7 @@ impl ConnectionPlaces {
         self.free.len() >= PLACES
     }
 
-    /// A free place, which is taken from now on, and the number of the connection that comes to it.
+    /// Reserves a free place, and gives it with the number of the connection that comes there.
     pub(crate) fn reserve(&mut self) -> Option<(usize, u64)> {
         let place = self.free.pop()?;
         self.last_round = self.last_round.saturating_add(1);
@@ -49,14 +49,14 @@ impl ConnectionPlaces {
         Some((place, id))
     }
 
-    /// Puts a connection at a place that is reserved for it.
+    /// Puts a connection at its reserved place.
     pub(crate) fn put(&mut self, place: usize, connection: Connection) {
         if let Some(slot) = self.slots.get_mut(place) {
             *slot = Some(connection);
         }
     }
 
-    /// The place of the connection of this number, as long as it is there.
+    /// The place of the connection with this number, as long as it is there.
     pub(crate) fn place_of(&self, id: u64) -> Option<usize> {
         let place = (id % PLACES as u64) as usize;
         let connection = self.get(place)?;
@@ -71,7 +71,7 @@ impl ConnectionPlaces {
         self.slots.get_mut(place)?.as_mut()
     }
 
-    /// Takes the connection out of its place, which is free from now on.
+    /// Takes the connection out of its place, and frees the place.
     pub(crate) fn remove(&mut self, place: usize) -> Option<Connection> {
         let connection = self.slots.get_mut(place)?.take()?;
         // There is room for each place.
@@ -98,7 +98,7 @@ impl ConnectionPlaces {
         Some(place)
     }
 
-    /// A place whose large request has had its time, if there is one.
+    /// A place whose large request has used up its time, if there is one.
     pub(crate) fn slow_one(&self, now: u64) -> Option<usize> {
         for place in 0..self.slots.len() {
             if let Some(connection) = self.get(place) {

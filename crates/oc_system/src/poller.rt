@@ -6,7 +6,7 @@ use std::io;
 use std::net::{Net, TcpStream};
 use std::time::Duration;
 
-/// A socket that the last wait found ready, by its token, and for what.
+/// A socket that the last wait found ready: its token, and the operations it is ready for.
 #[derive(Clone, Copy)]
 pub(crate) struct Woken {
     pub(crate) token: usize,
@@ -27,7 +27,7 @@ impl Woken {
     }
 }
 
-/// What tells which sockets are ready. The system tells of each once, as it becomes so.
+/// The system's reports on ready sockets. The system reports a socket once, when it becomes ready.
 #[derive(Drop)]
 pub(crate) struct Poller {
     poll: Poll,
@@ -36,7 +36,7 @@ pub(crate) struct Poller {
 }
 
 impl Poller {
-    /// No socket is looked at so far.
+    /// Begins without sockets.
     pub(crate) fn new<R: Net<Stream = TcpStream>>(rt: &R, alloc: Global) -> io::Result<Poller> {
         Ok(Poller {
             poll: Poll::new(rt)?,
@@ -45,12 +45,13 @@ impl Poller {
         })
     }
 
-    /// Where sockets that are to be looked at are registered.
+    /// The registry for sockets that are to be watched.
     pub(crate) fn registry(&self) -> &Registry {
         self.poll.registry()
     }
 
-    /// Waits until something is ready or `millis` milliseconds are over. A signal ends a wait with nothing.
+    /// Waits until a socket is ready or `millis` milliseconds are over. A signal ends a wait
+    /// without events.
     pub(crate) fn wait(&mut self, millis: u64) -> io::Result<()> {
         self.poll
             .poll(&mut self.events, Some(Duration::from_millis(millis)))?;
@@ -62,7 +63,7 @@ impl Poller {
         Ok(())
     }
 
-    /// How many the last wait found ready, and each of them.
+    /// The number of sockets that the last wait found ready, and each of them.
     pub(crate) fn len(&self) -> usize {
         self.woken.len()
     }

@@ -7,11 +7,11 @@ use oc_base::{MAX_BODY_BYTES, MAX_HEAD_BYTES};
 use std::alloc::{AllocError, Global};
 use std::mem;
 
-/// What has come of the reply to a dial.
+/// The reply to a dial, as far as it came.
 #[derive(Drop)]
 pub(crate) struct Reply {
-    /// What has come. Once its head tells how long it is, there is room for the rest after that, so that the rest is read
-    /// to where it belongs.
+    /// The bytes that came. Once the head gives the length, there is room for the rest after them,
+    /// so that the rest is read into its final place.
     bytes: Vec<u8>,
     count: usize,
     outline: Option<Outline>,
@@ -26,7 +26,8 @@ impl Reply {
         }
     }
 
-    /// Reads some of what has come, and says what the call did. It is `Failed`, too, where there is no memory for it.
+    /// Reads some of the bytes that came, and gives the result of the call: `Failed` also if there
+    /// is no memory for them.
     pub(crate) fn read(&mut self, stream: &mut TcpStream, tools: &mut Tools) -> Moved {
         if self.count < self.bytes.len() {
             let moved = read_some(stream, &mut self.bytes[self.count..]);
@@ -42,7 +43,8 @@ impl Reply {
         }
     }
 
-    /// Keeps that many bytes of the piece, and looks for its head; false where there is no memory for them.
+    /// Keeps the first `count` bytes of the piece, and looks for the head; false if there is no
+    /// memory for them.
     fn keep(&mut self, tools: &mut Tools, count: usize) -> bool {
         let piece = tools.piece.get(..count).unwrap_or(&[]);
         if self.bytes.extend_from_slice(piece).is_err() {
@@ -60,14 +62,14 @@ impl Reply {
         true
     }
 
-    /// Makes room for the rest of it; false where there is no memory for that.
+    /// Makes room for the rest of the reply; false if there is no memory.
     fn make_room(&mut self, tools: &Tools, outline: Outline) -> bool {
         let body = outline.body.unwrap_or(0).min(MAX_BODY_BYTES) as usize;
         let whole = body.saturating_add(outline.head);
         if whole <= self.count {
             return true;
         }
-        // To add so many bytes one by one would take ten times as long.
+        // Pushing the bytes one by one would take ten times as long.
         let made: Result<Vec<u8>, AllocError> = Vec::from_elem(tools.alloc, 0u8, whole);
         let Ok(mut bytes) = made else {
             return false;
@@ -78,7 +80,7 @@ impl Reply {
         true
     }
 
-    /// Whether it has come as far as its Content-Length says.
+    /// Whether the reply has all bytes that its Content-Length announces.
     pub(crate) fn is_whole(&self) -> bool {
         let Some(outline) = self.outline else {
             return false;
@@ -89,7 +91,7 @@ impl Reply {
         }
     }
 
-    /// Whether there is more of it, or is to be, than a reply may have.
+    /// Whether the reply is, or will be, longer than a reply may be.
     pub(crate) fn is_too_long(&self) -> bool {
         match self.outline {
             Some(outline) => {
@@ -99,7 +101,7 @@ impl Reply {
         }
     }
 
-    /// What has come.
+    /// The bytes that came.
     pub(crate) fn take(&mut self, tools: &Tools) -> Vec<u8> {
         let mut bytes = mem::replace(&mut self.bytes, Vec::new(tools.alloc));
         bytes.truncate(self.count);

@@ -7,20 +7,21 @@ use crate::limits::MOST_TRIES;
 use mio::net::TcpStream;
 use std::io::{ErrorKind, Read, Write};
 
-/// What a call on a socket did.
+/// The result of a call on a socket.
 #[derive(Clone, Copy)]
 pub(crate) enum Moved {
-    /// It moved this many bytes, at least one.
+    /// The number of bytes moved, at least one.
     Bytes(usize),
-    /// It would have waited.
+    /// The call would have blocked.
     Nothing,
     /// The peer sends no more.
     End,
-    /// It failed, as by a reset.
+    /// The call failed, for example by a reset.
     Failed,
 }
 
-/// Reads what has come to the front of the buffer. An interrupted call is made again: nothing was lost by it.
+/// Reads the bytes that came to the front of the buffer. An interrupted call is repeated: no bytes
+/// are lost.
 pub(crate) fn read_some(stream: &mut TcpStream, buf: &mut [u8]) -> Moved
     ensures within { MovesAtMost (length buf.old) result }
     ensures length { length buf.new ≤ length buf.old }
@@ -39,8 +40,8 @@ pub(crate) fn read_some(stream: &mut TcpStream, buf: &mut [u8]) -> Moved
     Moved::Failed
 }
 
-/// Writes as many of the bytes as the socket takes. A write that takes none of some bytes is a failure, so that
-/// nobody waits for it.
+/// Writes as many of the bytes as the socket takes. A write that takes none of some bytes counts as
+/// a failure, so that nobody waits for it.
 pub(crate) fn write_some(stream: &mut TcpStream, bytes: &[u8]) -> Moved
     ensures within { MovesAtMost (length bytes.now) result }
 {

@@ -27,7 +27,7 @@ impl<'a, R: Net<Stream = TcpStream> + Clock> SocketDialler<'a, R> {
         }
     }
 
-    /// Why a call on a dial failed, if one did.
+    /// The reason of the last failure, if a call on a dial failed.
     pub fn trouble(&self) -> Option<Trouble<'_>> {
         self.failures.trouble()
     }

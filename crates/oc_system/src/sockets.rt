@@ -23,10 +23,10 @@ use std::io::{self, ErrorKind};
 use std::net::{Net, SocketAddr, TcpStream, ToSocketAddrs};
 use std::rt::Clock;
 
-/// The token of the listener. That of a connection is its place, and dials follow.
+/// The token of the listener. The token of a connection is its place; the tokens of dials follow.
 const LISTENER: usize = PLACES + DIALS;
 
-/// One thing that happened, and what it lends.
+/// An event, and the bytes that it lends.
 #[derive(Drop)]
 pub(crate) struct SocketEvent {
     pub(crate) event: LinkEvent,
@@ -40,36 +40,38 @@ struct Lost {
     loss: Loss,
 }
 
-/// The sockets of a running node: those of the connections that came in, those of its dials, and the one that
-/// listens. One wait serves them all.
+/// The sockets of a running node: those of incoming connections, those of its dials, and the
+/// listener. One wait serves them all.
 ///
-/// Each place at which something may be done is once in one queue, and is looked at in its turn: what can be
-/// done is done, and where something is to be told, it is. So no connection is served twice while another waits.
+/// Each place at which progress may be possible is in one queue, once, and is looked at in its
+/// turn: progress is made, and an event is reported if there is one. So no connection is served
+/// twice while another waits.
 #[derive(Drop)]
 pub(crate) struct Sockets {
     poller: Poller,
     listener: TcpListener,
-    /// Whether a connection may wait to be taken, and until when none is.
+    /// Whether a connection may wait to be accepted, and until when none is accepted.
     knocks: bool,
     shut_until: u64,
-    /// A descriptor that is given up where the system has no more of them.
+    /// A spare descriptor, given up when the system has no more.
     spare: Option<Registry>,
     places: ConnectionPlaces,
     dials: Vec<Option<Dial>>,
     turns: TurnQueue,
-    /// The places of those that wait for one of the places for large requests, and how many of these are taken.
+    /// The places that wait for one of the places for large requests, and the number of those
+    /// taken.
     held: TurnQueue,
     large: usize,
     gone: VecDeque<Lost>,
     tools: Tools,
-    /// How many places were looked at since the sockets were waited for.
+    /// The number of places looked at since the last wait for sockets.
     in_a_row: u32,
-    /// When those whose time has run out are looked for next.
+    /// The time of the next look for connections and dials whose time has run out.
     sweep_at: u64,
 }
 
 impl Sockets {
-    /// Waits for connections at that address from now on.
+    /// Waits for connections at this address from now on.
     pub(crate) fn listen<R: Net<Stream = TcpStream>>(
         rt: &R,
         alloc: Global,
@@ -104,7 +106,7 @@ impl Sockets {
         })
     }
 
-    /// One thing that happened, by the time the wait is over.
+    /// The next event, by the end of the wait.
     pub(crate) fn next<R: Net<Stream = TcpStream> + Clock>(
         &mut self,
         rt: &R,
@@ -137,8 +139,8 @@ impl Sockets {
         }
     }
 
-    /// Waits until something is ready, and no longer than that; then notes what is ready, takes connections, and
-    /// looks for those whose time has run out. Answers the time then.
+    /// Waits until a socket is ready, at most for `longest`; then notes the ready sockets, accepts
+    /// connections, and looks for those whose time has run out. Gives the time after that.
     fn pump<R: Clock>(&mut self, rt: &R, watch: &mut Watch, longest: u64) -> io::Result<u64> {
         self.in_a_row = 0;
         let patience = self.patience(longest);
@@ -153,8 +155,8 @@ impl Sockets {
         Ok(now)
     }
 
-    /// How long the sockets are waited for: not at all where something can be done, and else until the next look
-    /// for those whose time has run out.
+    /// The time to wait for sockets: none if progress is possible, and otherwise up to the next
+    /// look for those whose time has run out.
     fn patience(&self, longest: u64) -> u64 {
         if !self.turns.is_empty() || !self.gone.is_empty() {
             return 0;
@@ -169,7 +171,7 @@ impl Sockets {
         longest.min(SWEEP_MILLIS)
     }
 
-    /// Notes what the last wait found ready.
+    /// Notes the sockets that the last wait found ready.
     fn note_woken(&mut self) {
         for at in 0..self.poller.len() {
             let Some(woken) = self.poller.woken(at) else {
@@ -196,8 +198,9 @@ impl Sockets {
         }
     }
 
-    /// Looks for those whose time has run out. They are looked at in their turn, and what has come or may go out by
-    /// then counts: a node that had to wait for its disk, or was stopped for a while, finds its peers' answers there.
+    /// Looks for connections and dials whose time has run out. They are looked at in their turn,
+    /// and bytes that have come or may go out by then count: a node that waited for its disk, or
+    /// was stopped for a while, finds its peers' answers there.
     fn sweep(&mut self, now: u64) {
         for place in 0..PLACES {
             if let Some(connection) = self.places.get_mut(place) {
@@ -212,7 +215,7 @@ impl Sockets {
                 self.lose(place, Loss::GaveWay);
             }
         }
-        // One that waited may be gone meanwhile, so a free place may not have been taken.
+        // A connection that waited may be gone meanwhile, and its free place still be free.
         for _ in self.large..MOST_LARGE {
             if let Some(place) = self.held.pop() {
                 self.turns.push(place);
@@ -221,7 +224,7 @@ impl Sockets {
         for place in PLACES..LISTENER {
             if let Some(dial) = dial_at(&mut self.dials, place) {
                 if dial.is_due(now) {
-                    // A wait that was interrupted tells nothing of what has come.
+                    // An interrupted wait does not show which bytes have come.
                     dial.is_readable = true;
                     self.turns.push(place);
                 }
@@ -229,7 +232,8 @@ impl Sockets {
         }
     }
 
-    /// Sends on what was given, until all of it has gone out and its peers have ended, and at the latest until then.
+    /// Sends the remaining bytes, until all have gone out and the peers have ended, and at the
+    /// latest until the deadline.
     pub(crate) fn send_rest<R: Net<Stream = TcpStream> + Clock>(
         &mut self,
         rt: &R,
@@ -254,7 +258,7 @@ impl Sockets {
         }
     }
 
-    /// Drops all connections but those that have to send, or to be read out.
+    /// Drops all connections except those that have bytes to send, or to be read and dropped.
     fn leave(&mut self) {
         for place in 0..PLACES {
             let is_done = match self.places.get(place) {
@@ -272,7 +276,7 @@ impl Sockets {
     }
 }
 
-/// The dial at this place, which follows those of the connections.
+/// The dial at this place. The places of dials follow those of the connections.
 fn dial_at(dials: &mut [Option<Dial>], place: usize) -> Option<&mut Dial> {
     dials.get_mut(place.checked_sub(PLACES)?)?.as_mut()
 }

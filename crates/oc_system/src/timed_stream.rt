@@ -8,19 +8,20 @@ use std::net::{Net, TcpStream, ToSocketAddrs};
 use std::rt::Clock;
 use std::time::Duration;
 
-/// A connection that was made, whose calls wait for no longer than they may. What it reads comes in large
-/// pieces, however small those are that are asked for.
+/// An outgoing connection whose calls have time limits. Reads come in large pieces, however small
+/// the pieces asked for are.
 #[derive(Drop)]
 pub(crate) struct TimedStream {
     stream: TcpStream,
     piece: Vec<u8>,
-    /// The bytes of the piece that came and were not given yet are those from `given` to `came`.
+    /// The range of bytes that came and were not given yet: from `given` to `came`.
     given: usize,
     came: usize,
 }
 
 impl TimedStream {
-    /// Connects to the address, a host or an IP address and a port. Each of its addresses is tried in turn.
+    /// Connects to the address, a host or an IP address with a port. Each of its addresses is tried
+    /// in turn.
     pub(crate) fn reach<R: Net<Stream = TcpStream> + Clock>(
         rt: &R,
         alloc: Global,
@@ -55,13 +56,13 @@ impl TimedStream {
         Err(io::Error::from(ErrorKind::WriteZero))
     }
 
-    /// Writes a prefix of these bytes, until that time.
+    /// Writes a prefix of these bytes, until the deadline `until`.
     fn write_some<R: Clock>(&mut self, rt: &R, bytes: &[u8], until: u64) -> io::Result<usize> {
         self.stream.set_write_timeout(Some(time_left(rt, until)?))?;
         in_time(self.stream.write(bytes))
     }
 
-    /// Gives what came and was not given yet; nothing where there is none.
+    /// Copies bytes that came and were not given yet; none if there are none.
     pub(crate) fn give(&mut self, buf: &mut [u8]) -> usize
         ensures within { result ≤ length buf.old }
     {
@@ -70,7 +71,7 @@ impl TimedStream {
         count
     }
 
-    /// Reads another piece from the system. Answers its length, and 0 at the end.
+    /// Reads another piece from the system. Gives its length in bytes, and 0 at the end.
     pub(crate) fn fill<R: Clock>(&mut self, rt: &R) -> io::Result<usize> {
         let until = deadline(rt);
         self.given = 0;
@@ -90,13 +91,13 @@ impl TimedStream {
         Ok(self.came)
     }
 
-    /// What came and was not given yet.
+    /// The bytes that came and were not given yet.
     fn waiting(&self) -> &[u8] {
         self.piece.get(self.given..self.came).unwrap_or(&[])
     }
 }
 
-/// A connection to the first of the addresses that takes one.
+/// A connection to the first of the addresses that can be connected.
 fn connected<R: Net<Stream = TcpStream> + Clock>(rt: &R, address: &str) -> io::Result<TcpStream> {
     let until = deadline(rt);
     let mut last = io::Error::from(ErrorKind::AddrNotAvailable);
@@ -111,17 +112,19 @@ fn connected<R: Net<Stream = TcpStream> + Clock>(rt: &R, address: &str) -> io::R
     Err(last)
 }
 
-/// Until when a call may last that begins now, in milliseconds.
+/// The deadline of a call that begins now, in milliseconds.
 fn deadline<R: Clock>(rt: &R) -> u64 {
     millis(rt).saturating_add(CALL_MILLIS)
 }
 
-/// The time in milliseconds, from a moment of the system's choice; 0 where the system does not tell it.
+/// The time in milliseconds, from a moment of the system's choice; 0 if the system does not give
+/// it.
 fn millis<R: Clock>(rt: &R) -> u64 {
     Watch::new().millis(rt)
 }
 
-/// How long a call may wait until that time in milliseconds. A call that has no time left fails.
+/// The time that a call may still wait until this deadline in milliseconds. A call without time
+/// left fails.
 fn time_left<R: Clock>(rt: &R, until: u64) -> io::Result<Duration> {
     let left = until.saturating_sub(millis(rt));
     if left == 0 {
@@ -130,7 +133,8 @@ fn time_left<R: Clock>(rt: &R, until: u64) -> io::Result<Duration> {
     Ok(Duration::from_millis(left))
 }
 
-/// What a call answered. Of one that waited as long as it may the system says that it would have to wait: its time is over.
+/// The result of a call with a time limit. The system reports that a call would block when its time
+/// is over.
 fn in_time(answer: io::Result<usize>) -> io::Result<usize> {
     match answer {
         Err(error) if error.kind() == ErrorKind::WouldBlock => {

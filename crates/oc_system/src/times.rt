@@ -1,8 +1,8 @@
 use std::rt::Clock;
 use std::time::Duration;
 
-/// The system's clock that never goes back, whatever is done to the time of day. Where the system does not tell
-/// it, it is what it was.
+/// The system's monotonic clock, which no change of the time of day sets back. If the system does
+/// not give the time, the last time is kept.
 #[derive(Drop)]
 pub(crate) struct Watch {
     last: Duration,
@@ -23,13 +23,13 @@ impl Watch {
         self.last
     }
 
-    /// The same in milliseconds.
+    /// The time since a moment of the system's choice, in milliseconds.
     pub(crate) fn millis<R: Clock>(&mut self, rt: &R) -> u64 {
         u64::try_from(self.read(rt).as_millis()).unwrap_or(u64::MAX)
     }
 }
 
-/// Until when something may last, in milliseconds: in all, and without progress.
+/// The end of a time limit, in milliseconds: in all, and without progress.
 #[derive(Clone, Copy)]
 pub(crate) struct Deadline {
     end: u64,
@@ -38,7 +38,7 @@ pub(crate) struct Deadline {
 }
 
 impl Deadline {
-    /// It lasts as long as it likes.
+    /// No time limit.
     pub(crate) fn never() -> Deadline {
         Deadline {
             end: u64::MAX,
@@ -47,7 +47,7 @@ impl Deadline {
         }
     }
 
-    /// It may last for this time from now on.
+    /// A limit of `time` from now on.
     pub(crate) fn after(now: u64, time: u64) -> Deadline {
         Deadline {
             end: now.saturating_add(time),
@@ -56,7 +56,7 @@ impl Deadline {
         }
     }
 
-    /// It may besides make no progress for this time, from now on.
+    /// The same limit, and a limit of `pause` without progress.
     pub(crate) fn with_pause(self, now: u64, pause: u64) -> Deadline {
         Deadline {
             end: self.end,
@@ -65,12 +65,12 @@ impl Deadline {
         }
     }
 
-    /// It made progress.
+    /// Notes progress.
     pub(crate) fn progress(&mut self, now: u64) {
         self.pause_end = now.saturating_add(self.pause);
     }
 
-    /// Whether its time has run out.
+    /// Whether the time has run out.
     pub(crate) fn is_over(&self, now: u64) -> bool {
         now >= self.end || now >= self.pause_end
     }

@@ -1,7 +1,8 @@
 use std::fmt;
 use std::io::{Error, ErrorKind};
 
-/// Why a call on an object of the system failed: at which place, a path or an address, and what the system says.
+/// The reason why a call on the system failed: the place, which is a path or an address, and the
+/// system's error.
 #[derive(Drop)]
 pub struct Trouble<'a> {
     pub(crate) place: &'a str,
@@ -14,7 +15,7 @@ impl fmt::Display for Trouble<'_> {
         let error = self.error;
         match error.kind() {
             ErrorKind::AddrInUse => write!(f, "{place}: address in use"),
-            // The lock of a file is not waited for.
+            // A lock held by another program is not waited for.
             ErrorKind::WouldBlock => write!(f, "{place}: used by another program"),
             _ => write!(f, "{place}: {error}"),
         }

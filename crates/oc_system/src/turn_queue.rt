@@ -1,21 +1,21 @@
 use std::alloc::{AllocError, Global};
 use std::collections::VecDeque;
 
-/// The places that are to be looked at, each once. Those of who asks and those of who is answered wait in lists of their
-/// own, each in the order in which they came, and one of each is looked at by turns: so a crowd that reads delays no
-/// request, and a crowd that asks no reply.
+/// The places that are to be looked at, each once. Places that ask and places that are answered
+/// wait in two lists, each in order of arrival, and the lists take turns: so a crowd that reads
+/// delays no request, and a crowd that asks no reply.
 #[derive(Drop)]
 pub(crate) struct TurnQueue {
     asking: VecDeque<usize>,
     answered: VecDeque<usize>,
-    /// Whether one of those who ask is to be looked at next, if there is one.
+    /// Whether a place that asks is next, if there is one.
     asking_is_next: bool,
-    /// Of each place, whether it is in one of the lists.
+    /// Whether each place is in one of the lists.
     queued: Vec<bool>,
 }
 
 impl TurnQueue {
-    /// No place is to be looked at. The memory for all of them is taken.
+    /// Begins with empty lists. The memory for all places is taken.
     pub(crate) fn new(alloc: Global, places: usize) -> Result<TurnQueue, AllocError> {
         Ok(TurnQueue {
             asking: VecDeque::with_capacity(alloc, places)?,
@@ -25,7 +25,7 @@ impl TurnQueue {
         })
     }
 
-    /// This place is to be looked at.
+    /// Appends a place to the list of those that are answered.
     pub(crate) fn push(&mut self, place: usize) {
         if self.enter(place) {
             // There is room for each place once.
@@ -33,14 +33,14 @@ impl TurnQueue {
         }
     }
 
-    /// This place is to be looked at, among those who ask.
+    /// Appends a place to the list of those that ask.
     pub(crate) fn push_asking(&mut self, place: usize) {
         if self.enter(place) {
             let _noted = self.asking.push_back(place).is_ok();
         }
     }
 
-    /// Notes that a place is in a list, and says whether it was in none.
+    /// Notes that a place is in a list, and gives whether it was in none.
     fn enter(&mut self, place: usize) -> bool {
         match self.queued.get_mut(place) {
             Some(queued) if !*queued => {

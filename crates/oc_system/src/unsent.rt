@@ -3,9 +3,10 @@ use crate::tools::Tools;
 use mio::net::TcpStream;
 use std::alloc::Global;
 
-/// What a connection was given and its socket has not taken.
+/// The bytes that a connection was given and its socket has not taken.
 ///
-/// The buffer is given back whenever it is empty, so only those that wait for their peer hold memory.
+/// The buffer is given back whenever it is empty, so only connections that wait for their peer hold
+/// memory.
 #[derive(Drop)]
 pub(crate) struct Unsent {
     bytes: Vec<u8>,
@@ -20,7 +21,7 @@ impl Unsent {
         }
     }
 
-    /// How many bytes there are.
+    /// The number of bytes.
     pub(crate) fn len(&self) -> usize {
         self.bytes.len().saturating_sub(self.sent)
     }
@@ -29,8 +30,8 @@ impl Unsent {
         self.len() == 0
     }
 
-    /// Has these bytes go out after the others; false where there is no memory for them. What was sent is dropped
-    /// first, so that the buffer is not longer than what is to go out.
+    /// Appends bytes to send; false if there is no memory for them. Sent bytes are dropped first,
+    /// so that the buffer is not longer than the bytes to send.
     pub(crate) fn put(&mut self, tools: &Tools, bytes: &[u8]) -> bool {
         if self.sent == 0 {
             return self.bytes.extend_from_slice(bytes).is_ok();
@@ -45,7 +46,8 @@ impl Unsent {
         true
     }
 
-    /// Sends what the socket takes now, and says what the last call did: `Bytes` where all went out.
+    /// Sends the bytes that the socket takes now, and gives the result of the last call: `Bytes` if
+    /// all went out.
     pub(crate) fn send(&mut self, stream: &mut TcpStream, tools: &Tools) -> Moved {
         let mut moved = Moved::Nothing;
         for _ in 0..self.bytes.len() {
@@ -63,7 +65,7 @@ impl Unsent {
         moved
     }
 
-    /// Drops what there is.
+    /// Drops all bytes.
     pub(crate) fn clear(&mut self, tools: &Tools) {
         self.bytes = Vec::new(tools.alloc);
         self.sent = 0;

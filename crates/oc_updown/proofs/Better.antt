@@ -18,7 +18,7 @@ no_freer_passes counts d c b x y = grind (arith, nat_tests)
 not_freer_itself : (counts : List ℕ) (c : ℕ) → is_freer counts c c ≡ false
 not_freer_itself counts c = grind (arith, nat_tests)
 
--- of two at most one is freer
+-- of two nodes at most one is freer
 freer_one_way : (counts : List ℕ) (c d : ℕ) → is_freer counts c d ≡ true → is_freer counts d c ≡ false
 freer_one_way counts c d h = grind (arith, nat_tests)
 
@@ -51,7 +51,7 @@ itself : (c cc' : Bool) → cc' ≡ false → by_area c c cc' ≡ false
 itself true f h = h
 itself false f h = h
 
--- of two at most one passes it
+-- of two nodes at most one passes the test
 one_way : (c d cd dc : Bool) → (cd ≡ true → dc ≡ false) → by_area c d cd ≡ true → by_area d c dc ≡ false
 one_way true true cd dc h x = h x
 one_way true false cd dc h x = refl
@@ -70,7 +70,7 @@ no_better_passes areas counts area d c b = no_passes (is_near areas area d) (is_
 pub not_better_itself : (areas counts : List ℕ) (area c : ℕ) → is_better areas counts area c c ≡ false
 not_better_itself areas counts area c = itself (is_near areas area c) (is_freer counts c c) (not_freer_itself counts c)
 
--- of two at most one is better
+-- of two nodes at most one is better
 pub better_one_way : (areas counts : List ℕ) (area c d : ℕ) → is_better areas counts area c d ≡ true → is_better areas counts area d c ≡ false
 better_one_way areas counts area c d = one_way (is_near areas area c) (is_near areas area d) (is_freer counts c d) (is_freer counts d c) (freer_one_way counts c d)
 
@@ -95,7 +95,7 @@ best_yet better best x = if beats better x best then Some x else best
 pub takes : (better : ℕ → ℕ → Bool) (b x : ℕ) → better x b ≡ true → better_of better b x ≡ x
 takes better b x h = rw h refl
 
--- and the first, where the second is not
+-- the first stays the best, if the second is not better
 pub keeps : (better : ℕ → ℕ → Bool) (b x : ℕ) → better x b ≡ false → better_of better b x ≡ b
 keeps better b x h = rw h refl
 
@@ -111,7 +111,7 @@ pub one_more : (areas counts : List ℕ) (area : ℕ) (best : Option ℕ) (x : �
 one_more areas counts area None x rest = refl
 one_more areas counts area (Some b) x rest = one_more_by (is_better areas counts area) b x rest (λ d. better_passes areas counts area d x b) (λ d. no_better_passes areas counts area d x b) (is_better areas counts area x b) refl
 
--- the best of some is one of them, and none of them is better
+-- k is the best of the list: in the list, and no node of the list is better
 pub record IsBestOf (better : ℕ → ℕ → Bool) (xs : List ℕ) (k : ℕ) : Type 0 where
   pub among : IsAmong k xs
   pub least : (y : ℕ) → IsAmong y xs → better y k ≡ false
@@ -140,7 +140,7 @@ best_step areas counts area x xs None e ih = record {
 }
 best_step areas counts area x xs (Some b) e ih = best_of_more areas counts area x xs b (ih b refl) (is_better areas counts area b x) refl
 
--- what is best is so
+-- the best by computation is the best of the list
 pub best_is : (areas counts : List ℕ) (area : ℕ) (xs : List ℕ) (k : ℕ) → best_of (is_better areas counts area) xs ≡ Some k → IsBestOf (is_better areas counts area) xs k
 best_is areas counts area [] k e = absurd cc
 best_is areas counts area (x ∷ xs) k e =

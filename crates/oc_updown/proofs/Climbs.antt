@@ -1,4 +1,4 @@
--- Climbing a table from parent to parent: what is so of one node on the way is so of all, and a loop leads nowhere.
+-- Climbing a table from parent to parent: the result for one node on the way is that for all, and a loop leads nowhere.
 use Rattle.std.proofs.Common.{◌≡◌, ℕ, zero, suc, ◌+◌, ◌-◌, ◌<◌, ◌≤◌, Bool, true, false, ◌==◌, Option, Some, None, List, [], ◌∷◌, length, get_or, set, replicate, ◌⊎◌, inl, inr, refl, ap, sym, subst, ◌∙◌, arith}
 use Rattle.oc_base.specs.declared.cert.Cert.{Cert}
 use Rattle.oc_model.specs.Numbers.{at}
@@ -34,7 +34,7 @@ Leads t r p y = (m : ℕ) × ((k : ℕ) → arrives t r (m + k) p ≡ arrives t 
 pub leads_itself : (t : List Cert) (r x : ℕ) → Leads t r x x
 leads_itself t r x = (0, λ k. let e : 0 + k ≡ k = omega arith in rw e)
 
--- what leads to a node leads to its parent
+-- a way that leads to x also leads to the parent of x
 pub leads_above : (t : List Cert) (r p x y : ℕ) → Leads t r p x → parent_in t x ≡ Some y → y == r ≡ false → Leads t r p y
 leads_above t r p x y leads up other = (suc leads.0, λ k. let e : suc leads.0 + k ≡ leads.0 + suc k = omega arith in ap (λ (n : ℕ). arrives t r n p) e ∙ (leads.1 (suc k) ∙ arrives_above t r x y k up other))
 
@@ -51,7 +51,7 @@ round_never t r x y leads up other =
     let never : (k : ℕ) × (length t ≤ k) × (arrives t r k y ≡ false) = never_by t r y leads.0 round (length t) in
     beneath_above t r x y up other ∙ (steps_enough (length t) never.0 t r y (omega arith) never.1 ∙ never.2)
 
--- what is known of a node is so
+-- the known result of a node is right
 known_from : (t : List Cert) (r x i : ℕ) (known : List (Option Bool)) (b : Bool) → AreKnownFrom t r x known → get_or known i None ≡ Some b → is_beneath t r (x + i) ≡ b
 known_from t r x i [] b all h = absurd cc
 known_from t r x zero (None ∷ known) b all h = absurd cc
@@ -63,7 +63,7 @@ known_from t r x (suc i) (Some a ∷ known) b all h = let e : x + suc i ≡ (x +
 pub known_at : (t : List Cert) (r x : ℕ) (known : List (Option Bool)) (b : Bool) → AreKnown t r known → 1 ≤ x → at known x None ≡ Some b → is_beneath t r x ≡ b
 known_at t r x known b all first h = let e : 1 + (x - 1) ≡ x = omega arith in sym (ap (is_beneath t r) e) ∙ known_from t r 1 (x - 1) known b all h
 
--- what is so may be made known
+-- a right result may be noted
 known_more_from : (t : List Cert) (r x i : ℕ) (known : List (Option Bool)) (b : Bool) → AreKnownFrom t r x known → is_beneath t r (x + i) ≡ b → AreKnownFrom t r x (set known i (Some b))
 known_more_from t r x i [] b all so = tt
 known_more_from t r x zero (None ∷ known) b all so = let e : x ≡ x + 0 = omega arith in (ap (is_beneath t r) e ∙ so, all)
@@ -87,13 +87,13 @@ none_known t r n = none_known_from t r 1 n
 pub arrives_step : (t : List Cert) (r x y steps i : ℕ) → i < steps → parent_in t x ≡ Some y → y == r ≡ false → arrives t r (steps - i) x ≡ arrives t r (steps - (i + 1)) y
 arrives_step t r x y steps i within up other = let e : steps - i ≡ suc (steps - (i + 1)) = omega arith in rw e (arrives_above t r x y (steps - (i + 1)) up other)
 
--- a climb from a node, now at this place, with a post behind it: if it arrives within the steps that are left, the node is beneath the root
+-- a climb from a node, now at this place, past a post: if it arrives within the remaining steps, the node is beneath the root
 pub record IsClimb (t : List Cert) (r steps node place post : ℕ) : Type 0 where
   pub arrives : arrives t r steps place ≡ is_beneath t r node
   pub same : is_beneath t r place ≡ is_beneath t r node
   pub leads : Leads t r post place
 
--- it begins at the node
+-- the climb begins at the node
 pub climb_begins : (t : List Cert) (r steps x post : ℕ) → length t ≤ steps → post ≡ x → IsClimb t r (steps - 0) x x post
 climb_begins t r steps x post few e = record {
   arrives = steps_enough (steps - 0) (length t) t r x (omega arith) (omega arith);
@@ -101,7 +101,7 @@ climb_begins t r steps x post few e = record {
   leads = subst (λ (p : ℕ). Leads t r p x) (sym e) (leads_itself t r x);
 }
 
--- it goes on to the parent, where the post is taken anew or stays
+-- the climb goes on to the parent, and the post moves or stays
 pub climb_goes_on : (t : List Cert) (r steps i node place post y post' : ℕ) → IsClimb t r (steps - i) node place post → i < steps → parent_in t place ≡ Some y → y == r ≡ false → (post' ≡ y) ⊎ (post' ≡ post) → IsClimb t r (steps - (i + 1)) node y post'
 climb_goes_on t r steps i node place post y post' climb within up other anew = record {
   arrives = sym (arrives_step t r place y steps i within up other) ∙ climb.arrives;
@@ -112,7 +112,7 @@ climb_goes_on t r steps i node place post y post' climb within up other anew = r
   by_post (inl e) = subst (λ (p : ℕ). Leads t r p y) (sym e) (leads_itself t r y)
   by_post (inr e) = subst (λ (p : ℕ). Leads t r p y) (sym e) (leads_above t r post place y climb.leads up other)
 
--- what is known of the place is the answer
+-- the known result of the place is the answer
 pub climb_known : (t : List Cert) (r steps node place post : ℕ) (known : List (Option Bool)) (b : Bool) → IsClimb t r steps node place post → AreKnown t r known → 1 ≤ place → Some b ≡ at known place None → b ≡ is_beneath t r node
 climb_known t r steps node place post known b climb all first h = sym (known_at t r place known b all first (sym h)) ∙ climb.same
 

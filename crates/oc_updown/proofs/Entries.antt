@@ -56,7 +56,7 @@ put_before nodes x (Some k ∷ rows) c fit less =
     let first : nat_lt c.subject k.subject ≡ true = lt-ltb c.subject k.subject (omega (arith, fit.0)) in
     rw (away, first)
 
--- to set the row of a node is to put its certificate
+-- setting the row of a node is putting its certificate
 put_from : (nodes x i : ℕ) (rows : List (Option Cert)) (c : Cert) → AreRowsFrom nodes x rows → c.subject ≡ x + i → i < length rows → put (entries_of rows) c ≡ entries_of (set rows i (Some c))
 put_from nodes x i [] c fit e within = absurd (omega arith)
 put_from nodes x zero (None ∷ rows) c fit e within = put_before nodes (x + 1) rows c fit (omega arith)
@@ -76,7 +76,7 @@ pub found_row : (row : Option (Bor (Option Cert))) → option_flatten (option_co
 found_row None = refl
 found_row (Some row) = refl
 
--- what is in a row, with what it is about
+-- the certificate in a row is about the row's node
 pub row_fits : (rows : List (Option Cert)) (y : ℕ) (row : Option Cert) → AreRows rows → row ≡ newest (entries_of rows) y → IfSome row (λ k. (k.subject ≡ y) × IsCert (length rows) k)
 row_fits rows y None fit e = tt
 row_fits rows y (Some k) fit e = newest_fits (length rows) 1 y rows k fit (sym e)
@@ -93,7 +93,7 @@ newest-put (k ∷ ks) c = by_tests (newest-put ks c) (k.subject == c.subject) re
   by_tests rest false e true h = rw (e, h, is)
   by_tests rest false e false h = rw (e, h, e) rest
 
--- the same of the table after it
+-- the same for the table after the put
 pub put_found : (t u : List Cert) (c : Cert) → u ≡ put t c → newest u c.subject ≡ Some c
 put_found t u c e = rw e (newest-put t c)
 
@@ -118,17 +118,17 @@ none_from nodes x (suc n) = none_from nodes (x + 1) n
 pub no_rows : (n : ℕ) → AreRows (replicate n None)
 no_rows n = none_from (length (replicate n None)) 1 n
 
--- and so are those that are filled with none, of which there are no more than that
+-- rows filled up without certificates are rows of nodes, if they are at most that many
 pub filled_rows : (rows : List (Option Cert)) (n most : ℕ) → rows ≡ replicate n None → n ≤ most → AreRows rows × (length rows ≤ most)
 filled_rows rows n most e few =
     subst (λ rs. AreRows rs × (length rs ≤ most)) (sym e) (no_rows n, subst (λ k. k ≤ most) (sym (length-replicate {A = Option Cert} n None)) few)
 
--- they are no entries
+-- rows without certificates give no entries
 pub no_entries : (n : ℕ) → entries_of (replicate n None) ≡ []
 no_entries zero = refl
 no_entries (suc n) = no_entries n
 
--- and none of them is one once only rows without are left
+-- no entry is left once only empty rows are left
 pub no_more_entries : (rows : List (Option Cert)) (k n : ℕ) → drop k rows ≡ replicate n None → entries_of (drop k rows) ≡ []
 no_more_entries rows k n e = rw e (no_entries n)
 

@@ -12,22 +12,22 @@ picked : (b : Bool) (z x y : ℕ) → (if b then z else x) ≡ y → (z ≡ y) �
 picked true z x y e = inl e
 picked false z x y e = inr e
 
--- the freer of one and of the freest of the rest is one of them all
+-- the freer of a node and the freest of the rest is in the whole list
 freer_among : (counts : List ℕ) (x : ℕ) (xs : List ℕ) (y : ℕ) (o : Option ℕ) → ((z : ℕ) → o ≡ Some z → IsAmong z xs) → freer_of counts x o ≡ y → (x ≡ y) ⊎ IsAmong y xs
 freer_among counts x xs y None rest e = inl e
 freer_among counts x xs y (Some z) rest e = elim (picked (is_freer counts z x) z x y e) [ inl same ↦ inr (subst (λ (w : ℕ). IsAmong w xs) same (rest z refl)) | inr same ↦ inl same ]
 
--- the freest is one of them
+-- the freest node is in the list
 freest_among : (counts : List ℕ) (xs : List ℕ) (y : ℕ) → freest counts xs ≡ Some y → IsAmong y xs
 freest_among counts [] y e = absurd cc
 freest_among counts (x ∷ xs) y e = freer_among counts x xs y (freest counts xs) (freest_among counts xs) cc
 
--- of two that are alike the freer is better
+-- of two nodes that are alike the freer is better
 by_alike : (b f : Bool) → by_area b b f ≡ f
 by_alike true f = refl
 by_alike false f = refl
 
--- the same of servers
+-- the same for servers
 pub alike : (areas counts : List ℕ) (area x y : ℕ) (b : Bool) → is_near areas area x ≡ b → is_near areas area y ≡ b → is_better areas counts area y x ≡ is_freer counts y x
 alike areas counts area x y b h e = ap (λ (v : Bool). by_area v (is_near areas area x) (is_freer counts y x)) e ∙ ap (λ (v : Bool). by_area b v (is_freer counts y x)) h ∙ by_alike b (is_freer counts y x)
 

@@ -15,15 +15,15 @@ end_is_set : (o : Option ℕ) (now : ℕ) → is_over o now ≡ true → (end : 
 end_is_set None now h = absurd (true≢false (sym h))
 end_is_set (Some end) now h = (end, refl, leb-true end now h)
 
--- and the other way round
+-- the reverse
 end_is_over : (o : Option ℕ) (end now : ℕ) → o ≡ Some end → end ≤ now → is_over o now ≡ true
 end_is_over o end now e h = rw e (le-leb end now h)
 
--- what the entries before say of another node does not matter
+-- the entries before do not matter for another node
 leased_other : (k : Cert) (t : List Cert) (y x : ℕ) → (k.subject ≡ x → ⊥) → leased_by (k ∷ t) y x ≡ leased_by t y x
 leased_other k t y x other = let away : k.subject == x ≡ false = ne_eqb k.subject x other in rw away
 
--- of the subject of the first entry it says what that entry says
+-- the first entry decides for its own subject
 leased_own : (k : Cert) (t : List Cert) (y x : ℕ) → k.subject ≡ x → leased_by (k ∷ t) y x ≡ lease_number y (Some k)
 leased_own k t y x own = let is : k.subject == x ≡ true = eq-eqb k.subject x own in rw is
 
@@ -73,6 +73,6 @@ next_from_rows y (Some k ∷ rows) ends nodes z after now fit = by_tests (next_f
         λ w past ended. let from : z ≤ w = leased_from nodes z y w ended.0.0 (Some k ∷ rows) fit ended.0.1 in omega (arith, fit.0),
       )
 
--- the same of all rows
+-- the same for all rows
 pub next_is_least : (rows : List (Option Cert)) (y : ℕ) (ends : List (Option ℕ)) (after now : ℕ) (found : Option ℕ) → AreRows rows → found ≡ next_among rows y ends after now → IsNextEnded (entries_of rows) y ends after now found
 next_is_least rows y ends after now found fit e = rw e (next_from_rows y rows ends (length rows) 1 after now fit)

@@ -1,4 +1,4 @@
--- How long lists of ends and of waiting certificates are, by what was done with them.
+-- The lengths of lists of ends and of waiting certificates after each call.
 use Rattle.std.proofs.Common.{◌≡◌, ℕ, ◌+◌, ◌-◌, ◌≤◌, Bool, true, false, Option, Some, None, List, [], ◌∷◌, length, refl, ◌∙◌, arith, length-set}
 use Rattle.std.proofs.lemmas.List.{length-drop, length_push}
 use Rattle.oc_base.specs.declared.cert.Cert.{Cert}
@@ -30,7 +30,7 @@ length_of_started t y ends now = length_of_each_started (leased_children t y) en
 pub length_of_noted : (l : Log) (c : Cert) → length (note l c).waiting ≡ length l.waiting + 1
 length_of_noted l c = length_push l.waiting c
 
--- to acknowledge leaves no more than waited
+-- an acknowledgement leaves at most the certificates that waited
 pub length_of_acknowledged : (l : Log) (upto : ℕ) → length (ack l upto).waiting ≤ length l.waiting
 length_of_acknowledged l upto = by_test (is_ahead l upto) refl where
   by_test : (b : Bool) → is_ahead l upto ≡ b → length (ack l upto).waiting ≤ length l.waiting

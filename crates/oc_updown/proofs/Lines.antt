@@ -23,13 +23,13 @@ lines_cons t r (Some k) rows = by_line (line_in t r k.subject) refl where
   by_line None e = rw e
   by_line (Some line) e = rw e
 
--- at a row, what follows is that row and the rest
+-- the rest from a row on is that row and the rest after it
 pub rows_at : (rows : List (Option Cert)) (i : ℕ) (row : Option Cert) → i < length rows → row ≡ get_or rows i row → drop i rows ≡ row ∷ drop (i + 1) rows
 rows_at [] i row within e = absurd (omega arith)
 rows_at (x ∷ rows) zero row within e = ap (λ (y : Option Cert). y ∷ rows) (sym e)
 rows_at (x ∷ rows) (suc i) row within e = let more : suc i + 1 ≡ suc (i + 1) = omega arith in rw more (rows_at rows i row (omega arith) e)
 
--- with the line of a row put at the end, what the rest gives is still the whole
+-- after the line of a row was added, the rest still completes the whole
 pub lines_go_on : (t : List Cert) (r : ℕ) (rows : List (Option Cert)) (i : ℕ) (row : Option Cert) (before after whole : List Line) → i < length rows → row ≡ get_or rows i row → after ≡ before ++ lines_of_row t r row → before ++ lines_among t r (drop i rows) ≡ whole → after ++ lines_among t r (drop (i + 1) rows) ≡ whole
 lines_go_on t r rows i row before after whole within e put so =
     let here : lines_among t r (drop i rows) ≡ lines_of_row t r row ++ lines_among t r (drop (i + 1) rows) = ap (lines_among t r) (rows_at rows i row within e) ∙ lines_cons t r row (drop (i + 1) rows) in
@@ -49,7 +49,7 @@ row_is_of_node nodes i rows row within e fit = by_row row (subst (λ (rs : List 
   by_row None fit = tt
   by_row (Some k) fit = fit.1.subject
 
--- who is listed has a parent
+-- a listed node has a parent
 listed_parent : (t : List Cert) (r x : ℕ) → is_listed t r x ≡ true → parent_in t x ≡ None → ⊥
 listed_parent t r x listed none =
     let walk : reaches (length t) t r (parent_in t x) ≡ true = (and_parts (not (x == r)) (reaches (length t) t r (parent_in t x)) listed).1 in

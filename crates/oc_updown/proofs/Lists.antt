@@ -1,14 +1,14 @@
--- What a filter leaves of a list.
+-- The items that a filter leaves.
 use Rattle.std.proofs.Common.{◌≡◌, ℕ, Bool, true, false, if◌then◌else◌, List, [], ◌∷◌, ◌⊎◌, inl, inr, refl, ap, sym, subst, ◌∙◌}
 use Rattle.std.proofs.lemmas.Bool.{cases_Bool}
 use Rattle.std.specs.Prelude.{filter}
 use Rattle.oc_model.specs.Numbers.{IsAmong}
 
--- what passes a test stays
+-- an item that passes the test stays
 pub filter_taken : (p : ℕ → Bool) (x : ℕ) (xs : List ℕ) → p x ≡ true → filter p (x ∷ xs) ≡ x ∷ filter p xs
 filter_taken p x xs h = rw h refl
 
--- what fails a test does not stay
+-- an item that fails the test does not stay
 pub filter_left : (p : ℕ → Bool) (x : ℕ) (xs : List ℕ) → p x ≡ false → filter p (x ∷ xs) ≡ filter p xs
 filter_left p x xs h = rw h refl
 
@@ -22,7 +22,7 @@ filter_either p q (x ∷ xs) = by_tests (filter_either p q xs) (p x) refl (q x) 
   by_tests rest false e true h = simp (e, h) rest
   by_tests rest false e false h = simp (e, h) rest
 
--- one of the first and of the filtered rest is one of them all, and passes the test
+-- an item of the first and of the filtered rest is in the whole list, and passes the test
 among_step : (p : ℕ → Bool) (c : ℕ) (cs : List ℕ) (d : ℕ) (b : Bool) → p c ≡ b → (IsAmong d (filter p cs) → IsAmong d cs × (p d ≡ true)) → IsAmong d (if b then c ∷ filter p cs else filter p cs) → ((c ≡ d) ⊎ IsAmong d cs) × (p d ≡ true)
 among_step p c cs d true e rest (inl h) = (inl h, ap p (sym h) ∙ e)
 among_step p c cs d true e rest (inr h) = let r = rest h in (inr r.0, r.1)
@@ -35,7 +35,7 @@ filtered_step p c cs d t true e rest (inr h) = inr (rest h)
 filtered_step p c cs d t false e rest (inl h) = absurd (let f : true ≡ false = sym t ∙ (ap p (sym h) ∙ e) in cc)
 filtered_step p c cs d t false e rest (inr h) = rest h
 
--- what a filter leaves was there and passes the test
+-- an item that a filter leaves was in the list, and passes the test
 pub among_filtered : (p : ℕ → Bool) (cs : List ℕ) (d : ℕ) → IsAmong d (filter p cs) → IsAmong d cs × (p d ≡ true)
 among_filtered p [] d h = absurd h
 among_filtered p (c ∷ cs) d h = among_step p c cs d (p c) refl (among_filtered p cs d) h

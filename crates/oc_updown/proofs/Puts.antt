@@ -1,4 +1,4 @@
--- What a row of puts leaves.
+-- The readings after a sequence of puts.
 use Rattle.std.proofs.Common.{◌≡◌, ℕ, ◌≤◌, ◌==◌, if◌then◌else◌, List, [], ◌∷◌, length, replicate, arith, sym, ap, subst, refl, ◌∙◌, get_or-set_other}
 use Rattle.std.proofs.lemmas.Grind.{common_steps}
 use Rattle.oc_model.specs.declared.reading.Reading.{Reading}

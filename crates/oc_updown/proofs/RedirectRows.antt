@@ -30,26 +30,26 @@ filter_rows nodes x (Some k ∷ rows) p fit h =
     filter_rows nodes (x + 1) rows p fit.2 (λ y le e. h y (omega arith) (let away : k.subject == y ≡ false = ne_eqb k.subject y (λ s. omega (arith, fit.0, s)) in rw away e)) in
     ap (λ (z : ℕ). filter p (z ∷ subjects)) fit.0 ∙ ap (λ (l : List ℕ). if p x then x ∷ l else l) rest
 
--- nothing and what is not so is not so
+-- a conjunction with a false fact is false
 and_no : (b : Bool) → (b && false) ≡ false
 and_no true = refl
 and_no false = refl
 
--- who has no row is not listed
+-- a node without a row is not listed
 unlisted : (t : List Cert) (me y : ℕ) → newest t y ≡ None → is_listed t me y ≡ false
 unlisted t me y e =
     ap (λ (o : Option Cert). not (y == me) && reaches (length t) t me (live_parent o)) e
     ∙ ap (λ (b : Bool). not (y == me) && b) (walk_ends (length t) t me)
     ∙ and_no (not (y == me))
 
--- of the nodes from one on that is past the chain, all are past it
+-- all nodes from one past the chain on are past the chain
 all_past : (chain a n : ℕ) → chain < a → filter (λ x. nat_lt chain x) (range_with_len a n) ≡ range_with_len a n
 all_past chain a zero h = refl
 all_past chain a (suc n) h =
     filter_taken (λ x. nat_lt chain x) a (range_with_len (a + 1) n) (grind (arith, nat_tests))
     ∙ ap (λ (xs : List ℕ). a ∷ xs) (all_past chain (a + 1) n (omega arith))
 
--- of the nodes from one on that is at most the first past the chain, those past it
+-- of the nodes from one on that is at most the first past the chain, the ones past the chain
 pub some_past : (chain a n : ℕ) → a ≤ chain + 1 → filter (λ x. nat_lt chain x) (range_with_len a n) ≡ range_with_len (chain + 1) (a + n - (chain + 1))
 some_past chain a zero h = let none : a + 0 - (chain + 1) ≡ 0 = omega arith in ap (λ (n : ℕ). range_with_len (chain + 1) n) (sym none)
 some_past chain a (suc n) h = by_test (λ near. some_past chain (a + 1) n near) (nat_lt chain a) refl where

@@ -1,4 +1,4 @@
--- What the best server is.
+-- The properties of the best server.
 use Rattle.std.proofs.Common.{◌≡◌, ℕ, Bool, true, false, ◌==◌, nat_lt, Option, Some, None, List, [], ◌∷◌, ◌⊎◌, inl, inr, map, refl, sym, ◌∙◌, arith}
 use Rattle.std.proofs.lemmas.Bool.{cases_Bool}
 use Rattle.std.specs.Prelude.{filter}
@@ -14,7 +14,7 @@ use Rattle.oc_updown.proofs.Better.{IsBestOf, best_is, best_none}
 use Rattle.oc_updown.proofs.FreestServer.{freest_best, alike, inside}
 use Rattle.oc_updown.proofs.Lists.{among_filtered, filtered_among}
 
--- who has a row is among the subjects
+-- a node with a row is among the subjects
 row_among : (t : List Cert) (x : ℕ) (k : Cert) → newest t x ≡ Some k → IsAmong x (map (λ (c : Cert). c.subject) t)
 row_among [] x k e = absurd cc
 row_among (c ∷ t) x k e = by_test (λ rest. row_among t x k rest) (c.subject == x) refl where
@@ -22,12 +22,12 @@ row_among (c ∷ t) x k e = by_test (λ rest. row_among t x k rest) (c.subject =
   by_test rest true h = inl (grind (arith, nat_tests))
   by_test rest false h = inr (rest (rw h at e))
 
--- who has a parent has a row
+-- a node with a parent has a row
 parent_row : (o : Option Cert) (y : ℕ) → live_parent o ≡ Some y → (k : Cert) × (o ≡ Some k)
 parent_row None y e = absurd cc
 parent_row (Some k) y e = (k, refl)
 
--- who is listed has a parent
+-- a listed node has a parent
 listed_parent : (t : List Cert) (r x : ℕ) (ys : List ℕ) → IsWay t r x ys → (y : ℕ) × (parent_in t x ≡ Some y)
 listed_parent t r x [] way = (r, way)
 listed_parent t r x (y ∷ ys) way = (y, way.0)
@@ -53,7 +53,7 @@ servers_among t me chain x s =
 near_area : (areas : List ℕ) (area x : ℕ) → is_near areas area x ≡ true → at areas x 0 ≡ area
 near_area areas area x h = grind (arith, nat_tests)
 
--- and who is in the area passes it
+-- a node in the area passes the test
 area_near : (areas : List ℕ) (area x : ℕ) → at areas x 0 ≡ area → is_near areas area x ≡ true
 area_near areas area x h = grind (arith, nat_tests)
 
@@ -69,7 +69,7 @@ near_best areas counts area x k h e = elim (cases_Bool (is_near areas area k)) [
   | inr far ↦ absurd (let f : true ≡ false = sym (inside areas counts area k x far e) ∙ h in cc)
 ]
 
--- and none that is alike in this is freer
+-- no node that is alike in this is freer
 least_best : (areas counts : List ℕ) (area x k : ℕ) → is_better areas counts area x k ≡ false → (is_near areas area k ≡ true → is_near areas area x ≡ true) → is_freer counts x k ≡ false
 least_best areas counts area x k h f = by_test (is_near areas area k) refl (is_near areas area x) refl where
   by_test : (b : Bool) → is_near areas area k ≡ b → (c : Bool) → is_near areas area x ≡ c → is_freer counts x k ≡ false
@@ -86,7 +86,7 @@ best_server t me chain areas counts area k b = record {
   least = λ x s alike_near freer. (let none = least_best areas counts area x k (b.least x (servers_among t me chain x s)) (λ h. area_near areas area x (alike_near (near_area areas area k h))) in let w : true ≡ false = sym (freer_test counts x k freer) ∙ none in absurd cc);
 }
 
--- what is selected is the best of the servers
+-- the selected node is the best of the servers
 pub selected_best : (t : List Cert) (me chain : ℕ) (areas counts : List ℕ) (area k : ℕ) → selected t me chain areas counts area ≡ Some k → IsBestServer t me chain areas counts area k
 selected_best t me chain areas counts area k e = best_server t me chain areas counts area k (best_is areas counts area (servers t me chain) k (sym (freest_best areas counts area (servers t me chain)) ∙ e))
 

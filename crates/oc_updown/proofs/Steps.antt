@@ -36,7 +36,7 @@ after_worse areas counts area p best new x xs h e = elim (cases_Bool (p x)) [
   | inr t ↦ after_failed areas counts area p best new x xs t e
 ]
 
--- the nodes from one on are that one and those after it
+-- the nodes from one on are that one and the ones after it
 pub next_node : (n i : ℕ) → i < n → range_with_len (i + 1) (n - i) ≡ (i + 1) ∷ range_with_len (i + 1 + 1) (n - (i + 1))
 next_node n i h = let more : n - i ≡ suc (n - (i + 1)) = omega arith in ap (λ (m : ℕ). range_with_len (i + 1) m) more
 
@@ -49,7 +49,7 @@ pub rest_none : (better : ℕ → ℕ → Bool) (best : Option ℕ) → with_res
 rest_none better None = refl
 rest_none better (Some b) = refl
 
--- what comes before a node comes before the next
+-- a node before this one is before the next one
 pub behind_more : (best : Option ℕ) (i : ℕ) → IfSome best (λ b. (1 ≤ b) × (b < i + 1)) → IfSome best (λ b. (1 ≤ b) × (b < i + 1 + 1))
 behind_more None i h = tt
 behind_more (Some b) i h = (h.0, omega (arith, h.1))

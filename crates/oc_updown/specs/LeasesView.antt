@@ -1,7 +1,7 @@
--- What a contract sees of leases.
+-- The lease ends, as a contract sees them.
 use Rattle.std.specs.Prelude.{ℕ, Option, List}
 
--- the end of each node's lease, by its number, none where no end is set, and how many ends there is memory for
+-- the second at which each node's lease ends, by its number, if it is set, and the number of ends for which there is memory
 pub record LeasesView : Type 0 where
   pub ends : List (Option ℕ)
   pub room : ℕ

@@ -1,11 +1,11 @@
--- The texts of Locations.
+-- The texts of Location fields.
 use Rattle.std.specs.Prelude.{ℕ, ◌==◌, if◌then◌else◌, List, [], ◌++◌, codes, decimal}
 
--- the query of a download that begins at a byte
+-- the query of a download from a byte on
 abbrev pub start_query : ℕ → List ℕ
 start_query start = if start == 0 then [] else codes "?start=" ++ decimal start
 
--- the same for a client that follows the group
+-- the query of a download from a byte on that follows the group
 abbrev pub follow_query : ℕ → List ℕ
 follow_query start = if start == 0 then codes "?follow" else codes "?start=" ++ decimal start ++ codes "&follow"
 
@@ -13,10 +13,10 @@ follow_query start = if start == 0 then codes "?follow" else codes "?start=" ++ 
 abbrev pub group_url : List ℕ → List ℕ → List ℕ
 group_url address group = codes "http://" ++ address ++ group
 
--- to an address for a group, from a byte on
+-- the URL of a group at an address, from a byte on
 abbrev pub location_text : List ℕ → List ℕ → ℕ → List ℕ
 location_text address group start = group_url address group ++ start_query start
 
--- the same in answer to a request that follows the group
+-- the same for a client that follows the group
 abbrev pub follow_location_text : List ℕ → List ℕ → ℕ → List ℕ
 follow_location_text address group start = group_url address group ++ follow_query start

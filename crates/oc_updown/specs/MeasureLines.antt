@@ -1,4 +1,4 @@
--- What measure lines say.
+-- The measures in the lines of a text.
 use Rattle.std.specs.Prelude.{◌≡◌, ◌≢◌, ℕ, ◌+◌, ◌-◌, ◌^◌, ◌≤◌, ◌==◌, min, if◌then◌else◌, Result, Ok, Err, List, [], ◌∷◌, ◌++◌, Vec}
 use Rattle.std.specs.Str.Lines.{lines}
 use Rattle.std.specs.declared.alloc.Global.{Global}
@@ -11,20 +11,20 @@ use Rattle.oc_updown.specs.declared.measure_fault.MeasureFault.{MeasureFault}
 use Rattle.oc_updown.specs.declared.measure_fault.MeasureFault.TheVariants.{Line, Memory}
 use Rattle.oc_updown.specs.declared.measure_lines.Measure.{Measure}
 
--- of two of these many nodes, at a rate
+-- a measure between two different nodes of the network, with a rate within the limit
 pub record IsMeasure (nodes : ℕ) (m : Measure) : Type 0 where
   pub from : (1 ≤ m.from) × (m.from ≤ nodes)
   pub peer : (1 ≤ m.peer) × (m.peer ≤ nodes)
   pub other : m.peer ≢ m.from
   pub rate : m.rate ≤ MAX_RATE
 
--- the node whose number a field spells, which is another one
+-- the id in a field, of a node other than `from`
 abbrev pub peer_in : ℕ → ℕ → List ℕ → Result ℕ Why
 peer_in nodes from field = do
   peer ← node_in nodes field
   if peer == from then Err Range else Ok peer
 
--- `FROM PEER RATE HOPS`
+-- the measure of a line `FROM PEER RATE HOPS`
 abbrev pub measure_in : ℕ → List (List ℕ) → Result Measure Why
 measure_in nodes fields = do
   (f, p, r, h) ← four fields
@@ -34,22 +34,22 @@ measure_in nodes fields = do
   hops ← number_in 0 MAX_HOPS h
   Ok (record { from = from; peer = peer; rate = rate; hops = hops })
 
--- a cause, at this line
+-- the value, or the cause with the number of the line
 abbrev pub at_line : {A : Type 0} → ℕ → Result A Why → Result A MeasureFault
 at_line i r = map_fault (λ why. Line i why) r
 
--- the measures with that of one more line; an empty line has none
+-- the measures with that of one more line; an empty line adds none
 abbrev pub with_measure : ℕ → ℕ → List Measure → List (List ℕ) → Result (List Measure) MeasureFault
 with_measure nodes i so_far [] = Ok so_far
 with_measure nodes i so_far (word ∷ fields) = do
   measure ← at_line i (measure_in nodes (word ∷ fields))
   Ok (so_far ++ measure ∷ [])
 
--- the number of the next line; numbers end at 32 bits
+-- the number of the next line; it stays at the greatest number of 32 bits
 abbrev pub next_line : ℕ → ℕ
 next_line i = min (i + 1) (2 ^ 32 - 1)
 
--- the measures with those of these lines, the first of which has this number
+-- the measures with those of these lines, from this number on
 abbrev pub with_measures : ℕ → ℕ → List Measure → List (List ℕ) → Result (List Measure) MeasureFault
 with_measures nodes i so_far [] = Ok so_far
 with_measures nodes i so_far (line ∷ rest) = do
@@ -60,7 +60,7 @@ with_measures nodes i so_far (line ∷ rest) = do
 abbrev pub measures_in : ℕ → List ℕ → Result (List Measure) MeasureFault
 measures_in nodes text = with_measures nodes 1 [] (lines text)
 
--- what a call gave is what is said, unless memory ran out
+-- a call gives these measures, except that memory may run out
 abbrev pub Gives : Result (Vec Measure Global) MeasureFault → Result (List Measure) MeasureFault → Type 0
 Gives (Ok measures) said = said ≡ Ok measures.items
 Gives (Err (Line i why)) said = said ≡ Err (Line i why)

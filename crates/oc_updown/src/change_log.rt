@@ -11,11 +11,11 @@ use oc_base::{Cert, Memory};
 use std::alloc::Global;
 use std::marker::Model;
 
-/// The certificates for the parent, in the order in which they came, with a count of those that it has
-/// acknowledged. Only those that wait are held. Places are counted from the beginning of the log.
+/// The change log: the certificates for the parent, in the order in which they came, and the number of
+/// acknowledged ones. Only those that wait are in memory. Places are counted from the beginning of the log.
 ///
-/// A contract sees the number of nodes, the log, and how many certificates there is room for among
-/// those that wait.
+/// A contract sees the number of nodes, the log, and the number of waiting certificates for which there is
+/// room.
 #[derive(Drop)]
 pub struct ChangeLog {
     waiting: Waiting,
@@ -34,7 +34,7 @@ impl Model for ChangeLog {
 }
 
 impl ChangeLog {
-    /// An empty log for this many nodes.
+    /// An empty log, in a network of this number of nodes.
     pub fn new(alloc: Global, nodes: u32) -> Result<ChangeLog, Memory>
         ensures log { IfOk result (λ made. made.log ≡ empty_log) }
         ensures nodes { IfOk result (λ made. made.nodes ≡ nodes) }
@@ -45,7 +45,7 @@ impl ChangeLog {
         })
     }
 
-    /// Makes room for this many certificates more.
+    /// Makes room for this number of further certificates.
     pub fn reserve(&mut self, more: usize) -> Result<(), Memory>
         ensures room { OnOk result (length self.new.log.waiting + more ≤ self.new.room) }
         ensures stays { self.old.room ≤ self.new.room }
@@ -55,7 +55,7 @@ impl ChangeLog {
         self.waiting.reserve(more)
     }
 
-    /// Begins anew with all entries of a table, alive and dead, none of them acknowledged. There is room
+    /// Begins anew with all entries of a table, alive and dead, with nothing acknowledged. There must be room
     /// for them. Takes no memory.
     pub fn begin(&mut self, table: &Table)
         requires room { length table.now.entries ≤ self.old.room }
@@ -77,7 +77,7 @@ impl ChangeLog {
         self.rebase(0);
     }
 
-    /// Makes it a log of this length, all of it acknowledged. Takes no memory.
+    /// Empties the log, and sets its length, all of it acknowledged. Takes no memory.
     pub fn rebase(&mut self, acked: u64)
         requires { acked ≤ MAX_BASE_ACKED }
         ensures log { self.new.log ≡ acked_whole acked }
@@ -88,7 +88,7 @@ impl ChangeLog {
         self.acked = acked;
     }
 
-    /// Puts a certificate at the end. There is room for it. Takes no memory.
+    /// Adds a certificate at the end. There must be room for it. Takes no memory.
     #[tactic(auto, using(crate::proofs::Lengths::length_of_noted))]
     pub fn note(&mut self, cert: &Cert)
         requires subject { IsNode self.old.nodes cert.now.subject }
@@ -103,7 +103,7 @@ impl ChangeLog {
         self.waiting.push(cert);
     }
 
-    /// How many certificates of the log are acknowledged.
+    /// The number of acknowledged certificates.
     pub fn acked(&self) -> u64
         ensures acked { result ≡ self.now.log.acked }
         ensures below { result < 2 ^ 63 }
@@ -111,7 +111,7 @@ impl ChangeLog {
         self.acked
     }
 
-    /// How many certificates the log has: those that are acknowledged, and those that wait.
+    /// The number of all certificates of the log, acknowledged or waiting.
     pub fn length(&self) -> u64
         ensures length { result ≡ self.now.log.length }
         ensures parts { result ≡ self.now.log.acked + length self.now.log.waiting }
@@ -120,8 +120,8 @@ impl ChangeLog {
         self.acked + self.waiting.len() as u64
     }
 
-    /// Puts the first certificates that wait, at most `limit`, at the end of a vector, and gives the
-    /// place after them. If memory runs out, the vector has what it had.
+    /// Copies the first waiting certificates, at most `limit`, to the end of a vector, and answers the place
+    /// after them. If memory runs out, the vector does not change.
     pub fn take(&self, limit: usize, into: &mut Vec<Cert>) -> Result<u64, Memory>
         ensures place { IfOk result (λ place. place ≡ self.now.log.acked + length (take limit self.now.log.waiting)) }
         ensures within { IfOk result (λ place. place ≤ self.now.log.length) }
@@ -134,8 +134,8 @@ impl ChangeLog {
         Ok(self.acked + count as u64)
     }
 
-    /// Acknowledges up to a place, and gives up what is acknowledged. It changes nothing where the place
-    /// passes the end, or is acknowledged already. Takes no memory.
+    /// Acknowledges up to a place, and frees the acknowledged certificates. It changes nothing if the place
+    /// is past the end, or is acknowledged already. Takes no memory.
     #[tactic(auto, using(crate::proofs::Lengths::length_of_acknowledged))]
     pub fn ack(&mut self, upto: u64)
         ensures log { self.new.log ≡ ack self.old.log upto }

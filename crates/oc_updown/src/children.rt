@@ -10,7 +10,7 @@ ghost use Rattle.oc_updown.specs.Children.{start_row, ended_of_row};
 use crate::leases::LEASE_TIME;
 use oc_base::{Cert, NodeId, Slots};
 
-/// The lease of a child begins anew.
+/// Renews the lease of a child, from now on.
 pub(crate) fn renew(ends: &mut Slots<Option<u64>>, child: NodeId, now: u64)
     requires child { IsNode (length ends.old.items) child }
     requires now { now ≤ LAST_SECOND }
@@ -29,7 +29,7 @@ fn is_lease_of(parent: NodeId, cert: &Cert) -> bool
     !cert.dead && cert.parent == parent
 }
 
-/// The lease of a child begins, if no end is set for it.
+/// Sets the end of a child's lease, unless it is set.
 fn start(ends: &mut Slots<Option<u64>>, child: NodeId, now: u64)
     requires child { IsNode (length ends.old.items) child }
     requires now { now ≤ LAST_SECOND }
@@ -43,7 +43,7 @@ fn start(ends: &mut Slots<Option<u64>>, child: NodeId, now: u64)
     }
 }
 
-/// The lease of the subject of a row begins, if it is a child of this node and has no end.
+/// Sets the lease end of a row's subject, if it is a child of this node without one.
 fn start_of_row(row: &Option<Cert>, me: NodeId, ends: &mut Slots<Option<u64>>, now: u64)
     requires row { IfSome row.now (λ cert. IsNode (length ends.old.items) cert.subject) }
     requires now { now ≤ LAST_SECOND }
@@ -59,7 +59,7 @@ fn start_of_row(row: &Option<Cert>, me: NodeId, ends: &mut Slots<Option<u64>>, n
     }
 }
 
-/// The leases of all children without an end begin.
+/// Sets the lease ends of all children that have none.
 pub(crate) fn start_rows(
     rows: &Slots<Option<Cert>>,
     me: NodeId,

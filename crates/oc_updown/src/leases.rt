@@ -10,14 +10,14 @@ use oc_base::{Memory, NodeId, Slots};
 use std::alloc::Global;
 use std::marker::Model;
 
-/// The seconds that a lease lasts.
+/// The duration of a lease, in seconds.
 pub const LEASE_TIME: u64 = 30;
 
 /// The seconds at which the leases of children end. A contract sees them as a list by the number of a
-/// node, with none where no end is set, and for how many there is memory.
+/// node, in which an end may be unset, and the number of ends for which there is memory.
 #[derive(Drop)]
 pub struct Leases {
-    /// By the index of the node.
+    /// The end of each lease, by the index of the node.
     ends: Slots<Option<u64>>,
 }
 
@@ -30,7 +30,7 @@ impl Model for Leases {
 }
 
 impl Leases {
-    /// No end is set.
+    /// Lease ends of which none is set.
     pub fn new(alloc: Global, nodes: u32) -> Result<Leases, Memory>
         ensures unset { IfOk result (λ leases. leases.ends ≡ replicate nodes None) }
         ensures length { IfOk result (λ leases. length leases.ends ≡ nodes) }
@@ -49,15 +49,15 @@ impl Leases {
         self.ends.reserve()
     }
 
-    /// The second at which each lease ends, by the number of a child, where that is set.
+    /// The second at which each lease ends, by the number of the child, if it is set.
     pub fn ends(&self) -> &Slots<Option<u64>>
         ensures { result.now.items ≡ self.now.ends }
     {
         &self.ends
     }
 
-    /// The lease of a child begins anew, and ends a lease's time from now. There is memory for all
-    /// ends. Takes no memory.
+    /// Renews the lease of a child: it ends 30 seconds from now. There must be memory for all ends. Takes
+    /// no memory.
     #[tactic(auto, using(crate::proofs::Lengths::length_of_renewed))]
     pub fn renew(&mut self, child: NodeId, now: u64)
         requires child { IsNode (length self.old.ends) child }
@@ -70,8 +70,8 @@ impl Leases {
         renew(&mut self.ends, child, now);
     }
 
-    /// Each leased child of this node without an end gets one, a lease's time from now. There is
-    /// memory for all ends. Takes no memory.
+    /// Sets the lease end of each leased child of this node that has none: 30 seconds from now. There must
+    /// be memory for all ends. Takes no memory.
     #[tactic(auto, using(crate::proofs::Lengths::length_of_started))]
     pub fn start_all(&mut self, table: &Table, me: NodeId, now: u64)
         requires nodes { table.now.nodes ≤ length self.old.ends }
@@ -84,8 +84,8 @@ impl Leases {
         start_rows(table.rows(), me, &mut self.ends, now);
     }
 
-    /// The least leased child past a number whose lease has ended: its end is set, and is not later than
-    /// now. Takes no memory.
+    /// The leased child with the least id past `after` whose lease has ended: its end is set, and is not later
+    /// than now. Takes no memory.
     #[tactic(auto, using(crate::proofs::Least::next_is_least))]
     pub fn next_ended(&self, table: &Table, me: NodeId, after: u32, now: u64) -> Option<NodeId>
         requires { table.now.nodes ≤ length self.now.ends }

@@ -1,37 +1,36 @@
 //! The up/down protocol of one node: the change log, which holds the certificates for its parent,
 //! and the leases of its children.
 //!
-//! They are those of the Overcast paper (section 4.3): a child reports births and deaths to its parent
-//! as they come to it, each once, and a child that is not heard of for a lease's time is taken to be
-//! dead.
+//! As in the Overcast paper (section 4.3), a child reports births and deaths to its parent as they come,
+//! each once, and a parent takes a child to be dead that it has not heard of for the duration of a lease.
 //!
-//! The certificate table: what a node knows of the nodes below it, as the newest certificate of each.
+//! The certificate table: a node's knowledge of the nodes below it, as the newest certificate of each.
 //!
-//! A table keeps a row for each node, so what is asked of one node costs the same for any number of
-//! them. Who is listed beneath a root is never kept: it is found by a walk over the rows, as in the
-//! up/down protocol of the Overcast paper (section 4.3), where a node is known by its newest birth
-//! or death certificate.
+//! A table keeps a row for each node, so a question about one node costs the same for any number of
+//! nodes. The list of all nodes beneath a root is never kept: a walk over the rows finds it, as in the
+//! up/down protocol of the Overcast paper (section 4.3), in which the newest birth or death certificate
+//! of a node counts.
 //!
-//! To which node a client is sent.
+//! The choice of the node to which a client is sent.
 //!
 //! A root redirects a client to a node that its own table lists, as in Overcast (Jannotti et al., OSDI
-//! 2000, section 4.5). Which one it chooses is our own rule: one past the chain, in the client's area
-//! if there is any, and of these the one to which it has sent the fewest clients.
+//! 2000, section 4.5). The choice among these is our own rule: a node past the chain, in the client's
+//! area if there is one, and of these the one that was named to the fewest clients.
 //!
-//! The layers above rest on this: [`select`] is `selected` of the model, and takes no memory.
-//! [`the_freest_listed_is_selected`] says what that is: a node past the chain that is listed, in the
-//! client's area if any such is, and of those the one that was sent the fewest clients, then the one
-//! with the least id.
+//! The layers above rely on these: [`select`] is `selected` of the model, and takes no memory;
+//! [`the_freest_listed_is_selected`] says which node that is: one past the chain that is listed, in the
+//! client's area if such a node is there, of those the one that was named to the fewest clients, and of
+//! several the one with the least id.
 //!
-//! [`location`] and [`follow_location`] are the texts that tell the client where to go.
+//! [`location`] and [`follow_location`] write the texts that tell the client where to go.
 //!
-//! What a node has measured of its peers: the rate and the hops that were put last for each.
+//! The measures of a node: the rate and the hops that were put last for each peer.
 //!
-//! A contract sees [`Measures`] as the list of readings by the number of a peer, as the model keeps
-//! it. The layers above rest on this: [`Measures::get`] gives what was put last for that peer, and
-//! `(0, 0)` where nothing was put; [`what_was_put_last_is_got`] says it of every sequence of puts.
+//! A contract sees [`Measures`] as the list of readings by the number of a peer, as in the model.
+//! The layers above rely on this: [`Measures::get`] gives the reading that was put last for that peer,
+//! or `(0, 0)`; [`what_was_put_last_is_got`] says so for every sequence of puts.
 //!
-//! [`read_lines`] reads what a configuration says was measured: exactly the measures of its lines, or
+//! [`read_lines`] reads the measure lines of a configuration: exactly the measures of its lines, or
 //! the first bad line and its cause (`measures_in`).
 #![tactic(auto)]
 

@@ -11,7 +11,7 @@ use crate::rows::parent_of;
 use oc_base::{Cert, Line, Memory, NodeId, Slots};
 use std::alloc::Global;
 
-/// What is known of a node.
+/// The partial result for a node: whether it is listed, if a walk has found out.
 fn known_of(known: &[Option<bool>], node: NodeId) -> Option<bool>
     requires { IsNode (length known.now) node }
     ensures { result ≡ at known.now node None }
@@ -19,7 +19,7 @@ fn known_of(known: &[Option<bool>], node: NodeId) -> Option<bool>
     known[node.index()]
 }
 
-/// Whether the way up from a node comes to the root. It ends where something is known already.
+/// Whether the way up from a node comes to the root. The walk ends at the first node with a known result.
 fn climb(rows: &Slots<Option<Cert>>, known: &[Option<bool>], root: NodeId, node: NodeId) -> bool
     requires rows { AreRows rows.now.items }
     requires node { IsNode (length rows.now.items) node }
@@ -46,7 +46,7 @@ fn climb(rows: &Slots<Option<Cert>>, known: &[Option<bool>], root: NodeId, node:
     false
 }
 
-/// Notes the answer of all nodes on the way up from a node, as far as nothing was known of them.
+/// Notes the result for all nodes on the way up from a node, up to the first one that had a result.
 fn note_way(
     rows: &Slots<Option<Cert>>,
     known: &mut [Option<bool>],
@@ -74,7 +74,7 @@ fn note_way(
     }
 }
 
-/// The line of a node, where it is listed beneath the root.
+/// The line of a node, if it is listed beneath the root.
 fn line_of(
     rows: &Slots<Option<Cert>>,
     known: &mut [Option<bool>],
@@ -99,7 +99,7 @@ fn line_of(
     }
 }
 
-/// Puts a line at the end, if there is one.
+/// Adds a line at the end, if there is one.
 fn push_line(lines: &mut Vec<Line>, line: Option<Line>) -> Result<(), Memory>
     ensures { OnOk result (lines.new.items ≡ lines.old.items ++ option_to_list line) }
 {
@@ -129,8 +129,8 @@ fn line_of_row(
     }
 }
 
-/// Puts at the end, ascending, the lines of all who are listed beneath the root. Each row is looked at
-/// a few times for all of them together.
+/// Adds the lines of all nodes listed beneath the root, ascending. All walks together look at each row
+/// a few times.
 fn push_lines(
     lines: &mut Vec<Line>,
     rows: &Slots<Option<Cert>>,
@@ -149,7 +149,7 @@ fn push_lines(
     Ok(())
 }
 
-/// The lines of all who are listed beneath the root, ascending.
+/// The lines of all nodes listed beneath the root, ascending.
 #[tactic(auto, using(crate::proofs::Climbs::none_known))]
 pub(crate) fn lines_of(
     alloc: Global,

@@ -6,8 +6,8 @@ use oc_base::{GroupName, Memory};
 use std::alloc::Global;
 use std::str;
 
-/// The Location of a redirection (RFC 9110, section 10.2.2) to the node at an address, a host with `:`
-/// and a port, for a download of the group from byte `start` on.
+/// The Location of a redirection (RFC 9110, section 10.2.2) to the node at an address (a host with `:`
+/// and a port), for a download of the group from byte `start` on.
 pub fn location(
     alloc: Global,
     address: &str,
@@ -25,8 +25,8 @@ pub fn location(
     }
 }
 
-/// The Location of a redirection in answer to a request that follows the group: as [`location`], and
-/// the client follows the group there too.
+/// The Location of a redirection for a request that follows the group: as [`location`], and the client
+/// follows the group at that node too.
 pub fn follow_location(
     alloc: Global,
     address: &str,

@@ -5,10 +5,10 @@ use std::alloc::{AllocError, AllocFailed};
 use std::error::Error;
 use std::fmt;
 
-/// Why a text has no measure lines.
+/// Why a text is not a list of measure lines.
 #[derive(Clone, Copy, Debug, PartialEq, Eq)]
 pub enum MeasureFault {
-    /// This line, counted from 1, is refused for this cause.
+    /// The first refused line, counted from 1, and the cause.
     Line { line: u32, why: Why },
     /// Memory ran out.
     Memory,

@@ -1,4 +1,4 @@
-//! Measure lines: what a text says was measured.
+//! Measure lines: the measures that a configuration gives.
 
 ghost use Rattle.std.specs.Prelude.{◌≡◌, ◌≢◌, ◌≤◌, IfOk, All};
 ghost use Rattle.oc_base.specs.Words.{words};
@@ -9,20 +9,20 @@ use oc_base::words::{first_line, first_word, four_fields, node, number};
 use oc_base::{MAX_HOPS, MAX_RATE, NodeId, Why};
 use std::alloc::Global;
 
-/// What one line says: `from` measured this rate and these hops of `peer`.
+/// The measure of one line: `from` measured this rate and these hops to `peer`.
 #[derive(Clone, Copy, Debug, PartialEq, Eq)]
 pub struct Measure {
     pub from: NodeId,
-    /// Another node.
+    /// A node other than `from`.
     pub peer: NodeId,
-    /// Bytes per second, at most 2^40.
+    /// The rate, in bytes per second, at most 2^40.
     pub rate: u64,
     pub hops: u8,
 }
 
-/// Reads the lines `FROM PEER RATE HOPS` of a text, any bytes, for a network of this many nodes: the
-/// measures, or the first bad line and its cause. Empty lines are skipped; they count as lines. A line
-/// that a `u32` cannot number has the last number of a `u32`.
+/// Reads the lines `FROM PEER RATE HOPS` of a text, any bytes, for a network of `nodes` nodes: the
+/// measures, or the first bad line and its cause. Empty lines are skipped, but counted. Lines past the
+/// greatest `u32` all have that number.
 pub fn read_lines(alloc: Global, text: &[u8], nodes: u32) -> Result<Vec<Measure>, MeasureFault>
     ensures exact { Gives result (measures_in nodes text.now) }
     ensures lawful { IfOk result (λ measures. All (IsMeasure nodes) measures.items) }
@@ -39,7 +39,7 @@ pub fn read_lines(alloc: Global, text: &[u8], nodes: u32) -> Result<Vec<Measure>
     Ok(measures)
 }
 
-/// Puts the measure of a line, if it has one, after those of the lines before it.
+/// Adds the measure of a line, unless the line is empty.
 fn put_line(
     measures: &mut Vec<Measure>,
     line: &[u8],
@@ -79,7 +79,7 @@ fn read_measure(line: &[u8], nodes: u32) -> Result<Measure, Why>
     })
 }
 
-/// A node that is not `from`.
+/// Reads the id of a node other than `from`.
 fn peer(field: &[u8], from: NodeId, nodes: u32) -> Result<NodeId, Why>
     ensures said { result ≡ peer_in nodes from field.now }
     ensures range { IfOk result (λ peer. (1 ≤ peer) × (peer ≤ nodes) × (peer ≢ from)) }

@@ -7,11 +7,11 @@ use oc_model::Reading;
 use std::alloc::Global;
 use std::marker::Model;
 
-/// The reading where nothing was measured.
+/// The reading of a peer that was not measured.
 const NOTHING: Reading = Reading { rate: 0, hops: 0 };
 
-/// The last reading of each peer. A contract sees the list of readings by the number of the peer, and for how many
-/// there is memory.
+/// The last reading of each peer. A contract sees the list of readings by the number of the peer, and the number of
+/// readings for which there is memory.
 #[derive(Drop)]
 pub struct Measures {
     readings: Slots<Reading>,
@@ -26,7 +26,7 @@ impl Model for Measures {
 }
 
 impl Measures {
-    /// No reading of any of this many peers. Takes no memory.
+    /// No readings, for this number of peers. Takes no memory.
     pub fn new(alloc: Global, nodes: u32) -> Result<Measures, Memory>
         ensures { IfOk result (λ all. all.readings ≡ replicate nodes no_reading) }
     {
@@ -52,8 +52,8 @@ impl Measures {
         self.readings.fill(NOTHING);
     }
 
-    /// Puts a reading of the peer in the place of the one before: bytes per second and hops. There is
-    /// memory for all readings. Takes no memory.
+    /// Replaces the reading of a peer: bytes per second, and hops. There must be memory for all readings.
+    /// Takes no memory.
     pub fn put(&mut self, peer: NodeId, rate: u64, hops: u8)
         requires first { 1 ≤ peer }
         requires last { peer ≤ length self.old.readings }
@@ -64,8 +64,8 @@ impl Measures {
         self.readings.put(peer.index(), Reading { rate, hops });
     }
 
-    /// The rate and the hops that were put last for the peer, and `(0, 0)` where none were, as for a
-    /// number past the nodes. Rate 0 means that it was not measured.
+    /// The rate and the hops that were put last for the peer; `(0, 0)` without a put, and for a number past
+    /// the nodes. A rate of 0 means that nothing was measured.
     pub fn get(&self, peer: NodeId) -> (u64, u8)
         ensures rate { result.0 ≡ (reading_of self.now.readings peer).rate }
         ensures hops { result.1 ≡ (reading_of self.now.readings peer).hops }

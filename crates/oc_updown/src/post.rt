@@ -2,16 +2,16 @@ ghost use Rattle.std.specs.Prelude.{◌≡◌, ◌⊎◌};
 
 use oc_base::NodeId;
 
-/// A node that a climb passed: if the climb comes there again, it goes round in a loop.
+/// A node that a climb has passed: a climb that comes to it again goes round in a loop.
 ///
-/// The post is moved less and less often (Brent's way to find a loop), so a climb that goes round
-/// ends after about three times as many steps as the rows that it passed.
+/// The post is moved ever more rarely (Brent's method to find a loop), so a climb that goes round ends
+/// after about three times as many steps as it has passed rows.
 #[derive(Clone, Copy)]
 pub(crate) struct Post {
     pub(crate) node: NodeId,
-    /// Steps until the post is moved.
+    /// The number of steps until the post is moved.
     left: usize,
-    /// Steps between the last two moves.
+    /// The number of steps between the last two moves.
     stride: usize,
 }
 

@@ -4,19 +4,19 @@ ghost use Rattle.oc_updown.specs.Better.{is_near, is_better, beats};
 
 use oc_base::{NodeId, Slots};
 
-/// By what one server is preferred to another for a client.
+/// The order of preference among servers, for one client.
 #[derive(Drop)]
 pub(crate) struct Preference<'a> {
     /// The area of each node, by its number.
     pub areas: &'a [u8],
-    /// How many clients each node was sent, by its number.
+    /// The number of clients to which each node was named, by its number.
     pub counts: &'a Slots<u64>,
     /// The area of the client.
     pub area: u8,
 }
 
 impl<'a> Preference<'a> {
-    /// Whether the node is better than the best so far, which comes before it.
+    /// Whether the node is better than the best so far, whose id is smaller.
     pub fn beats(&self, node: NodeId, best: &Option<NodeId>) -> bool
         requires first { 1 ≤ node }
         requires areas { node ≤ length self.now.areas.now }
@@ -30,8 +30,8 @@ impl<'a> Preference<'a> {
         }
     }
 
-    /// Whether the node is in the client's area and the earlier one is not, or they are alike in this
-    /// and it was sent fewer clients.
+    /// Whether the node is better than the earlier one: it is in the client's area and the earlier one is not,
+    /// or they are alike in this and it was named to fewer clients.
     fn is_better(&self, node: NodeId, earlier: NodeId) -> bool
         requires first { 1 ≤ earlier }
         requires behind { earlier < node }
@@ -56,7 +56,7 @@ impl<'a> Preference<'a> {
         self.areas[node.index()] == self.area
     }
 
-    /// How many clients the node was sent.
+    /// The number of clients to which the node was named.
     fn count(&self, node: NodeId) -> u64
         requires first { 1 ≤ node }
         requires counts { node ≤ length self.now.counts.now.items }

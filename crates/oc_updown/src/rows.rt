@@ -18,7 +18,7 @@ pub(crate) fn row_of(rows: &Slots<Option<Cert>>, node: NodeId) -> Option<Cert>
     }
 }
 
-/// The parent of a node that lives by its certificate.
+/// The parent of a node whose certificate is alive.
 pub(crate) fn parent_of(rows: &Slots<Option<Cert>>, node: NodeId) -> Option<NodeId>
     requires { AreRows rows.now.items }
     ensures parent { result ≡ parent_in (entries_of rows.now.items) node }
@@ -30,7 +30,7 @@ pub(crate) fn parent_of(rows: &Slots<Option<Cert>>, node: NodeId) -> Option<Node
     }
 }
 
-/// Whether there is no row of the certificate's subject, or the certificate outranks it.
+/// Whether a certificate is news: its subject has no row, or it outranks that row.
 pub(crate) fn is_news(rows: &Slots<Option<Cert>>, cert: &Cert) -> bool
     requires { AreRows rows.now.items }
     ensures { result ≡ is_news (entries_of rows.now.items) cert.now }
@@ -41,7 +41,7 @@ pub(crate) fn is_news(rows: &Slots<Option<Cert>>, cert: &Cert) -> bool
     }
 }
 
-/// Sets the row of the certificate's subject. There is memory for the rows.
+/// Sets the row of the certificate's subject. There must be memory for the rows.
 #[tactic(auto, using(crate::proofs::Entries::put_row, crate::proofs::Entries::set_fits, crate::proofs::Entries::put_found))]
 pub(crate) fn put(rows: &mut Slots<Option<Cert>>, cert: &Cert)
     requires rows { AreRows rows.old.items }

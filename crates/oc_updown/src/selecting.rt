@@ -5,12 +5,12 @@ use crate::Table;
 use crate::preference::Preference;
 use oc_base::{NodeId, Slots};
 
-/// The node to which this one, a member of the chain, sends a client of this area: a node past the chain
-/// that its table lists beneath it, in the client's area where there is any there; among these the one
-/// that was sent the fewest clients, and among several the one with the least id. `areas` and
-/// `counts` have a value for each node, by its number.
+/// Selects the node to which a chain member sends a client of this area: a node past the chain that its
+/// table lists below it, in the client's area if such a node is there; of these the one that was named to
+/// the fewest clients, and of several the one with the least id. `areas` and `counts` have a value for
+/// each node, by its number.
 ///
-/// Each node is looked at once, and the table is walked for a node only where that would be the best
+/// Each node is looked at once, and the table is walked for a node only if the node would be the best
 /// so far.
 pub fn select(
     table: &Table,

@@ -12,12 +12,12 @@ use oc_base::{Cert, Line, Memory, NodeId, Slots};
 use std::alloc::Global;
 use std::marker::Model;
 
-/// The newest certificate of each node, where there is one. A contract sees the number of nodes, the
-/// entries, ascending by subject, and how many rows there is memory for.
+/// The newest certificate of each node that has one. A contract sees the number of nodes, the entries
+/// (ascending by subject), and the number of rows for which there is memory.
 #[derive(Drop)]
 pub struct Table {
     alloc: Global,
-    /// By the index of the node.
+    /// The row of each node, by its index.
     rows: Slots<Option<Cert>>,
 }
 
@@ -34,7 +34,7 @@ impl Model for Table {
 }
 
 impl Table {
-    /// An empty table for this many nodes, 1 to 1,024.
+    /// An empty table, in a network of this number of nodes, 1 to 1,024.
     #[tactic(auto, using(crate::proofs::Entries::no_entries))]
     pub fn new(alloc: Global, nodes: u32) -> Result<Table, Memory>
         requires least { 1 ≤ nodes }
@@ -67,8 +67,8 @@ impl Table {
         self.rows.fill(None);
     }
 
-    /// Makes this the entry of its subject where there is none, or where it outranks the entry. Says
-    /// whether the entry changed. There is memory for the rows. Takes no memory.
+    /// Makes a certificate the entry of its subject, if there is none or the certificate outranks it. Answers
+    /// whether the entry changed. There must be memory for the rows. Takes no memory.
     pub fn merge(&mut self, cert: &Cert) -> bool
         requires cert { IsCert self.old.nodes cert.now }
         requires room { self.old.nodes ≤ self.old.room }
@@ -87,7 +87,7 @@ impl Table {
         true
     }
 
-    /// Whether no certificate was put since the table was made or cleared. Then it has none.
+    /// Whether no certificate was put since the table was made or cleared, so that it is empty.
     #[tactic(auto, using(crate::proofs::Entries::no_entries_past))]
     pub fn is_blank(&self) -> bool
         ensures { IsTrue result → self.now.entries ≡ [] }
@@ -103,8 +103,8 @@ impl Table {
         row_of(&self.rows, subject)
     }
 
-    /// The number of the ask by which the node is a child of the parent: that of its entry, where that
-    /// is alive and names this parent.
+    /// The ask number at which the subject is a child of the parent, if its entry is alive and names this
+    /// parent.
     pub fn leased_by(&self, parent: NodeId, subject: NodeId) -> Option<u64>
         ensures { result ≡ leased_by self.now.entries parent subject }
     {
@@ -114,8 +114,8 @@ impl Table {
         }
     }
 
-    /// Whether a walk from the subject along certificates of living nodes, each time to the parent,
-    /// comes to the root. The root itself is not listed. Takes no memory.
+    /// Whether the subject is listed: a walk upwards along live certificates comes to the root. The root
+    /// itself is not listed. Takes no memory.
     #[tactic(auto, using(oc_model::proofs::Walks::listed_exactly))]
     pub fn is_listed(&self, root: NodeId, subject: NodeId) -> bool
         ensures walk { result ≡ is_listed self.now.entries root subject }
@@ -124,8 +124,8 @@ impl Table {
         is_listed(&self.rows, root, subject)
     }
 
-    /// The listed nodes with their parents, ascending. Who is listed is found by walks over the rows
-    /// each time, and all walks together look at each row a few times.
+    /// The listed nodes with their parents, ascending. Walks over the rows find them each time; all walks
+    /// together look at each row a few times.
     #[tactic(auto, using(crate::proofs::Lines::lines_nodes))]
     pub fn listed(&self, root: NodeId) -> Result<Vec<Line>, Memory>
         ensures lines { IfOk result (λ lines. lines.items ≡ listing self.now.entries root) }

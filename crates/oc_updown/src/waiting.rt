@@ -8,8 +8,8 @@ use std::alloc::Global;
 use std::collections::VecDeque;
 use std::marker::Model;
 
-/// The certificates that wait, in their order, each about one of the nodes. A contract sees them as a list,
-/// with the number of nodes and how many certificates there is room for.
+/// The waiting certificates, in their order, each about a node of the network. A contract sees them as a
+/// list, with the number of nodes and the number of certificates for which there is room.
 #[derive(Drop)]
 pub(crate) struct Waiting {
     nodes: u32,
@@ -36,7 +36,7 @@ impl Waiting {
         })
     }
 
-    /// Makes room for this many more.
+    /// Makes room for this number of further certificates.
     pub(crate) fn reserve(&mut self, more: usize) -> Result<(), Memory>
         ensures room { OnOk result (length self.new.certs + more ≤ self.new.room) }
         ensures stays { self.old.room ≤ self.new.room }
@@ -53,7 +53,7 @@ impl Waiting {
         self.certs.len()
     }
 
-    /// Puts the first of them at the end of a vector that has room for them.
+    /// Copies the first `count` certificates to the end of a vector that has room for them.
     pub(crate) fn copy_first(&self, count: usize, into: &mut Vec<Cert>)
         requires most { count ≤ length self.now.certs }
         requires room { vec_len into.old + count ≤ vec_capacity into.old }
@@ -64,7 +64,7 @@ impl Waiting {
         }
     }
 
-    /// Puts one at the end. There is room for it.
+    /// Adds a certificate at the end. There must be room for it.
     pub(crate) fn push(&mut self, cert: &Cert)
         requires subject { IsNode self.old.nodes cert.now.subject }
         requires room { length self.old.certs < self.old.room }
@@ -75,7 +75,7 @@ impl Waiting {
         put(&mut self.certs, cert);
     }
 
-    /// Gives up the first, if there is one.
+    /// Removes the first certificate, if there is one.
     pub(crate) fn pop(&mut self)
         ensures certs { self.new.certs ≡ drop 1 self.old.certs }
         ensures room { self.new.room ≡ self.old.room }
@@ -84,7 +84,7 @@ impl Waiting {
         self.certs.pop_front();
     }
 
-    /// Gives up the first of them, this many or all.
+    /// Removes the first `count` certificates, or all if there are fewer.
     pub(crate) fn give_up(&mut self, count: usize)
         ensures certs { self.new.certs ≡ drop count self.old.certs }
         ensures room { self.new.room ≡ self.old.room }
@@ -95,7 +95,7 @@ impl Waiting {
         }
     }
 
-    /// Puts the certificates of these rows at the end. There is room for them.
+    /// Adds the certificates of these rows at the end. There must be room for them.
     pub(crate) fn push_rows(&mut self, rows: &Slots<Option<Cert>>)
         requires rows { AreTableRows rows.now }
         requires nodes { length rows.now.items ≤ self.old.nodes }
@@ -110,7 +110,7 @@ impl Waiting {
         }
     }
 
-    /// Puts the certificate of a row at the end, if there is one.
+    /// Adds the certificate of a row at the end, if it has one.
     fn push_row(&mut self, row: &Option<Cert>)
         requires subject { IfSome row.now (λ cert. IsNode self.old.nodes cert.subject) }
         requires room { length self.old.certs + length (entries_of (row.now ∷ [])) ≤ self.old.room }
@@ -123,7 +123,7 @@ impl Waiting {
         }
     }
 
-    /// Gives up all.
+    /// Removes all certificates.
     pub(crate) fn clear(&mut self)
         ensures certs { self.new.certs ≡ [] }
         ensures room { self.new.room ≡ self.old.room }
@@ -133,7 +133,7 @@ impl Waiting {
     }
 }
 
-/// Puts a certificate at the end. There is room for it.
+/// Adds a certificate at the end. There must be room for it.
 fn put(certs: &mut VecDeque<Cert>, cert: &Cert)
     requires { deque_len certs.old < deque_capacity certs.old }
     ensures items { certs.new.items ≡ certs.old.items ++ cert.now ∷ [] }

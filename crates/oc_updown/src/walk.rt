@@ -5,8 +5,8 @@ ghost use Rattle.oc_updown.specs.TableView.{AreRows, entries_of};
 use crate::rows::parent_of;
 use oc_base::{Cert, NodeId, Slots};
 
-/// Whether the way up from a node comes to the root. A way that comes to it goes through no row
-/// twice, so as many steps as there are rows are enough, and a way that goes round in a loop ends.
+/// Whether the way up from a node comes to the root. A way to the root passes each row at most once, so as
+/// many steps as there are rows are enough, and the walk ends even in a loop.
 #[tactic(auto, using(oc_model::proofs::Walks::walk_step, oc_model::proofs::Walks::walk_ends, oc_model::proofs::Walks::walk_over))]
 pub(crate) fn reaches(rows: &Slots<Option<Cert>>, root: NodeId, node: NodeId) -> bool
     requires { AreRows rows.now.items }

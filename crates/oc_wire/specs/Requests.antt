@@ -1,5 +1,5 @@
 -- What the bytes of a request bring.
-use Rattle.std.specs.Prelude.{◌≡◌, ℕ, ◌<◌, ◌⊎◌, Bool, true, false, ◌&&◌, ◌==◌, Result, Ok, Err, List, ◌++◌, length, ⊤}
+use Rattle.std.specs.Prelude.{◌≡◌, ℕ, ◌<◌, ◌⊎◌, Bool, true, false, ◌&&◌, ◌==◌, Option, Some, None, Result, Ok, Err, List, ◌++◌, length, ⊤}
 use Rattle.std.specs.Global.{Vec}
 use Rattle.std.specs.Str.{bytes_eq}
 use Rattle.oc_http.specs.Answers.{IsDecided}
@@ -15,9 +15,14 @@ use Rattle.oc_wire.specs.declared.http_fault.HttpWireFault.{HttpWireFault}
 use Rattle.oc_wire.specs.declared.http_fault.HttpWireFault.TheVariants as faults
 use Rattle.oc_wire.specs.MessageReading.{decoded}
 
+-- the path stands for these bytes
+abbrev pub is_path : Option (List ℕ) → List ℕ → Bool
+is_path None path = false
+is_path (Some bytes) path = bytes_eq bytes path
+
 -- a POST to `/!overcast` without a query
 abbrev pub is_route : Head → Bool
-is_route head = is_post head.method && bytes_eq head.path message_path && length head.query == 0
+is_route head = is_post head.method && is_path head.path message_path && length head.query == 0
 
 -- the bytes begin with this head of a request and this body, which is as long as the head says
 pub record IsRequest (bytes : List ℕ) (head : Head) (body : List ℕ) : Type 0 where

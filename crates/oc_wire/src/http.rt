@@ -6,13 +6,13 @@ ghost use Rattle.oc_http.specs.Writing.{IsHost};
 ghost use Rattle.oc_io.specs.SourceView.{source_of};
 ghost use Rattle.oc_model.specs.Lawful.{IsMessage};
 ghost use Rattle.oc_model.specs.declared.message.Message.{Message};
-ghost use Rattle.oc_wire.specs.Requests.{is_route, IsRequest, IsRequestOrFault, AnswersRequest, IsGiven};
+ghost use Rattle.oc_wire.specs.Requests.{is_path, is_route, IsRequest, IsRequestOrFault, AnswersRequest, IsGiven};
 ghost use Rattle.oc_wire.specs.Macs.{request_of};
 ghost use Rattle.oc_wire.specs.Spelling.{HasSpelling};
 
 use crate::law::requests_have_one_answer;
 use crate::{HttpWireFault, decode, encode};
-use oc_base::Memory;
+use oc_base::{Memory, Text};
 use oc_http::{
     Head, HttpFault, MESSAGE_PATH, Method, a_written_request_is_read, read_body, read_head,
     write_request,
@@ -100,6 +100,16 @@ fn is_route(head: &Head) -> bool
     ensures { result ≡ is_route head.now }
 {
     head.method == Method::Post
-        && head.path.items() == MESSAGE_PATH.as_bytes()
+        && is_path(&head.path, MESSAGE_PATH)
         && head.query.items().is_empty()
+}
+
+/// Whether the path of a request stands for this one.
+fn is_path(path: &Option<Text>, wanted: &str) -> bool
+    ensures { result ≡ is_path path.now wanted.now }
+{
+    match path {
+        Some(path) => path.items() == wanted.as_bytes(),
+        None => false,
+    }
 }

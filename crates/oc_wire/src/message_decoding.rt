@@ -20,13 +20,13 @@ pub(crate) fn read_message(alloc: Global, nodes: u32, bytes: &[u8]) -> Result<Me
     let (from, next) = take_u32(bytes, 0)?;
     let (to, next) = take_u32(bytes, next)?;
     let (code, next) = take_u8(bytes, next)?;
-    let header = Header { from, to, code };
-    message_at(alloc, nodes, header, bytes, next)
+    let envelope = Envelope { from, to, code };
+    message_at(alloc, nodes, envelope, bytes, next)
 }
 
 /// What comes before the fields of a message.
 #[derive(Clone, Copy)]
-struct Header {
+struct Envelope {
     /// The id of the sender.
     from: u32,
     /// The id of the receiver.
@@ -35,21 +35,21 @@ struct Header {
     code: u8,
 }
 
-/// The message with this header, whose fields begin at an index.
+/// The message with this envelope, whose fields begin at an index.
 fn message_at(
     alloc: Global,
     nodes: u32,
-    header: Header,
+    envelope: Envelope,
     bytes: &[u8],
     at: usize,
 ) -> Result<Message, WireFault>
-    ensures { Gives result (message_at nodes header.from header.to header.code bytes.now at) }
+    ensures { Gives result (message_at nodes envelope.from envelope.to envelope.code bytes.now at) }
 {
-    if !are_nodes(nodes, header.from, header.to) {
+    if !are_nodes(nodes, envelope.from, envelope.to) {
         return Err(WireFault::Stranger);
     }
-    let body = body_at(alloc, header.code, nodes, bytes, at)?;
-    closed(header.from, header.to, bytes.len(), body)
+    let body = body_at(alloc, envelope.code, nodes, bytes, at)?;
+    closed(envelope.from, envelope.to, bytes.len(), body)
 }
 
 /// The message with this body, which ends where the bytes do.

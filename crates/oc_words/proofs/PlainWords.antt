@@ -1,4 +1,4 @@
--- What plain words ask for: words that are no flags go to the arguments in their order.
+-- The requests of plain words: words that are no flags are the arguments in order.
 use Rattle.std.proofs.Common.{◌≡◌, ◌≢◌, ◌∙◌, ℕ, Bool, ap, ap₂, refl, codes, true, false, cond, not, ◌&&◌, List, [], ◌∷◌, Option, Some, None, Result, Ok, Err, subst, ◌^◌, ◌-◌}
 use Rattle.std.specs.Prelude.{nat_le, unwrap_or}
 use Rattle.std.specs.Result.{result_ok}
@@ -39,7 +39,8 @@ use Rattle.oc_words.proofs.Tokens.{Token, free, fixed, texts, AreFree, rows_of_t
 abbrev built_of : Shape → Shape
 built_of s = built_leaf (inherited (with_leaf_noted (marked_built (record bare_command.top { is_leaf = false }))) s)
 
--- the words ask for what the rows of their subcommand say, where the walk over them finds no fault
+-- the request of the words is that of the rows of their subcommand, if the walk over them finds no
+-- fault
 row_asks : (name : Text) (s : Shape) (tokens : List Token) → AreFree tokens
     → fault_of command (name ∷ texts tokens) ≡ or_else (level_fault s [] nothing_held (texts tokens) false []) []
     → subcommand_of command (name ∷ texts tokens) ≡ Some (name, rows_after s.rules [] (texts tokens))
@@ -50,7 +51,7 @@ row_asks name s tokens frees whole rows none =
     ap₂ asked_by (ap verdict_among (whole ∙ ap (λ below. or_else below []) (level_is s tokens frees ∙ none)))
     (rows ∙ ap (λ r. Some (name, r)) (rows_are s tokens frees))
 
--- they ask for nothing where it finds that an argument is given twice
+-- the words make no request if an argument is given twice
 row_refused : (name : Text) (s : Shape) (tokens : List Token) → AreFree tokens
     → fault_of command (name ∷ texts tokens) ≡ or_else (level_fault s [] nothing_held (texts tokens) false []) []
     → fault_of_tokens s tokens ≡ ArgumentConflict ∷ []
@@ -292,7 +293,7 @@ and_false : (b : Bool) → (b && false) ≡ false
 and_false true = refl
 and_false false = refl
 
--- what is spelled as a number is no flag
+-- a word that is spelled as a number is no flag
 no_flag : (least most : ℕ) (word : Text) (n : ℕ) → number_in least most word ≡ Ok n → IsNoFlag word
 no_flag least most [] n is = λ e. cc
 no_flag least most (x ∷ xs) n is = λ e.

@@ -1,5 +1,5 @@
--- A command without the subcommand `help` never leaves it open whether it answers by help: at each
--- list of words all kinds of error that may come have one verdict. So it is with each part of a
+-- A command without the subcommand `help` never leaves open whether it answers with help: for each
+-- list of words all possible kinds of error have one verdict. The same is true of each part of a
 -- parse, and `pure_x` says it of the part x.
 use Rattle.std.proofs.Common.{codes, ◌≡◌, ◌⊎◌, ◌&&◌, ◌||◌, ℕ, Bool, true, false, zero, suc, refl, ap, List, [], ◌∷◌, length, Option, Some, None, is_some, not, inl, inr, cond}
 use Rattle.std.specs.Option.{option_map_or}
@@ -23,7 +23,7 @@ use Rattle.clap.specs.declared.error.kind.ErrorKind.{ErrorKind}
 use Rattle.clap.specs.declared.error.kind.ErrorKind.TheVariants as kind
 use Rattle.oc_words.specs.Words.{verdict_by, verdict_among}
 
--- each kind of the list has the verdict of the list
+-- all kinds in the list have the same verdict
 pub record IsPure (kinds : Kinds) : Type 0 where
   pub one : (k : ErrorKind) → IsAmong k kinds → verdict_by k ≡ verdict_among kinds
 
@@ -45,7 +45,7 @@ pure_cond : (c : Bool) (a b : Kinds) → IsPure a → IsPure b → IsPure (cond 
 pure_cond true a b h g = h
 pure_cond false a b h g = g
 
--- the list of what is there
+-- the list of the value, if there is one
 pure_option : {X : Type 0} (f : X → Kinds) → ((x : X) → IsPure (f x)) → (o : Option X) → IsPure (option_map_or f o [])
 pure_option f each None = pure_none
 pure_option f each (Some x) = each x
@@ -56,7 +56,7 @@ pure_option f each (Some x) = each x
 pure_value : (i : Bool) (p : ValueParser) (t : Text) → IsPure (value_kinds i p t)
 pure_value i p t = pure_cond (accepts i p t) _ _ pure_none (pure_kind (refused_kind p))
 
--- the first such value
+-- the first of these values
 pure_values : (i : Bool) (p : ValueParser) (ts : List Text) → IsPure (values_kinds i p ts)
 pure_values i p [] = pure_none
 pure_values i p (t ∷ ts) = pure_or_else _ _ (pure_value i p t) (pure_values i p ts)
@@ -91,7 +91,7 @@ pure_request action.SetTrue = pure_none
 pure_request action.SetFalse = pure_none
 pure_request action.Count = pure_none
 
--- a use, by what it does
+-- a use, by its effect
 pure_action : (x : ArgAction) (again : Bool) (a : Rule) (values : List Text) (rows : List Row) → IsPure (action_fault x again a values rows)
 pure_action action.Set again a values rows = pure_set again a values rows
 pure_action action.SetTrue again a values rows = pure_set again a values rows
@@ -140,7 +140,7 @@ module _ (c : List Rule) (again : Bool) where
       pure_cond (takes_values a) _ _ (pure_value_of a (attached_value rest) h)
       (pure_or_else _ _ (pure_react a [] h) (each _))
 
-  -- one flag of such a word
+  -- one flag of this word
   pure_step_of : (x : Option ℕ) (flags : Text) (skip : ℕ) (h : Held) (after : Text → ℕ → Held → Kinds)
       → ((t : Text) (n : ℕ) (h' : Held) → IsPure (after t n h')) → IsPure (bundle_step_fault c again x flags skip h after)
   pure_step_of None flags skip h after each = pure_none

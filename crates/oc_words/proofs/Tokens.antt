@@ -30,7 +30,7 @@ plain_word_of (x ∷ xs) is =
       ends = ap (λ b. b && bytes_eq xs (45 ∷ [])) other;
     }
 
--- what such a word is met as: the value of what waits, or of a positional
+-- the way in which a plain word is met: as the value of a waiting option, or of a positional
 abbrev met_plain : List Rule → Bool → Waiting → Text → Held → Held × Step
 met_plain c true waiting word h = (h, value)
 met_plain c false waiting word h = plain_word c waiting word h
@@ -59,7 +59,7 @@ no_word_fault s false waiting word h is =
     ∙ ap (λ l. flag_word_fault s.rules s.args_override_self l word h) is.long
     ∙ ap (λ l. option_map_or (λ flags. bundle_fault s.rules s.args_override_self flags h) l []) is.short
 
--- the walk after such a word
+-- the walk after a plain word
 abbrev plain_from : List Rule → Option (Text × List Text) → Walk → Text → Walk
 plain_from c (Some p) w word = record w { stopped = Some (p.0, p.1 ++ word ∷ []) }
 plain_from c None w word =
@@ -152,7 +152,7 @@ faults_are s w (t ∷ ts) is =
 
 -- ---- a whole subcommand
 
--- what the subcommand finds in these words
+-- the rows that the subcommand finds in these words
 abbrev pub rows_of_tokens : Shape → List Token → List Row
 rows_of_tokens s ts = finished s.rules (walk_tokens s.rules (walk_from nothing_held) ts).held
 

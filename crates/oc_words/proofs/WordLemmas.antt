@@ -1,4 +1,4 @@
--- What the program answers to the words is what they ask for.
+-- The answer of the program to the words is the request that they make.
 use Rattle.std.proofs.Common.{◌≡◌, ◌≢◌, ◌⊎◌, ◌∙◌, ap, ap₂, refl, sym, subst, inl, inr, true, List, [], Option, None, Result, Ok, Err, ⊎_elim}
 use Rattle.std.specs.Prelude.{ok_or}
 use Rattle.std.specs.Result.{result_ok}
@@ -19,19 +19,20 @@ use Rattle.oc_words.proofs.PureKinds.{pure_faults}
 abbrev pub AnswersKind : ErrorKind → Result Invocation WordsFault → Type 0
 AnswersKind k r = (k ≡ kind.OutOfMemory → r ≡ Err Memory) × (k ≢ kind.OutOfMemory → r ≡ ok_or (asked_by (verdict_by k) None) Usage)
 
--- words that are not accepted ask for the same, whatever follows the name of a subcommand
+-- words that are not accepted make the same request, whichever words follow the name of a
+-- subcommand
 not_accepted : (k : ErrorKind) (named : Option (Text × List Row)) → asked_by (verdict_by k) None ≡ asked_by (verdict_by k) named
 not_accepted kind.DisplayHelp named = refl
 not_accepted k named = refl
 
--- what answers a kind of error answers the verdict that it has
+-- an answer to a kind of error is an answer to its verdict
 by_kind : (v : ParseOutcome) (named : Option (Text × List Row)) (k : ErrorKind) (r : Result Invocation WordsFault) → AnswersKind k r
     → (k ≡ kind.OutOfMemory) ⊎ (verdict_by k ≡ v) → Answers (asked_by v named) r
 by_kind v named kind.OutOfMemory r a h = inr (a.0 refl)
 by_kind v named k r a (inl e) = cc
 by_kind v named k r a (inr e) = inl (a.1 (λ m. cc) ∙ ap (λ (o : Option Invocation). ok_or o Usage) (not_accepted k named ∙ ap (λ w. asked_by w named) e))
 
--- what answers the words of a command's fields answers those of the command
+-- an answer to the words of a command's fields is one to those of the command
 abbrev over : {A : Type 0} → (A → Invocation) → Result A WordsFault → Result Invocation WordsFault
 over make (Ok fields) = Ok (make fields)
 over make (Err why) = Err why
@@ -58,7 +59,7 @@ unfolding command
 has_no_help = refl
 
 module _ (a : App) (is : a ≡ command) (words : List Text) where
-  -- no error came, so that none can come, and the words ask for what their subcommand does
+  -- no error came, so that none can come, and the words make the request of their subcommand
   pub passed : (named : Option (Text × List Row)) → (is_simple_and_free a ≡ true → fault_of a words ≡ [])
       → (is_simple a ≡ true → named ≡ subcommand_of a words) → asked words ≡ result_ok (request_of named)
   unfolding verdict_of asked

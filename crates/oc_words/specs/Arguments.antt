@@ -1,4 +1,4 @@
--- The words that the arguments of a subcommand were given, and what they ask for.
+-- The words given to the arguments of a subcommand, and the request that they make.
 use Rattle.std.specs.Prelude.{◌≢◌, Bool, false, Some, Result, Ok, List, ok_or, slice_get, codes}
 use Rattle.std.specs.Option.{option_map_or}
 use Rattle.std.specs.Str.{byte, bytes_eq}
@@ -27,7 +27,7 @@ is_flagged id rows = option_map_or (λ word. bytes_eq word (codes "true")) (firs
 abbrev pub IsNoFlag : Text → Type 0
 IsNoFlag word = slice_get word 0 ≢ Some (byte "-")
 
--- what the arguments of `gen` ask for
+-- the request of the arguments of `gen`
 abbrev pub sample_of : List Row → Result Sample Why
 sample_of rows = do
   seed_word ← word_of (codes "SEED") rows
@@ -35,31 +35,31 @@ sample_of rows = do
   events_word ← word_of (codes "EVENTS") rows
   sample_in seed_word nodes_word events_word
 
--- what the arguments of `replay` ask for
+-- the request of the arguments of `replay`
 abbrev pub replay_of : List Row → Result Invocation Why
 replay_of rows = replay_in (is_flagged (codes "large") rows) (is_flagged (codes "summary") rows) (first_of (codes "FILE") rows)
 
--- what the arguments of `node` ask for
+-- the request of the arguments of `node`
 abbrev pub service_of : List Row → Result Service Why
 service_of rows = do
   id_word ← word_of (codes "ID") rows
   service_in id_word (first_of (codes "turns") rows) (is_flagged (codes "probe") rows) (first_of (codes "log") rows)
 
--- where the arguments of `node` and `check` say that it reads and keeps
+-- the paths in the arguments of `node` and `check`
 abbrev pub paths_of : List Row → Paths
 paths_of rows = record { config = first_of (codes "config") rows; folder = first_of (codes "dir") rows }
 
--- what the arguments of `check` ask for, with its id and the number of nodes
+-- the request of the arguments of `check`, with its id and the number of nodes
 abbrev pub member_of : Text → Text → List Row → Result Member Why
 member_of id nodes rows = member_without id nodes (first_of (codes "CHAIN") rows) (first_of (codes "config") rows)
 
--- what the arguments of `get` ask for
+-- the request of the arguments of `get`
 abbrev pub download_of : List Row → Result Download Why
 download_of rows = do
   address ← word_of (codes "URL") rows
   download_in address (first_of (codes "follow") rows) (first_of (codes "from") rows) (first_of (codes "token-file") rows) (is_flagged (codes "progress") rows)
 
--- what the arguments of `put` ask for
+-- the request of the arguments of `put`
 abbrev pub upload_of : List Row → Result Upload Why
 upload_of rows = do
   address ← word_of (codes "URL") rows

@@ -1,4 +1,4 @@
--- The command by which `clap` reads the words, as a term: what its builders make.
+-- The command with which `clap` parses the words, as a term: the result of its builders.
 use Rattle.std.specs.Prelude.{◌≡◌, [], ◌∷◌, ◌++◌, Some, true, false, codes}
 use Rattle.clap.specs.Words.{App, Rule, Shape, Text, new_app, new_rule, rule_of, shape_of, with_subcommand}
 use Rattle.clap.specs.Simple.{new_shape, on_top}
@@ -17,7 +17,7 @@ bare_command = on_top (λ s. record s {
   subcommand_required = true;
 }) (new_app (codes "overcast"))
 
--- an argument that has to be given, by one word in its place
+-- a required argument: one word in its place
 abbrev pub required_rule : Text → Rule
 required_rule id = record (new_rule id) { required = true }
 
@@ -83,11 +83,11 @@ rules_shape = record (new_shape (codes "rules")) { rules = option_rule (codes "c
 abbrev pub stateless_command : App
 stateless_command = with_subcommand (with_subcommand (with_subcommand bare_command replay_shape) gen_shape) merge_shape
 
--- and with those that make no connection
+-- the command with the subcommands that make no connection, too
 abbrev pub local_command : App
 local_command = with_subcommand (with_subcommand stateless_command check_shape) rules_shape
 
--- and with all that are no client's
+-- the command with all subcommands except those of a client
 abbrev pub serving_command : App
 serving_command = with_subcommand local_command node_shape
 
@@ -100,7 +100,7 @@ pub record IsArgument (rule : Rule) (a : Arg) : Type 0 where
   pub reads : rule_of a ≡ rule
   pub is_local : a.global ≡ false
 
--- c is a subcommand of this shape, and no argument of it reaches past it
+-- the command is a subcommand of this shape, and none of its arguments is global
 pub record IsSubcommand (shape : Shape) (c : Command) : Type 0 where
   pub reads : shape_of c ≡ shape
   pub is_local : (fields_of c).has_globals ≡ false

@@ -4,7 +4,7 @@ use Rattle.clap.specs.Words.{Text}
 use Rattle.oc_words.specs.declared.request.Invocation.{Invocation}
 use Rattle.oc_words.specs.declared.request.Invocation.TheVariants.{Replay, Node, Check, CheckConfigured, Get, Put, Rules}
 
--- the id of the node that is to run
+-- the id of the node to run
 abbrev pub node_of : Invocation → Option ℕ
 node_of (Node service paths) = Some service.id
 node_of request = None
@@ -45,7 +45,7 @@ abbrev pub folder_asked : Option Invocation → Option Text
 folder_asked None = None
 folder_asked (Some request) = folder_of request
 
--- and the file of a client's token
+-- the file of a client's token
 abbrev pub token_file_asked : Option Invocation → Option Text
 token_file_asked None = None
 token_file_asked (Some request) = token_file_of request

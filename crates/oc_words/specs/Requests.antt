@@ -1,4 +1,4 @@
--- What the words of each command ask for.
+-- The request of the words of each command.
 use Rattle.std.specs.Prelude.{◌≡◌, ℕ, ◌-◌, ◌^◌, ◌≤◌, ◌⊎◌, min, Bool, true, false, not, ◌&&◌, if◌then◌else◌, Option, Some, None, Result, Ok, Err, List, codes}
 use Rattle.std.specs.Option.{ForSome}
 use Rattle.std.specs.Str.{bytes_eq}
@@ -44,7 +44,7 @@ pub record IsSample (s : Sample) : Type 0 where
 
 -- ---- `node ID`, with `--turns N` and `--log WORD`
 
--- the number of turns, or that of a node that serves until it is ended
+-- the number of turns, or that of a node that serves until it is stopped
 abbrev pub turns_in : Option (List ℕ) → Result ℕ Why
 turns_in None = Ok ENDLESS
 turns_in (Some word) = number_in 0 MAX_TURNS word
@@ -53,7 +53,7 @@ turns_in (Some word) = number_in 0 MAX_TURNS word
 abbrev pub id_in : List ℕ → Result ℕ Why
 id_in word = number_in 0 (2 ^ 64 - 1) word
 
--- what is written of inputs, by one of three words
+-- the form of the log of inputs, from one of three words
 abbrev pub log_by : List ℕ → Result LogWord Why
 log_by word =
     if bytes_eq word (codes "inputs") then Ok Inputs
@@ -65,7 +65,7 @@ abbrev pub log_in : Option (List ℕ) → Result LogWord Why
 log_in None = Ok Inputs
 log_in (Some word) = log_by word
 
--- an id, a number of turns, and what is written of inputs
+-- an id, a number of turns, and the form of the log of inputs
 abbrev pub service_in : List ℕ → Option (List ℕ) → Bool → Option (List ℕ) → Result Service Why
 service_in id_word turns_word probes log_word = do
   id ← id_in id_word
@@ -104,7 +104,7 @@ pub record IsMember (m : Member) : Type 0 where
 
 -- ---- `get URL`
 
--- how many replies are followed, if the option was given
+-- the number of replies to follow, if the option was given
 abbrev pub times_in : Option (List ℕ) → Result (Option ℕ) Why
 times_in None = Ok None
 times_in (Some word) = do
@@ -138,7 +138,7 @@ IsDownload d = IsTimes d.times × IsStart d.start
 
 -- ---- `put URL`
 
--- where the input goes, by the flags `--append` and `--resume`, of which one at most is given
+-- the place of the input, from the flags `--append` and `--resume`, of which at most one is given
 abbrev pub onto_in : Bool → Bool → Result Onto Why
 onto_in false false = Ok New
 onto_in true false = Ok Append

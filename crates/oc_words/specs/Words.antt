@@ -1,5 +1,5 @@
--- What the words of the program ask for: what `clap` makes of them by one command, and what the
--- arguments of the subcommand say.
+-- The request that the words of the program make: the result of `clap` with one command, and the
+-- meaning of the subcommand's arguments.
 use Rattle.std.specs.Prelude.{◌≡◌, ℕ, ◌⊎◌, List, [], ◌∷◌, map, codes, Option, Some, None, Bool, true, false, Result, Ok, Err, ok_or, String, string_bytes, if◌then◌else◌}
 use Rattle.std.specs.Result.{result_ok}
 use Rattle.std.specs.Str.{bytes_eq}
@@ -31,7 +31,7 @@ pub data ParseOutcome : Type 0 where
   versioned : ParseOutcome
   refused : ParseOutcome
 
--- one kind of error is the answer by help, one that by the version, and each other is a refusal
+-- one kind of error is answered with help, one with the version, and each other one is a refusal
 abbrev pub verdict_by : ErrorKind → ParseOutcome
 verdict_by DisplayHelp = helped
 verdict_by DisplayVersion = versioned
@@ -43,13 +43,13 @@ abbrev pub verdict_among : Kinds → ParseOutcome
 verdict_among [] = accepted
 verdict_among (kind ∷ _) = verdict_by kind
 
--- what `clap` makes of these words by the command of the program
+-- the result of `clap` for these words, with the command of the program
 unfoldable pub verdict_of : List Text → ParseOutcome
 verdict_of words = verdict_among (fault_of command words)
 
 -- ---- what they ask for
 
--- a request of these arguments, if they are as they have to be
+-- a request of these arguments, if they are valid
 abbrev pub asking : {A : Type 0} → (A → Invocation) → Result A Why → Result Invocation Why
 asking make said = do
   fields ← said
@@ -59,11 +59,11 @@ asking make said = do
 abbrev pub node_at : Option Text → Option Text → Service → Invocation
 node_at config folder service = Node service (record { config = config; folder = folder })
 
--- a node whose files are in this folder
+-- a check of a node with files in this folder
 abbrev pub check_at : Option Text → Member → Invocation
 check_at folder member = Check member folder
 
--- and one of the configuration in this file
+-- a check of a node of the configuration in this file
 abbrev pub check_in : Option Text → Option Text → ℕ → Invocation
 check_in config folder id = CheckConfigured id (record { config = config; folder = folder })
 
@@ -72,15 +72,15 @@ abbrev pub put_at : Text → Onto → Bool → Bool → Option Text → Bool →
 put_at address onto seals live token_file progress =
     Put (record { address = address; onto = onto; seals = seals; live = live; token_file = token_file; progress = progress })
 
--- what `node` asks for
+-- the request of `node`
 abbrev pub node_of : List Row → Result Invocation Why
 node_of rows = asking (node_at (first_of (codes "config") rows) (first_of (codes "dir") rows)) (service_of rows)
 
--- what `check` asks for, with its id and the number of nodes
+-- the request of `check` with an id and the number of nodes
 abbrev pub check_by_numbers : Text → Text → List Row → Result Invocation Why
 check_by_numbers id nodes rows = asking (check_at (first_of (codes "dir") rows)) (member_of id nodes rows)
 
--- and with its id alone
+-- the request of `check` with an id alone
 abbrev pub check_by_config : Text → List Row → Result Invocation Why
 check_by_config id rows = asking (λ id. CheckConfigured id (paths_of rows)) (id_in id)
 
@@ -88,21 +88,21 @@ abbrev pub check_by : Text → Option Text → List Row → Result Invocation Wh
 check_by id None rows = check_by_config id rows
 check_by id (Some nodes) rows = check_by_numbers id nodes rows
 
--- what `check` asks for
+-- the request of `check`
 abbrev pub check_of : List Row → Result Invocation Why
 check_of rows = do
   id ← word_of (codes "ID") rows
   check_by id (first_of (codes "NODES") rows) rows
 
--- what `get` asks for
+-- the request of `get`
 abbrev pub get_of : List Row → Result Invocation Why
 get_of rows = asking Get (download_of rows)
 
--- what `put` asks for
+-- the request of `put`
 abbrev pub put_of : List Row → Result Invocation Why
 put_of rows = asking Put (upload_of rows)
 
--- what a subcommand that is no client's asks for
+-- the request of a subcommand that is not a client's
 abbrev pub other_by : Text → List Row → Result Invocation Why
 other_by name rows =
     if bytes_eq name (codes "replay") then replay_of rows
@@ -113,7 +113,7 @@ other_by name rows =
     else if bytes_eq name (codes "rules") then Ok (Rules (first_of (codes "config") rows))
     else Err Count
 
--- what a subcommand of this name asks for, by what its arguments were given
+-- the request of the subcommand with this name, given its arguments
 abbrev pub request_by : Text → List Row → Result Invocation Why
 request_by name rows =
     if bytes_eq name (codes "get") then get_of rows
@@ -125,14 +125,15 @@ abbrev pub request_of : Option (Text × List Row) → Result Invocation Why
 request_of None = Err Count
 request_of (Some named) = request_by named.0 named.1
 
--- words that `clap` accepts ask for what their subcommand does, if its arguments are as they have to be
+-- the request of words that `clap` accepts is that of their subcommand, if its arguments are valid
 abbrev pub asked_by : ParseOutcome → Option (Text × List Row) → Option Invocation
 asked_by accepted named = result_ok (request_of named)
 asked_by helped named = Some Help
 asked_by versioned named = Some Version
 asked_by refused named = None
 
--- what these words ask for: nothing where `clap` refuses them or a number is misspelled or out of its range
+-- the request of these words: none if `clap` refuses them or a number is misspelled or out of its
+-- range
 unfoldable pub asked : List Text → Option Invocation
 asked words = asked_by (verdict_of words) (subcommand_of command words)
 
@@ -198,7 +199,7 @@ module _ {Z : Type 0} where
 
 -- ---- what the program answers
 
--- the answer is what the words ask for, or that they ask for nothing; or memory ran out
+-- the answer is the request of the words, or that there is none; or memory ran out
 abbrev pub Answers : {A : Type 0} → Option A → Result A WordsFault → Type 0
 Answers asked result = (result ≡ ok_or asked Usage) ⊎ (result ≡ Err Memory)
 

@@ -10,28 +10,28 @@ use clap::{Arg, ArgAction, ArgMatches};
 use oc_base::Why;
 use std::alloc::{AllocError, Global};
 
-/// An argument that has to be given, by one word in its place.
+/// A required argument: one word in its place.
 pub(crate) fn required<'a>(alloc: Global, id: &'a str) -> Arg<'a>
     ensures { IsArgument (required_rule id.entry.now) result }
 {
     Arg::new(alloc, id).required(true)
 }
 
-/// A flag, which is given by two hyphens and its id, or not.
+/// A flag: two hyphens and its id.
 pub(crate) fn flag<'a>(alloc: Global, id: &'a str) -> Arg<'a>
     ensures { IsArgument (flag_rule id.entry.now) result }
 {
     Arg::new(alloc, id).long(id).action(ArgAction::SetTrue)
 }
 
-/// An option, which is given by two hyphens and its id and one word after them, or not.
+/// An option: two hyphens and its id, and one word after them.
 pub(crate) fn option<'a>(alloc: Global, id: &'a str) -> Arg<'a>
     ensures { IsArgument (option_rule id.entry.now) result }
 {
     Arg::new(alloc, id).long(id)
 }
 
-/// An argument that may be given, by one word in its place.
+/// An optional argument: one word in its place.
 pub(crate) fn optional<'a>(alloc: Global, id: &'a str) -> Arg<'a>
     ensures { IsArgument (optional_rule id.entry.now) result }
 {
@@ -48,21 +48,21 @@ pub(crate) fn is_flagged(matches: &ArgMatches<'_>, id: &str) -> bool
     }
 }
 
-/// The word of an argument, if it was given.
+/// The word of an argument, if one was given.
 pub(crate) fn given<'a>(matches: &ArgMatches<'a>, id: &str) -> Option<&'a str>
     ensures { option_map (λ word. word.now) result ≡ first_of id.now (rows_of (found_of matches.now)) }
 {
     matches.get_str(id)
 }
 
-/// The word of an argument that has to be given.
+/// The word of a required argument.
 pub(crate) fn word<'a>(matches: &ArgMatches<'a>, id: &str) -> Result<&'a str, Why>
     ensures { GivesFields (λ word. word.now) result (word_of id.now (rows_of (found_of matches.now))) }
 {
     matches.get_str(id).ok_or(Why::Count)
 }
 
-/// A copy of the word of an argument, if it was given.
+/// A copy of the word of an argument, if one was given.
 pub(crate) fn copied(
     alloc: Global,
     matches: &ArgMatches<'_>,

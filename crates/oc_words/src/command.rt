@@ -1,4 +1,4 @@
-//! The command by which `clap` reads the words of the program.
+//! The command with which `clap` parses the words of the program.
 ghost use Rattle.std.specs.Prelude.{◌≡◌, IfOk};
 ghost use Rattle.clap.specs.Words.{App, Shape, app_of, with_subcommand};
 ghost use Rattle.oc_words.specs.Command.{IsSubcommand, bare_command, command, local_command, serving_command, stateless_command};
@@ -21,7 +21,7 @@ pub fn command<'a>(alloc: Global) -> Result<Command<'a>, AllocError>
     with(with(serving, get_command(alloc)), put_command(alloc))
 }
 
-/// The command with the subcommands that are no client's.
+/// The command with all subcommands except those of a client.
 fn serving_command<'a>(alloc: Global) -> Result<Command<'a>, AllocError>
     ensures { IfOk result (λ c. app_of c ≡ serving_command) }
 {
@@ -45,7 +45,7 @@ fn stateless_command<'a>(alloc: Global) -> Result<Command<'a>, AllocError>
     with(with(replaying, gen_command(alloc)), merge_command(alloc))
 }
 
-/// A command with one more subcommand, where there was memory for both.
+/// A command with one more subcommand, if there was memory for both.
 fn with<'a>(
     command: Result<Command<'a>, AllocError>,
     subcommand: Result<Command<'a>, AllocError>,
@@ -56,7 +56,7 @@ fn with<'a>(
     command?.subcommand(subcommand?)
 }
 
-/// The command without its subcommands, for words that do not begin with the program's name.
+/// The command without its subcommands, for words without the program's name in front.
 fn bare_command<'a>(alloc: Global) -> Command<'a>
     ensures { app_of result ≡ bare_command }
 {

@@ -1,4 +1,5 @@
-//! The words after the program's name: what they ask for, exactly as `clap` reads them.
+//! The words after the program's name, and the request that they make, exactly as `clap` parses
+//! them.
 //!
 //! [`read_words`] gives the [`Invocation`] that the words make, with its numbers, or says that they make none: `asked` in
 //! `specs/Words` is which one it is. `clap` reads them by the command that `subcommands` builds, which is proved to be the
@@ -6,7 +7,7 @@
 //! takes the arguments of a subcommand, and `parsing` their numbers, each spelled as in every text of the program and
 //! within its range (`IsSample` and its like in `specs/Requests`).
 //!
-//! [`tip`] tells what words that make none may have been meant to be, where `clap` knows.
+//! [`tip`] gives the suggestion of `clap` for words that make no request, if it has one.
 //!
 //! A [`Status`] is how the program ended, and its number is the exit status of the process.
 #![tactic(auto)]

@@ -3,7 +3,8 @@ ghost use Rattle.std.specs.Prelude.{◌≡◌, IfOk};
 use std::alloc::{AllocError, Global};
 use std::marker::Model;
 
-/// A text as it was given: an address, the path of a file or a folder, or a token. Contracts see it as its bytes.
+/// A text as it was given: an address, the path of a file or a folder, or a token. Contracts see its
+/// bytes.
 #[derive(Debug, Drop)]
 pub struct Name {
     text: String,

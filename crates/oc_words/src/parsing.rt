@@ -1,4 +1,4 @@
-//! The numbers of a request, from the words that stand for them.
+//! The numbers of a request, parsed from words.
 ghost use Rattle.std.specs.Prelude.{◌≡◌, ◌≤◌, ◌⊎◌, IfOk, option_map};
 ghost use Rattle.oc_words.specs.Requests.{IsMember, IsSample, IsService, IsStart, IsTimes, id_in, log_by, log_in, member_in, member_without};
 ghost use Rattle.oc_words.specs.Requests.{onto_in, sample_in, service_in, start_in, times_in, turns_in};
@@ -9,7 +9,7 @@ use crate::request::{
 use oc_base::words::number;
 use oc_base::{MAX_CHAIN, MAX_NODES, MAX_START, Why};
 
-/// The sample that three words ask for.
+/// The sample given by three words.
 pub(crate) fn sample_in(seed: &str, nodes: &str, events: &str) -> Result<Sample, Why>
     ensures said { result ≡ sample_in seed.now nodes.now events.now }
     ensures range { IfOk result IsSample }
@@ -24,7 +24,7 @@ pub(crate) fn sample_in(seed: &str, nodes: &str, events: &str) -> Result<Sample,
     })
 }
 
-/// The run that a word and those of two options ask for, which probes or not.
+/// The run given by a word and those of two options, with or without probes.
 pub(crate) fn service_in(
     id: &str,
     turns: Option<&str>,
@@ -42,7 +42,7 @@ pub(crate) fn service_in(
     })
 }
 
-/// How many turns are served, by the word of the option.
+/// The number of turns, from the word of the option.
 fn turns_in(word: Option<&str>) -> Result<u64, Why>
     ensures said { result ≡ turns_in (option_map (λ word. word.now) word.entry) }
     ensures range { IfOk result (λ turns. (turns ≤ MAX_TURNS) ⊎ (turns ≡ ENDLESS)) }
@@ -53,7 +53,7 @@ fn turns_in(word: Option<&str>) -> Result<u64, Why>
     }
 }
 
-/// What is written of inputs, by the word of the option.
+/// The form of the log of inputs, from the word of the option.
 fn log_in(word: Option<&str>) -> Result<LogWord, Why>
     ensures { result ≡ log_in (option_map (λ word. word.now) word.entry) }
 {
@@ -63,7 +63,7 @@ fn log_in(word: Option<&str>) -> Result<LogWord, Why>
     }
 }
 
-/// What is written of inputs, by this word.
+/// The form of the log of inputs, from this word.
 fn log_by(word: &str) -> Result<LogWord, Why>
     ensures { result ≡ log_by word.now }
 {
@@ -78,15 +78,15 @@ fn log_by(word: &str) -> Result<LogWord, Why>
     }
 }
 
-/// The id that a word asks for, any number.
+/// The id given by a word, any number.
 pub(crate) fn id_in(word: &str) -> Result<u64, Why>
     ensures { result ≡ id_in word.now }
 {
     number(word.as_bytes(), 0, u64::MAX)
 }
 
-/// The node that an id and a number of nodes ask for. They need a length of the chain, and leave nothing for a
-/// configuration to say.
+/// The node given by an id and a number of nodes. They need a length of the chain, and then no
+/// configuration is read.
 pub(crate) fn member_without(
     id: &str,
     nodes: &str,
@@ -105,7 +105,7 @@ pub(crate) fn member_without(
     }
 }
 
-/// The node that three words ask for.
+/// The node given by three words.
 fn member_in(id: &str, nodes: &str, chain: &str) -> Result<Member, Why>
     ensures said { result ≡ member_in id.now nodes.now chain.now }
     ensures range { IfOk result IsMember }
@@ -120,7 +120,7 @@ fn member_in(id: &str, nodes: &str, chain: &str) -> Result<Member, Why>
     })
 }
 
-/// How many replies are followed, by the word of the option.
+/// The number of replies to follow, from the word of the option.
 pub(crate) fn times_in(word: Option<&str>) -> Result<Option<u64>, Why>
     ensures said { result ≡ times_in (option_map (λ word. word.now) word.entry) }
     ensures range { IfOk result IsTimes }
@@ -131,7 +131,7 @@ pub(crate) fn times_in(word: Option<&str>) -> Result<Option<u64>, Why>
     }
 }
 
-/// The byte to begin at, by the word of the option.
+/// The first byte to ask for, from the word of the option.
 pub(crate) fn start_in(word: Option<&str>) -> Result<Option<u64>, Why>
     ensures said { result ≡ start_in (option_map (λ word. word.now) word.entry) }
     ensures range { IfOk result IsStart }
@@ -142,7 +142,7 @@ pub(crate) fn start_in(word: Option<&str>) -> Result<Option<u64>, Why>
     }
 }
 
-/// Where in its group an input goes, by two flags of which one at most is given.
+/// The place of an input in its group, from two flags of which at most one is given.
 pub(crate) fn onto_in(appends: bool, resumes: bool) -> Result<Onto, Why>
     ensures { result ≡ onto_in appends resumes }
 {

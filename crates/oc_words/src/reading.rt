@@ -1,4 +1,4 @@
-//! What the arguments of a subcommand say.
+//! The requests that the arguments of subcommands make.
 ghost use Rattle.std.specs.Prelude.{◌≡◌, IfOk};
 ghost use Rattle.std.specs.Result.{result_ok};
 ghost use Rattle.clap.specs.Words.{found_of, rows_of};
@@ -14,7 +14,7 @@ use clap::ArgMatches;
 use oc_base::Why;
 use std::alloc::{AllocError, Global};
 
-/// The sample that the arguments of `gen` ask for.
+/// The sample given by the arguments of `gen`.
 pub(crate) fn sample_of(matches: &ArgMatches<'_>) -> Result<Sample, Why>
     ensures said { result ≡ sample_of (rows_of (found_of matches.now)) }
     ensures range { IfOk result IsSample }
@@ -25,7 +25,7 @@ pub(crate) fn sample_of(matches: &ArgMatches<'_>) -> Result<Sample, Why>
     sample_in(seed, nodes, events)
 }
 
-/// The run that the arguments of `node` ask for.
+/// The run given by the arguments of `node`.
 pub(crate) fn service_of(matches: &ArgMatches<'_>) -> Result<Service, Why>
     ensures said { result ≡ service_of (rows_of (found_of matches.now)) }
     ensures range { IfOk result IsService }
@@ -36,7 +36,7 @@ pub(crate) fn service_of(matches: &ArgMatches<'_>) -> Result<Service, Why>
     service_in(id, turns, is_flagged(matches, "probe"), log)
 }
 
-/// Where the arguments of `node` and `check` say that it reads and keeps.
+/// The paths given by the arguments of `node` and `check`.
 pub(crate) fn paths_of(alloc: Global, matches: &ArgMatches<'_>) -> Result<Paths, AllocError>
     ensures { IfOk result (λ paths. paths ≡ paths_of (rows_of (found_of matches.now))) }
 {
@@ -46,7 +46,7 @@ pub(crate) fn paths_of(alloc: Global, matches: &ArgMatches<'_>) -> Result<Paths,
     })
 }
 
-/// What the arguments of `replay` ask for.
+/// The request given by the arguments of `replay`.
 pub(crate) fn replay_of(alloc: Global, matches: &ArgMatches<'_>) -> Result<Invocation, WordsFault>
     ensures answers { Answers (result_ok (replay_of (rows_of (found_of matches.now)))) result }
     ensures range { IfOk result IsRequest }
@@ -63,7 +63,7 @@ pub(crate) fn replay_of(alloc: Global, matches: &ArgMatches<'_>) -> Result<Invoc
     })
 }
 
-/// The node that the arguments of `check` ask for, with its id and the number of nodes.
+/// The node given by the arguments of `check`, with its id and the number of nodes.
 pub(crate) fn member_of(matches: &ArgMatches<'_>, id: &str, nodes: &str) -> Result<Member, Why>
     ensures said { result ≡ member_of id.now nodes.now (rows_of (found_of matches.now)) }
     ensures range { IfOk result IsMember }
@@ -72,7 +72,7 @@ pub(crate) fn member_of(matches: &ArgMatches<'_>, id: &str, nodes: &str) -> Resu
     member_without(id, nodes, chain, given(matches, "config"))
 }
 
-/// The download that the arguments of `get` ask for.
+/// The download given by the arguments of `get`.
 pub(crate) fn download_of(alloc: Global, matches: &ArgMatches<'_>) -> Result<Download, WordsFault>
     ensures answers { Answers (result_ok (download_of (rows_of (found_of matches.now)))) result }
     ensures range { IfOk result IsDownload }
@@ -89,7 +89,7 @@ pub(crate) fn download_of(alloc: Global, matches: &ArgMatches<'_>) -> Result<Dow
     })
 }
 
-/// The publishing that the arguments of `put` ask for.
+/// The publishing given by the arguments of `put`.
 pub(crate) fn upload_of(alloc: Global, matches: &ArgMatches<'_>) -> Result<Upload, WordsFault>
     ensures answers { Answers (result_ok (upload_of (rows_of (found_of matches.now)))) result }
 {

@@ -3,61 +3,62 @@ ghost use Rattle.oc_words.specs.Paths.{file_of, folder_of, node_of, token_file_o
 
 use crate::name::Name;
 
-/// The most events of a schedule that is generated.
+/// The greatest number of events of a schedule that is generated.
 pub const MAX_EVENTS: u32 = 99_999;
 
-/// The most turns that one run of a node is asked for.
+/// The greatest number of turns that one run of a node may be asked for.
 pub const MAX_TURNS: u64 = 1_000_000_000;
 
-/// More turns than any run comes to the end of: those of a node that serves until it is ended.
+/// The number of turns of a node that serves until it is stopped: more than any run reaches.
 pub const ENDLESS: u64 = u64::MAX;
 
-/// The most replies that one download is asked to follow.
+/// The greatest number of replies that one download may be asked to follow.
 pub const MAX_FOLLOWED: u64 = 1_000_000;
 
-/// What the words ask for.
+/// The request that the words make.
 #[derive(Debug, Drop)]
 pub enum Invocation {
-    /// To play the schedule in this file, or on the input, and write its report or its summary. Of a large
-    /// schedule it is the summary.
+    /// Replays the schedule in this file, or on the input, and writes its report or its summary. A
+    /// large schedule gives the summary.
     Replay {
         large: bool,
         summary: bool,
         file: Option<Name>,
     },
-    /// To make the records of running nodes on the input into one schedule.
+    /// Merges the records of running nodes on the input into one schedule.
     Merge,
-    /// To write the schedule that follows from a seed.
+    /// Generates a schedule from a seed.
     Gen(Sample),
-    /// To run a node.
+    /// Runs a node.
     Node(Service, Paths),
-    /// To show what a node's files recover, which are in this folder or in the present one.
+    /// Shows the recovery of a node's files in this folder, or in the present one.
     Check(Member, Option<Name>),
-    /// To show what the files of the node with this id recover, one of a configuration. The id is any number.
+    /// Shows the recovery of the files of the node with this id, one of a configuration. The id is
+    /// any number.
     CheckConfigured(u64, Paths),
-    /// To download.
+    /// Downloads a URL.
     Get(Download),
-    /// To publish the input.
+    /// Publishes the input.
     Put(Upload),
-    /// To list the access rules of the configuration in this file, or on the input.
+    /// Lists the access rules of the configuration in this file, or on the input.
     Rules(Option<Name>),
-    /// To print the help.
+    /// Prints the help.
     Help,
-    /// To print the version.
+    /// Prints the version.
     Version,
 }
 
-/// Where a node finds what it reads and keeps.
+/// The paths of a node's configuration and files.
 #[derive(Debug, Drop)]
 pub struct Paths {
-    /// The file of its configuration; none where that is on the input.
+    /// The file of the configuration; none if it is on the input.
     pub config: Option<Name>,
-    /// The folder of its files; none for the present one.
+    /// The folder of the node's files; none for the present one.
     pub folder: Option<Name>,
 }
 
 impl Invocation {
-    /// The id of the node that is to run; none where none is.
+    /// The id of the node to run; none if no node is run.
     pub fn node(&self) -> Option<u64>
         ensures { result ≡ node_of self.now }
     {
@@ -76,7 +77,7 @@ impl Invocation {
         }
     }
 
-    /// The file that takes the place of the input; none where the input itself is read, or nothing.
+    /// The file that is read instead of the input; none if the input is read, or nothing.
     pub fn file(&self) -> Option<&str>
         ensures { option_map (λ name. name.now) result ≡ file_of self.now }
     {
@@ -96,7 +97,8 @@ impl Invocation {
         }
     }
 
-    /// The folder of the three files of a node; none for the present one, or where no such files are asked for.
+    /// The folder of the three files of a node; none for the present one, or if no node's files are
+    /// used.
     pub fn folder(&self) -> Option<&str>
         ensures { option_map (λ name. name.now) result ≡ folder_of self.now }
     {
@@ -116,7 +118,7 @@ impl Invocation {
         }
     }
 
-    /// The file of a client's token; none where it has none, or where no client is asked for.
+    /// The file of a client's token; none if there is none, or if the request is no client's.
     pub fn token_file(&self) -> Option<&str>
         ensures { option_map (λ name. name.now) result ≡ token_file_of self.now }
     {
@@ -136,7 +138,7 @@ impl Invocation {
     }
 }
 
-/// The text of a name, where there is one.
+/// The text of a name, if there is one.
 pub fn text_of(name: &Option<Name>) -> Option<&str>
     ensures { option_map (λ name. name.now) result ≡ name.now }
 {
@@ -146,7 +148,7 @@ pub fn text_of(name: &Option<Name>) -> Option<&str>
     }
 }
 
-/// The schedule that `gen` is asked for.
+/// The schedule to be generated by `gen`.
 #[derive(Clone, Copy, Debug, PartialEq, Eq)]
 pub struct Sample {
     /// The seed, any number.
@@ -157,31 +159,31 @@ pub struct Sample {
     pub events: u32,
 }
 
-/// The run of a node that `node` is asked for.
+/// The run of a node by `node`.
 #[derive(Clone, Copy, Debug, PartialEq, Eq)]
 pub struct Service {
     /// The id of the node, any number.
     pub id: u64,
     /// The number of turns: 0 to 1,000,000,000, or [`ENDLESS`].
     pub turns: u64,
-    /// Whether it probes its peers.
+    /// Whether the node probes its peers.
     pub probes: bool,
-    /// What it writes of its inputs.
+    /// The form of the log of inputs.
     pub log: LogWord,
 }
 
-/// What a node writes of its inputs, by the word of `--log`.
+/// The form in which a node logs its inputs, as given by `--log`.
 #[derive(Clone, Copy, Debug, PartialEq, Eq)]
 pub enum LogWord {
-    /// `inputs`: a line for each.
+    /// `inputs`: a line for each input.
     Inputs,
-    /// `record`: a line for each, before its frame.
+    /// `record`: a line for each input, before its frame.
     Record,
-    /// `brief`: what people and log collectors are told.
+    /// `brief`: lines for people and log collectors.
     Brief,
 }
 
-/// The node that `check` is asked for: one of a network.
+/// The node to be checked by `check`: one of a network.
 #[derive(Clone, Copy, Debug, PartialEq, Eq)]
 pub struct Member {
     /// The id, from 1 to the number of nodes.
@@ -192,45 +194,45 @@ pub struct Member {
     pub chain: u32,
 }
 
-/// The download that `get` is asked for.
+/// The download by `get`.
 #[derive(Debug, Drop)]
 pub struct Download {
-    /// The address.
+    /// The address to download.
     pub address: Name,
-    /// How many replies are followed, from 1 to 1,000,000; none for a single download.
+    /// The number of replies to follow, from 1 to 1,000,000; none for a single download.
     pub times: Option<u64>,
-    /// The byte to begin at, up to 2^40; none where the address says it.
+    /// The first byte to ask for, up to 2^40; none if the address gives it.
     pub start: Option<u64>,
     /// The file of the client's token.
     pub token_file: Option<Name>,
-    /// Whether lines tell how far it came.
+    /// Whether progress lines are written.
     pub progress: bool,
 }
 
-/// The publishing that `put` is asked for.
+/// The publishing by `put`.
 #[derive(Debug, Drop)]
 pub struct Upload {
     /// The address of the group.
     pub address: Name,
-    /// Where in the group the input goes.
+    /// The place of the input in the group.
     pub onto: Onto,
-    /// Whether the group is sealed after it.
+    /// Whether the group is sealed after the input.
     pub seals: bool,
     /// Whether each read of the input is sent at once.
     pub live: bool,
     /// The file of the client's token.
     pub token_file: Option<Name>,
-    /// Whether lines tell how far it came.
+    /// Whether progress lines are written.
     pub progress: bool,
 }
 
-/// Where in its group an input goes.
+/// The place of an input in its group.
 #[derive(Clone, Copy, Debug, PartialEq, Eq)]
 pub enum Onto {
-    /// Into a group that has no bytes yet.
+    /// A group that has no bytes yet.
     New,
-    /// After what the group has.
+    /// After the present end of the group.
     Append,
-    /// The group has the first bytes of this very input, and the rest goes after them.
+    /// A group that has the first bytes of this very input already; only the rest is sent.
     Resume,
 }

@@ -2,27 +2,27 @@
 ghost use Rattle.std.specs.Prelude.{◌≡◌};
 ghost use Rattle.oc_words.specs.Status.{number_of};
 
-/// How the program ended.
+/// The end of a run of the program.
 #[derive(Clone, Copy)]
 pub enum Status {
-    /// The work was done to its end, or the words asked for help.
+    /// The work was completed, or the words asked for help.
     Done = 0,
     /// An input, an output, a disk or a link failed.
     Failed = 1,
-    /// The words are no words of the program.
+    /// The words make no valid request.
     Usage = 2,
-    /// A text or a file that was read has a fault.
+    /// A text or a file that was read is invalid.
     BadText = 3,
     /// Memory ran out.
     Memory = 4,
-    /// A limit was passed.
+    /// A limit was exceeded.
     Limit = 5,
-    /// There is no content to get: a bad URL, a status, too many redirections or a bad reply.
+    /// No content was downloaded: a bad URL, a status, too many redirections or a bad reply.
     NotGot = 6,
 }
 
 impl Status {
-    /// The status of the process.
+    /// The exit status of the process.
     pub fn number(self) -> u8
         ensures { result ≡ number_of self }
     {

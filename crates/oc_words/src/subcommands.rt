@@ -1,4 +1,4 @@
-//! The subcommands with their arguments, as `clap` is given them.
+//! The subcommands and their arguments, as `clap` expects them.
 ghost use Rattle.std.specs.Prelude.{◌≡◌, IfOk};
 ghost use Rattle.clap.specs.Simple.{new_shape};
 ghost use Rattle.clap.specs.Words.{Rule, Shape};
@@ -96,7 +96,7 @@ fn named<'a>(alloc: Global, name: &'a str) -> Result<Command<'a>, AllocError>
     Ok(Command::new(alloc, name))
 }
 
-/// A command with one more argument, where there was memory for it.
+/// A command with one more argument, if there was memory for it.
 fn with<'a>(
     command: Result<Command<'a>, AllocError>,
     argument: Arg<'a>,

@@ -1,4 +1,4 @@
-//! What was meant by words that are refused.
+//! Suggestions for words that are refused.
 
 ghost use Rattle.std.specs.Prelude.{◌≡◌, None, IfSome};
 ghost use Rattle.oc_words.specs.Words.{asked, texts_of};
@@ -7,8 +7,8 @@ use crate::command::command;
 use crate::words::{WordsFault, read_words};
 use std::alloc::Global;
 
-/// What words that ask for nothing may have been meant to be, where `clap` knows, in its own words: `a similar subcommand
-/// exists: 'node'`. `None` also where there is no memory for it. Of the text itself nothing is said.
+/// The suggestion of `clap` for words that make no request, in its own words: `a similar subcommand
+/// exists: 'node'`. `None` also if there is no memory for it. No promise is made about the text.
 pub fn tip(alloc: Global, words: &[String]) -> Option<String>
     ensures { IfSome result (λ _. asked (texts_of words.now) ≡ None) }
 {
@@ -18,7 +18,7 @@ pub fn tip(alloc: Global, words: &[String]) -> Option<String>
     }
 }
 
-/// The line of `clap`'s own message that tells what may have been meant.
+/// The line of `clap`'s message that has the suggestion.
 fn tip_of_clap(alloc: Global, words: &[String]) -> Option<String> {
     let error = command(alloc).ok()?.try_get_matches_from(words).err()?;
     let message = format!(in alloc; "{error}").ok()?;
@@ -26,7 +26,7 @@ fn tip_of_clap(alloc: Global, words: &[String]) -> Option<String> {
     String::from_str(alloc, tip).ok()
 }
 
-/// What a line of `clap` says of words that are like those that came; it has other tips, which are none here.
+/// The suggestion of similar words in a line of `clap`; its other tips are left out.
 fn similar(line: &str) -> Option<&str> {
     line.strip_prefix("  tip: ")
         .filter(|tip| tip.contains(" similar "))

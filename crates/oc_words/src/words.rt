@@ -1,4 +1,4 @@
-//! Reads the words after the program's name.
+//! Parsing of the words after the program's name.
 ghost use Rattle.std.specs.Prelude.{◌≡◌, ◌≢◌, ◌∷◌, [], List, Some, None, Ok, IfOk, codes, ok_or, true, false};
 ghost use Rattle.std.specs.Result.{result_ok};
 ghost use Rattle.clap.specs.Words.{Text, found_of, rows_of, subcommand_rows_of};
@@ -20,10 +20,10 @@ use clap::error::ErrorKind;
 use oc_base::Why;
 use std::alloc::{AllocError, AllocFailed, Global};
 
-/// Why the words ask for nothing.
+/// The reason why the words make no request.
 #[derive(Clone, Copy, Debug, PartialEq, Eq)]
 pub enum WordsFault {
-    /// They are not the words of a command.
+    /// The words are not those of a command.
     Usage,
     /// Memory ran out.
     Memory,
@@ -59,10 +59,10 @@ impl From<Why> for WordsFault {
     }
 }
 
-/// Reads the words that come after the program's name.
+/// Parses the words after the program's name.
 ///
-/// `Usage` comes exactly where `clap` refuses them for a cause other than memory and does not answer
-/// by help, or where a number is not spelled as one or is out of its range.
+/// `Usage` is returned exactly if `clap` refuses the words for a cause other than memory and does
+/// not answer with help, or if a number is misspelled or out of its range.
 pub fn read_words(alloc: Global, words: &[String]) -> Result<Invocation, WordsFault>
     ensures answers { Answers (asked (texts_of words.now)) result }
     ensures range { IfOk result IsRequest }
@@ -74,7 +74,7 @@ pub fn read_words(alloc: Global, words: &[String]) -> Result<Invocation, WordsFa
     }
 }
 
-/// What words that `clap` accepts ask for.
+/// The request made by words that `clap` accepts.
 fn request_of(alloc: Global, matches: &ArgMatches<'_>) -> Result<Invocation, WordsFault>
     ensures answers { Answers (result_ok (request_of (subcommand_rows_of matches.now))) result }
     ensures range { IfOk result IsRequest }
@@ -85,7 +85,7 @@ fn request_of(alloc: Global, matches: &ArgMatches<'_>) -> Result<Invocation, Wor
     }
 }
 
-/// What a subcommand of this name asks for.
+/// The request of the subcommand with this name.
 fn request_by(
     alloc: Global,
     name: &str,
@@ -103,7 +103,7 @@ fn request_by(
     }
 }
 
-/// What `get` asks for.
+/// The request of `get`.
 fn get_of(alloc: Global, arguments: &ArgMatches<'_>) -> Result<Invocation, WordsFault>
     ensures answers { Answers (result_ok (get_of (rows_of (found_of arguments.now)))) result }
     ensures range { IfOk result IsRequest }
@@ -111,7 +111,7 @@ fn get_of(alloc: Global, arguments: &ArgMatches<'_>) -> Result<Invocation, Words
     Ok(Invocation::Get(download_of(alloc, arguments)?))
 }
 
-/// What `put` asks for.
+/// The request of `put`.
 fn put_of(alloc: Global, arguments: &ArgMatches<'_>) -> Result<Invocation, WordsFault>
     ensures answers { Answers (result_ok (put_of (rows_of (found_of arguments.now)))) result }
     ensures range { IfOk result IsRequest }
@@ -119,7 +119,7 @@ fn put_of(alloc: Global, arguments: &ArgMatches<'_>) -> Result<Invocation, Words
     Ok(Invocation::Put(upload_of(alloc, arguments)?))
 }
 
-/// What a subcommand that is no client's asks for.
+/// The request of a subcommand that is not a client's.
 fn other_by(alloc: Global, name: &str, arguments: &ArgMatches<'_>) -> Result<Invocation, WordsFault>
     ensures answers { Answers (result_ok (other_by name.now (rows_of (found_of arguments.now)))) result }
     ensures range { IfOk result IsRequest }
@@ -141,7 +141,7 @@ fn other_by(alloc: Global, name: &str, arguments: &ArgMatches<'_>) -> Result<Inv
     }
 }
 
-/// What `node` asks for.
+/// The request of `node`.
 fn node_of(alloc: Global, arguments: &ArgMatches<'_>) -> Result<Invocation, WordsFault>
     ensures answers { Answers (result_ok (node_of (rows_of (found_of arguments.now)))) result }
     ensures range { IfOk result IsRequest }
@@ -150,7 +150,7 @@ fn node_of(alloc: Global, arguments: &ArgMatches<'_>) -> Result<Invocation, Word
     Ok(Invocation::Node(service, paths_of(alloc, arguments)?))
 }
 
-/// What `check` asks for.
+/// The request of `check`.
 fn check_of(alloc: Global, arguments: &ArgMatches<'_>) -> Result<Invocation, WordsFault>
     ensures answers { Answers (result_ok (check_of (rows_of (found_of arguments.now)))) result }
     ensures range { IfOk result IsRequest }
@@ -162,7 +162,7 @@ fn check_of(alloc: Global, arguments: &ArgMatches<'_>) -> Result<Invocation, Wor
     }
 }
 
-/// What `check` asks for, with its id and the number of nodes.
+/// The request of `check` with an id and the number of nodes.
 fn check_by_numbers(
     alloc: Global,
     id: &str,
@@ -176,7 +176,7 @@ fn check_by_numbers(
     Ok(Invocation::Check(member, copied(alloc, arguments, "dir")?))
 }
 
-/// What `check` asks for, with its id alone.
+/// The request of `check` with an id alone.
 fn check_by_config(
     alloc: Global,
     id: &str,
@@ -203,8 +203,8 @@ fn answer_to(kind: ErrorKind) -> Result<Invocation, WordsFault>
     }
 }
 
-/// What the words of each row of the table of commands ask for. Words that do not begin with `-` go to the
-/// arguments in their order, and ask for what these say.
+/// The requests of the words in each row of the table of commands. Words that do not begin with `-`
+/// are the arguments in order.
 pub fn rows_ask()
     ensures replaying { asked (codes "replay" ∷ []) ≡ Some (Invocation.Replay false false None) }
     ensures summing { asked (codes "replay" ∷ codes "--summary" ∷ []) ≡ Some (Invocation.Replay false true None) }
@@ -231,7 +231,8 @@ pub fn rows_ask()
     ensures plain { (words : List Text) → IsPlain words → asked words ≢ None }
 {}
 
-/// What words ask for that name files and folders, or a node of a configuration, or that ask about the program.
+/// The requests of words that name files and folders, or a node of a configuration, or that ask
+/// about the program.
 pub fn places_ask()
     ensures versioned { asked (codes "--version" ∷ []) ≡ Some Invocation.Version }
     ensures replaying { (file : Text) → IsNoFlag file
@@ -252,13 +253,14 @@ pub fn places_ask()
         → asked (codes "check" ∷ id ∷ nodes ∷ chain ∷ codes "--dir" ∷ folder ∷ [])
         ≡ result_ok (asking (check_at (Some folder)) (member_in id nodes chain)) }
 
-    // A number of nodes has a length of the chain after it, and no configuration.
+    // A number of nodes needs a length of the chain after it, and excludes a configuration.
     ensures unchained { (id nodes : Text) → IsNoFlag id → IsNoFlag nodes → asked (codes "check" ∷ id ∷ nodes ∷ []) ≡ None }
     ensures said_twice { (id nodes chain config : Text) → IsNoFlag id → IsNoFlag nodes → IsNoFlag chain → IsNoFlag config
         → asked (codes "check" ∷ id ∷ nodes ∷ chain ∷ codes "--config" ∷ config ∷ []) ≡ None }
 {}
 
-/// What words ask for that publish, and those of a client that begin at a byte or name the file of a token.
+/// The requests of words that publish, and of words of a client that give a first byte or the file
+/// of a token.
 pub fn clients_ask()
     ensures publishing { (url : Text) → IsNoFlag url
         → asked (codes "put" ∷ url ∷ []) ≡ Some (put_at url New false false None false) }
@@ -271,7 +273,7 @@ pub fn clients_ask()
     ensures publishing_as { (url file : Text) → IsNoFlag url → IsNoFlag file
         → asked (codes "put" ∷ url ∷ codes "--token-file" ∷ file ∷ []) ≡ Some (put_at url New false false (Some file) false) }
 
-    // An input goes after what the group has, or has the group's bytes in front.
+    // An input goes after the present end of the group, or the group has its first bytes already.
     ensures said_both { (url : Text) → IsNoFlag url → asked (codes "put" ∷ url ∷ codes "--append" ∷ codes "--resume" ∷ []) ≡ None }
     ensures getting_from { (url start : Text) → IsNoFlag url → IsNoFlag start
         → asked (codes "get" ∷ url ∷ codes "--from" ∷ start ∷ [])
@@ -280,7 +282,7 @@ pub fn clients_ask()
         → asked (codes "get" ∷ url ∷ codes "--token-file" ∷ file ∷ [])
         ≡ result_ok (asking Invocation.Get (download_in url None None (Some file) false)) }
 
-    // Lines tell how far it came.
+    // Progress lines are written.
     ensures publishing_told { (url : Text) → IsNoFlag url
         → asked (codes "put" ∷ url ∷ codes "--progress" ∷ []) ≡ Some (put_at url New false false None true) }
     ensures getting_told { (url : Text) → IsNoFlag url
@@ -288,7 +290,8 @@ pub fn clients_ask()
         ≡ result_ok (asking Invocation.Get (download_in url None None None true)) }
 {}
 
-/// What words ask for that publish each read of the input at once, beside the other words of `put`.
+/// The requests of words that publish each read of the input at once, with the other words of
+/// `put`.
 pub fn live_asks()
     ensures publishing { (url : Text) → IsNoFlag url
         → asked (codes "put" ∷ url ∷ codes "--live" ∷ []) ≡ Some (put_at url New false true None false) }
@@ -300,7 +303,7 @@ pub fn live_asks()
         → asked (codes "put" ∷ url ∷ codes "--live" ∷ codes "--seal" ∷ []) ≡ Some (put_at url New true true None false) }
 {}
 
-/// What words ask for that say what a node writes of its inputs: one of three words, once.
+/// The requests of words that give the form of the log: one of three words, once.
 pub fn logs_ask()
     ensures logging { (id log : Text) → IsNoFlag id → IsNoFlag log
         → asked (codes "node" ∷ id ∷ codes "--log" ∷ log ∷ [])
@@ -311,8 +314,8 @@ pub fn logs_ask()
         → asked (codes "node" ∷ id ∷ codes "--log" ∷ one ∷ codes "--log" ∷ other ∷ []) ≡ None }
 {}
 
-/// What words ask for that make one schedule of the records of running nodes, and that play such a one: a large
-/// schedule is summed up.
+/// The requests of words that merge the records of running nodes, and that replay the result: a
+/// large schedule is summed up.
 pub fn records_ask()
     ensures merging { asked (codes "merge" ∷ []) ≡ Some Invocation.Merge }
     ensures large { asked (codes "replay" ∷ codes "--large" ∷ codes "--summary" ∷ []) ≡ Some (Invocation.Replay true true None) }

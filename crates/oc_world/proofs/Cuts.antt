@@ -47,7 +47,7 @@ journal_stops j n reliable room =
       fits = omega (arith, fits);
     }
 
--- what was made ready can be stopped
+-- an input that was prepared can be stopped
 write_stops : (k : KeptView MemDiskView) (p : PlanView) (w : Write) → AreReliable view_of (disks_of k) → CanWrite view_of k p w → CanStopWrite k w
 write_stops k p written.Nothing reliable can = tt
 write_stops k p (written.Records frame) reliable can = journal_stops k.store.current (length frame) (current_reliable k.store.side k.store.current.disk k.store.other.disk reliable.control reliable.alternate) can.2
@@ -56,12 +56,12 @@ write_stops k p (written.Content piece) reliable can = journal_stops k.content.j
 pub can_stop : (k : KeptView MemDiskView) (r : ReadyView) → IsOpen view_of k → CanCommit view_of k r → CanStopWrite k r.write
 can_stop k r is can = write_stops k r.plan r.write is.reliable can.writes
 
--- what is so of both is so of the one that is chosen
+-- a property of both is one of the chosen one
 chosen : (b : Bool) (P : Node → Type 0) (n m : Node) → P n → P m → P (if b then n else m)
 chosen true P n m first second = first
 chosen false P n m first second = second
 
--- what a stop in the midst of a step leaves
+-- the files after a stop in the midst of a step
 pub left_by_stop : (k : KeptView MemDiskView) (r : ReadyView) (b : Bool) (f : Files MemDiskView)
     → Survives view_of (header_of k.node.control) k.node.control.me (disks_in f) (if b then (outcome_of (node_of k) r).node else node_of k)
     → LeavesFiles view_of k.node.control.nodes (disks_in f)
@@ -71,7 +71,7 @@ left_by_stop k r b f survives files =
     (chosen b (λ (m : Node). header_of m.control ≡ header_of k.node.control) (outcome_of (node_of k) r).node (node_of k) refl refl)
     (chosen b (λ (m : Node). m.control.me ≡ k.node.control.me) (outcome_of (node_of k) r).node (node_of k) refl refl)
 
--- what is kept of a step that was made ready is what is kept of the step
+-- the kept part of a step that was prepared is that of the step
 pub kept_as : (n : Node) (r : ReadyView) (i : Input) (calls image : ℕ) → outcome_of n r ≡ step n i → is_written r.write ≡ writes n i
     → (if is_written r.write && is_kept_new calls image then (outcome_of n r).node else n) ≡ (if keeps_write calls image n i then (step n i).node else n)
 kept_as n r i calls image went frame =

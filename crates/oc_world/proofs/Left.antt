@@ -1,4 +1,4 @@
--- What the files of a node that stopped recover.
+-- The node recovered from the files of a node that stopped.
 use Rattle.std.proofs.Common.{◌≡◌, ℕ, List, refl, sym, ap, subst, ◌∙◌}
 use Rattle.oc_base.specs.declared.group.Group.{Group}
 use Rattle.oc_content.specs.ContentFile.{groups_in}
@@ -12,7 +12,7 @@ use Rattle.oc_io.specs.MemDiskView.{MemDiskView, disk_of, may_leave_seen, view_o
 use Rattle.oc_keep.specs.declared.files.Files.{Files}
 use Rattle.oc_world.specs.ProcessState.{IsLeft, IsStopped, left_in}
 
--- what a read gives is one of the images
+-- the result of a read is one of the images
 seen_images : (d : Disks MemDiskView) → MayLeave view_of d d.control.bytes d.alternate.bytes d.content.bytes
 seen_images d = record {
   control = may_leave_seen d.control.bytes d.control.past;
@@ -26,12 +26,12 @@ groups_left h x d n c survives left =
     let seen = seen_images d in
     (survives.each d.control.bytes d.alternate.bytes c (record { control = seen.control; alternate = seen.alternate; content = left })).groups
 
--- files that recover what is durable of a node recover it started anew
+-- files from which the durable part of a node is recovered give the node after a new start
 started_anew : (h : Header) (x : ℕ) (d : Durable) (ks : List Group) (n : Node) → d ≡ n.control.kept → ks ≡ n.groups → h ≡ header_of n.control → x ≡ n.control.me
     → record { control = started_with h x d; groups = ks } ≡ restarted n
 started_anew h x d ks n kept groups header me = λ i. record { control = started_with (header i) (me i) (kept i); groups = groups i }
 
--- the files of a node every crash of which leaves what is durable of n
+-- the files of a node every crash of which leaves the durable part of n
 pub left_of : (c : Control) (n : Node) (f : Files MemDiskView) → Survives view_of (header_of c) c.me (disks_in f) n → LeavesFiles view_of c.nodes (disks_in f) → header_of n.control ≡ header_of c → n.control.me ≡ c.me → IsLeft c n f
 left_of c n f survives files header me =
     let here : SameDurable n (left_in (header_of c) c.me f) = survives.each f.control.bytes f.alternate.bytes f.content.bytes (seen_images (disks_in f)) in
@@ -45,7 +45,7 @@ left_of c n f survives files header me =
       node = started_anew (header_of c) c.me (left_in (header_of c) c.me f).control.kept (left_in (header_of c) c.me f).groups n here.kept here.groups (sym header) (sym me);
     }
 
--- what a read of files gives is the files of a node
+-- the result of a read of files is the files of a node
 pub seen_files : (h : Header) (x : ℕ) (f : Files MemDiskView) → IsStopped h x f → AreFiles h.nodes f.control.bytes f.alternate.bytes f.content.bytes
 seen_files h x f is = is.files f.control.bytes f.alternate.bytes f.content.bytes (seen_images (disks_in f))
 
@@ -71,7 +71,7 @@ crashed_images d f a b c x y z left = record {
   content = crashed_image d.content f.content c z left.content;
 }
 
--- what a crash of a node that runs leaves
+-- the files after a crash of a node that runs
 pub left_by_crash : (k : KeptView MemDiskView) (d : Disks MemDiskView) (f : Files MemDiskView) → d ≡ disks_of k → NodeSurvives view_of k (node_of k) → LeavesFiles view_of k.node.control.nodes (disks_of k)
     → IsCrashed d.control f.control → IsCrashed d.alternate f.alternate → IsCrashed d.content f.content → IsLeft k.node.control (node_of k) f
 left_by_crash k d f same survives files x y z =

@@ -11,7 +11,7 @@ use Rattle.oc_world.specs.declared.letter.Letter.TheVariants.{Alone, Shared}
 use Rattle.oc_world.specs.Letters.{IsPlaced, KeepsPlaces, whole}
 use Rattle.oc_world.specs.Net.{IsLetter, IsSpelled, brought, ends_with_ack, is_ack_body, message_in}
 
--- what holds of all and of one more
+-- a property of all and of one more
 pub all_more : (P : Letter → Type 0) (xs : List Letter) (x : Letter) → AllByRecursion P xs → P x → AllByRecursion P (xs ++ x ∷ [])
 all_more P [] x all here = (here, tt)
 all_more P (y ∷ ys) x all here = (all.0, all_more P ys x all.1 here)
@@ -26,7 +26,7 @@ pub ends_more : (nodes : ℕ) (pools : List (List ℕ)) (ls : List Letter) (l : 
 ends_more nodes pools ls l b is =
     ap is_ack_body (sym is) ∙ sym (ends_joined false (map (brought nodes pools) ls) (brought nodes pools l)) ∙ ap (ends_with_ack false) (sym (map-append (brought nodes pools) ls (l ∷ [])))
 
--- Letters stay what they are while their bytes stay where they are
+-- Letters are unchanged while their bytes keep their places
 
 kept_whole : (old new : List (List ℕ)) → KeepsPlaces old new → (l : Letter) → IsPlaced old l → IsPlaced new l × (whole new l ≡ whole old l)
 kept_whole old new keeps (Alone bytes) placed = (tt, refl)
@@ -43,7 +43,7 @@ pub kept_letters : (nodes : ℕ) (old new : List (List ℕ)) → KeepsPlaces old
 kept_letters nodes old new keeps [] all = tt
 kept_letters nodes old new keeps (l ∷ ls) all = (kept_letter nodes old new keeps l all.0, kept_letters nodes old new keeps ls all.1)
 
--- and bring what they brought
+-- and bring the same messages
 pub kept_messages : (nodes : ℕ) (old new : List (List ℕ)) → KeepsPlaces old new → (ls : List Letter) → AllByRecursion (IsLetter nodes old) ls → map (brought nodes new) ls ≡ map (brought nodes old) ls
 kept_messages nodes old new keeps [] all = refl
 kept_messages nodes old new keeps (l ∷ ls) all =
@@ -64,7 +64,7 @@ first_stay old now m before =
     let long : length old ≤ length now = omega (arith, ap (λ (l : List Message). length l) before, length-take (length old) now) in
     take-append-le (length old) now (m ∷ []) long ∙ before
 
--- with what was added cut off, the messages of before are left
+-- without the added part, the earlier messages are left
 pub cut_back : (nodes : ℕ) (pools : List (List ℕ)) (ls cut : List Letter) (now old : List Message) (n : ℕ) → map (brought nodes pools) ls ≡ now → take (length old) now ≡ old → n ≡ length old → cut ≡ take n ls → map (brought nodes pools) cut ≡ old
 cut_back nodes pools ls cut now old n seen before count is =
     ap (map (brought nodes pools)) is ∙ sym (take-map (brought nodes pools) n ls) ∙ ap (take n) seen ∙ ap (λ k. take k now) count ∙ before

@@ -45,7 +45,7 @@ spelled nodes m few lawful = record {
   exact = ap spelling (sym (read_back nodes m few lawful));
 }
 
--- what bytes of the net spell is their message
+-- bytes of the net spell their message
 pub spelled_read : (nodes : ℕ) (bytes : List ℕ) → nodes ≤ MAX_NODES → IsSpelled nodes bytes → decoded nodes bytes ≡ Ok (message_in nodes bytes)
 spelled_read nodes bytes few is =
     let m = message_in nodes bytes in

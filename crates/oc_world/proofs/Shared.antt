@@ -1,4 +1,4 @@
--- Pools that grow, and what stays of them.
+-- Pools that grow, and their unchanged parts.
 use Rattle.std.proofs.Common.{◌≡◌, ℕ, ◌+◌, ◌-◌, ◌<◌, ◌≤◌, ◌≢◌, Bool, true, false, ◌==◌, List, [], ◌∷◌, ◌++◌, length, take, drop, set, get_or, refl, sym, ap, ◌∙◌, arith, length-append}
 use Rattle.std.proofs.Math.Seq.{take-append_seam, take-length}
 use Rattle.std.proofs.lemmas.Bool.{eqb-true}
@@ -7,14 +7,14 @@ use Rattle.std.proofs.lemmas.List.{append-nil, drop-append-le, get_or_append_lef
 use Rattle.oc_world.specs.declared.pools.PoolPart.{PoolPart}
 use Rattle.oc_world.specs.Letters.{IsKnown, IsWithin, KeepsPlaces, piece}
 
--- what is at each place stays, from pools to pools
+-- the bytes at each place are kept, from pools to pools
 pub keeps_then : (a b c : List (List ℕ)) → KeepsPlaces a b → KeepsPlaces b c → KeepsPlaces a c
 keeps_then a b c first second p within =
     let x = first p within in
     let y = second p x.0 in
     (y.0, y.1 ∙ x.1)
 
--- a pool that goes on has what was in it
+-- a pool that goes on has its earlier bytes
 pub goes_on : (old new : List (List ℕ)) (p : PoolPart) (more : List ℕ) → length old ≤ length new → get_or new p.pool [] ≡ get_or old p.pool [] ++ more → IsWithin old p → IsWithin new p × (piece new p ≡ piece old p)
 goes_on old new p more many goes within =
     let held = get_or old p.pool [] in

@@ -26,7 +26,7 @@ put (p ∷ ps) (suc i) q = ap (λ (l : List Process). p.process ∷ l) (put ps i
 pub unchanged : (ps : List ProcessView) (i : ℕ) (p q : ProcessView) → p ≡ get_or ps i p → q.process ≡ p.process → processes_of (slice_set ps i q) ≡ processes_of ps
 unchanged ps i p q here same = put ps i q ∙ (ap (λ (r : Process). slice_set (processes_of ps) i r) same ∙ set_itself (processes_of ps) i p.process (got ps i p here))
 
--- what is said of a call that failed
+-- the promise of a call that failed
 pub on_err : {A E : Type 0} (r : Result A E) (P : Type 0) → P → OnErr r P
 on_err (Ok a) P said = tt
 on_err (Err e) P said = said

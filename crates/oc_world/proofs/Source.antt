@@ -1,4 +1,4 @@
--- The source is what node 1 holds: a step leaves that so.
+-- The source is the content of node 1: a step keeps this.
 use Rattle.std.proofs.Common.{◌≡◌, ◌≢◌, ℕ, zero, suc, ◌+◌, ◌-◌, Bool, true, false, not, ◌&&◌, ◌||◌, ◌==◌, if◌then◌else◌, nat_lt, nat_le, Option, Some, None, option_map, is_some, List, [], ◌∷◌, ◌++◌, length, drop, Ordering, Less, Equal, Greater, nat_cmp, refl, ap, sym, subst, ◌∙◌, arith, true≢false, eq-eqb, ne_eqb, append-nil}
 use Rattle.std.specs.Cmp.Lexicographic.{slice_cmp}
 use Rattle.std.proofs.lemmas.Bool.{cond_both}
@@ -23,7 +23,7 @@ use Rattle.oc_model.specs.World.{source_after}
 use Rattle.oc_model.proofs.Rules.{IsClosed, either, keeps_asked, keeps_checked_in, keeps_checks, keeps_client, keeps_looked, keeps_measured, keeps_pulled, keeps_relocate, keeps_sees, keeps_tick, keeps_took_ack, keeps_took_no, keeps_took_rejoin, keeps_took_yes, keeps_unreachable}
 use Rattle.oc_model.proofs.Shelves.{line_at-shelf, line_of-shelf}
 
--- a choice with what holds holds, and where a choice does not hold neither part does
+-- a choice with a true part is true, and if a choice is false neither part is true
 or_true : (b : Bool) → (b || true) ≡ true
 or_true true = refl
 or_true false = refl
@@ -80,14 +80,14 @@ put_itself g k (j ∷ js) up found = by_test (put_itself g k js up.1) (same_name
 
 -- Plans
 
--- what a rule that keeps nothing leaves
+-- the effect of a rule that keeps nothing
 abbrev KeepsNone : Plan → Type 0
 KeepsNone o = o.keeps ≡ None
 
 none_closed : (ls : List Shelf) → IsClosed ls KeepsNone
 none_closed ls = record { write = λ o r h. h; send = λ o p b plain h. h; answers = λ o a h. h; soft = λ o s e h. h; lists = λ o leases rates counts h. h }
 
--- whatever a node answers by this plan, a source that was what it holds is what it holds then
+-- for any answer of a node by this plan, a source that was its content is its content afterwards
 abbrev IsOwned : Node → Input → Plan → Type 0
 IsOwned n i o = source_after n.groups i o.answer ≡ kept_at o.keeps n.groups (piece_of i) o.seals
 
@@ -230,7 +230,7 @@ received_none n x p (bodies.Rejoin seq) own = keeps_took_rejoin (shelf n.groups)
 received_none n x p (bodies.Fetch have) own = fetch_none n p have
 received_none n x p (bodies.Chunk g start bytes last) own = chunk_none n p g start bytes last own
 
--- the source after an input to node 1 is what it holds then
+-- the source after an input to node 1 is its content then
 pub step_owned : (n : Node) (i : Input) → n.control.me ≡ 1 → IsAscending n.groups → source_after n.groups i (step n i).answer ≡ (step n i).node.groups
 step_owned n (Tick t) own up = none_owned n (Tick t) refl (keeps_tick (shelf n.groups) KeepsNone (none_closed (shelf n.groups)) (begun n.control) t refl)
 step_owned n CheckNow own up = none_owned n CheckNow refl (keeps_checks (shelf n.groups) KeepsNone (none_closed (shelf n.groups)) (begun n.control) refl)

@@ -22,7 +22,7 @@ pub state_me : (h : Header) (x : ℕ) (s : ProcessState MemDiskView) → IsState
 state_me h x (Running k) is = is.me
 state_me h x (Stopped f) is = refl
 
--- what the files of a node that is down recover is started anew
+-- the node recovered from the files of a node that is down is newly started
 pub down_anew : (h : Header) (x : ℕ) (s : ProcessState MemDiskView) → (process_of h x s).process.up ≡ false → restarted (process_of h x s).process.node ≡ (process_of h x s).process.node
 down_anew h x (Running k) off = absurd cc
 down_anew h x (Stopped f) off = refl
@@ -32,11 +32,11 @@ pub runs_as : (h : Header) (x : ℕ) (s : ProcessState MemDiskView) (k : KeptVie
 runs_as h x s k is runs =
     subst (λ (y : ℕ). IsRunning view_of h y k) (state_me h x s is) (subst (λ (j : Header). IsRunning view_of j (process_of h x s).process.node.control.me k) (state_header h x s is) runs)
 
--- what is left of a node that ran
+-- the files left of a node that ran
 pub left_as : (h : Header) (x : ℕ) (k : KeptView MemDiskView) (n : Node) (f : Files MemDiskView) → IsRunning view_of h x k → IsLeft k.node.control n f → IsStopped h x f
 left_as h x k n f was left = subst (λ (y : ℕ). IsStopped h y f) was.me (subst (λ (j : Header). IsStopped j k.node.control.me f) was.header left.stopped)
 
--- and what its files recover
+-- and the node recovered from its files
 pub left_node : (h : Header) (x : ℕ) (k : KeptView MemDiskView) (n : Node) (f : Files MemDiskView) → IsRunning view_of h x k → IsLeft k.node.control n f → left_in h x f ≡ restarted n
 left_node h x k n f was left =
     ap (λ (j : Header). left_in j x f) (sym was.header) ∙ (ap (λ (y : ℕ). left_in (header_of k.node.control) y f) (sym was.me) ∙ left.node)
@@ -58,7 +58,7 @@ is_up h x (Stopped f) on = absurd cc
 pub can_commit : (h : Header) (x : ℕ) (s : ProcessState MemDiskView) (k : KeptView MemDiskView) (r : ReadyView) → s ≡ Running k → CanCommitTo (process_of h x s).kept r → CanCommit view_of k r
 can_commit h x s k r is can = subst (λ (t : ProcessState MemDiskView). CanCommitTo (process_of h x t).kept r) is can
 
--- Every crash of the disks of a process leaves what is durable of its node.
+-- Every crash of the disks of a process leaves the durable part of its node.
 abbrev pub ProcessSurvives : Disks MemDiskView → Process → Type 0
 ProcessSurvives d p = Survives view_of (header_of p.node.control) p.node.control.me d p.node
 

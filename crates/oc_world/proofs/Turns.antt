@@ -1,4 +1,5 @@
--- What one call of the world does, seen as a world of the model: processes are given by their places, and the source is what node 1 holds.
+-- The effect of one call of the world, as a world of the model: processes are given by their
+-- places, and the source is the content of node 1.
 use Rattle.std.proofs.Common.{◌≡◌, ◌≢◌, ℕ, zero, suc, ◌+◌, ◌-◌, ◌<◌, ◌≤◌, Bool, true, false, ◌==◌, nat_le, if◌then◌else◌, Some, List, [], ◌∷◌, ◌++◌, length, slice_set, get_or, map, refl, sym, ap, ◌∙◌, subst, arith, length-append, length-set, eqb-true, eq-eqb}
 use Rattle.std.specs.List.{AllByRecursion, range_with_len}
 use Rattle.std.proofs.lemmas.List.{append_assoc, length-map, set-get_or}
@@ -42,7 +43,7 @@ pub numbered_set : (ps : List Process) (x i : ℕ) (q : Process) → IsNumbered 
 numbered_set ps x i q numbered at within me =
     ap ids_in (sym (written ps x i q numbered at within me)) ∙ (ids-with_process ps q ∙ (numbered ∙ ap (λ (n : ℕ). range_with_len 1 n) (sym (length-set ps i q))))
 
--- what holds of all processes and of the one that is written holds of all then
+-- a property of all processes and of the written one is one of all afterwards
 pub all_set : (P : Process → Type 0) (ps : List Process) (i : ℕ) (q : Process) → P q → AllByRecursion P ps → AllByRecursion P (slice_set ps i q)
 all_set P [] i q here all = all
 all_set P (p ∷ ps) zero q here all = (here, all.1)
@@ -62,7 +63,7 @@ same_source : (ps : List Process) (p q : Process) → process_in ps q.node.contr
 same_source ps p q is same =
     at_put ps q (λ n. n.groups ≡ (process_in ps 1).node.groups) 1 (λ e. same ∙ (ap (λ (r : Process). r.node.groups) (sym is) ∙ ap (λ (y : ℕ). (process_in ps y).node.groups) e)) refl
 
--- what node 1 holds after an input at x, which is up, whatever becomes of x but its groups
+-- the content of node 1 after an input at x, which is up, for any change of x except for its groups
 own_source : (ps : List Process) (x : ℕ) (i : Input) (q : Process) → (process_in ps x).up ≡ true → q.node.control.me ≡ x → q.node.groups ≡ (step (process_in ps x).node i).node.groups
     → IsAscending (process_in ps x).node.groups
     → source_after (process_in ps 1).node.groups i (step (process_in ps x).node i).answer ≡ (process_in (with_process ps q) 1).node.groups
@@ -199,7 +200,7 @@ network_set chain nodes ps x i p q is at within here same limits =
       each = all_set (IsAmong nodes chain) ps i q (record { among = ap (λ (h : Header). h.nodes) same.header ∙ was.among; members = ap (λ (h : Header). h.chain) same.header ∙ was.members; limits = limits }) is.each;
     }
 
--- what is known of the process at a place
+-- the knowledge of the process at a place
 pub among_at : (chain nodes : ℕ) (ps : List Process) (x i : ℕ) (p : Process) → IsNetwork chain ps nodes → i + 1 ≡ x → x ≤ length ps → p ≡ get_or ps i p → IsAmong nodes chain p
 among_at chain nodes ps x i p is at within here = all_at (IsAmong nodes chain) ps i p (omega (arith, at, within)) here is.each
 
@@ -215,7 +216,7 @@ process_at ps x numbered is =
     let same : 1 + (x - 1) ≡ x = omega (arith, is.0) in
     subst (λ (y : ℕ). process_in ps y ≡ get_or ps (x - 1) (process_in ps x)) same (process_in-place 1 (length ps) ps (x - 1) (process_in ps x) numbered (omega (arith, is.0, is.1)))
 
--- what is known of the process of a node
+-- the knowledge of the process of a node
 pub among_by_id : (chain nodes : ℕ) (ps : List Process) (x : ℕ) → IsNetwork chain ps nodes → IsNode (length ps) x → IsAmong nodes chain (process_in ps x)
 among_by_id chain nodes ps x is within =
     all_at (IsAmong nodes chain) ps (x - 1) (process_in ps x) (omega (arith, within.0, within.1)) (process_at ps x is.numbered within) is.each

@@ -1,4 +1,4 @@
--- Which input an act brings to which node.
+-- The node and the input of an act.
 use Rattle.std.specs.Prelude.{ℕ, Option, Some, None}
 use Rattle.oc_base.specs.Lawful.{IsNode}
 use Rattle.oc_model.specs.declared.input.Input.{Input}

@@ -1,4 +1,4 @@
--- What is left of a world when memory runs out partway through an event.
+-- The world after memory ran out partway through an event.
 use Rattle.std.specs.Prelude.{◌≡◌}
 use Rattle.oc_calm.specs.Way.{IsOnTheWay, acts_of}
 use Rattle.oc_model.specs.declared.event.Event.{Event}

@@ -18,7 +18,7 @@ pub record IsWithin (pools : List (List ℕ)) (p : PoolPart) : Type 0 where
   pub there : p.pool < length pools
   pub fits : p.start + p.count ≤ length (get_or pools p.pool [])
 
--- at each place are the bytes that were there
+-- the bytes at each place are unchanged
 abbrev pub KeepsPlaces : List (List ℕ) → List (List ℕ) → Type 0
 KeepsPlaces old new = (p : PoolPart) → IsWithin old p → IsWithin new p × (piece new p ≡ piece old p)
 
@@ -33,7 +33,7 @@ abbrev pub whole : List (List ℕ) → Letter → List ℕ
 whole pools (Alone bytes) = bytes
 whole pools (Shared s) = s.value.front ++ piece pools s.value.place
 
--- what a letter shares is there
+-- the shared part of a letter is in the pools
 abbrev pub IsPlaced : List (List ℕ) → Letter → Type 0
 IsPlaced pools (Alone bytes) = Unit {0}
 IsPlaced pools (Shared s) = IsWithin pools s.value.place

@@ -60,7 +60,7 @@ abbrev pub ends_with_ack : Bool → List Message → Bool
 ends_with_ack acks [] = acks
 ends_with_ack acks (m ∷ ms) = ends_with_ack (is_ack_body m.body) ms
 
--- what is read from the text of a message, if there is one
+-- the text of a message is read as that message, if there is one
 abbrev pub IsTextOf : Option Message → Option (List ℕ) → Type 0
 IsTextOf None text = text ≡ None
 IsTextOf (Some m) text = text ≡ Some (text_of m)

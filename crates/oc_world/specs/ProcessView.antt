@@ -1,11 +1,11 @@
--- A process as contracts see it: the model's, and the node on its files where it is up.
+-- A process as contracts see it: the model's process, and the node on its files while it is up.
 use Rattle.std.specs.Prelude.{ℕ, ◌<◌, Option, Some, None}
 use Rattle.oc_keep.specs.KeptView.{IsRipe, KeptView}
 use Rattle.oc_keep.specs.ReadyView.{CanCommit, ReadyView}
 use Rattle.oc_model.specs.World.{Process}
 use Rattle.oc_io.specs.MemDiskView.{MemDiskView, view_of}
 
--- the process of the model, and the node on its files where it is up
+-- the process of the model, and the node on its files while it is up
 pub record ProcessView : Type 0 where
   pub process : Process
   pub kept : Option (KeptView MemDiskView)

@@ -1,4 +1,4 @@
--- The world as contracts see it, and what holds of its parts.
+-- The world as contracts see it, and the properties of its parts.
 use Rattle.std.specs.Prelude.{◌≡◌, ℕ, ◌-◌, ◌≤◌, Option, Some, None, List, length, map, get_or}
 use Rattle.std.specs.List.{AllByRecursion, range_with_len}
 use Rattle.oc_base.specs.declared.limits.TheConstants.{MAX_NODES}
@@ -11,12 +11,12 @@ use Rattle.oc_model.specs.World.{Arrival, Process, World, arrival, process_in}
 use Rattle.oc_model.specs.WorldBounds.{AreWithinLimits}
 use Rattle.oc_world.specs.ProcessView.{ProcessView, Renews}
 
--- the world of the model, and for each node, by its number, the node on its files where it is up
+-- the world of the model, and for each node, by its number, the node on its files while it is up
 pub record WorldView : Type 0 where
   pub world : World
   pub kept : List (Option (KeptView MemDiskView))
 
--- the node x on its files, where it is up
+-- the node x on its files, while it is up
 abbrev pub kept_at : WorldView → ℕ → Option (KeptView MemDiskView)
 kept_at w x = get_or w.kept (x - 1) None
 
@@ -38,7 +38,7 @@ RenewsBy e old new = Unit {0}
 abbrev pub processes_of : List ProcessView → List Process
 processes_of ps = map (λ p. p.process) ps
 
--- the world of these processes and messages: the source is what node 1 holds
+-- the world of these processes and messages: the source is the content of node 1
 abbrev pub world_of : List Process → List Message → World
 world_of ps net = record { processes = ps; net = net; source = (process_in ps 1).node.groups }
 
@@ -55,7 +55,7 @@ pub record IsAmong (nodes chain : ℕ) (p : Process) : Type 0 where
   pub members : p.node.control.chain ≡ chain
   pub limits : AreWithinLimits p.node.groups
 
--- numbered processes of one network, whose messages go between as many nodes
+-- numbered processes of one network, with messages between the same number of nodes
 pub record IsNetwork (chain : ℕ) (ps : List Process) (nodes : ℕ) : Type 0 where
   pub numbered : IsNumbered ps
   pub few : length ps ≤ MAX_NODES

@@ -1,5 +1,5 @@
-//! An input at a node that is up, and what it sends: first all memory is taken, and last what is durable
-//! is written and the messages go out.
+//! An input at a node that is up, and the messages it sends: all memory is taken first, and only
+//! then are the durable changes written and the messages sent.
 
 ghost use Rattle.std.specs.Prelude.{◌≡◌, ◌++◌, true, IfOk, OnOk, OnErr};
 ghost use Rattle.oc_keep.specs.Promises.{IsSameNode};
@@ -12,8 +12,8 @@ use crate::process::Process;
 use oc_base::Memory;
 use oc_model::{Answer, Input};
 
-/// An input comes to a node that is up. What it sends goes into the net. If memory runs out, the node
-/// and the net are as they were; the files may have been turned over.
+/// Gives an input to a node that is up, and puts its messages into the net. If memory runs out, the
+/// node and the net are unchanged; the files may have been turned over.
 pub(crate) fn act(process: &mut Process, net: &mut Net, input: &Input) -> Result<Answer, Memory>
     requires up { process.old.process.up ≡ true }
     requires input { IsInput process.old.process.node.control.nodes process.old.process.node.control.me input.now }

@@ -8,7 +8,7 @@ use crate::net::Net;
 use oc_base::{Memory, NodeId};
 use oc_model::Input;
 
-/// The delivery of the message of a number to its receiver.
+/// The receiver and the input of the delivery of message `number`.
 pub(crate) fn delivery(net: &Net, number: u64) -> Result<Option<(NodeId, Input)>, Memory>
     ensures arrival { IfOk result (λ found. option_map arrival_at found ≡ delivery (message_at net.now.messages number)) }
     ensures lawful { IfOk result (λ found. IsLawfulArrival net.now.nodes found) }

@@ -1,4 +1,4 @@
-//! Settle and heal play on a world.
+//! Settle and heal, played on a world.
 
 use crate::World;
 use oc_base::{Memory, NodeId, Rank};

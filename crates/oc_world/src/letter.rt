@@ -1,4 +1,4 @@
-//! A message as it is kept: its bytes, or what is left of them where the last ones are shared.
+//! A stored message: its bytes, of which the last ones may be shared with other messages.
 
 ghost use Rattle.std.specs.Prelude.{◌≡◌, ◌≤◌, ◌++◌, IfOk};
 ghost use Rattle.oc_base.specs.declared.limits.TheConstants.{MAX_NODES};
@@ -11,17 +11,17 @@ use oc_base::{Bytes, GroupName, Memory};
 use oc_model::{Body, Message};
 use std::alloc::Global;
 
-/// The bytes of a message. What a chunk brings is kept once for all letters, and beside it the letter of a chunk
-/// takes as much memory as any other one.
+/// The bytes of a message. The bytes of a group in chunks are stored once for all letters; apart
+/// from them the letter of a chunk takes as much memory as any other.
 #[derive(Drop)]
 pub(crate) enum Letter {
     /// All bytes.
     Alone(Bytes),
-    /// Bytes of which the last ones are shared.
+    /// Bytes of which the last part is shared.
     Shared(Box<Sharing>),
 }
 
-/// What comes before the bytes that are shared, and where these are.
+/// The bytes before the shared part, and the place of that part.
 #[derive(Drop)]
 pub(crate) struct Sharing {
     front: Bytes,
@@ -29,7 +29,7 @@ pub(crate) struct Sharing {
 }
 
 impl Letter {
-    /// The letter of the bytes of a message with this body. If it shares some of them, they go into the pools.
+    /// The letter of the bytes of a message with this body. Shared bytes go into the pools.
     pub(crate) fn of(
         alloc: Global,
         pools: &mut Pools,
@@ -66,7 +66,7 @@ impl Letter {
         }
     }
 
-    /// The message between `nodes` nodes that the bytes spell.
+    /// The message between `nodes` nodes with these bytes.
     pub(crate) fn message(
         &self,
         alloc: Global,
@@ -88,7 +88,7 @@ impl Letter {
     }
 }
 
-/// The letter of bytes that end with `count` bytes of a group, those from the offset `start` on.
+/// The letter of bytes that end with `count` bytes of a group, from the offset `start` on.
 fn shared(
     alloc: Global,
     pools: &mut Pools,

@@ -1,17 +1,18 @@
 //! All nodes of a network on their files, and every message between them.
 //!
-//! A [`World`] keeps each node as a process on three disks in memory, up or down, and each message as the bytes
-//! that its request brings, from which the text of that request follows. A node that is up runs by the same
-//! `Kept` as the running program keeps its one node; one that is down has no state in memory: what it holds is
-//! what its files recover.
+//! A [`World`] keeps each node as a process on three disks in memory, up or down, and each message
+//! as the bytes of its request, from which the text of that request follows. A node that is up runs
+//! by the same `Kept` as the one node of the running program; a node that is down has no state in
+//! memory: its state is recovered from its files.
 //!
-//! The contract used above: [`World::event`] leaves exactly the model's `next_world`, and says the model's word
-//! and which messages were sent; so a [`World`] is a stage of a replay. An act at a node whose control files are
-//! ripe leaves them with a greater generation. At each moment between two calls every crash of a node's disks
-//! leaves what is durable of the node that a contract sees: [`World::into_disks`] hands the disks out and says so.
+//! The contract for the layers above: [`World::event`] leaves exactly the model's `next_world`, and
+//! gives the model's word and the messages that were sent; so a [`World`] is a stage of a replay.
+//! An act at a node whose control files are ripe leaves them with a greater generation. At each
+//! moment between two calls every crash of a node's disks leaves the durable part of the node that
+//! a contract sees: [`World::into_disks`] gives the disks, with that as its contract.
 //!
-//! `specs/ProcessView` and `specs/ProcessState` say what is seen of one node and its files, `specs/Net` what is
-//! seen of the messages, and `specs/World` how these make a world of the model.
+//! `specs/ProcessView` and `specs/ProcessState` define the view of one node and its files,
+//! `specs/Net` the view of the messages, and `specs/World` the world of the model that these make.
 #![tactic(auto)]
 
 mod acting;
@@ -19,7 +20,6 @@ mod arrivals;
 mod cluster;
 mod letter;
 mod net;
-mod network;
 mod pools;
 mod process;
 mod process_acts;

@@ -1,4 +1,4 @@
-//! Every message that was ever sent, each as the bytes that its request brings.
+//! All messages that were ever sent, each as the bytes of its request.
 
 ghost use Rattle.std.specs.Prelude.{◌≡◌, ◌<◌, ◌≤◌, false, [], ◌∷◌, ◌++◌, length, take, slice_get, Some, IfOk, OnOk, OnErr};
 ghost use Rattle.std.specs.List.{AllByRecursion};
@@ -15,19 +15,20 @@ use oc_model::{Body, Message};
 use std::alloc::Global;
 use std::marker::Model;
 
-/// The most messages that are ever sent: their numbers stay below 2^63.
+/// The greatest number of messages that can be sent: their numbers are below 2^63.
 pub const MOST_SENT: usize = (1 << 63) - 2;
 
-/// The messages between `nodes` nodes, in the order of sending. What chunks bring is kept once for all of them,
-/// so that the net takes little more memory for these than the source published. Contracts see the messages.
+/// The messages between `nodes` nodes, in the order of sending. The content in chunks is stored
+/// once for all messages, so that the net takes little more memory for it than the source
+/// published. Contracts see the messages.
 #[derive(Drop)]
 pub struct Net {
     alloc: Global,
     nodes: u32,
     letters: Vec<Letter>,
-    /// The bytes that letters share.
+    /// The bytes shared by letters.
     pools: Pools,
-    /// The bytes of the message that is being sent; its memory serves the next one too.
+    /// The buffer for the bytes of the message that is being sent, used again for the next.
     spelling: Vec<u8>,
     /// Whether the last message acknowledges a check-in.
     acks: bool,
@@ -49,7 +50,7 @@ impl Model for Net {
 }
 
 impl Net {
-    /// A net of no message. It takes no memory.
+    /// A net without messages. Takes no memory.
     pub fn new(alloc: Global, nodes: u32) -> Net
         requires { nodes ≤ MAX_NODES }
         ensures nodes { result.nodes ≡ nodes }
@@ -65,7 +66,7 @@ impl Net {
         }
     }
 
-    /// Adds messages: all of them, or none where memory runs out. It answers `Memory` also where there would be
+    /// Adds all messages, or none if memory runs out. The error is `Memory` also if there would be
     /// more than `MOST_SENT`.
     pub fn send_all(&mut self, messages: &[Message]) -> Result<(), Memory>
         requires { AllByRecursion (IsMessage self.old.nodes) messages.now }
@@ -85,7 +86,7 @@ impl Net {
         }
     }
 
-    /// Adds messages, the first of them where memory runs out.
+    /// Adds messages; only the first of them if memory runs out.
     fn send_each(&mut self, messages: &[Message]) -> Result<(), Memory>
         requires { AllByRecursion (IsMessage self.old.nodes) messages.now }
         ensures nodes { self.new.nodes ≡ self.old.nodes }
@@ -115,7 +116,7 @@ impl Net {
         Ok(())
     }
 
-    /// How many nodes there are.
+    /// The number of nodes.
     pub fn nodes(&self) -> u32
         ensures nodes { result ≡ self.now.nodes }
         ensures few { result ≤ MAX_NODES }
@@ -123,7 +124,7 @@ impl Net {
         self.nodes
     }
 
-    /// How many messages there are.
+    /// The number of messages.
     pub fn len(&self) -> usize
         ensures length { result ≡ length self.now.messages }
         ensures few { result ≤ MOST_SENT }
@@ -147,7 +148,7 @@ impl Net {
         text_of(self.alloc, self.nodes, &message)
     }
 
-    /// The message at an index, which its bytes are read as.
+    /// The message at an index, read from its bytes.
     pub fn message(&self, at: usize) -> Result<Message, Memory>
         requires { at < length self.now.messages }
         ensures message { IfOk result (λ message. slice_get self.now.messages at ≡ Some message) }
@@ -157,7 +158,7 @@ impl Net {
     }
 }
 
-/// Whether this acknowledges a check-in.
+/// Whether the body acknowledges a check-in.
 fn is_ack_body(body: &Body) -> bool
     ensures { result ≡ is_ack_body body.now }
 {

@@ -1,4 +1,4 @@
-//! Bytes that letters share.
+//! Bytes shared by letters.
 
 ghost use Rattle.std.specs.Prelude.{◌≡◌, ◌<◌, [], ◌++◌, length, slice_set, get_or, vec_len, IfOk, IfSome, OnOk, OnErr};
 ghost use Rattle.oc_world.specs.Letters.{IsKnown, IsWithin, KeepsPlaces, contents, piece};
@@ -7,7 +7,7 @@ use oc_base::{Bytes, GroupName, Memory};
 use std::alloc::Global;
 use std::marker::Model;
 
-/// Where bytes are: `count` bytes of this pool, from the offset `start` on.
+/// The place of shared bytes: `count` bytes of this pool, from the offset `start` on.
 #[derive(Clone, Copy)]
 pub(crate) struct PoolPart {
     pub pool: usize,
@@ -15,14 +15,15 @@ pub(crate) struct PoolPart {
     pub count: usize,
 }
 
-/// What chunks brought of a group, from its first byte on.
+/// The content of a group that chunks brought, from its first byte on.
 #[derive(Drop)]
 pub(crate) struct Pool {
     group: GroupName,
     bytes: Bytes,
 }
 
-/// What chunks brought of each group, once for all letters. Contracts see the bytes of each group.
+/// The content of each group that chunks brought, stored once for all letters. Contracts see the
+/// bytes of each group.
 #[derive(Drop)]
 pub(crate) struct Pools {
     pools: Vec<Pool>,
@@ -38,7 +39,7 @@ impl Model for Pools {
 }
 
 impl Pools {
-    /// No bytes. It takes no memory.
+    /// Begins without bytes. Takes no memory.
     pub(crate) fn new(alloc: Global) -> Pools
         ensures { result ≡ [] }
     {
@@ -55,8 +56,9 @@ impl Pools {
         piece_in(&self.pools, place)
     }
 
-    /// Where these bytes of a group are, which are in it from `start` on: where they were brought before, or put
-    /// after what was. There is no place where they differ from what was brought, or bytes before them are missing.
+    /// The place of these bytes of a group, from its byte `start` on: where they are stored
+    /// already, or appended after the stored ones. There is none if the bytes differ from the
+    /// stored ones, or bytes before them are missing.
     pub(crate) fn place(
         &mut self,
         alloc: Global,
@@ -80,7 +82,7 @@ fn piece_in(pools: &[Pool], place: PoolPart) -> &[u8]
     &held[place.start..place.start + place.count]
 }
 
-/// The place of bytes of a group, which are put after what was brought of it where they go on from there.
+/// The place of bytes of a group, which are appended to the stored ones if they go on from there.
 fn place_in(
     pools: &mut Vec<Pool>,
     alloc: Global,
@@ -106,7 +108,7 @@ fn place_in(
     }
 }
 
-/// The index of the pool of a group, of a new one where there is none.
+/// The index of the pool of a group, and of a new one if there was none.
 fn pool_of(pools: &mut Vec<Pool>, alloc: Global, group: GroupName) -> Result<usize, Memory>
     ensures keeps { KeepsPlaces (contents pools.old.items) (contents pools.new.items) }
     ensures there { IfOk result (λ at. at < vec_len pools.new) }
@@ -129,7 +131,7 @@ fn found(pools: &[Pool], group: &GroupName) -> Option<usize>
     pools.iter().position(|pool| pool.group == *group)
 }
 
-/// Puts bytes at the end of a pool.
+/// Appends bytes to a pool.
 fn put_behind(pools: &mut [Pool], at: usize, more: &[u8]) -> Result<(), Memory>
     requires { at < length pools.old }
     ensures ok { OnOk result (contents pools.new ≡ slice_set (contents pools.old) at (get_or (contents pools.old) at [] ++ more.now)) }
@@ -140,7 +142,8 @@ fn put_behind(pools: &mut [Pool], at: usize, more: &[u8]) -> Result<(), Memory>
     Ok(())
 }
 
-/// How many of these bytes are held from an offset on, where none of them differs and the others go on from there.
+/// The number of these bytes that are stored from an offset on, if none of them differs and the
+/// rest goes on from there.
 fn known_of(held: &[u8], start: usize, bytes: &[u8]) -> Option<usize>
     ensures { IfSome result (IsKnown held.now start bytes.now) }
 {

@@ -5,7 +5,7 @@ ghost use Rattle.std.specs.List.{AllByRecursion};
 ghost use Rattle.oc_base.specs.Groups.{shelf};
 ghost use Rattle.oc_base.specs.Lawful.{IsNode};
 ghost use Rattle.oc_keep.specs.Files.{Survives, disks};
-ghost use Rattle.oc_keep.specs.KeptView.{header, header_of, node_of};
+ghost use Rattle.oc_keep.specs.KeptView.{header_of, node_of};
 ghost use Rattle.oc_keep.specs.Promises.{IsSameNode};
 ghost use Rattle.oc_keep.specs.ReadyView.{is_written, outcome_of, told_of};
 ghost use Rattle.oc_laws_step.specs.LawfulNode.{IsLawfulControl};
@@ -20,7 +20,6 @@ ghost use Rattle.oc_replay.specs.Digests.{digest_text};
 ghost use Rattle.oc_world.specs.ProcessView.{CanCommitTo, Renews, generation_of, resting};
 ghost use Rattle.oc_world.specs.ProcessState.{IsOpen, IsRunning};
 
-use crate::network::Network;
 use crate::process_state::{ProcessState, copied, empty_files};
 use crate::process_status::{
     digest_of, digest_recovered, groups_of, groups_recovered, lawful_node,
@@ -29,52 +28,46 @@ use crate::{process_acts, starting, stopping};
 use oc_base::{Memory, NodeId, Shelf};
 use oc_io::MemDisk;
 use oc_journal::is_kept_new;
-use oc_keep::{Files, Kept, Node, Outcome, Ready, status_of, status_recovered};
-use oc_model::{Input, NodeStatus};
+use oc_keep::{Files, Kept, Node, Outcome, Ready, Seat, status_of, status_recovered};
+use oc_model::{Header, Input, NodeStatus};
 use std::alloc::Global;
 use std::marker::Model;
 
-/// A node on its files, which stay when it goes down. Contracts see the model's process, and the node on its
-/// files, where it is up. Where it is down, the process is the node that its files recover. Every crash
-/// leaves what is durable of it.
+/// A node with its files, which remain when the node goes down. Contracts see the model's process,
+/// and the node on its files while it is up. While it is down, the process is the node that its
+/// files recover. Every crash leaves the durable part of the node.
 #[derive(Drop)]
 pub struct Process {
     alloc: Global,
-    id: NodeId,
-    network: Network,
-    /// The area of each node, by its number.
-    areas: Vec<u8>,
+    seat: Seat,
     state: ProcessState<MemDisk>,
 }
 
 impl Model for Process {
     ghost use Rattle.oc_base.specs.Lawful.{IsNode};
-    ghost use Rattle.oc_keep.specs.KeptView.{header};
     ghost use Rattle.oc_model.specs.Lawful.{IsHeader};
     ghost use Rattle.oc_world.specs.ProcessView.{ProcessView};
     ghost use Rattle.oc_world.specs.ProcessState.{IsStateOf, process_of};
 
     ghost Value = { ProcessView };
 
-    ghost view = { λ p. process_of (header p.network.nodes p.network.chain p.network.chunk p.areas.items) p.id p.state };
+    ghost view = { λ p. process_of p.seat.header p.seat.id p.state };
 
-    ghost invariant = { λ p. IsHeader (header p.network.nodes p.network.chain p.network.chunk p.areas.items) × IsNode p.network.nodes p.id
-        × IsStateOf (header p.network.nodes p.network.chain p.network.chunk p.areas.items) p.id p.state };
+    ghost invariant = { λ p. IsHeader p.seat.header × IsNode p.seat.header.nodes p.seat.id
+        × IsStateOf p.seat.header p.seat.id p.state };
 }
 
 impl Process {
     /// A new node that is down, on empty files.
-    pub fn new(alloc: Global, id: NodeId, network: Network, areas: &[u8]) -> Result<Process, Memory>
-        requires header { IsHeader (header network.nodes network.chain network.chunk areas.now) }
-        requires id { IsNode network.nodes id }
-        ensures { IfOk result (λ process. process ≡ resting (down (new_node (header network.nodes network.chain network.chunk areas.now) id))) }
+    pub fn new(alloc: Global, id: NodeId, header: &Header) -> Result<Process, Memory>
+        requires header { IsHeader header.now }
+        requires id { IsNode header.now.nodes id }
+        ensures { IfOk result (λ process. process ≡ resting (down (new_node header.now id))) }
     {
-        let areas = areas.to_vec(alloc)?;
+        let seat = Seat::new(alloc, id, header)?;
         Ok(Process {
             alloc,
-            id,
-            network,
-            areas,
+            seat,
             state: ProcessState::Stopped(empty_files(alloc)),
         })
     }
@@ -87,7 +80,7 @@ impl Process {
         matches!(self.state, ProcessState::Running(_))
     }
 
-    /// The node on its files, where it is up.
+    /// The node on its files. The node must be up.
     fn kept(&self) -> &Kept<MemDisk>
         requires { self.now.process.up ≡ true }
         ensures node { node_of result.now ≡ self.now.process.node }
@@ -99,7 +92,7 @@ impl Process {
         }
     }
 
-    /// The node, where it is up.
+    /// The node, which must be up.
     pub fn node(&self) -> &Node
         requires { self.now.process.up ≡ true }
         ensures control { result.now.control ≡ self.now.process.node.control }
@@ -108,7 +101,7 @@ impl Process {
         lawful_node(self.kept())
     }
 
-    /// A start of a node that is down. If memory runs out, the node stays as it is.
+    /// Starts a node that is down. If memory runs out, the node is unchanged.
     pub fn start(&mut self) -> Result<(), Memory>
         requires { self.old.process.up ≡ false }
         ensures ok { OnOk result (self.new.process ≡ record { node = restarted self.old.process.node; up = true }) }
@@ -119,8 +112,8 @@ impl Process {
         Ok(())
     }
 
-    /// The node that the files of one that is down recover, on copies of them: so the files stay as they are if
-    /// memory runs out.
+    /// The node that the files of a node that is down recover, read from copies of the files, which
+    /// therefore are unchanged if memory runs out.
     fn load(&self) -> Result<Kept<MemDisk>, Memory>
         requires { self.now.process.up ≡ false }
         ensures running { IfOk result (λ kept.
@@ -131,12 +124,12 @@ impl Process {
             ProcessState::Running(_) => unreachable!(),
             ProcessState::Stopped(files) => {
                 let copy = copied(files)?;
-                starting::load(self.alloc, copy, self.id, self.network, &self.areas)
+                starting::load(self.alloc, copy, &self.seat)
             }
         }
     }
 
-    /// A crash of a node that is up.
+    /// Crashes a node that is up.
     pub fn crash(&mut self)
         requires { self.old.process.up ≡ true }
         ensures { self.new.process ≡ stopped self.old.process.node }
@@ -146,8 +139,8 @@ impl Process {
         self.state.set(ProcessState::Stopped(files));
     }
 
-    /// Makes an input ready at a node that is up, whose control files are first turned over where they are
-    /// ripe. The node stays as it is.
+    /// Prepares an input at a node that is up. Its control files are first turned over if they are
+    /// ripe. The node is unchanged.
     pub fn ready(&mut self, input: &Input) -> Result<Ready, Memory>
         requires up { self.old.process.up ≡ true }
         requires input { IsInput self.old.process.node.control.nodes self.old.process.node.control.me input.now }
@@ -164,7 +157,7 @@ impl Process {
         }
     }
 
-    /// Takes an input that was made ready since the last change. It takes no memory.
+    /// Performs an input that was prepared since the last change. Takes no memory.
     pub fn commit(&mut self, ready: Ready) -> Outcome
         requires { CanCommitTo self.old.kept ready }
         ensures outcome { result ≡ told_of (outcome_of self.old.process.node ready) }
@@ -178,9 +171,9 @@ impl Process {
         }
     }
 
-    /// A stop of a node that is up, partway through an input, once `calls` of the calls that write its frame
-    /// have worked; the byte `image` is found wherever something was written and not synced. Answers whether
-    /// the frame is kept. If memory runs out, the node stays as it is.
+    /// Stops a node that is up, partway through an input, once `calls` of the calls that write its
+    /// frame have worked; the byte `image` is found at each place that was written and not synced.
+    /// Gives whether the frame is kept. If memory runs out, the node is unchanged.
     pub fn stop(&mut self, input: &Input, calls: u8, image: u8) -> Result<bool, Memory>
         requires up { self.old.process.up ≡ true }
         requires input { IsInput self.old.process.node.control.nodes self.old.process.node.control.me input.now }
@@ -199,17 +192,15 @@ impl Process {
         Ok(kept_new)
     }
 
-    /// The disks of the node's files, those of the control files before that of the content. Every crash of
-    /// them leaves what is durable of the node.
+    /// The disks of the node's files, those of the control files before that of the content. Every
+    /// crash of them leaves the durable part of the node.
     pub fn into_disks(self) -> (MemDisk, MemDisk, MemDisk)
         ensures { Survives view_of (header_of self.process.node.control) self.process.node.control.me
             (disks result.0 result.1 result.2) self.process.node }
     {
         let Process {
             alloc: _,
-            id: _,
-            network: _,
-            areas: _,
+            seat: _,
             state,
         } = self;
         match state {
@@ -235,7 +226,7 @@ impl Process {
         groups_recovered(self.alloc, self.load()?)
     }
 
-    /// The digits that stand for what the node's files hold.
+    /// The digest of the node's files.
     pub fn digest(&self) -> Result<Vec<u8>, Memory>
         ensures { IfOk result (λ digits. digits.items
             ≡ digest_text self.now.process.node.control.kept (shelf self.now.process.node.groups)) }

@@ -1,5 +1,5 @@
-//! An input at a node that runs: first the files are turned over where they are ripe, then all memory is
-//! taken, and last what is durable is written.
+//! An input at a node that runs: its files are turned over if they are ripe, then all memory is
+//! taken, and only then are the durable changes written.
 
 ghost use Rattle.std.specs.Prelude.{◌≡◌, ◌+◌, IfOk, OnOk};
 ghost use Rattle.std.specs.List.{AllByRecursion};
@@ -55,7 +55,7 @@ fn prepare<D: Disk>(kept: &mut Kept<D>, input: &Input) -> Result<Ready, Memory>
     }
 }
 
-/// Makes an input ready at a node that runs. If memory runs out, the node is as it was; its files may
+/// Prepares an input at a node that runs. If memory runs out, the node is unchanged; its files may
 /// have been turned over.
 pub(crate) fn ready<D: Disk>(kept: &mut Kept<D>, input: &Input) -> Result<Ready, Memory>
     requires open { IsOpen D.view kept.old }
@@ -77,7 +77,7 @@ pub(crate) fn ready<D: Disk>(kept: &mut Kept<D>, input: &Input) -> Result<Ready,
     Ok(ready)
 }
 
-/// Takes an input that was made ready.
+/// Performs an input that was prepared.
 #[tactic(auto, using(crate::proofs::Open::open_on))]
 pub(crate) fn commit<D: Disk>(kept: &mut Kept<D>, ready: Ready) -> Outcome
     requires open { IsOpen D.view kept.old }

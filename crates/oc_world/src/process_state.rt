@@ -1,4 +1,4 @@
-//! The state of a node: on its files, or down.
+//! The state of a node: running on its files, or down.
 
 ghost use Rattle.std.specs.Prelude.{◌≡◌, [], true, IfOk};
 ghost use Rattle.oc_io.specs.MemDiskView.{disk_of};
@@ -10,8 +10,8 @@ use oc_keep::{Files, Kept};
 use std::alloc::Global;
 use std::mem;
 
-/// A node that runs on its files, or the files of one that is down. A node that is down has no state in
-/// memory.
+/// A node that runs on its files, or the files of a node that is down. A node that is down has no
+/// state in memory.
 #[derive(Drop)]
 pub(crate) enum ProcessState<D: Disk> {
     Running(Kept<D>),
@@ -19,14 +19,14 @@ pub(crate) enum ProcessState<D: Disk> {
 }
 
 impl<D: Disk + Drop> ProcessState<D> {
-    /// Has this state from now on.
+    /// Replaces the state.
     pub(crate) fn set(&mut self, next: ProcessState<D>)
         ensures { self.new ≡ next }
     {
         *self = next;
     }
 
-    /// Takes out the node that runs, and leaves these files.
+    /// Takes out the node that runs, and puts these files in its place.
     pub(crate) fn take_running(&mut self, left: Files<D>) -> Kept<D>
         requires { is_running self.old ≡ true }
         ensures { self.old ≡ ProcessState.Running result }
@@ -38,7 +38,7 @@ impl<D: Disk + Drop> ProcessState<D> {
     }
 }
 
-/// Three empty files. It takes no memory.
+/// Three empty files. Takes no memory.
 pub(crate) fn empty_files(alloc: Global) -> Files<MemDisk>
     ensures control { result.control ≡ disk_of [] }
     ensures alternate { result.alternate ≡ disk_of [] }
@@ -51,7 +51,7 @@ pub(crate) fn empty_files(alloc: Global) -> Files<MemDisk>
     }
 }
 
-/// Copies of files, all of them safe.
+/// Copies of files, with all bytes synced.
 pub(crate) fn copied(files: &Files<MemDisk>) -> Result<Files<MemDisk>, Memory>
     ensures control { IfOk result (λ copy. copy.control ≡ disk_of files.now.control.bytes) }
     ensures alternate { IfOk result (λ copy. copy.alternate ≡ disk_of files.now.alternate.bytes) }

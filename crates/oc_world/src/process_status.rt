@@ -30,7 +30,7 @@ pub(crate) fn groups_of<D: Disk>(alloc: Global, kept: &Kept<D>) -> Result<Vec<Sh
     Ok(kept.shelf().to_vec(alloc)?)
 }
 
-/// The digits that stand for what these files hold.
+/// The digest of these files.
 pub(crate) fn digest_of<D: Disk>(alloc: Global, kept: &Kept<D>) -> Result<Vec<u8>, Memory>
     requires { IsHonest D.view kept.now }
     ensures { IfOk result (λ digits. digits.items ≡ digest_text kept.now.node.control.kept (shelf (node_of kept.now).groups)) }
@@ -40,7 +40,7 @@ pub(crate) fn digest_of<D: Disk>(alloc: Global, kept: &Kept<D>) -> Result<Vec<u8
     Ok(digits)
 }
 
-/// The same of files that were recovered to be read.
+/// The digest of files that were recovered only to be read.
 pub(crate) fn digest_recovered<D: Disk + Drop>(
     alloc: Global,
     kept: Kept<D>,
@@ -51,7 +51,7 @@ pub(crate) fn digest_recovered<D: Disk + Drop>(
     digest_of(alloc, &kept)
 }
 
-/// The groups of a node that was recovered to be read.
+/// The groups of a node that was recovered only to be read.
 pub(crate) fn groups_recovered<D: Disk + Drop>(
     alloc: Global,
     kept: Kept<D>,

@@ -1,4 +1,4 @@
-//! A world is a stage.
+//! The world as a stage of a replay.
 
 ghost use Rattle.std.specs.Prelude.{◌≡◌, OnOk, OnErr};
 ghost use Rattle.oc_model.specs.Lawful.{IsHeader};
@@ -6,19 +6,19 @@ ghost use Rattle.oc_model.specs.World.{new_world};
 
 use crate::World;
 use oc_base::{Memory, NodeId, Shelf};
-use oc_model::{Event, Message, NodeStatus};
+use oc_model::{Event, Header, Message, NodeStatus};
 use oc_replay::{Said, Stage};
 
 impl Stage for World {
     ghost world = { λ w. w.world };
 
     /// If memory runs out, the world stays as it was.
-    fn open(&mut self, nodes: u32, chain: u32, chunk: u32, areas: &[u8]) -> Result<(), Memory>
-        requires { IsHeader (record { nodes = nodes; chain = chain; chunk = chunk; areas = areas.now }) }
-        ensures opened { OnOk result (self.new.world ≡ new_world (record { nodes = nodes; chain = chain; chunk = chunk; areas = areas.now })) }
+    fn open(&mut self, header: &Header) -> Result<(), Memory>
+        requires { IsHeader header.now }
+        ensures opened { OnOk result (self.new.world ≡ new_world header.now) }
         ensures err { OnErr result (self.new ≡ self.old) }
     {
-        *self = World::new(self.alloc, nodes, chain, chunk, areas)?;
+        *self = World::new(self.alloc, header)?;
         Ok(())
     }
 

@@ -1,4 +1,4 @@
-//! How a node comes to stop, and what its files hold then.
+//! The stop of a node, and the files it leaves.
 
 ghost use Rattle.std.specs.Prelude.{◌&&◌, ◌≤◌, if◌then◌else◌};
 ghost use Rattle.oc_base.specs.Stops.{is_kept_new};
@@ -10,7 +10,7 @@ ghost use Rattle.oc_world.specs.ProcessState.{IsLeft, IsOpen};
 use oc_io::MemDisk;
 use oc_keep::{Files, Kept, Ready};
 
-/// A node that runs crashes between two inputs.
+/// Crashes a node that runs, between two inputs.
 pub(crate) fn crash(kept: Kept<MemDisk>) -> Files<MemDisk>
     requires { IsOpen view_of kept }
     ensures { IsLeft kept.node.control (node_of kept) result }
@@ -23,8 +23,8 @@ pub(crate) fn crash(kept: Kept<MemDisk>) -> Files<MemDisk>
     }
 }
 
-/// A node that runs stops in an input that was made ready, once `calls` of the calls that write its frame
-/// have worked; the byte `image` is found wherever something was written and not synced.
+/// Stops a node that runs, in an input that was prepared, once `calls` of the calls that write its
+/// frame have worked; the byte `image` is found at each place that was written and not synced.
 pub(crate) fn stop(kept: Kept<MemDisk>, ready: Ready, calls: u8, image: u8) -> Files<MemDisk>
     requires open { IsOpen view_of kept }
     requires ready { CanCommit view_of kept ready }

@@ -30,7 +30,7 @@ pub(crate) fn text_of(alloc: Global, nodes: u32, message: &Message) -> Result<Ve
     Ok(text)
 }
 
-/// Puts the bytes of a message, those that its request brings, in place of what the buffer holds.
+/// Replaces the bytes in the buffer by those of a message's request.
 pub(crate) fn spell(out: &mut Vec<u8>, nodes: u32, message: &Message) -> Result<(), Memory>
     requires few { nodes ≤ MAX_NODES }
     requires lawful { IsMessage nodes message.now }
@@ -43,7 +43,7 @@ pub(crate) fn spell(out: &mut Vec<u8>, nodes: u32, message: &Message) -> Result<
     Ok(())
 }
 
-/// The message between `nodes` nodes that these bytes spell.
+/// The message between `nodes` nodes with these bytes.
 pub(crate) fn message_in(alloc: Global, bytes: &[u8], nodes: u32) -> Result<Message, Memory>
     requires few { nodes ≤ MAX_NODES }
     requires spelled { IsSpelled nodes bytes.now }
@@ -55,7 +55,7 @@ pub(crate) fn message_in(alloc: Global, bytes: &[u8], nodes: u32) -> Result<Mess
     }
 }
 
-/// Out of memory, which alone keeps the bytes of a letter from being read.
+/// Lack of memory, the only reason why the bytes of a letter can't be read.
 fn memory_of(fault: WireFault) -> Memory
     requires { fault ≡ WireFault.Memory }
 {

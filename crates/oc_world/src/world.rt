@@ -7,7 +7,7 @@ ghost use Rattle.oc_calm.specs.Cluster.{HasChain, IsStepOf, IsUpNode, is_ack};
 ghost use Rattle.oc_content.specs.ContentFile.{groups_in};
 ghost use Rattle.oc_journal.specs.JournalFile.{frames_of};
 ghost use Rattle.oc_keep.specs.Files.{Survives, disks};
-ghost use Rattle.oc_keep.specs.KeptView.{header, header_of};
+ghost use Rattle.oc_keep.specs.KeptView.{header_of};
 ghost use Rattle.oc_laws_step.specs.LawfulNode.{IsLawfulControl};
 ghost use Rattle.oc_model.specs.Lawful.{IsEvent, IsHeader, IsInput, IsMessage};
 ghost use Rattle.oc_model.specs.NextWorld.{crashed, next_world, started, stopped_at, word_of, word_of_act, word_of_stop};
@@ -26,7 +26,6 @@ ghost use Rattle.oc_world.specs.World.{RenewsAt, RenewsBy, processes_of};
 use crate::acting::act;
 use crate::arrivals::{delivery, message_place};
 use crate::net::Net;
-use crate::network::Network;
 use crate::process::Process;
 use crate::processes::new_processes;
 use oc_base::{Memory, NodeId, Shelf};
@@ -34,16 +33,16 @@ use oc_calm::{heal, is_settled, settle};
 use oc_io::MemDisk;
 use oc_keep::Node;
 use oc_laws_world::tests_decide;
-use oc_model::{Act, Answer, Event, Input, Message, NodeStatus, Word};
+use oc_model::{Act, Answer, Event, Header, Input, Message, NodeStatus, Word};
 use oc_replay::Said;
 use std::alloc::Global;
 use std::marker::Model;
 
 /// All nodes of a network on their files, and every message between them.
 ///
-/// It is seen as a world of the model, where a node that is down is what its files recover and the source
-/// what node 1 holds; and as the nodes on their files, where they are up. Every crash leaves what is durable
-/// of each node.
+/// Contracts see a world of the model, in which a node that is down is the node that its files
+/// recover, and the source is the content of node 1; and the nodes on their files while they are
+/// up. Every crash leaves the durable part of each node.
 #[derive(Drop)]
 pub struct World {
     pub(crate) alloc: Global,
@@ -64,7 +63,7 @@ impl Model for World {
 }
 
 impl World {
-    /// A world of no node and no message. It takes no memory.
+    /// A world without nodes and messages. Takes no memory.
     pub fn empty(alloc: Global) -> World
         ensures { result ≡ record { world = record { processes = []; net = []; source = [] }; kept = [] } }
     {
@@ -79,42 +78,31 @@ impl World {
     /// The world of a header, where all nodes are down on empty files, and nothing was sent. There are 1
     /// to 1,024 nodes, a chain of 1 to 16 members and at most all nodes, chunks of 1 to 524,288 bytes, and an area for
     /// each node.
-    pub fn new(
-        alloc: Global,
-        nodes: u32,
-        chain: u32,
-        chunk: u32,
-        areas: &[u8],
-    ) -> Result<World, Memory>
-        requires { IsHeader (header nodes chain chunk areas.now) }
-        ensures { IfOk result (λ world. world.world ≡ new_world (header nodes chain chunk areas.now)) }
+    pub fn new(alloc: Global, header: &Header) -> Result<World, Memory>
+        requires { IsHeader header.now }
+        ensures { IfOk result (λ world. world.world ≡ new_world header.now) }
     {
-        let network = Network {
-            nodes,
-            chain,
-            chunk,
-        };
         Ok(World {
             alloc,
-            chain,
-            processes: new_processes(alloc, network, areas)?,
-            net: Net::new(alloc, nodes),
+            chain: header.sizes.chain,
+            processes: new_processes(alloc, header)?,
+            net: Net::new(alloc, header.sizes.nodes),
         })
     }
 
-    /// Does what an event does, one within its ranges, and says its word and which messages it sent.
-    /// Settle and heal are given only where no clock of a node that is up is past the second 2^41 - 60.
+    /// Performs an event within its ranges, and gives its word and the messages it sent. Settle and
+    /// heal are given only if no clock of a node that is up is past the second 2^41 - 60.
     ///
-    /// It answers `Memory` where memory ran out, or where more than 2^63 - 2 messages would have been sent.
-    /// Then the world is as it was; for settle and heal it is the world after some of the first acts that they
-    /// are made of. The control files of nodes may have been turned over, which changes no node.
+    /// The error is `Memory` if memory ran out, or if more than 2^63 - 2 messages would have been
+    /// sent. Then the world is unchanged; for settle and heal it is the world after some of their
+    /// first acts. The control files of nodes may have been turned over, which changes no node.
     pub fn event(&mut self, event: &Event) -> Result<Said, Memory>
         requires event { IsEvent (length (ids self.old.world)) event.now }
         requires time { HasTimeFor self.old.world event.now }
         ensures world { OnOk result (self.new.world ≡ next_world self.old.world event.now) }
         ensures said { IfOk result (λ said. IsSaid (word_of self.old.world event.now) self.old.world self.new.world said) }
 
-        // A node to which an act comes has its control files turned over first, where they are ripe.
+        // An act at a node turns its control files over first, if they are ripe.
         ensures renews { OnOk result (RenewsBy event.now self.old self.new) }
         ensures err { OnErr result (IsLeftBy event.now self.old.world self.new.world) }
     {
@@ -127,7 +115,7 @@ impl World {
         })
     }
 
-    /// Does what an event does, and answers its word.
+    /// Performs an event, and gives its word.
     fn happen(&mut self, event: &Event) -> Result<Word, Memory>
         requires event { IsEvent (length (ids self.old.world)) event.now }
         requires time { HasTimeFor self.old.world event.now }
@@ -147,7 +135,7 @@ impl World {
         }
     }
 
-    /// The node starts from its files.
+    /// Starts a node from its files.
     fn start(&mut self, node: NodeId) -> Result<Word, Memory>
         requires { IsNode (length (ids self.old.world)) node }
         ensures world { OnOk result (self.new.world ≡ started self.old.world (process self.old.world node)) }
@@ -163,7 +151,7 @@ impl World {
         Ok(Word::Node(Answer::Ok))
     }
 
-    /// The node stops between two inputs.
+    /// Stops a node between two inputs.
     fn crash(&mut self, node: NodeId) -> Word
         requires { IsNode (length (ids self.old.world)) node }
         ensures world { self.new.world ≡ crashed self.old.world (process self.old.world node) }
@@ -178,7 +166,7 @@ impl World {
         Word::Node(Answer::Ok)
     }
 
-    /// An act, and the word of its node.
+    /// Performs an act, and gives the word of its node.
     pub(crate) fn take(&mut self, act: &Act) -> Result<Word, Memory>
         requires { IsStepOf self.old.world act.now }
         ensures world { OnOk result (self.new.world ≡ after_act self.old.world act.now) }
@@ -187,7 +175,7 @@ impl World {
         ensures err { OnErr result (self.new.world ≡ self.old.world) }
     {
         match act {
-            // A message comes by its number alone.
+            // A message is delivered by its number alone.
             Act::At {
                 input: Input::Delivered(_),
                 ..
@@ -197,7 +185,7 @@ impl World {
         }
     }
 
-    /// The message of this number comes to its receiver.
+    /// Delivers the message of this number to its receiver.
     fn deliver(&mut self, number: u64) -> Result<Word, Memory>
         ensures world { OnOk result (self.new.world ≡ acted self.old.world (delivery (message_at self.old.world.net number))) }
         ensures word { IfOk result (λ word. word ≡ word_of_act self.old.world (delivery (message_at self.old.world.net number))) }
@@ -210,7 +198,7 @@ impl World {
         }
     }
 
-    /// Does what an act does.
+    /// Performs an act.
     pub(crate) fn play(&mut self, act: &Act) -> Result<(), Memory>
         requires { IsStepOf self.old.world act.now }
         ensures world { OnOk result (self.new.world ≡ after_act self.old.world act.now) }
@@ -223,7 +211,7 @@ impl World {
         }
     }
 
-    /// An input comes to a node.
+    /// Gives an input to a node.
     fn act_at(&mut self, node: NodeId, input: &Input) -> Result<Word, Memory>
         requires node { IsNode (length (ids self.old.world)) node }
         requires input { IsInput (length (ids self.old.world)) node input.now }
@@ -241,7 +229,7 @@ impl World {
         Ok(Word::Node(answer))
     }
 
-    /// An act, in which the node stops once `calls` calls on its disk have worked.
+    /// Performs an act in which the node stops once `calls` calls on its disk have worked.
     fn stop(&mut self, act: &Act, calls: u8, image: u8) -> Result<Word, Memory>
         requires act { IsStepOf self.old.world act.now }
         requires calls { calls ≤ 4 }
@@ -250,7 +238,7 @@ impl World {
         ensures err { OnErr result (self.new.world ≡ self.old.world) }
     {
         match act {
-            // A message comes by its number alone.
+            // A message is delivered by its number alone.
             Act::At {
                 input: Input::Delivered(_),
                 ..
@@ -263,7 +251,7 @@ impl World {
         }
     }
 
-    /// An input comes to a node, which stops in it.
+    /// Gives an input to a node, which stops during it.
     fn stop_at(&mut self, node: NodeId, input: &Input, calls: u8, image: u8) -> Result<Word, Memory>
         requires node { IsNode (length (ids self.old.world)) node }
         requires input { IsInput (length (ids self.old.world)) node input.now }
@@ -281,8 +269,8 @@ impl World {
         Ok(stop_word(kept_new))
     }
 
-    /// The message of this number, counted from 1 over all that were sent; none where there is none. It is
-    /// read from its bytes.
+    /// The message of this number, counted from 1 over all that were sent; none if there is none.
+    /// It is read from its bytes.
     pub fn message(&self, number: u64) -> Result<Option<Message>, Memory>
         ensures found { IfOk result (λ found. found ≡ message_at self.now.world.net number) }
         ensures lawful { IfOk result (λ found. IfSome found (IsMessage (length (ids self.now.world)))) }
@@ -293,7 +281,7 @@ impl World {
         }
     }
 
-    /// The text of the message of this number, the request that brings it to its receiver; none where
+    /// The text of the message of this number, the request that brings it to its receiver; none if
     /// there is no such message.
     pub fn text(&self, number: u64) -> Result<Option<Vec<u8>>, Memory>
         ensures { IfOk result (λ found. IsTextOf (message_at self.now.world.net number) (option_map (λ t. t.items) found)) }
@@ -304,8 +292,8 @@ impl World {
         }
     }
 
-    /// The groups of a node with their lengths and seals, ascending by name; those that the files recover,
-    /// where the node is down.
+    /// The groups of a node with their lengths and seals, ascending by name; for a node that is
+    /// down, those that the files recover.
     pub fn held(&self, node: NodeId) -> Result<Vec<Shelf>, Memory>
         requires { IsNode (length (ids self.now.world)) node }
         ensures { IfOk result (λ lines. lines.items ≡ shelf (node_in self.now.world node).groups) }
@@ -316,7 +304,8 @@ impl World {
         Ok(lines)
     }
 
-    /// The digits that stand for what a node's files hold: its control part, and the lengths and seals of its groups.
+    /// The digest of a node's files: of its control part, and of the lengths and seals of its
+    /// groups.
     pub fn digest(&self, node: NodeId) -> Result<Vec<u8>, Memory>
         requires { IsNode (length (ids self.now.world)) node }
         ensures { IfOk result (λ digits. let n = node_in self.now.world node in digits.items ≡ digest_text n.control.kept (shelf n.groups)) }
@@ -327,7 +316,7 @@ impl World {
         Ok(digits)
     }
 
-    /// The state of a node; what its files recover, where it is down.
+    /// The state of a node; for a node that is down, the state that its files recover.
     pub fn status(&self, node: NodeId) -> Result<NodeStatus, Memory>
         requires { IsNode (length (ids self.now.world)) node }
         ensures { IfOk result (λ status. status ≡ status_in self.now.world node) }
@@ -338,12 +327,12 @@ impl World {
         Ok(status)
     }
 
-    /// The disks of a node's files, those of the control files before that of the content; none where there
-    /// is no such node.
+    /// The disks of a node's files, those of the control files before that of the content; none if
+    /// there is no such node.
     pub fn into_disks(self, node: NodeId) -> Option<(MemDisk, MemDisk, MemDisk)>
         ensures found { IsSome result ↔ IsNode (length (ids self.world)) node }
 
-        // Every crash of them leaves what is durable of the node, and of node 1 the source.
+        // Every crash of the disks leaves the durable part of the node, and for node 1 the source.
         ensures survives { IfSome result (λ left. let n = node_in self.world node in
             Survives view_of (header_of n.control) node (disks left.0 left.1 left.2) n) }
         ensures source { IfSome result (λ left. node ≡ 1 → (content : List ℕ)
@@ -370,8 +359,9 @@ impl World {
         1 <= node.0 && node.0 <= self.count()
     }
 
-    /// Whether the world is settled: one node that is up acts as root, every other one that is up has a true
-    /// chain to it and its lease, no other lease is held, and nothing waits to be told. It takes no memory.
+    /// Whether the world is settled: one node that is up acts as root, every other one that is up
+    /// has a true chain to it and its lease, no other lease is held, and no report waits to be
+    /// sent. Takes no memory.
     pub fn settled(&self) -> bool
         ensures { IsTrue result ↔ IsSettled self.now.world }
     {
@@ -379,7 +369,7 @@ impl World {
         is_settled(self)
     }
 
-    /// A node that is up.
+    /// A node, which must be up.
     pub(crate) fn node(&self, node: NodeId) -> &Node
         requires { IsUpNode self.now.world node }
         ensures control { result.now.control ≡ (node_in self.now.world node).control }
@@ -399,7 +389,7 @@ impl World {
         self.processes[at].is_up()
     }
 
-    /// How many nodes there are.
+    /// The number of nodes.
     pub fn count(&self) -> u32
         ensures ids { ids self.now.world ≡ range_with_len 1 result }
         ensures few { result ≤ MAX_NODES }
@@ -407,7 +397,7 @@ impl World {
         self.processes.len() as u32
     }
 
-    /// How many messages were ever sent.
+    /// The number of messages that were ever sent.
     pub fn sent_count(&self) -> u64
         ensures count { result ≡ length self.now.world.net }
         ensures few { result < 2 ^ 63 }
@@ -415,7 +405,7 @@ impl World {
         self.net.len() as u64
     }
 
-    /// Whether the message that was sent last acknowledges a check-in.
+    /// Whether the last message sent acknowledges a check-in.
     pub(crate) fn ends_with_ack(&self) -> bool
         ensures { result ≡ is_ack (last_body self.now.world) }
     {
@@ -430,7 +420,7 @@ impl World {
     }
 }
 
-/// The word of a stop, by whether what was about to be written was kept.
+/// The word of a stop, given whether the frame that was being written was kept.
 fn stop_word(kept_new: bool) -> Word
     ensures { result ≡ (if kept_new then Word.StoppedNew else Word.StoppedOld) }
 {

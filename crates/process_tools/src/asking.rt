@@ -1,9 +1,9 @@
-//! Requests as a client writes them.
+//! Requests of a client, as text.
 
 use crate::node::Home;
 use std::io::{self, Read, Write};
 
-/// What the node answers to this text, to the end of the connection.
+/// The answer of the node to this text, up to the end of the connection.
 pub fn ask(rt: &HostRuntime, home: &Home, text: &[u8]) -> io::Result<Vec<u8>> {
     let mut stream = home.connect(rt)?;
     stream.write_all(text)?;
@@ -27,12 +27,12 @@ pub fn get_text(rt: &HostRuntime, path: &str) -> io::Result<String> {
     Ok(format!(in rt.alloc(); "GET {} HTTP/1.1\r\nHost: localhost\r\n\r\n", path)?)
 }
 
-/// Whether this is a reply of 200.
+/// Whether the reply has status 200.
 pub fn is_ok(reply: &[u8]) -> bool {
     reply.starts_with(b"HTTP/1.1 200 OK\r\n")
 }
 
-/// What follows the head of a reply.
+/// The bytes after the head of a reply.
 pub fn body_of(reply: &[u8]) -> &[u8] {
     for at in 0..reply.len() {
         if let Some(rest) = reply.get(at..) {

@@ -1,23 +1,24 @@
-//! Rows of the table of cases.
+//! The rows of the table of cases.
 
 use crate::ending::Ending;
 use std::io;
 use std::process::Command;
 
-/// The signs at the front of what is no word of a command line.
+/// The first characters of pieces that are not words of a command line.
 const SIGNS: [&str; 4] = ["<", ">", "2>", "@"];
 
-/// A row: a run of the program, and how it has to end.
+/// A row: a run of the program, and the expected end.
 #[derive(Clone, Copy)]
 pub struct Case<'a> {
     pub name: &'a str,
-    /// The command line; or two with ` | ` between them, where the output of the first is the input of the second.
+    /// The command line; or two with ` | ` between them, for which the output of the first is the
+    /// input of the second.
     pub run: &'a str,
     pub ending: Ending<'a>,
 }
 
 impl<'a> Case<'a> {
-    /// The case of a row. An empty row and one that begins with `#` have none.
+    /// The case of a row; none for an empty row and one that begins with `#`.
     pub fn read(row: &'a str) -> Option<Case<'a>> {
         if row.is_empty() || row.starts_with('#') {
             return None;
@@ -32,13 +33,13 @@ impl<'a> Case<'a> {
     }
 }
 
-/// The words of a run, and the files of its streams among them, as a shell writes these.
+/// The words of a run with the files of its streams, as in a shell.
 #[derive(Clone, Copy)]
 pub struct CommandLine<'a>(pub &'a str);
 
 impl<'a> CommandLine<'a> {
-    /// Gives a command the words, of which there is one at least: with none the program would play the cases again.
-    /// `''` is an empty one.
+    /// Gives the words to a command. At least one is needed: without words the program would play
+    /// the cases again. `''` is an empty word.
     pub fn put_words(&self, command: &mut Command) -> io::Result<()> {
         let mut has_word = false;
         for piece in self.0.split_ascii_whitespace() {
@@ -69,12 +70,12 @@ impl<'a> CommandLine<'a> {
         self.behind("2>")
     }
 
-    /// The folder with the files that lie where the program runs.
+    /// The folder whose files are copied to where the program runs.
     pub fn folder(&self) -> Option<&'a str> {
         self.behind("@")
     }
 
-    /// What follows a sign.
+    /// The text after a sign.
     fn behind(&self, sign: &str) -> Option<&'a str> {
         for piece in self.0.split_ascii_whitespace() {
             if let Some(rest) = piece.strip_prefix(sign) {

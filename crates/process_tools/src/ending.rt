@@ -1,23 +1,24 @@
-//! How a run ends.
+//! The end of a run.
 
 use crate::texts::{cut_line, excerpt, first_difference, first_missing, from_event};
 use std::alloc::{AllocError, Global};
 use std::process::Output;
 use std::{fs, io};
 
-/// How a run has to end.
+/// The expected end of a run.
 #[derive(Clone, Copy)]
 pub struct Ending<'a> {
     status: Option<i32>,
-    /// The file with the output, or nothing.
+    /// The file with the expected output, or nothing.
     output: Option<&'a str>,
-    /// The lines on the error output, with ` // ` between them; after `<` the file with all that is there; or nothing.
+    /// The expected lines on the error output, with ` // ` between them; after `<` the file with
+    /// all of them; or nothing.
     errors: Option<&'a str>,
 }
 
 impl<'a> Ending<'a> {
-    /// The end that a row wants: a status, the output, and the error output. `-` is nothing, and so is what a row
-    /// leaves out.
+    /// The end that a row expects: a status, the output, and the error output. `-` means nothing,
+    /// and so does a missing field.
     pub fn read(text: &'a str) -> Ending<'a> {
         let (status, rest) = text.split_once(' ').unwrap_or((text, ""));
         let (output, errors) = rest.split_once(' ').unwrap_or((rest, ""));
@@ -28,7 +29,8 @@ impl<'a> Ending<'a> {
         }
     }
 
-    /// Where a run first differs from this end, if it does: in the status, on the error output, or on the output.
+    /// The first difference between a run and this end, if there is one: in the status, on the
+    /// error output, or on the output.
     pub fn difference(&self, rt: &HostRuntime, got: &Output) -> io::Result<Option<String>> {
         if got.status.code() != self.status {
             return Ok(Some(told_status(rt.alloc(), got)?));
@@ -40,7 +42,7 @@ impl<'a> Ending<'a> {
         self.output_difference(rt, &got.stdout)
     }
 
-    /// All that has to be on the error output.
+    /// The expected bytes on the error output.
     fn wanted_errors(&self, rt: &HostRuntime) -> io::Result<Vec<u8>> {
         let Some(errors) = self.errors else {
             return Ok(Vec::new(rt.alloc()));
@@ -52,9 +54,10 @@ impl<'a> Ending<'a> {
         Ok(format!(in rt.alloc(); "{lines}\n")?.into_bytes())
     }
 
-    /// Where the output differs from what has to come. A file `NAME.tail` has the end of the output, from the event
-    /// on with which the file begins; `NAME.excerpt` has its length and some of its lines; `NAME.some` has some of its
-    /// lines, in their order; any other file all of it.
+    /// The difference between the output and the expected one. A file `NAME.tail` has the end of
+    /// the output, beginning with the event in its first line; `NAME.excerpt` has its length and
+    /// some of its lines; `NAME.some` has some of its lines, in order; any other file has all of
+    /// it.
     fn output_difference(&self, rt: &HostRuntime, seen: &[u8]) -> io::Result<Option<String>> {
         let Some(file) = self.output else {
             return told_difference(rt, "output", seen, b"");
@@ -82,7 +85,7 @@ fn given(field: &str) -> Option<&str> {
     }
 }
 
-/// Tells the status of a run, and the first line on its error output.
+/// A message with the status of a run, and the first line on its error output.
 fn told_status(alloc: Global, got: &Output) -> Result<String, AllocError> {
     let (line, _) = cut_line(&got.stderr);
     let line = shown(line);
@@ -92,7 +95,7 @@ fn told_status(alloc: Global, got: &Output) -> Result<String, AllocError> {
     }
 }
 
-/// Tells the first line of a text that is not as expected.
+/// A message with the first line of a text that is not as expected.
 fn told_difference(
     rt: &HostRuntime,
     name: &str,
@@ -105,7 +108,7 @@ fn told_difference(
     Ok(Some(format!(in rt.alloc(); "line {} of the {}, {}", number, name, shown(line))?))
 }
 
-/// Tells the first of some lines that a text does not have, after the others.
+/// A message with the first expected line that a text does not have, after the others.
 fn told_missing(rt: &HostRuntime, seen: &[u8], wanted: &[u8]) -> io::Result<Option<String>> {
     let Some(line) = first_missing(seen, wanted) else {
         return Ok(None);
@@ -113,7 +116,7 @@ fn told_missing(rt: &HostRuntime, seen: &[u8], wanted: &[u8]) -> io::Result<Opti
     Ok(Some(format!(in rt.alloc(); "the output has no line {}", shown(line))?))
 }
 
-/// Bytes as a report shows them.
+/// The form of bytes in a report.
 fn shown(bytes: &[u8]) -> &str {
     std::str::from_utf8(bytes).unwrap_or("no text")
 }

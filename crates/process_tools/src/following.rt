@@ -1,29 +1,31 @@
-//! Three nodes, of which one is killed.
+//! A case of three nodes, of which one is killed.
 
 use crate::asking::{ask, body_of, get_text, is_ok, publish_text};
 use crate::node::{Home, end, free_port};
 use std::time::Duration;
 use std::{io, thread};
 
-/// The group, and the path at which a node answers by itself, whatever its place.
+/// The path of the group, and the path that each node answers by itself, whatever its place.
 const GROUP: &str = "/news/c";
 
 const HERE: &str = "/news/c?here";
 
-/// What is published before the kill, what is published after it, and both.
+/// The bytes published before the kill, those published after it, and both.
 const FIRST: &str = "some bytes, ";
 
 const SECOND: &str = "and some more";
 
 const BOTH: &str = "some bytes, and some more";
 
-/// How often a node is asked whether it holds what was published, and the time between two tries.
+/// The greatest number of tries to find the published bytes at a node, and the time between two
+/// tries.
 const MOST_TRIES: u32 = 600;
 
 const TRY_MILLIS: u64 = 50;
 
-/// Starts three nodes, publishes, kills node 2 once it and node 3 have what was published, publishes more, and starts node 2
-/// again; says at which node what was published does not come, if it does not.
+/// Starts three nodes, publishes, kills node 2 once it and node 3 have the published bytes,
+/// publishes more, and starts node 2 again. Gives the node at which the bytes do not arrive, if
+/// there is one.
 pub fn follow_the_living(rt: &HostRuntime) -> io::Result<Option<String>> {
     let ports = [free_port(rt)?, free_port(rt)?, free_port(rt)?];
     let first = Home::of(rt, "first_of_three", 1, &ports)?;
@@ -37,7 +39,7 @@ pub fn follow_the_living(rt: &HostRuntime) -> io::Result<Option<String>> {
     seen
 }
 
-/// The same, where nodes 1 and 3 run.
+/// The same steps, once nodes 1 and 3 run.
 fn kill_between(
     rt: &HostRuntime,
     first: &Home,
@@ -57,7 +59,7 @@ fn kill_between(
     seen
 }
 
-/// Starts node 2, publishes, and kills node 2 once it and node 3 have that.
+/// Starts node 2, publishes, and kills node 2 once it and node 3 have the bytes.
 fn publish_to_second(
     rt: &HostRuntime,
     first: &Home,
@@ -75,13 +77,13 @@ fn publish_to_second(
     }
 }
 
-/// Publishes at the source. Whether it took the bytes is told by what the nodes then hold.
+/// Publishes at the source. Whether the bytes were taken shows later at the nodes.
 fn publish(rt: &HostRuntime, source: &Home, bytes: &str) -> io::Result<()> {
     ask(rt, source, publish_text(rt, GROUP, bytes)?.as_bytes())?;
     Ok(())
 }
 
-/// Waits until a node holds these bytes of the group and no more; tells where it does not come to that.
+/// Waits until a node holds exactly these bytes of the group; gives a message if it never does.
 fn missing(rt: &HostRuntime, home: &Home, wanted: &str) -> io::Result<Option<String>> {
     let text = get_text(rt, HERE)?;
     for _ in 0..MOST_TRIES {

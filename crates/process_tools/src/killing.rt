@@ -1,4 +1,4 @@
-//! Nodes that are killed in the middle of publishing.
+//! Kills of a node in the middle of publishing.
 
 use crate::asking::{ask, body_of, get_text, is_ok, publish_text};
 use crate::node::{Home, end};
@@ -7,19 +7,20 @@ use std::io::{self, Write};
 use std::thread;
 use std::time::Duration;
 
-/// How often a node is killed.
+/// The number of kills.
 const KILLS: u32 = 50;
 
-/// What is published again and again.
+/// The piece that is published again and again.
 const PIECE: &str = "one more piece.\n";
 
-/// The time between the last publish and the kill is one of this many, a step apart.
+/// The number of different times between the last publish and the kill, one step apart.
 const DELAYS: u32 = 9;
 
 const STEP_MICROS: u64 = 150;
 
-/// Kills a node fifty times while a publish is under way. Each time `check` of its files, and a GET once it runs
-/// again, give every piece that was answered 200 and nothing but whole pieces; says what was lost, or none.
+/// Kills a node fifty times while a publish is under way. After each kill `check` of its files, and
+/// a GET once it runs again, must give every piece that was answered 200, and only whole pieces.
+/// Gives a message on a loss, or none.
 pub fn kill_often(rt: &HostRuntime) -> io::Result<Option<String>> {
     let home = Home::new(rt, "killed")?;
     kill_there(rt, &home)
@@ -39,7 +40,7 @@ fn kill_there(rt: &HostRuntime, home: &Home) -> io::Result<Option<String>> {
     Ok(None)
 }
 
-/// Tells what was lost at a kill.
+/// A message on the pieces lost at a kill.
 fn told_loss(
     alloc: Global,
     number: u32,
@@ -50,7 +51,8 @@ fn told_loss(
     format!(in alloc; "kill {number}: {answered} answered, {checked:?} checked, {served:?} served")
 }
 
-/// Starts the node, publishes a few pieces, begins one more, and kills the node; says how many were answered 200.
+/// Starts the node, publishes a few pieces, begins one more, and kills the node; gives the number
+/// of pieces answered 200.
 fn publish_and_kill(rt: &HostRuntime, home: &Home, number: u32) -> io::Result<usize> {
     let node = home.start(rt)?;
     let answered = publish_few(rt, home, number)?;
@@ -66,7 +68,7 @@ fn publish_few(rt: &HostRuntime, home: &Home, number: u32) -> io::Result<usize> 
     Ok(answered)
 }
 
-/// Asks so often for this publish, and says how often the answer was 200.
+/// Publishes this text `count` times, and gives the number of answers 200.
 fn publish_all(rt: &HostRuntime, home: &Home, text: &[u8], count: u32) -> io::Result<usize> {
     let mut answered = 0usize;
     for _ in 0..count {
@@ -77,7 +79,8 @@ fn publish_all(rt: &HostRuntime, home: &Home, text: &[u8], count: u32) -> io::Re
     Ok(answered)
 }
 
-/// Asks once more, and waits for `steps` steps and not for the answer. The connection stays until then.
+/// Begins one more request, and waits for `steps` steps instead of the answer. The connection stays
+/// open until then.
 fn begin_last(rt: &HostRuntime, home: &Home, text: &[u8], steps: u32) -> io::Result<()> {
     let mut last = home.connect(rt)?;
     last.write_all(text)?;
@@ -86,7 +89,8 @@ fn begin_last(rt: &HostRuntime, home: &Home, text: &[u8], steps: u32) -> io::Res
     Ok(())
 }
 
-/// How many pieces `check` finds in the node's files; none where that is no whole number.
+/// The number of pieces that `check` finds in the node's files; none if the length is not that of
+/// whole pieces.
 fn checked_pieces(rt: &HostRuntime, home: &Home) -> io::Result<Option<usize>> {
     let output = home.output(rt, &["check", "1", "1", "1"])?;
     let text = std::str::from_utf8(&output.stdout).unwrap_or("");
@@ -98,7 +102,7 @@ fn checked_pieces(rt: &HostRuntime, home: &Home) -> io::Result<Option<usize>> {
     Ok(Some(0))
 }
 
-/// How many pieces the node serves once it runs again; none where it serves anything else.
+/// The number of pieces that the node serves once it runs again; none if it serves anything else.
 fn served_pieces(rt: &HostRuntime, home: &Home) -> io::Result<Option<usize>> {
     let node = home.start(rt)?;
     let pieces = pieces_there(rt, home)?;
@@ -106,14 +110,14 @@ fn served_pieces(rt: &HostRuntime, home: &Home) -> io::Result<Option<usize>> {
     Ok(pieces)
 }
 
-/// The same for a node that runs.
+/// The number of pieces that a running node serves.
 fn pieces_there(rt: &HostRuntime, home: &Home) -> io::Result<Option<usize>> {
     let request = get_text(rt, "/log")?;
     let reply = ask(rt, home, request.as_bytes())?;
     Ok(pieces_in(&reply))
 }
 
-/// How many pieces a reply brings; none where it brings anything else.
+/// The number of pieces in a reply; none if it has anything else.
 fn pieces_in(reply: &[u8]) -> Option<usize> {
     if reply.starts_with(b"HTTP/1.1 404 ") {
         return Some(0);
@@ -126,14 +130,14 @@ fn pieces_in(reply: &[u8]) -> Option<usize> {
     }
 }
 
-/// Whether bytes are the same piece again and again.
+/// Whether bytes consist of the same piece again and again.
 fn are_pieces(bytes: &[u8]) -> bool {
     bytes
         .chunks(PIECE.len())
         .all(|piece| piece == PIECE.as_bytes())
 }
 
-/// How many pieces `bytes` bytes are, where that is a whole number.
+/// The number of pieces in `bytes` bytes, if it is whole.
 fn whole_pieces(bytes: usize) -> Option<usize> {
     if bytes % PIECE.len() == 0 {
         Some(bytes / PIECE.len())

@@ -7,15 +7,15 @@ use std::process::{Child, ChildStdin, Command, Output, Stdio};
 use std::time::Duration;
 use std::{fs, thread};
 
-/// The most turns that a node runs.
+/// The greatest number of turns that a node runs.
 const TURNS: &str = "1000000";
 
-/// How often a first connection is tried, and the time between two tries.
+/// The greatest number of tries of a first connection, and the time between two tries.
 const MOST_TRIES: u32 = 1_000;
 
 const TRY_MILLIS: u64 = 10;
 
-/// Where a node runs: its number, its folder, its port, and the configuration of its network.
+/// The place of a node: its number, its folder, its port, and the configuration of its network.
 #[derive(Drop)]
 pub struct Home {
     pub node: u16,
@@ -25,13 +25,14 @@ pub struct Home {
 }
 
 impl Home {
-    /// A new folder of that name, for a node on a port on which nobody listens, in a network of its own.
+    /// A new folder with this name, for a node on a free port, in a network of its own.
     pub fn new(rt: &HostRuntime, name: &str) -> io::Result<Home> {
         let port = free_port(rt)?;
         Home::of(rt, name, 1, &[port])
     }
 
-    /// A new folder of that name, for this node of a network whose nodes have these ports, that of node 1 first.
+    /// A new folder with this name, for this node of a network whose nodes have these ports, that
+    /// of node 1 first.
     pub fn of(rt: &HostRuntime, name: &str, node: u16, ports: &[u16]) -> io::Result<Home> {
         fs::create_dir(rt, name)?;
         Ok(Home {
@@ -42,7 +43,7 @@ impl Home {
         })
     }
 
-    /// Starts the node, and comes back once it listens.
+    /// Starts the node, and returns once it listens.
     pub fn start(&self, rt: &HostRuntime) -> io::Result<Child> {
         let mut node = self.spawn(rt)?;
         self.begin(rt, &mut node)?;
@@ -88,7 +89,7 @@ impl Home {
         TcpStream::connect(rt, address.as_str())
     }
 
-    /// What the program gives with these words in the folder.
+    /// The output of the program with these words in the folder.
     pub fn output(&self, rt: &HostRuntime, words: &[&str]) -> io::Result<Output> {
         self.program(rt, words)?.output(rt)
     }
@@ -140,7 +141,7 @@ fn configuration_of(rt: &HostRuntime, ports: &[u16]) -> io::Result<String> {
     Ok(text)
 }
 
-/// A port on which nobody listens.
+/// A port at which nobody listens.
 pub fn free_port(rt: &HostRuntime) -> io::Result<u16> {
     let listener = TcpListener::bind(rt, "localhost:0")?;
     Ok(listener.local_addr()?.port())

@@ -1,4 +1,4 @@
-//! The program beside a peer that this process plays: one that resets, that ends, or that says nothing.
+//! The program with a peer played by this process: one that resets, ends, or says nothing.
 
 use crate::case::{Case, CommandLine};
 use crate::node::free_port;
@@ -10,13 +10,14 @@ use std::process::Stdio;
 use std::thread;
 use std::time::Duration;
 
-/// How often a connection is looked for, and the time between two looks.
+/// The greatest number of looks for a connection, and the time between two looks.
 const MOST_LOOKS: u32 = 1_500;
 
 const LOOK_MILLIS: u64 = 10;
 
-/// Plays the rows of a table of which each is a run of the program, and after ` ^ ` what its peer does. `PEER` stands for
-/// the port at which the peer listens, and `PORT` for one on which nobody does.
+/// Plays the rows of a table. Each is a run of the program, with the steps of its peer after ` ^ `.
+/// `PEER` is replaced by the port at which the peer listens, and `PORT` by one at which nobody
+/// does.
 pub fn play_peers(rt: &HostRuntime, table: &str) -> io::Result<()> {
     let listener = TcpListener::bind(rt, "localhost:0")?;
     listener.set_nonblocking(true)?;
@@ -33,8 +34,8 @@ pub fn play_peers(rt: &HostRuntime, table: &str) -> io::Result<()> {
     Ok(())
 }
 
-/// Plays a case, and says how it differs from what has to come, if it does, or what the peer heard in place of what it
-/// had to hear.
+/// Plays a case, and gives its difference from the expected end, or from the bytes that the peer
+/// expects, if there is one.
 fn play_beside(
     rt: &HostRuntime,
     case: &Case<'_>,
@@ -60,8 +61,8 @@ fn play_beside(
     }
 }
 
-/// Takes the connections that come, one after another. What is done on each begins with `accept`, and after it the
-/// connection is dropped: where not all that came was read, the system then sends a reset.
+/// Accepts the connections, one after another. The steps on each begin with `accept`, and after
+/// them the connection is dropped: if bytes are left unread, the system then sends a reset.
 fn play_peer(rt: &HostRuntime, listener: &TcpListener, steps: &str) -> io::Result<Option<String>> {
     let mut rest = steps.strip_prefix("accept ^ ").unwrap_or(steps);
     for _ in 0..steps.len() {
@@ -78,7 +79,7 @@ fn play_peer(rt: &HostRuntime, listener: &TcpListener, steps: &str) -> io::Resul
     Ok(None)
 }
 
-/// Drops the connections that wait: those that a run before made and its peer did not take.
+/// Drops the waiting connections, which a run before made and its peer did not accept.
 fn drop_waiting(listener: &TcpListener) {
     for _ in 0..MOST_LOOKS {
         if listener.accept().is_err() {
@@ -87,7 +88,7 @@ fn drop_waiting(listener: &TcpListener) {
     }
 }
 
-/// The connection that comes next, if one does in time.
+/// The next connection, if one comes in time.
 fn accepted(rt: &HostRuntime, listener: &TcpListener) -> io::Result<TcpStream> {
     for _ in 0..MOST_LOOKS {
         match listener.accept() {

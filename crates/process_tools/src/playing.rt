@@ -1,4 +1,4 @@
-//! Runs of the rows.
+//! Playing of the rows.
 
 use crate::case::{Case, CommandLine};
 use crate::following::follow_the_living;
@@ -18,14 +18,14 @@ const NODE_FILES: [&str; 3] = ["control.log", "control.alt", "content.log"];
 /// The ports that rows name.
 #[derive(Clone, Copy)]
 pub struct Ports {
-    /// In the places of `PORT`: that of a node, or one on which nobody listens.
+    /// The port in place of `PORT`: that of a node, or one at which nobody listens.
     pub port: u16,
-    /// In the places of `PEER`: that of a peer, if there is one.
+    /// The port in place of `PEER`: that of a peer, if there is one.
     pub peer: Option<u16>,
 }
 
 impl Ports {
-    /// This port, and no peer.
+    /// A port for `PORT`, and no peer.
     pub fn only(port: u16) -> Ports {
         Ports { port, peer: None }
     }
@@ -55,7 +55,8 @@ pub fn play_rows(rt: &HostRuntime, table: &str, ports: Ports) -> io::Result<()> 
     Ok(())
 }
 
-/// Prints the line of a case: what was seen in place of what has to come, or why it was not played, or that all is well.
+/// Prints the line of a case: the difference from the expected end, or the reason why it was not
+/// played, or `ok`.
 pub fn tell(rt: &HostRuntime, name: &str, seen: io::Result<Option<String>>) -> io::Result<()> {
     match seen {
         Ok(None) => println!(rt; "{name} ok"),
@@ -64,13 +65,13 @@ pub fn tell(rt: &HostRuntime, name: &str, seen: io::Result<Option<String>>) -> i
     }
 }
 
-/// Plays a case, and says how it differs from what has to come, if it does.
+/// Plays a case, and gives its difference from the expected end, if there is one.
 fn play_case(rt: &HostRuntime, case: &Case<'_>, ports: Ports) -> io::Result<Option<String>> {
     let got = outcome(rt, case, ports)?;
     case.ending.difference(rt, &got)
 }
 
-/// What the run of a case gives.
+/// The result of a case's run.
 fn outcome(rt: &HostRuntime, case: &Case<'_>, ports: Ports) -> io::Result<Output> {
     match case.run.split_once(" | ") {
         Some((front, back)) => piped(rt, case.name, front, back, ports),
@@ -78,7 +79,8 @@ fn outcome(rt: &HostRuntime, case: &Case<'_>, ports: Ports) -> io::Result<Output
     }
 }
 
-/// What the second of two command lines gives on the output of the first, which is waited for once the second has ended.
+/// The result of the second of two command lines, with the output of the first as its input. The
+/// first is waited for once the second has ended.
 fn piped(
     rt: &HostRuntime,
     name: &str,
@@ -94,7 +96,7 @@ fn piped(
     Ok(got)
 }
 
-/// What a command line gives on the output of a program that runs.
+/// The result of a command line with the output of a running program as its input.
 fn run_behind(
     rt: &HostRuntime,
     feeder: &mut Child,
@@ -134,7 +136,7 @@ fn prepare(
     Ok(())
 }
 
-/// Gives a command the files that take its output and its error output.
+/// Gives a command the files for its output and its error output.
 fn put_outputs(rt: &HostRuntime, command: &mut Command, line: CommandLine<'_>) -> io::Result<()> {
     if let Some(file) = line.output() {
         command.stdout(sink(rt, file)?);
@@ -159,19 +161,19 @@ fn opened(rt: &HostRuntime, file: &str) -> io::Result<Stdio> {
     Ok(Stdio::from(File::open(rt, file)?))
 }
 
-/// A configuration in which `PORT` and `PEER` stand for these ports.
+/// A configuration with these ports in place of `PORT` and `PEER`.
 fn configuration(rt: &HostRuntime, name: &str, file: &str, ports: Ports) -> io::Result<Stdio> {
     let copy = format!(in rt.alloc(); "{name}.toml")?;
     write_with_ports(rt, copy.as_str(), file, ports)?;
     opened(rt, copy.as_str())
 }
 
-/// Writes the text of a file, with the ports that it names, to another.
+/// Copies the text of a file, with the ports filled in, to another.
 fn write_with_ports(rt: &HostRuntime, copy: &str, file: &str, ports: Ports) -> io::Result<()> {
     fs::write(rt, copy, with_ports(rt, file, ports)?)
 }
 
-/// The text of a file, with ports in the places of `PORT` and `PEER`.
+/// The text of a file, with ports in place of `PORT` and `PEER`.
 pub fn with_ports(rt: &HostRuntime, file: &str, ports: Ports) -> io::Result<String> {
     let text = fs::read_to_string(rt, file)?;
     let port = format!(in rt.alloc(); "{}", ports.port)?;
@@ -212,7 +214,7 @@ fn path_in(alloc: Global, folder: &str, file: &str) -> Result<String, AllocError
     format!(in alloc; "{folder}/{file}")
 }
 
-/// Copies a file, if it is there. In place of a folder comes an empty one.
+/// Copies a file, if it is there. A folder is copied as an empty folder.
 fn copy_file(rt: &HostRuntime, from: &str, to: &str) -> io::Result<()> {
     match fs::metadata(rt, from) {
         Ok(found) if found.is_dir() => fs::create_dir(rt, to),

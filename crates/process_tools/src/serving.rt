@@ -1,4 +1,4 @@
-//! A node that serves, and the program beside it.
+//! A node that serves, and runs of the program against it.
 
 use crate::asking::{ask, publish_text};
 use crate::node::{Home, end};
@@ -6,8 +6,8 @@ use crate::playing::{Ports, play_rows};
 use crate::talking::play_talks;
 use std::io;
 
-/// Plays the rows of `served.txt` beside a node that holds five bytes of one group, and three of one that is sealed; then
-/// those of `talks.txt`, conversations with it.
+/// Plays the rows of `served.txt` with a node that holds five bytes of one group, and three of
+/// another that is sealed; then those of `talks.txt`, conversations with it.
 pub fn play_served(rt: &HostRuntime) -> io::Result<()> {
     let home = Home::new(rt, "served")?;
     let node = home.start(rt)?;
@@ -24,7 +24,7 @@ fn play_beside(rt: &HostRuntime, home: &Home) -> io::Result<()> {
     play_talks(rt, home, "talks.txt")
 }
 
-/// Publishes bytes, or seals a group. The rows tell whether the node took them.
+/// Publishes bytes, or seals a group. The rows show whether the node took them.
 fn publish(rt: &HostRuntime, home: &Home, path: &str, bytes: &str) -> io::Result<()> {
     ask(rt, home, publish_text(rt, path, bytes)?.as_bytes())?;
     Ok(())

@@ -8,36 +8,36 @@ use std::time::Duration;
 use std::{fs, thread};
 use test_tools::spelled_in;
 
-/// How long a byte is waited for at most, and the peer's end, in milliseconds.
+/// The longest wait for a byte and for the peer's end, in milliseconds.
 const PATIENCE_MILLIS: u64 = 15_000;
 
-/// How much is read at a time, in bytes, and the pause after each piece where it is read slowly.
+/// The number of bytes in one read, and the pause after each piece of a slow read.
 const PIECE: usize = 65_536;
 
 const SLOW_MILLIS: u64 = 10;
 
-/// How many bytes of what came are told where they are not those that have to come.
+/// The number of bytes shown in a message on unexpected bytes.
 const TOLD: usize = 80;
 
 /// A step of a conversation.
 #[derive(Clone, Copy)]
 enum Step<'a> {
-    /// These bytes are sent, as far as the peer takes them.
+    /// Sends these bytes, as far as the peer takes them.
     Send(&'a str),
-    /// These bytes come next.
+    /// Expects these bytes next.
     Hear(&'a str),
-    /// These bytes come next, and are read slowly.
+    /// Expects these bytes next, and reads them slowly.
     HearSlowly(&'a str),
-    /// The peer ends.
+    /// Expects the peer's end.
     End,
-    /// Nothing more is sent.
+    /// Sends the end.
     Shut,
-    /// Nothing is done for this time, in milliseconds.
+    /// Pauses for this time, in milliseconds.
     Pause(u64),
 }
 
 impl<'a> Step<'a> {
-    /// The step that a text spells, if it is one.
+    /// The step spelled by a text, if it is one.
     fn read(text: &'a str) -> Option<Step<'a>> {
         let (word, rest) = text.split_once(' ').unwrap_or((text, ""));
         match word {
@@ -52,7 +52,8 @@ impl<'a> Step<'a> {
     }
 }
 
-/// Plays the rows of a table of conversations with a node, each on as many connections, one after another, as it says.
+/// Plays the rows of a table of conversations with a node, each on the given number of connections,
+/// one after another.
 pub fn play_talks(rt: &HostRuntime, home: &Home, table: &str) -> io::Result<()> {
     let rows = fs::read_to_string(rt, table)?;
     for row in rows.lines() {
@@ -65,7 +66,7 @@ pub fn play_talks(rt: &HostRuntime, home: &Home, table: &str) -> io::Result<()> 
     Ok(())
 }
 
-/// Has a conversation so often, until one goes otherwise.
+/// Has a conversation `times` times, or until one goes otherwise.
 fn talk_often(
     rt: &HostRuntime,
     home: &Home,
@@ -82,7 +83,8 @@ fn talk_often(
     Ok(None)
 }
 
-/// Takes the steps of a conversation, with ` ^ ` between them, and tells what came in place of what had to come.
+/// Performs the steps of a conversation, with ` ^ ` between them, and gives a message if other
+/// bytes came than expected.
 pub fn talk(rt: &HostRuntime, stream: &mut TcpStream, steps: &str) -> io::Result<Option<String>> {
     stream.set_read_timeout(Some(Duration::from_millis(PATIENCE_MILLIS)))?;
     let mut rest = steps;
@@ -100,7 +102,7 @@ pub fn talk(rt: &HostRuntime, stream: &mut TcpStream, steps: &str) -> io::Result
     Ok(None)
 }
 
-/// A row that cannot be read.
+/// The error for a row that cannot be read.
 fn no_row() -> io::Error {
     io::Error::from(ErrorKind::InvalidInput)
 }
@@ -113,7 +115,7 @@ fn take_step(
     match step {
         Step::Send(text) => {
             let bytes = spelled(rt, text)?;
-            // A peer that has refused what it is sent need not take all of it.
+            // A peer that refuses a request need not take all of its bytes.
             let _sent = stream.write_all(&bytes).is_ok();
             Ok(None)
         }
@@ -136,7 +138,8 @@ fn spelled(rt: &HostRuntime, text: &str) -> io::Result<Vec<u8>> {
     spelled_in(rt.alloc(), text).map_err(|_| no_row())
 }
 
-/// Reads as many bytes as a text spells, with a pause after each piece, and tells what came in the place of one of them.
+/// Reads the number of bytes that a text spells, with a pause after each piece, and gives a message
+/// if one of them differs.
 fn hear(
     rt: &HostRuntime,
     stream: &mut TcpStream,
@@ -165,7 +168,7 @@ fn hear(
     Ok(None)
 }
 
-/// Reads the peer's end, and tells what came in its place. A reset is no end.
+/// Reads the peer's end, and gives a message if other bytes came. A reset is not an end.
 fn hear_end(rt: &HostRuntime, stream: &mut TcpStream) -> io::Result<Option<String>> {
     let mut byte = [0u8; 1];
     let count = stream.read(&mut byte)?;
@@ -175,7 +178,7 @@ fn hear_end(rt: &HostRuntime, stream: &mut TcpStream) -> io::Result<Option<Strin
     told_bytes(rt, 0, b"more")
 }
 
-/// Tells what came after the first `heard` bytes.
+/// A message with the bytes after the first `heard` ones.
 fn told_bytes(rt: &HostRuntime, heard: usize, came: &[u8]) -> io::Result<Option<String>> {
     let front = came.get(..TOLD).unwrap_or(came);
     let text = std::str::from_utf8(front).unwrap_or("no text").trim_end();

@@ -1,4 +1,4 @@
-//! Texts compared with the texts that are expected.
+//! Comparison of texts with the expected ones.
 
 use std::alloc::Global;
 use std::io;
@@ -21,12 +21,12 @@ pub fn first_difference<'a>(seen: &'a [u8], wanted: &[u8]) -> Option<(usize, &'a
     Some((number, b""))
 }
 
-/// The first line of a text, without its end, and what follows it.
+/// The first line of a text, without its line end, and the text after it.
 pub fn cut_line(text: &[u8]) -> (&[u8], &[u8]) {
     cut(text, b'\n')
 }
 
-/// What comes before the first such byte, and what follows it.
+/// The bytes before the first byte `end`, and the bytes after it.
 fn cut(text: &[u8], end: u8) -> (&[u8], &[u8]) {
     for at in 0..text.len() {
         if let Some((front, [byte, behind @ ..])) = text.split_at_checked(at) {
@@ -38,7 +38,7 @@ fn cut(text: &[u8], end: u8) -> (&[u8], &[u8]) {
     (text, b"")
 }
 
-/// The end of a report, from the event on with which the expected end begins, or nothing.
+/// The end of a report, beginning with the first event of the expected end, or nothing.
 pub fn from_event<'a>(report: &'a [u8], wanted: &[u8]) -> &'a [u8] {
     let event = first_word(wanted);
     let mut rest = report;
@@ -70,7 +70,7 @@ pub fn excerpt(alloc: Global, text: &[u8], like: &[u8]) -> io::Result<Vec<u8>> {
     Ok(out)
 }
 
-/// The first of the lines that are wanted which is not among those of the text, after the ones before it.
+/// The first of the expected lines that a text does not have, after the ones before it.
 pub fn first_missing<'w>(text: &[u8], wanted: &'w [u8]) -> Option<&'w [u8]> {
     let mut rest = text;
     for line in wanted.split(is_end) {
@@ -82,7 +82,7 @@ pub fn first_missing<'w>(text: &[u8], wanted: &'w [u8]) -> Option<&'w [u8]> {
     None
 }
 
-/// What follows the first such line of a text.
+/// The text after the first line equal to this one.
 fn behind_line<'a>(text: &'a [u8], wanted: &[u8]) -> Option<&'a [u8]> {
     let mut rest = text;
     for _ in 0..text.len().saturating_add(1) {
@@ -103,7 +103,7 @@ fn number_of(line: &[u8]) -> Option<usize> {
         .ok()
 }
 
-/// Puts a line of a text after its number.
+/// Appends a line of a text after its number.
 fn put_line(alloc: Global, out: &mut Vec<u8>, text: &[u8], number: usize) -> io::Result<()> {
     if let Some(line) = line_of(text, number) {
         let front = format!(in alloc; "{number} ")?;

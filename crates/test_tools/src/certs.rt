@@ -2,9 +2,9 @@ use crate::fault::Fault;
 use crate::fields::RowFields;
 use oc_base::Cert;
 
-/// The certificate of a text such as `4/1/2+`, `4/1/2-` or `4/1/2+1:3`: its subject, the number of the ask,
-/// the parent, `+` for alive or `-` for dead, and the own number and the clients, which are 0 if they are
-/// left out.
+/// The certificate in a text such as `4/1/2+`, `4/1/2-` or `4/1/2+1:3`: its subject, the number of
+/// the ask, the parent, `+` for alive or `-` for dead, and the node's own number and the count of
+/// clients, which are 0 if they are left out.
 pub fn cert_in(text: &str) -> Result<Cert, Fault> {
     match text.split_once('+') {
         Some((link, count)) => cert_of(link, false, count),
@@ -28,7 +28,8 @@ fn cert_of(link: &str, dead: bool, count: &str) -> Result<Cert, Fault> {
     })
 }
 
-/// The own number and the clients of such a text, or 0 and 0 where it is empty.
+/// The node's own number and the count of clients in a text such as `1:3`, or 0 and 0 if it is
+/// empty.
 fn count_in(text: &str) -> Result<(u64, u64), Fault> {
     if text.is_empty() {
         return Ok((0, 0));
@@ -37,7 +38,7 @@ fn count_in(text: &str) -> Result<(u64, u64), Fault> {
     Ok((count.number()?, count.number()?))
 }
 
-/// Puts the text of a certificate.
+/// Appends the text of a certificate.
 pub fn put_cert(out: &mut String, cert: &Cert) -> Result<(), Fault> {
     let subject = cert.subject.0;
     let seq = cert.seq;

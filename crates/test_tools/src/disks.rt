@@ -6,7 +6,7 @@ use oc_io::{Disk, MemDisk};
 use oc_journal::{Frame, Journal};
 use std::alloc::Global;
 
-/// Puts the bytes that a disk reads, in hexadecimal.
+/// Appends the bytes that a disk reads, in hexadecimal.
 pub fn put_disk<D: Disk + Drop>(alloc: Global, out: &mut String, mut disk: D) -> Result<(), Fault> {
     let Ok(size) = disk.size() else {
         return Err(Fault::Unready);
@@ -18,13 +18,13 @@ pub fn put_disk<D: Disk + Drop>(alloc: Global, out: &mut String, mut disk: D) ->
     }
 }
 
-/// A disk with the journal of these bodies, all of it safe.
+/// A disk with the journal of these bodies, all synced.
 fn disk_with(alloc: Global, bodies: &[Vec<u8>]) -> Result<MemDisk, Fault> {
     let disk = filled_with(alloc, MemDisk::new(Vec::new(alloc)), bodies)?;
     Ok(disk.crash())
 }
 
-/// An empty disk, with the journal of these bodies put onto it.
+/// An empty disk, filled with the journal of these bodies.
 fn filled_with<D: Disk + Drop>(alloc: Global, disk: D, bodies: &[Vec<u8>]) -> Result<D, Fault> {
     let Ok(mut journal) = Journal::load(alloc, disk) else {
         return Err(Fault::Unready);
@@ -47,12 +47,13 @@ fn append<D: Disk>(alloc: Global, journal: &mut Journal<D>, body: &[u8]) -> Resu
     }
 }
 
-/// The disk of a text: what it holds, and after a `/` how it fails.
+/// The disk of a text: its content, and after a `/` its failures.
 ///
-/// It holds `bytes:HEX`, or the journal of the frames `frames:HEX,HEX`, or that of the one frame
-/// `long:HEX,END`, which begins so, goes on with bytes 3, and ends at this place of the file. Then
-/// `fail:CALL` has that one of its later calls fail, and `stop:CALLS,IMAGE` all writes and syncs after the
-/// first `CALLS`, where a crash leaves this byte wherever something was not synced.
+/// The disk holds `bytes:HEX`, or the journal of the frames `frames:HEX,HEX`, or that of the one
+/// frame `long:HEX,END`, which begins with these bytes, goes on with bytes 3, and ends at this
+/// offset of the file. Then `fail:CALL` makes one of its later calls fail, and `stop:CALLS,IMAGE`
+/// all writes and syncs after the first `CALLS`, with this byte after a crash at each place that
+/// was not synced.
 pub fn disk_in(alloc: Global, text: &str) -> Result<MemDisk, Fault> {
     let (held, failing) = text.split_once('/').unwrap_or((text, ""));
     let mut disk = held_in(alloc, RowStep::of(held))?;
@@ -60,7 +61,7 @@ pub fn disk_in(alloc: Global, text: &str) -> Result<MemDisk, Fault> {
     Ok(disk)
 }
 
-/// Has calls of a disk fail as this says.
+/// Sets the calls of a disk that fail.
 fn have_fail(alloc: Global, disk: &mut MemDisk, step: RowStep<'_>) -> Result<(), Fault> {
     let mut fields = step.fields;
     match step.word {
@@ -79,7 +80,7 @@ fn have_fail(alloc: Global, disk: &mut MemDisk, step: RowStep<'_>) -> Result<(),
     }
 }
 
-/// The disk that holds this.
+/// The disk with this content.
 fn held_in(alloc: Global, mut step: RowStep<'_>) -> Result<MemDisk, Fault> {
     match step.word {
         "bytes" => bytes_disk(alloc, step.fields),
@@ -93,7 +94,8 @@ fn bytes_disk(alloc: Global, mut fields: RowFields<'_>) -> Result<MemDisk, Fault
     Ok(MemDisk::new(fields.bytes(alloc)?))
 }
 
-/// The one body that begins so, goes on with bytes 3, and whose frame ends at this place.
+/// The body that begins with these bytes, goes on with bytes 3, and whose frame ends at this
+/// offset.
 fn long_body(alloc: Global, mut fields: RowFields<'_>) -> Result<Vec<Vec<u8>>, Fault> {
     let mut body = fields.bytes(alloc)?;
     let end = fields.small()? as usize;

@@ -2,12 +2,12 @@ use oc_base::Memory;
 use std::alloc::{AllocError, AllocFailed};
 use std::fmt;
 
-/// Why a row gave no words.
+/// The reason why a row gave no words.
 #[derive(Clone, Copy)]
 pub enum Fault {
-    /// A field of the row is missing, or is not what is expected in its place.
+    /// A field of the row is missing, or does not have the expected form.
     Field,
-    /// What the row makes ready did not come about.
+    /// The state that the row prepares was not reached.
     Unready,
     /// Memory ran out.
     Memory,

@@ -2,10 +2,10 @@ use crate::fault::Fault;
 use oc_base::{NodeId, Rank};
 use std::alloc::Global;
 
-/// More fields than a row has.
+/// A number greater than that of the fields of any row.
 const MOST_FIELDS: u32 = 10_000;
 
-/// The fields of a text, with one character between each two.
+/// The fields of a text, separated by one character.
 #[derive(Clone, Copy)]
 pub struct RowFields<'a> {
     left: &'a str,
@@ -13,7 +13,7 @@ pub struct RowFields<'a> {
 }
 
 impl<'a> RowFields<'a> {
-    /// The fields of a text, where this character comes between each two.
+    /// The fields of a text, separated by this character.
     pub fn of(text: &'a str, between: char) -> RowFields<'a> {
         RowFields {
             left: text,
@@ -26,7 +26,7 @@ impl<'a> RowFields<'a> {
         self.left.is_empty()
     }
 
-    /// The next field, or nothing where none is left. Spaces around it are dropped.
+    /// The next field, or the empty text if none is left. Spaces around it are dropped.
     pub fn text(&mut self) -> &'a str {
         let (field, left) = self
             .left
@@ -113,7 +113,7 @@ impl<'a> RowFields<'a> {
         Ok(numbers)
     }
 
-    /// The parts of the next field, which has commas between them; none where it is `-`.
+    /// The parts of the next field, separated by commas; none if it is `-`.
     pub fn list(&mut self) -> RowFields<'a> {
         match self.text() {
             "-" => RowFields::of("", ','),
@@ -133,7 +133,7 @@ impl<'a> RowFields<'a> {
         }
     }
 
-    /// The bytes of each field that is left.
+    /// The bytes of each remaining field.
     pub fn all_bytes(&mut self, alloc: Global) -> Result<Vec<Vec<u8>>, Fault> {
         let mut all = Vec::new(alloc);
         for _ in 0..MOST_FIELDS {

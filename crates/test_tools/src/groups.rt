@@ -4,7 +4,7 @@ ghost use Rattle.oc_base.specs.Names.{IsGroupName};
 use crate::fault::Fault;
 use oc_base::{GroupName, Shelf};
 
-/// The group of a name.
+/// The group with this name.
 pub fn group_in(text: &str) -> Result<GroupName, Fault>
     ensures { IfOk result (λ group. IsGroupName group) }
 {
@@ -14,7 +14,7 @@ pub fn group_in(text: &str) -> Result<GroupName, Fault>
     }
 }
 
-/// Puts each group with its length, and `!` where it is sealed.
+/// Appends each group with its length, and `!` if it is sealed.
 pub fn put_shelf(out: &mut String, lines: &[Shelf]) -> Result<(), Fault> {
     for line in lines {
         let mark = if line.sealed { "!" } else { "" };

@@ -1,8 +1,8 @@
-//! What the libraries of worked cases share.
+//! The common parts of the libraries of worked cases.
 //!
-//! A table is a text file with a case in each row: its name, what it is given, a `=`, and the words that
-//! have to result. A [`Cases`] says what results from a row, and [`play`] prints a line for each row: its
-//! name and `ok`, or the words that came in their place. [`RowFields`] cuts what a row is given into numbers,
+//! A table is a text file with a case in each row: its name, its input, a `=`, and the expected
+//! words. A [`Cases`] gives the result of a row, and [`play`] prints a line for each row: its name
+//! and `ok`, or the words that came instead. [`RowFields`] cuts the input of a row into numbers,
 //! bytes, ids and certificates.
 #![tactic(auto)]
 

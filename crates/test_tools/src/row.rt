@@ -1,4 +1,4 @@
-/// A row of a table: the name of a case, what it is given, and what has to result.
+/// A row of a table: the name of a case, its input, and the expected words.
 #[derive(Clone, Copy)]
 pub struct Row<'a> {
     pub name: &'a str,
@@ -7,8 +7,8 @@ pub struct Row<'a> {
 }
 
 impl<'a> Row<'a> {
-    /// The row of a line, if it is not empty and does not begin with `#`. What is given ends before
-    /// the first `=`.
+    /// The row of a line, if it is not empty and does not begin with `#`. The input ends before the
+    /// first `=`.
     pub fn read(line: &'a str) -> Option<Row<'a>> {
         let line = line.trim();
         if line.is_empty() || line.starts_with('#') {

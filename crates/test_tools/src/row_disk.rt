@@ -3,8 +3,8 @@ use crate::fault::Fault;
 use oc_io::{Disk, MemDisk};
 use std::alloc::Global;
 
-/// A disk that a row describes, and that can crash. What plays the rows is generic over it, since there is less to
-/// prove where a disk that is a parameter is dropped.
+/// A disk that a row describes, and that can crash. The code that plays the rows is generic over
+/// it, since dropping a disk of a parameter type needs less proof.
 pub trait RowDisk: Disk + Drop {
     /// The disk of a text.
     fn of(alloc: Global, text: &str) -> Result<Self, Fault>;

@@ -1,33 +1,33 @@
-//! Bytes as printable text: what is no printable character is spelled by a `\`, as `\r`, `\n`, `\t`, `\\`,
-//! `\xHH` in hexadecimal, and `\{N:BYTES}` for N times these bytes.
+//! Bytes as printable text: other bytes are spelled with a `\`, as `\r`, `\n`, `\t`, `\\`, `\xHH`
+//! in hexadecimal, and `\{N:BYTES}` for N times these bytes.
 
 use crate::fault::Fault;
 use std::alloc::Global;
 
-/// A byte that comes more often than this, one after another, is spelled once.
+/// The number of equal bytes in a row above which they are spelled once with their number.
 const LONG: usize = 64;
 
-/// What the next character of a spelled text is.
+/// The meaning of the next character of a spelled text.
 #[derive(Clone, Copy)]
 enum State {
     /// A byte, or the start of an escape.
     Plain,
-    /// What follows a `\`.
+    /// The character after a `\`.
     Escape,
     /// The first digit of a byte.
     High,
     /// The second digit of a byte, after this value of the first.
     Low(u8),
-    /// A digit of how often bytes come, after the digits of this value.
+    /// A digit of a repetition count, after the digits of this value.
     Count(usize),
 }
 
-/// Bytes that are being read from a spelled text.
+/// The state of reading bytes from a spelled text.
 #[derive(Drop)]
 struct Spelled {
     bytes: Vec<u8>,
     state: State,
-    /// Where the bytes that come several times begin, and how often they come.
+    /// The start of the bytes that are repeated, and their number of repetitions.
     repeated: Option<(usize, usize)>,
 }
 
@@ -65,7 +65,7 @@ fn take_low(reading: &mut Spelled, high: u8, byte: u8) -> Result<(), Fault> {
     Ok(reading.bytes.push(high.wrapping_mul(16) | low)?)
 }
 
-/// Takes a digit of how often bytes come, or the colon after them.
+/// Takes a digit of a repetition count, or the colon after it.
 fn take_count(reading: &mut Spelled, count: usize, byte: u8) -> Result<(), Fault> {
     if byte == b':' {
         reading.repeated = Some((reading.bytes.len(), count));
@@ -101,7 +101,7 @@ fn take_escape(reading: &mut Spelled, byte: u8) -> Result<(), Fault> {
     Ok(())
 }
 
-/// The byte that this one stands for after a `\`.
+/// The byte that a character means after a `\`.
 fn unescaped(byte: u8) -> Result<u8, Fault> {
     match byte {
         b'r' => Ok(b'\r'),
@@ -112,7 +112,7 @@ fn unescaped(byte: u8) -> Result<u8, Fault> {
     }
 }
 
-/// Has the bytes from `start` on come `count` times.
+/// Repeats the bytes from `start` on, `count` times in all.
 fn repeat(alloc: Global, bytes: &mut Vec<u8>, start: usize, count: usize) -> Result<(), Fault> {
     let Some(piece) = bytes.get(start..) else {
         return Err(Fault::Field);
@@ -133,7 +133,7 @@ fn digit_in(byte: u8) -> Result<u8, Fault> {
     }
 }
 
-/// Puts bytes as they are spelled.
+/// Appends bytes in spelled form.
 pub fn put_spelled(out: &mut String, bytes: &[u8]) -> Result<(), Fault> {
     let mut left = bytes;
     for _ in 0..bytes.len() {
@@ -142,7 +142,8 @@ pub fn put_spelled(out: &mut String, bytes: &[u8]) -> Result<(), Fault> {
     Ok(())
 }
 
-/// Puts the first of these bytes, once for all that are the same where these are many, and gives the rest.
+/// Appends the first of these bytes, or a run of many equal ones with its number, and gives the
+/// rest.
 fn put_next<'a>(out: &mut String, bytes: &'a [u8]) -> Result<&'a [u8], Fault> {
     let [first, rest @ ..] = bytes else {
         return Ok(bytes);
@@ -158,7 +159,7 @@ fn put_next<'a>(out: &mut String, bytes: &'a [u8]) -> Result<&'a [u8], Fault> {
     Ok(bytes.get(count..).unwrap_or(&[]))
 }
 
-/// How often a byte comes in front.
+/// The number of equal bytes at the front.
 fn run_of(first: u8, bytes: &[u8]) -> usize {
     for (place, byte) in bytes.iter().enumerate() {
         if *byte != first {

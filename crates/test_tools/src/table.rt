@@ -4,21 +4,21 @@ use std::alloc::Global;
 use std::rt::Files;
 use std::{fs, io};
 
-/// What the rows of tables come to.
+/// The words that the rows of tables result in.
 pub trait Cases {
-    /// Puts the words that result from what a row of this table is given.
+    /// Appends the words that result from the input of a row in this table.
     fn put_words(alloc: Global, table: &str, given: &str, said: &mut String) -> Result<(), Fault>;
 }
 
-/// The words that result from what a row is given.
+/// The words that result from the input of a row.
 fn words_of<T: Cases>(alloc: Global, table: &str, given: &str) -> Result<String, Fault> {
     let mut said = String::new(alloc);
     T::put_words(alloc, table, given, &mut said)?;
     Ok(said)
 }
 
-/// Plays the tables of these names in a folder, one after another. Prints for each row the names of the table and of the
-/// row and `ok`, or the words that came in place of those that are expected.
+/// Plays the tables with these names in a folder, one after another. Prints for each row the names
+/// of the table and of the row and `ok`, or the words that came instead of the expected ones.
 pub fn play<T: Cases, R: Files + Print + Eprint + AllocGlobal>(
     rt: &R,
     folder: &str,
@@ -44,8 +44,8 @@ fn play_table<T: Cases, R: Files + Print + Eprint + AllocGlobal>(
     Ok(())
 }
 
-/// The text of a table, which is the file of its name with `.txt` after it in this folder. Where it cannot be read, the
-/// error output says which file that is.
+/// The text of a table, which is the file `NAME.txt` in this folder. If it cannot be read, the
+/// error output names the file.
 pub fn read_table<R: Files + Print + Eprint + AllocGlobal>(
     rt: &R,
     folder: &str,
@@ -59,8 +59,8 @@ pub fn read_table<R: Files + Print + Eprint + AllocGlobal>(
     read
 }
 
-/// Prints the line of a row: the names of its table and of itself and `ok`, or the words that came in place of those
-/// that are expected.
+/// Prints the line of a row: the names of its table and the row and `ok`, or the words that came
+/// instead of the expected ones.
 pub fn tell<R: Print>(
     rt: &R,
     table: &str,

@@ -1,7 +1,7 @@
 use crate::fault::Fault;
 use std::fmt::Debug;
 
-/// Puts bytes in hexadecimal, or `-` for none.
+/// Appends bytes in hexadecimal, or `-` for none.
 pub fn put_hex(out: &mut String, bytes: &[u8]) -> Result<(), Fault> {
     if bytes.is_empty() {
         return Ok(out.push_str("-")?);
@@ -12,7 +12,7 @@ pub fn put_hex(out: &mut String, bytes: &[u8]) -> Result<(), Fault> {
     Ok(())
 }
 
-/// Puts a value as it is shown, and a space.
+/// Appends a value in its debug form, and a space.
 pub fn put_shown<T: Debug>(out: &mut String, value: &T) -> Result<(), Fault> {
     Ok(write!(out, "{value:?} ")?)
 }

@@ -1,4 +1,4 @@
-//! The texts that a node and a client read and write, what requests ask of a node, and what they are answered.
+//! The texts that a node and a client read and write, the meaning of requests, and their replies.
 
 mod asking;
 mod chunked;

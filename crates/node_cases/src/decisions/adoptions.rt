@@ -1,11 +1,11 @@
-//! Adoption: whom a host refuses, and which rank is taken.
+//! Adoption: the nodes that a host refuses, and the rank that is taken.
 
 use oc_base::{NodeId, Rank};
 use oc_place::{Host, may_adopt, take_rank};
 use std::alloc::Global;
 use test_tools::{Fault, RowFields, put_shown};
 
-/// Puts the words of a row: the refusal or `ok`, or the rank that is taken.
+/// Appends the words of a row: the refusal or `ok`, or the rank that is taken.
 pub fn put_words(alloc: Global, given: &str, said: &mut String) -> Result<(), Fault> {
     let mut fields = RowFields::of(given, ' ');
     match fields.text() {
@@ -15,7 +15,7 @@ pub fn put_words(alloc: Global, given: &str, said: &mut String) -> Result<(), Fa
     }
 }
 
-/// Puts the answer of a host to one that asks it.
+/// Appends the answer of a host to a node that asks it.
 fn put_adopted(alloc: Global, mut fields: RowFields<'_>, said: &mut String) -> Result<(), Fault> {
     let id = fields.node()?;
     let in_tree = fields.text() == "in";

@@ -1,4 +1,4 @@
-//! Leases: which begin, are renewed, and end.
+//! Leases: those that begin, are renewed, and end.
 
 ghost use Rattle.std.specs.Prelude.{◌≡◌, ◌≤◌, length};
 
@@ -23,7 +23,8 @@ struct Parent {
     ghost ends: { length leases.ends ≡ 6 },
 }
 
-/// Puts the words of a row: what each step says. The first field has the certificates of the table.
+/// Appends the words of a row: the result of each step. The first field has the certificates of the
+/// table.
 pub fn put_words(alloc: Global, given: &str, said: &mut String) -> Result<(), Fault> {
     let mut fields = given.split_ascii_whitespace();
     let certs = RowFields::of(fields.next().unwrap_or(""), ',');
@@ -64,7 +65,7 @@ fn renew(parent: &mut Parent, mut fields: RowFields<'_>) -> Result<(), Fault> {
     Ok(())
 }
 
-/// Begins the leases of the children of a node that have no end yet.
+/// Begins the leases of those children of a node that have no end yet.
 fn start(parent: &mut Parent, mut fields: RowFields<'_>) -> Result<(), Fault> {
     let me = fields.node()?;
     let now = fields.number()?;

@@ -1,4 +1,4 @@
-//! Change logs: what is noted, handed on and acknowledged.
+//! Change logs: the certificates noted, handed on and acknowledged.
 
 ghost use Rattle.std.specs.Prelude.{◌≡◌, ◌<◌, ◌≤◌, IfOk, OnOk};
 
@@ -12,7 +12,7 @@ use test_tools::{Fault, RowFields, RowStep, cert_in, put_cert, put_shown};
 /// The number of nodes.
 const NODES: u32 = 6;
 
-/// More certificates than a log notes in a row.
+/// An upper bound on the certificates that a row notes.
 const MOST: u64 = 1000;
 
 /// A log among six nodes.
@@ -22,7 +22,7 @@ struct LogOfSix {
     ghost nodes: { log.nodes ≡ 6 },
 }
 
-/// Puts the words of a row: what each step on a new log says.
+/// Appends the words of a row: the result of each step on a new log.
 pub fn put_words(alloc: Global, given: &str, said: &mut String) -> Result<(), Fault> {
     let mut changes = LogOfSix {
         log: ChangeLog::new(alloc, NODES)?,
@@ -126,14 +126,14 @@ fn put_certs(certs: &[Cert], said: &mut String) -> Result<(), Fault> {
     Ok(said.push_str(" ] ")?)
 }
 
-/// Puts how many certificates are acknowledged, and how many there are.
+/// Appends the number of acknowledged certificates, and the number of all.
 fn put_state(changes: &LogOfSix, said: &mut String) -> Result<(), Fault> {
     let acked = changes.log.acked();
     let length = changes.log.length();
     Ok(write!(said, "{acked}/{length} ")?)
 }
 
-/// Puts the nodes about which something waits.
+/// Appends the nodes for which certificates wait.
 fn put_waiting(alloc: Global, changes: &LogOfSix, said: &mut String) -> Result<(), Fault> {
     let mut certs = Vec::new(alloc);
     changes.log.take(usize::MAX, &mut certs)?;

@@ -19,7 +19,7 @@ struct Readings {
     ghost room: { length measures.readings ≤ measures.room },
 }
 
-/// Puts the words of a row: what each step says.
+/// Appends the words of a row: the result of each step.
 pub fn put_words(alloc: Global, given: &str, said: &mut String) -> Result<(), Fault> {
     let mut measures = Measures::new(alloc, PEERS)?;
     measures.reserve()?;
@@ -54,7 +54,7 @@ fn put(readings: &mut Readings, peer: NodeId, mut fields: RowFields<'_>) -> Resu
     Ok(())
 }
 
-/// Puts what is measured of a peer among the words.
+/// Appends the measured rate of a peer.
 fn put_reading(readings: &Readings, peer: NodeId, said: &mut String) -> Result<(), Fault>
     requires { 1 ≤ peer }
 {

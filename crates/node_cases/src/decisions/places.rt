@@ -1,14 +1,14 @@
-//! Places: which candidate is chosen, and whether a place is kept.
+//! Places: the candidate that is chosen, and whether a place is kept.
 
 use oc_base::NodeId;
 use oc_place::{Candidate, View, choose, review};
 use std::alloc::Global;
 use test_tools::{Fault, RowFields, put_shown};
 
-/// More candidates than a row names.
+/// An upper bound on the candidates of a row.
 const MOST: u32 = 1000;
 
-/// Puts the words of a row: the node that is chosen, or what a review says.
+/// Appends the words of a row: the node that is chosen, or the result of a review.
 pub fn put_words(alloc: Global, given: &str, said: &mut String) -> Result<(), Fault> {
     let mut fields = RowFields::of(given, ' ');
     match fields.text() {
@@ -25,7 +25,7 @@ fn put_chosen(alloc: Global, mut fields: RowFields<'_>, said: &mut String) -> Re
     put_shown(said, &choose(direct, &candidates))
 }
 
-/// Puts what a review says.
+/// Appends the result of a review.
 fn put_reviewed(alloc: Global, mut fields: RowFields<'_>, said: &mut String) -> Result<(), Fault> {
     let direct = fields.number()?;
     let up = fields.number()?;

@@ -8,7 +8,7 @@ use oc_updown::{Table, select};
 use std::alloc::Global;
 use test_tools::{Fault, RowFields, put_shown};
 
-/// More nodes than there are.
+/// An upper bound on the nodes of a row.
 const MOST: u32 = 2000;
 
 /// Puts the words of a row: the node, or `None`.

@@ -1,4 +1,4 @@
-//! Roots: in which order others are asked, and the next epoch.
+//! Roots: the order in which others are asked, and the next epoch.
 
 use oc_base::NodeId;
 use oc_place::{ask_order, raise};
@@ -31,7 +31,7 @@ fn put_asked(
     parent: Option<NodeId>,
     said: &mut String,
 ) -> Result<(), Fault> {
-    // What was in the list before is no part of the answer.
+    // The old content of the list is no part of the answer.
     let mut asked = vec![in alloc; NodeId(77)]?;
     ask_order(me, chain, ancestors, parent, &mut asked)?;
     put_ids(&asked, said)

@@ -9,10 +9,10 @@ use oc_updown::Table;
 use std::alloc::Global;
 use test_tools::{Fault, RowFields, RowStep, cert_in, put_cert, put_shown};
 
-/// More certificates than a row names.
+/// An upper bound on the certificates of a row.
 const MOST: u32 = 10_000;
 
-/// Puts the words of a row: what each step on a new table says.
+/// Appends the words of a row: the result of each step on a new table.
 pub fn put_words(alloc: Global, given: &str, said: &mut String) -> Result<(), Fault> {
     let mut fields = given.split_ascii_whitespace();
     let nodes = RowFields::of(fields.next().unwrap_or(""), ' ').small()?;
@@ -98,7 +98,7 @@ pub fn put_all(table: &mut Table, mut fields: RowFields<'_>) -> Result<(), Fault
     Ok(())
 }
 
-/// Merges the birth of each node from the first on and before the last, under the one before it.
+/// Merges the birth of each node in a range, each with its predecessor as parent.
 fn put_line(table: &mut Table, mut fields: RowFields<'_>) -> Result<(), Fault> {
     let first = fields.small()?;
     let last = fields.small()?;
@@ -139,12 +139,12 @@ fn put_is_listed(table: &Table, mut fields: RowFields<'_>, said: &mut String) ->
     put_shown(said, &table.is_listed(root, fields.node()?))
 }
 
-/// Puts who is listed below a root, each with its parent.
+/// Appends the nodes that are listed below a root, each with its parent.
 fn put_listed(table: &Table, mut fields: RowFields<'_>, said: &mut String) -> Result<(), Fault> {
     put_lines(&table.listed(fields.node()?)?, said)
 }
 
-/// Puts how many are listed below a root.
+/// Appends the number of nodes listed below a root.
 fn put_count(table: &Table, mut fields: RowFields<'_>, said: &mut String) -> Result<(), Fault> {
     put_shown(said, &table.listed(fields.node()?)?.len())
 }

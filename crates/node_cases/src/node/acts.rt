@@ -1,4 +1,5 @@
-//! The inputs of nodes in the rows of tables. Those that are no messages are read as the lines of a schedule.
+//! The inputs of nodes in the rows of tables. Inputs other than messages are read as the lines of a
+//! schedule.
 ghost use Rattle.std.specs.Prelude.{ℕ, IfOk};
 ghost use Rattle.oc_model.specs.Lawful.{IsAct, IsInput};
 
@@ -22,7 +23,7 @@ pub fn act_in<const NODES: u32>(
     let Ok(schedule) = read(alloc, Scale::Usual, text.as_str().as_bytes()) else {
         return Err(Fault::Field);
     };
-    if schedule.nodes != NODES || schedule.events.len() != 1 {
+    if schedule.header.sizes.nodes != NODES || schedule.events.len() != 1 {
         return Err(Fault::Field);
     }
     match schedule.events.event(0).get() {

@@ -1,12 +1,13 @@
 //! The files of a node, and the node that is loaded from them.
 //!
-//! Where a node or its files are dropped by a call of `drop`, less has to be proved than where they go out of
+//! Dropping a node or its files by a call of `drop` needs less proof than letting them go out of
 //! scope.
 
 use crate::node::inputs::NODES;
 use oc_base::{NodeId, USUAL_CHUNK_BYTES};
 use oc_io::Disk;
 use oc_keep::{Files, KeepLoad, Kept, Node, Seat};
+use oc_model::{Header, Sizes};
 use std::alloc::Global;
 use test_tools::{Fault, NodeDisks, RowDisk, put_disk, put_shelf};
 
@@ -21,10 +22,14 @@ pub fn load<D: Disk + Drop>(
     }
     let seat = Seat {
         id: me,
-        nodes: NODES,
-        chain: 1,
-        chunk: USUAL_CHUNK_BYTES,
-        areas: vec![in alloc; 0, 0, 0]?,
+        header: Header {
+            sizes: Sizes {
+                nodes: NODES,
+                chain: 1,
+                chunk: USUAL_CHUNK_BYTES,
+            },
+            areas: vec![in alloc; 0, 0, 0]?,
+        },
     };
     let NodeDisks {
         control,
@@ -42,7 +47,7 @@ pub fn load<D: Disk + Drop>(
     }
 }
 
-/// The disks of files that came back.
+/// The disks of files that were given back.
 pub fn handed_back<D: Disk>(files: Files<D>) -> NodeDisks<D> {
     let Files {
         control,
@@ -56,8 +61,8 @@ pub fn handed_back<D: Disk>(files: Files<D>) -> NodeDisks<D> {
     }
 }
 
-/// Puts what is shown of a node's files after a crash: `node`, what they recover; `control`, `alternate` or
-/// `content`, the bytes of that one; or nothing.
+/// Appends one view of a node's files after a crash: `node`, the recovered node; `control`,
+/// `alternate` or `content`, the bytes of that file; or nothing.
 pub fn show<D: RowDisk>(
     alloc: Global,
     shown: &str,
@@ -75,7 +80,7 @@ pub fn show<D: RowDisk>(
     }
 }
 
-/// Puts what is durable of the node that these files recover.
+/// Appends the durable part of the node recovered from these files.
 fn put_node<D: Disk + Drop>(
     alloc: Global,
     me: NodeId,

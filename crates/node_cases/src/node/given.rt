@@ -1,10 +1,10 @@
-//! What a row is given.
+//! The input of a row.
 
 use oc_base::NodeId;
 use std::alloc::Global;
 use test_tools::{Fault, NodeDisks, RowDisk, RowFields};
 
-/// What a row is given: what is shown at its end, the id of the node, its three files, and steps.
+/// The input of a row: the view to show at its end, the id of the node, its three files, and steps.
 #[derive(Clone, Copy)]
 pub struct Given<'a> {
     pub shown: &'a str,
@@ -16,7 +16,7 @@ pub struct Given<'a> {
 }
 
 impl<'a> Given<'a> {
-    /// What these words give.
+    /// The input in these words.
     pub fn of(words: &'a str) -> Given<'a> {
         let mut fields = RowFields::of(words, ' ');
         Given {

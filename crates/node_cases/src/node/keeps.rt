@@ -1,4 +1,4 @@
-//! A node on its three files: what it answers, and what its files hold.
+//! A node on its three files: its answers, and the content of its files.
 
 use crate::node::files::{load, show};
 use crate::node::given::Given;
@@ -9,11 +9,11 @@ use oc_keep::{Kept, Outcome};
 use std::alloc::Global;
 use test_tools::{Fault, NodeDisks, RowDisk, RowFields, RowStep, group_in, put_hex};
 
-/// More steps than a row has.
+/// An upper bound on the steps of a row.
 const MOST_STEPS: u32 = 100;
 
-/// Puts the words of a row: what each step says, or why the node was not loaded, and then what the disks hold
-/// after a crash.
+/// Appends the words of a row: the result of each step, or the reason why the node was not loaded,
+/// and then the content of the disks after a crash.
 pub fn put_words<D: RowDisk>(alloc: Global, given: &str, said: &mut String) -> Result<(), Fault> {
     let given = Given::of(given);
     let me = given.id()?;
@@ -26,7 +26,7 @@ pub fn put_words<D: RowDisk>(alloc: Global, given: &str, said: &mut String) -> R
     }
 }
 
-/// Does the steps of a row, and shows what is to be shown.
+/// Performs the steps of a row, and appends the chosen view.
 fn play_loaded<D: RowDisk>(
     alloc: Global,
     given: &Given<'_>,
@@ -50,7 +50,7 @@ fn play_loaded<D: RowDisk>(
     }
 }
 
-/// Does the steps, with a space after what each says.
+/// Performs the steps, with a space after the result of each.
 fn act_all<D: Disk>(
     alloc: Global,
     kept: &mut Kept<D>,
@@ -67,7 +67,7 @@ fn act_all<D: Disk>(
     Ok(())
 }
 
-/// Does a step, and puts what it says.
+/// Performs a step, and appends its result.
 fn act<D: Disk>(
     alloc: Global,
     kept: &mut Kept<D>,
@@ -97,7 +97,7 @@ fn put_closed<D: Disk>(kept: &Kept<D>, said: &mut String) -> Result<(), Fault> {
     Ok(write!(said, "{closed}")?)
 }
 
-/// Takes an input, and puts what is answered and how many messages are sent, or the error.
+/// Takes an input, and appends its answer and the number of messages sent, or the error.
 fn take<D: Disk>(
     alloc: Global,
     kept: &mut Kept<D>,
@@ -122,7 +122,7 @@ fn put_outcome(outcome: &Outcome, said: &mut String) -> Result<(), Fault> {
     Ok(write!(said, "{:?}/{}", outcome.answer, outcome.sends.len())?)
 }
 
-/// Turns the files over, if they are due, and puts whether it did, or the error.
+/// Turns the files over, if they are due, and appends whether they were, or the error.
 fn tidy<D: Disk>(kept: &mut Kept<D>, said: &mut String) -> Result<(), Fault> {
     let turned = kept.tidy();
     Ok(write!(said, "{turned:?}")?)
@@ -148,7 +148,8 @@ fn measure<D: Disk>(
     Ok(write!(said, "{count}")?)
 }
 
-/// Reads bytes of a group, from a place on, at most the given number, and puts them or the error.
+/// Reads at most the given number of bytes of a group, from an offset on, and appends them or the
+/// error.
 fn read<D: Disk>(
     alloc: Global,
     kept: &mut Kept<D>,

@@ -1,4 +1,4 @@
-//! One node: what each input makes it write, send and answer.
+//! One node: the writes, messages and answer of each input.
 
 ghost use Rattle.std.specs.Prelude.{◌≡◌, ◌≤◌, IfOk, OnOk, Some};
 ghost use Rattle.oc_base.specs.Shelves.{IsShelf};
@@ -20,10 +20,10 @@ use oc_record::decode;
 use std::alloc::Global;
 use test_tools::{Fault, RowFields, RowStep, group_in};
 
-/// More steps than a row has.
+/// An upper bound on the steps of a row.
 const MOST_STEPS: u32 = 100;
 
-/// Puts the words of a row: what each step says.
+/// Appends the words of a row: the result of each step.
 pub fn put_words(alloc: Global, given: &str, said: &mut String) -> Result<(), Fault> {
     let mut fields = RowFields::of(given, ' ');
     let mut node = node_in(alloc, &mut fields)?;
@@ -32,7 +32,7 @@ pub fn put_words(alloc: Global, given: &str, said: &mut String) -> Result<(), Fa
     acted
 }
 
-/// Does the steps after the group that is held, with a space after what each says.
+/// Performs the steps after the held group, with a space after the result of each.
 fn act_all(
     alloc: Global,
     node: &mut Node,
@@ -87,7 +87,7 @@ fn recovered(alloc: Global, me: NodeId, chain: u32, list: &[Record]) -> Result<N
     }
 }
 
-/// Does a step, and puts what it says.
+/// Performs a step, and appends its result.
 fn act(
     alloc: Global,
     node: &mut Node,
@@ -115,8 +115,8 @@ fn take(
     give(alloc, node, &input, &shelf, held, said)
 }
 
-/// Gives a node an input, and puts the records that it writes, what becomes of its content, its answer and
-/// its messages.
+/// Gives a node an input, and appends the records that it writes, the change of its content, its
+/// answer and its messages.
 fn give(
     alloc: Global,
     node: &mut Node,
@@ -136,7 +136,7 @@ fn give(
     put_outcome(&node.apply(plan), said)
 }
 
-/// Puts a plan, and then the bytes that it wants into it.
+/// Appends a plan, and then fills it with the bytes that it wants.
 fn show_and_fill(
     alloc: Global,
     plan: &mut Plan,
@@ -177,8 +177,8 @@ fn shelf_in(alloc: Global, held: RowStep<'_>) -> Result<Vec<Shelf>, Fault>
     Ok(vec![in alloc; line]?)
 }
 
-/// Puts the records of a plan, which bytes of the group it wants, from which place on it keeps those of the
-/// input, and whether they seal the group.
+/// Appends the records of a plan, the bytes of the group that it wants, the offset from which it
+/// keeps those of the input, and whether they seal the group.
 fn put_plan(plan: &Plan, said: &mut String) -> Result<(), Fault> {
     write!(said, "{:?} ", plan.records())?;
     if let Some(want) = plan.wants() {
@@ -190,7 +190,7 @@ fn put_plan(plan: &Plan, said: &mut String) -> Result<(), Fault> {
     Ok(said.push_str(if plan.seals() { "seals " } else { "" })?)
 }
 
-/// Puts the bytes that a plan wants into its chunk, out of those of the group.
+/// Fills the chunk of a plan with the bytes that it wants of the group.
 fn fill(alloc: Global, plan: &mut Plan, held: RowStep<'_>) -> Result<(), Fault>
     requires { (w : Want) → plan.old.wants ≡ Some w → IsWanting plan.old w.count }
     ensures { OnOk result ((v : NodeView) → CanApply v plan.old → CanApply v plan.new) }
@@ -210,8 +210,8 @@ fn fill(alloc: Global, plan: &mut Plan, held: RowStep<'_>) -> Result<(), Fault>
     Ok(())
 }
 
-/// Puts the mode, the number of the last ask, the rank, the own number with its clients, how much of the log
-/// is acknowledged, the ancestors, and the time.
+/// Appends the mode, the number of the last ask, the rank, the node's own number with its clients,
+/// the length of the acknowledged part of the log, the ancestors, and the time.
 fn put_state(node: &Node, said: &mut String) -> Result<(), Fault> {
     let mode = node.mode();
     let seq = node.seq();

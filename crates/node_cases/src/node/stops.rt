@@ -1,11 +1,11 @@
-//! Inputs that are stopped in the middle of what they write.
+//! Inputs that are stopped in the middle of their writes.
 
 use crate::node::keeps;
 use std::alloc::Global;
 use test_tools::{Fault, RowDisk, RowFields};
 
-/// An input that is stopped: how many calls the load makes of the file that is written, the input, and the
-/// node with its files.
+/// An input that is stopped: the number of calls of the load on the written file, the input, and
+/// the node with its files.
 #[derive(Clone, Copy)]
 struct Stopped<'a> {
     loading: u8,
@@ -13,9 +13,9 @@ struct Stopped<'a> {
     files: &'a str,
 }
 
-/// Puts the words of a row: for each of 0 to 4 calls a word, with a letter for each of the images 0, 1 and 7: `o`
-/// where a crash leaves the node as it was, `n` where it leaves the node after the input, `=` where they are
-/// the same, and `?` where it leaves another.
+/// Appends the words of a row: for each of 0 to 4 calls a word, with a letter for each of the
+/// images 0, 1 and 7: `o` if a crash leaves the node before the input, `n` if it leaves the node
+/// after the input, `=` if they are the same, and `?` if it leaves another.
 pub fn put_words<D: RowDisk>(alloc: Global, given: &str, said: &mut String) -> Result<(), Fault> {
     let (loading, given) = given.split_once(' ').unwrap_or((given, ""));
     let (step, files) = given.split_once(' ').unwrap_or((given, ""));
@@ -52,7 +52,7 @@ fn put_all<D: RowDisk>(
     Ok(())
 }
 
-/// The words of the input where it is stopped after `calls` calls with this image.
+/// The words of the input if it is stopped after `calls` calls with this image.
 fn left_behind<D: RowDisk>(
     alloc: Global,
     stopped: &Stopped<'_>,
@@ -63,7 +63,7 @@ fn left_behind<D: RowDisk>(
     left::<D>(alloc, stopped.files, stop.as_str(), stopped.step)
 }
 
-/// The words of a step at the node of these files, where the disk that is marked by a `*` fails so.
+/// The words of a step at the node of these files, if the disk marked by a `*` fails in this way.
 fn left<D: RowDisk>(
     alloc: Global,
     files: &str,
@@ -93,7 +93,7 @@ fn letter(left: &str, old: &str, new: &str) -> char {
     }
 }
 
-/// What files recover, which words tell after what the step says.
+/// The recovered node in the words, after the result of the step.
 fn recovered(words: &str) -> &str {
     words.split_once('[').unwrap_or(("", words)).1
 }

@@ -1,4 +1,4 @@
-//! Trials: a node is loaded, and takes inputs up to the first that is refused.
+//! Trials: a node is loaded, and takes inputs up to the first one that is refused.
 
 ghost use Rattle.std.specs.Prelude.{IfOk};
 ghost use Rattle.std.specs.List.{AllByRecursion};
@@ -10,15 +10,15 @@ use crate::node::inputs::{NODES, input_in};
 use oc_base::{NodeId, USUAL_CHUNK_BYTES};
 use oc_io::Disk;
 use oc_keep::{Files, Seat, Trial, trial};
-use oc_model::Input;
+use oc_model::{Header, Input, Sizes};
 use std::alloc::Global;
 use test_tools::{Fault, NodeDisks, RowDisk, RowFields, RowStep};
 
-/// More inputs than a row has.
+/// An upper bound on the inputs of a row.
 const MOST_INPUTS: u32 = 100;
 
-/// Puts the words of a row: how many inputs were taken, why the trial ended, and then what the disks hold after a
-/// crash.
+/// Appends the words of a row: the number of inputs taken, the reason why the trial ended, and then
+/// the content of the disks after a crash.
 pub fn put_words<D: RowDisk>(alloc: Global, given: &str, said: &mut String) -> Result<(), Fault> {
     let given = Given::of(given);
     let me = given.id()?;
@@ -32,7 +32,7 @@ fn put_trial(trial: &Trial, said: &mut String) -> Result<(), Fault> {
     Ok(write!(said, "{} {:?} ", trial.done, trial.end)?)
 }
 
-/// The files after a trial of the inputs of these steps, and how it ended.
+/// The files after a trial of the inputs of these steps, and its end.
 fn tried<D: Disk + Drop>(
     alloc: Global,
     me: NodeId,
@@ -45,10 +45,14 @@ fn tried<D: Disk + Drop>(
     let inputs = inputs_in(alloc, steps, me)?;
     let seat = Seat {
         id: me,
-        nodes: NODES,
-        chain: 1,
-        chunk: USUAL_CHUNK_BYTES,
-        areas: vec![in alloc; 0, 0, 0]?,
+        header: Header {
+            sizes: Sizes {
+                nodes: NODES,
+                chain: 1,
+                chunk: USUAL_CHUNK_BYTES,
+            },
+            areas: vec![in alloc; 0, 0, 0]?,
+        },
     };
     let NodeDisks {
         control,

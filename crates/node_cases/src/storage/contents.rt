@@ -1,4 +1,4 @@
-//! The content log of a disk: what is put, sealed, read and recovered.
+//! The content log of a disk: the bytes put, sealed, read and recovered.
 
 use crate::acting::{Acts, act_all};
 use oc_base::GroupName;
@@ -10,13 +10,14 @@ use test_tools::{
     Fault, RowDisk, RowFields, RowStep, disk_in, group_in, put_disk, put_hex, put_shelf, put_shown,
 };
 
-/// The most bytes that a piece has.
+/// The greatest length of a piece, in bytes.
 const MOST: usize = 1_000_000;
 
-/// More reads than a group takes.
+/// An upper bound on the reads of a group.
 const MOST_READS: u32 = 1000;
 
-/// Puts the words of a row: what each step says, and then what the disk holds after a crash.
+/// Appends the words of a row: the result of each step, and then the content of the disk after a
+/// crash.
 pub fn put_words(alloc: Global, given: &str, said: &mut String) -> Result<(), Fault> {
     let mut fields = given.split_ascii_whitespace();
     let shown = fields.next().unwrap_or("");
@@ -24,7 +25,8 @@ pub fn put_words(alloc: Global, given: &str, said: &mut String) -> Result<(), Fa
     play(alloc, shown, disk, fields, said)
 }
 
-/// Loads the content log of a disk, does the steps, and puts what the disk holds after a crash.
+/// Loads the content log of a disk, performs the steps, and appends the content of the disk after a
+/// crash.
 fn play<D: RowDisk>(
     alloc: Global,
     shown: &str,
@@ -41,7 +43,8 @@ fn play<D: RowDisk>(
     }
 }
 
-/// Puts why a disk was refused, and where a call on it failed, what it holds after a crash.
+/// Appends the reason why a disk was refused, and if a call on it failed, its content after a
+/// crash.
 fn refused<D: RowDisk>(
     alloc: Global,
     shown: &str,
@@ -68,7 +71,7 @@ impl<D: Disk> Acts for Content<D> {
     }
 }
 
-/// Puts bytes to a group, and puts how many are held, or the error.
+/// Puts bytes to a group, and appends the number of bytes held, or the error.
 fn put<D: Disk>(
     alloc: Global,
     content: &mut Content<D>,
@@ -95,7 +98,7 @@ fn put<D: Disk>(
     }
 }
 
-/// Puts how many bytes are held, or the error.
+/// Appends the number of bytes held, or the error.
 fn put_held(held: Result<u64, AppendError>, said: &mut String) -> Result<(), Fault> {
     match held {
         Ok(held) => put_shown(said, &held),
@@ -103,7 +106,7 @@ fn put_held(held: Result<u64, AppendError>, said: &mut String) -> Result<(), Fau
     }
 }
 
-/// Puts the frame that holds a byte of a group, and the place in its bytes, or `-`.
+/// Appends the frame that holds a byte of a group, and the offset in its bytes, or `-`.
 fn put_spot<D: Disk>(
     content: &Content<D>,
     mut fields: RowFields<'_>,
@@ -116,7 +119,8 @@ fn put_spot<D: Disk>(
     }
 }
 
-/// Puts the bytes of a group from a place on, read in pieces of at most the given size, or the error.
+/// Appends the bytes of a group from an offset on, read in pieces of at most the given size, or the
+/// error.
 fn read<D: Disk>(
     alloc: Global,
     content: &mut Content<D>,
@@ -129,7 +133,7 @@ fn read<D: Disk>(
     put_read(alloc, content, &group, start, &mut piece, said)
 }
 
-/// Puts the bytes that are read in pieces of the buffer's size, or the error.
+/// Appends the bytes read in pieces of the buffer's size, or the error.
 fn put_read<D: Disk>(
     alloc: Global,
     content: &mut Content<D>,
@@ -148,7 +152,8 @@ fn put_read<D: Disk>(
     }
 }
 
-/// Reads the bytes of a group from a place on, in pieces of the buffer's size. Gives the error, if there is one.
+/// Reads the bytes of a group from an offset on, in pieces of the buffer's size. Gives the error,
+/// if there is one.
 fn read_all<D: Disk>(
     content: &mut Content<D>,
     group: &GroupName,
@@ -167,7 +172,7 @@ fn read_all<D: Disk>(
     Ok(None)
 }
 
-/// Puts the bytes of a disk, or the lines of the groups that it holds.
+/// Appends the bytes of a disk, or the lines of its groups.
 fn show<D: Disk + Drop>(
     alloc: Global,
     shown: &str,

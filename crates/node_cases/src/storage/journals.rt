@@ -1,4 +1,4 @@
-//! The journal of a disk: what is appended, restarted, read and recovered.
+//! The journal of a disk: the frames appended, restarted, read and recovered.
 
 use crate::acting::{Acts, act_all};
 use oc_io::Disk;
@@ -7,7 +7,8 @@ use std::alloc::Global;
 use std::str::SplitAsciiWhitespace;
 use test_tools::{Fault, RowDisk, RowFields, RowStep, disk_in, put_disk, put_hex, put_shown};
 
-/// Puts the words of a row: what each step says, and then what the disk holds after a crash.
+/// Appends the words of a row: the result of each step, and then the content of the disk after a
+/// crash.
 pub fn put_words(alloc: Global, given: &str, said: &mut String) -> Result<(), Fault> {
     let mut fields = given.split_ascii_whitespace();
     let shown = fields.next().unwrap_or("");
@@ -15,7 +16,8 @@ pub fn put_words(alloc: Global, given: &str, said: &mut String) -> Result<(), Fa
     play(alloc, shown, disk, fields, said)
 }
 
-/// Loads the journal of a disk, does the steps, and puts what the disk holds after a crash.
+/// Loads the journal of a disk, performs the steps, and appends the content of the disk after a
+/// crash.
 fn play<D: RowDisk>(
     alloc: Global,
     shown: &str,
@@ -32,7 +34,8 @@ fn play<D: RowDisk>(
     }
 }
 
-/// Puts why a disk was refused, and where a call on it failed, what it holds after a crash.
+/// Appends the reason why a disk was refused, and if a call on it failed, its content after a
+/// crash.
 fn refused<D: RowDisk>(
     alloc: Global,
     shown: &str,
@@ -58,7 +61,7 @@ impl<D: Disk> Acts for Journal<D> {
     }
 }
 
-/// Appends a frame, and puts the error, if there is one.
+/// Appends a frame to the journal, and the error to the words, if there is one.
 fn append<D: Disk>(
     alloc: Global,
     journal: &mut Journal<D>,
@@ -84,7 +87,7 @@ fn append_frame<D: Disk>(
     }
 }
 
-/// Restarts a journal, and where that fails does it again; puts each error.
+/// Restarts a journal, and if that fails restarts it again; appends each error.
 fn restart<D: Disk>(journal: &mut Journal<D>, said: &mut String) -> Result<(), Fault> {
     for _ in 0..2 {
         match journal.restart() {
@@ -95,7 +98,7 @@ fn restart<D: Disk>(journal: &mut Journal<D>, said: &mut String) -> Result<(), F
     Ok(())
 }
 
-/// Puts the bytes of the body of a frame, from a place on, at most the given number.
+/// Appends at most the given number of bytes of a frame's body, from an offset on.
 fn peek<D: Disk>(
     alloc: Global,
     journal: &mut Journal<D>,
@@ -108,7 +111,7 @@ fn peek<D: Disk>(
     put_part(journal, index, skip, &mut part, said)
 }
 
-/// Puts as many bytes as the buffer takes, or the error.
+/// Appends the bytes that fit the buffer, or the error.
 fn put_part<D: Disk>(
     journal: &mut Journal<D>,
     index: u64,
@@ -125,7 +128,7 @@ fn put_part<D: Disk>(
     }
 }
 
-/// Puts the bytes of a disk, or the frames of its journal.
+/// Appends the bytes of a disk, or the frames of its journal.
 fn show<D: Disk + Drop>(
     alloc: Global,
     shown: &str,
@@ -141,7 +144,7 @@ fn show<D: Disk + Drop>(
     }
 }
 
-/// Puts the frames of a journal, each in brackets.
+/// Appends the frames of a journal, each in brackets.
 fn put_frames<D: Disk>(
     alloc: Global,
     journal: &mut Journal<D>,

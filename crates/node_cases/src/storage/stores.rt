@@ -11,10 +11,11 @@ use std::alloc::Global;
 use std::str::SplitAsciiWhitespace;
 use test_tools::{Fault, RowDisk, RowFields, RowStep, disk_in, put_disk, put_shown};
 
-/// How many nodes there are.
+/// The number of nodes.
 const NODES: u32 = 2;
 
-/// Puts the words of a row: what each step says, and then what the disks hold after a crash.
+/// Appends the words of a row: the result of each step, and then the content of the disks after a
+/// crash.
 pub fn put_words(alloc: Global, given: &str, said: &mut String) -> Result<(), Fault> {
     let mut fields = given.split_ascii_whitespace();
     let shown = fields.next().unwrap_or("");
@@ -23,7 +24,8 @@ pub fn put_words(alloc: Global, given: &str, said: &mut String) -> Result<(), Fa
     play(alloc, shown, first, second, fields, said)
 }
 
-/// Loads the store of two disks, does the steps, and puts what the disks hold after a crash.
+/// Loads the store of two disks, performs the steps, and appends the content of the disks after a
+/// crash.
 fn play<D: RowDisk>(
     alloc: Global,
     shown: &str,
@@ -42,7 +44,8 @@ fn play<D: RowDisk>(
     }
 }
 
-/// Puts why two disks were refused, and where a call on one failed, what they hold after a crash.
+/// Appends the reason why two disks were refused, and if a call on one failed, their content after
+/// a crash.
 fn refused<D: RowDisk>(
     alloc: Global,
     shown: &str,
@@ -71,7 +74,7 @@ impl<D: Disk> Acts for Store<D> {
     }
 }
 
-/// Commits an ask, and puts the error, if there is one.
+/// Commits an ask, and appends the error, if there is one.
 fn ask<D: Disk>(
     store: &mut Store<D>,
     mut fields: RowFields<'_>,
@@ -82,7 +85,7 @@ fn ask<D: Disk>(
     commit(store, &[Record::Ask { seq, peer }], said)
 }
 
-/// Commits records, and puts the error, if there is one.
+/// Commits records, and appends the error, if there is one.
 fn commit<D: Disk>(store: &mut Store<D>, records: &[Record], said: &mut String) -> Result<(), Fault>
     requires spelled { HaveSpellings records.now }
     requires fits { length (records_bytes records.now) ≤ MAX_FRAME_BYTES }
@@ -94,7 +97,7 @@ fn commit<D: Disk>(store: &mut Store<D>, records: &[Record], said: &mut String) 
     }
 }
 
-/// Turns over to the next generation, and puts the error, if there is one.
+/// Turns over to the next generation, and appends the error, if there is one.
 fn turn_over<D: Disk>(store: &mut Store<D>, said: &mut String) -> Result<(), Fault> {
     let generation = store.generation();
     if generation == u64::MAX {
@@ -110,7 +113,7 @@ fn turn_over<D: Disk>(store: &mut Store<D>, said: &mut String) -> Result<(), Fau
     }
 }
 
-/// Puts the bytes of both disks, or the records that they recover.
+/// Appends the bytes of both disks, or the records recovered from them.
 fn show<D: Disk + Drop>(
     alloc: Global,
     shown: &str,

@@ -1,69 +1,55 @@
 //! A GET or HEAD of a group: a client is given its bytes from a byte on, or is sent to another node.
 
-ghost use Rattle.std.specs.Prelude.{◌≡◌, [], IfOk, string_bytes};
-ghost use Rattle.oc_base.specs.Names.{IsGroupName};
+ghost use Rattle.std.specs.Prelude.{◌≡◌, [], IfOk};
 ghost use Rattle.oc_http.specs.Writing.{head_text};
-ghost use Rattle.oc_routes.specs.Group.{framing_for, is_chunked, location_for, redirection, served};
-ghost use Rattle.oc_routes.specs.Responses.{typed, whole};
+ghost use Rattle.oc_routes.specs.Group.{framing_for, is_chunked, is_past, past_reply, redirection, served};
+ghost use Rattle.oc_routes.specs.Reasons.{no_group_line, telling};
+ghost use Rattle.oc_routes.specs.Responses.{typed, whole, whole_for};
 
+use crate::holding::Holding;
 use crate::manner::{Manner, connection_for};
+use crate::reasons::{bare, no_group_line, past_line, telling};
 use crate::response::{GroupRange, Response};
-use crate::responses::{typed_head, whole};
-use oc_base::{Bytes, GroupName, Memory, Text};
-use oc_http::{Framing, Reply};
-use oc_updown::{follow_location, location};
+use crate::responses::{typed_head, whole, whole_for};
+use oc_base::{Memory, Text};
+use oc_http::Framing;
 use std::alloc::Global;
 
-/// Sends a client to the node at an address.
-pub(super) fn sent_to(
-    alloc: Global,
-    manner: Manner,
-    address: &str,
-    group: &GroupName,
-    start: u64,
-) -> Result<Response, Memory>
-    requires { IsGroupName group.now }
-    ensures { IfOk result (λ response. response ≡ whole (redirection (location_for manner address.now group.now start))) }
-{
-    let location = location_for(alloc, manner, address, group, start)?;
-    redirected(alloc, location.into_bytes())
-}
-
 /// Sends a client to a URL.
-pub(crate) fn redirected(alloc: Global, location: Vec<u8>) -> Result<Response, Memory>
+pub(crate) fn sent_to(alloc: Global, location: Vec<u8>) -> Result<Response, Memory>
     ensures { IfOk result (λ response. response ≡ whole (redirection location.items)) }
 {
-    let reply = Reply {
-        status: 302,
-        location: Some(Text::of(location)),
-        content_type: None,
-        body: Bytes::of(Vec::new(alloc)),
-        rule: None,
-        group_length: None,
-        mac: None,
-    };
+    let mut reply = bare(alloc, 302);
+    reply.location = Some(Text::of(location));
     whole(alloc, &reply)
 }
 
-/// The URL to which a client is sent that tells nothing.
-fn location_for(
-    alloc: Global,
-    manner: Manner,
-    address: &str,
-    group: &GroupName,
-    start: u64,
-) -> Result<String, Memory>
-    requires { IsGroupName group.now }
-    ensures { IfOk result (λ url. string_bytes url ≡ location_for manner address.now group.now start) }
+/// Tells a client that there is no such group here.
+pub(crate) fn no_group(alloc: Global, manner: Manner) -> Result<Response, Memory>
+    ensures { IfOk result (λ response. response ≡ whole_for manner (telling 404 no_group_line)) }
 {
-    match manner {
-        Manner::Follow => follow_location(alloc, address, group, start),
-        Manner::HeadAlone | Manner::Once => location(alloc, address, group, start),
-    }
+    let reply = telling(404, no_group_line(alloc)?);
+    whole_for(alloc, manner, &reply)
+}
+
+/// Whether the start is past the end of a group that is sealed here; at its end it is not.
+pub(crate) fn is_past(start: u64, holding: Holding) -> bool
+    ensures { result ≡ is_past start holding }
+{
+    holding.sealed && holding.held < start
+}
+
+/// Tells a client that its start is past the end of a sealed group of this length.
+pub(crate) fn past(alloc: Global, manner: Manner, length: u64) -> Result<Response, Memory>
+    ensures { IfOk result (λ response. response ≡ whole_for manner (past_reply length)) }
+{
+    let mut reply = telling(416, past_line(alloc, length)?);
+    reply.content_range = Some(length);
+    whole_for(alloc, manner, &reply)
 }
 
 /// Gives a client `count` bytes of a group from a byte on.
-pub(super) fn served(
+pub(crate) fn served(
     alloc: Global,
     manner: Manner,
     sealed: bool,

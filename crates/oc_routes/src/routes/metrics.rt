@@ -1,4 +1,4 @@
-//! A GET or HEAD of `/!metrics`: the metrics of the node, for Prometheus.
+//! A GET or HEAD of `/-/metrics`, or `/!metrics`: the metrics of the node, for Prometheus.
 
 ghost use Rattle.std.specs.Prelude.{◌≡◌, ◌++◌, IfOk, OnOk};
 ghost use Rattle.oc_routes.specs.Metrics.{count_gauges, gauge, group_gauges, heading, held_samples, metrics_text, place_gauges, sample, sealed_samples};
@@ -11,6 +11,9 @@ use std::alloc::Global;
 
 /// The path of the metrics.
 pub const METRICS_PATH: &str = "/!metrics";
+
+/// The same under a name that shells and collectors can spell.
+pub const METRICS_NAME: &str = "/-/metrics";
 
 /// What a node tells of itself at `/!metrics`, in the text format of Prometheus. `shelf` is what it holds of each
 /// group, and `messages` the number of messages in its outbox.

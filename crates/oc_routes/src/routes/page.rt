@@ -1,4 +1,4 @@
-//! A GET or HEAD of `/!`: the page that draws the status.
+//! A GET or HEAD of `/-/`, or `/!`: the page that draws the status.
 
 ghost use Rattle.std.specs.Prelude.{◌≡◌, IfOk};
 ghost use Rattle.oc_routes.specs.Page.{page_text};
@@ -8,6 +8,9 @@ use std::alloc::Global;
 
 /// The path of the page.
 pub const PAGE_PATH: &str = "/!";
+
+/// The same under a name that shells and collectors can spell.
+pub const PAGE_NAME: &str = "/-/";
 
 /// The page, whole: it reads `/!status` each second and draws the tree that the node's table tells.
 pub const PAGE: &str = r##"<!doctype html>

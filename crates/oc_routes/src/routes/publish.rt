@@ -4,17 +4,29 @@ ghost use Rattle.std.specs.Prelude.{◌≡◌, IfOk};
 ghost use Rattle.oc_http.specs.Writing.{HasPhrase};
 ghost use Rattle.oc_routes.specs.Publish.{publish_response, publish_status};
 
+use crate::reasons::publish_line;
 use crate::response::Response;
-use crate::responses::status_alone;
-use oc_base::Memory;
+use crate::responses::{status_alone, told};
+use oc_base::{GroupName, Memory};
 use oc_model::Answer;
 use std::alloc::Global;
 
-/// The reply to a publish, by the answer of its step.
-pub(super) fn to_publish(alloc: Global, answer: Answer) -> Result<Response, Memory>
-    ensures { IfOk result (λ response. response ≡ publish_response answer) }
+/// The reply to a publish, by the answer of its step; `source` is the address of the source.
+pub(super) fn to_publish(
+    alloc: Global,
+    answer: Answer,
+    source: &str,
+    group: &GroupName,
+) -> Result<Response, Memory>
+    ensures { IfOk result (λ response. response ≡ publish_response answer source.now group.now) }
 {
-    status_alone(alloc, publish_status(answer))
+    match answer {
+        Answer::Ok => status_alone(alloc, 200),
+        refusal => {
+            let line = publish_line(alloc, refusal, source, group)?;
+            told(alloc, publish_status(refusal), line)
+        }
+    }
 }
 
 /// The status of a reply to a publish.

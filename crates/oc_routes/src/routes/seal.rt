@@ -4,17 +4,29 @@ ghost use Rattle.std.specs.Prelude.{◌≡◌, IfOk};
 ghost use Rattle.oc_http.specs.Writing.{HasPhrase};
 ghost use Rattle.oc_routes.specs.Seal.{seal_response, seal_status};
 
+use crate::reasons::seal_line;
 use crate::response::Response;
-use crate::responses::status_alone;
-use oc_base::Memory;
+use crate::responses::{status_alone, told};
+use oc_base::{GroupName, Memory};
 use oc_model::Answer;
 use std::alloc::Global;
 
-/// The reply to a seal, by the answer of its step.
-pub(super) fn to_seal(alloc: Global, answer: Answer) -> Result<Response, Memory>
-    ensures { IfOk result (λ response. response ≡ seal_response answer) }
+/// The reply to a seal, by the answer of its step; `source` is the address of the source.
+pub(super) fn to_seal(
+    alloc: Global,
+    answer: Answer,
+    source: &str,
+    group: &GroupName,
+) -> Result<Response, Memory>
+    ensures { IfOk result (λ response. response ≡ seal_response answer source.now group.now) }
 {
-    status_alone(alloc, seal_status(answer))
+    match answer {
+        Answer::Ok | Answer::Ignored => status_alone(alloc, 200),
+        refusal => {
+            let line = seal_line(alloc, refusal, source, group)?;
+            told(alloc, seal_status(refusal), line)
+        }
+    }
 }
 
 /// The status of a reply to a seal.

@@ -1,4 +1,4 @@
-//! A GET or HEAD of `/!status`: the state of the node, as JSON.
+//! A GET or HEAD of `/-/status`, or `/!status`: the state of the node, as JSON.
 
 ghost use Rattle.std.specs.Prelude.{◌≡◌, ◌++◌, IfOk, OnOk};
 ghost use Rattle.oc_routes.specs.Json.{number_text, or_null};
@@ -15,6 +15,9 @@ use std::alloc::Global;
 
 /// The path of the status.
 pub const STATUS_PATH: &str = "/!status";
+
+/// The same under a name that shells and collectors can spell.
+pub const STATUS_NAME: &str = "/-/status";
 
 /// What a node tells of itself at `/!status`: one object of JSON, and a line's end. `shelf` is what it holds of each
 /// group.

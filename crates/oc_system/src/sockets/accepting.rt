@@ -1,4 +1,4 @@
-//! How connections are taken, and which of them give way.
+//! Accepting of connections, and the choice of those that give way.
 
 use super::{Lost, Sockets};
 use crate::connection::Connection;
@@ -8,22 +8,23 @@ use mio::net::TcpStream as Stream;
 use oc_link::{ConnectionId, Loss};
 use std::io::{self, ErrorKind};
 
-/// The system as a whole has no more files, by POSIX.
+/// The error number of POSIX for a system without free files.
 const ENFILE: i32 = 23;
 
 impl Sockets {
-    /// Takes the connections that wait.
+    /// Accepts the connections that wait.
     ///
-    /// Where the system has no more descriptors, it says so even where no connection waits, so a connection that
-    /// gave way for that may have done so for nothing. Therefore a spare descriptor is given up first: then it
-    /// is known whether one waits, and only after it was taken one gives way, for the next spare one.
+    /// A system without free descriptors reports so even if no connection waits, so a connection
+    /// that gave way might have done so for nothing. Therefore a spare descriptor is given up
+    /// first: that shows whether one waits, and only after it was accepted another gives way, for
+    /// the next spare one.
     pub(super) fn accept(&mut self, now: u64) {
         if now < self.shut_until {
             return;
         }
         self.shut_until = 0;
         for _ in 0..MOST_ACCEPTED {
-            // Room for those that give way, which are told one by one.
+            // Room for the connections that give way, which are reported one by one.
             if !self.knocks || self.gone.len() >= PLACES {
                 return;
             }
@@ -43,9 +44,10 @@ impl Sockets {
                         self.knocks = false;
                         self.restore_spare();
                     }
-                    // The connection that waited is over, or the call was interrupted: the next one is taken.
+                    // The connection that waited is over, or the call was interrupted: go on with
+                    // the next one.
                     ErrorKind::ConnectionAborted | ErrorKind::Interrupted => {}
-                    // Memory ran out, or else something that does not pass by asking again at once.
+                    // Memory ran out, or another cause that does not pass by asking again at once.
                     _ => {
                         self.shut(now);
                         return;
@@ -55,12 +57,12 @@ impl Sockets {
         }
     }
 
-    /// No connection is taken for a while. Nothing else tells when one could be again.
+    /// Accepts no connection for a while. No event would show when it is possible again.
     fn shut(&mut self, now: u64) {
         self.shut_until = now.saturating_add(SHUT_MILLIS);
     }
 
-    /// Takes a descriptor to spare, where there is none. A connection gives way for it.
+    /// Takes a spare descriptor, if there is none. A connection gives way for it.
     fn restore_spare(&mut self) {
         if self.spare.is_some() {
             return;
@@ -71,8 +73,8 @@ impl Sockets {
         }
     }
 
-    /// Keeps a new connection. Where all places are taken, another one gives way; where none may be asked to, since
-    /// the requests of all have come, the new one is dropped.
+    /// Keeps a new connection. If all places are taken, another one gives way; if none may be asked
+    /// to, since the requests of all have come, the new one is dropped.
     fn welcome(&mut self, stream: Stream, now: u64) {
         if self.places.are_full() && !self.give_way() {
             return;
@@ -85,7 +87,7 @@ impl Sockets {
         self.turns.push_asking(place);
     }
 
-    /// Drops the connection that is to give way first; false where none may be asked to.
+    /// Drops the connection that has to give way first; false if none may be asked to.
     pub(super) fn give_way(&mut self) -> bool {
         match self.places.first_to_yield() {
             Some(place) => {
@@ -96,7 +98,7 @@ impl Sockets {
         }
     }
 
-    /// Drops the connection at this place; where its reply was under way, that is told.
+    /// Drops the connection at this place, and notes a loss if its reply was under way.
     pub(super) fn lose(&mut self, place: usize, loss: Loss) {
         if let Some(connection) = self.places.get(place) {
             if connection.is_missed() {
@@ -104,7 +106,8 @@ impl Sockets {
                     connection: ConnectionId(connection.id),
                     loss,
                 };
-                // There is room: no more are taken where as many wait to be told as there are places.
+                // There is room: no more connections are accepted once as many losses wait to be
+                // reported as there are places.
                 let _noted = self.gone.push_back(lost).is_ok();
             }
         }
@@ -120,7 +123,7 @@ impl Sockets {
         }
     }
 
-    /// One of the places for large requests is free again: who waits for one goes on.
+    /// Frees one of the places for large requests, and lets a connection that waits for one go on.
     pub(super) fn free_large(&mut self) {
         self.large = self.large.saturating_sub(1);
         if let Some(place) = self.held.pop() {
@@ -129,7 +132,7 @@ impl Sockets {
     }
 }
 
-/// Whether the system, or what it allows this program, has no more descriptors.
+/// Whether the system, or the limit of this program, has no more descriptors.
 pub(super) fn is_out_of_files(error: &io::Error) -> bool {
     matches!(error.raw_os_error(), Some(EMFILE | ENFILE))
 }

@@ -1,4 +1,4 @@
-//! What is done to a connection from above.
+//! The calls of the layer above on a connection.
 
 use super::Sockets;
 use crate::connection::ConnectionStage;
@@ -6,7 +6,7 @@ use crate::limits::LARGE_BYTES;
 use oc_link::{ConnectionId, Ending};
 
 impl Sockets {
-    /// What came on a connection, which is given back or taken.
+    /// Lends the bytes that came on a connection, which are given back or taken.
     pub(crate) fn lend(&mut self, connection: ConnectionId) -> Vec<u8> {
         if let Some(place) = self.places.place_of(connection.0) {
             if let Some(lender) = self.places.get_mut(place) {
@@ -16,7 +16,7 @@ impl Sockets {
         Vec::new(self.tools.alloc)
     }
 
-    /// Gives back what was lent and not taken.
+    /// Takes back lent bytes that were not taken.
     pub(crate) fn give_back(&mut self, connection: ConnectionId, bytes: Vec<u8>) {
         let Some(place) = self.places.place_of(connection.0) else {
             return;
@@ -27,7 +27,7 @@ impl Sockets {
         }
     }
 
-    /// Takes that many of the bytes that came on a connection.
+    /// Takes the first `count` of the bytes that came on a connection.
     pub(crate) fn take(&mut self, connection: ConnectionId, bytes: &[u8], count: u64, now: u64) {
         let Some(place) = self.places.place_of(connection.0) else {
             return;
@@ -55,7 +55,8 @@ impl Sockets {
         }
     }
 
-    /// The reply of a connection was given whole. One that was lost meanwhile is told only where that is asked for.
+    /// Notes that the reply of a connection is complete. A connection that was lost meanwhile is
+    /// reported only if that was asked for.
     pub(crate) fn finish_reply(&mut self, connection: ConnectionId, ending: Ending, now: u64) {
         let Some(place) = self.places.place_of(connection.0) else {
             if !ending.watched {
@@ -81,7 +82,7 @@ impl Sockets {
         }
     }
 
-    /// That a connection was lost is not to be told.
+    /// Drops the report that a connection was lost.
     fn forget(&mut self, connection: ConnectionId) {
         self.gone.retain(|lost| lost.connection != connection);
     }

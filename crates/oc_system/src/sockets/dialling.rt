@@ -11,7 +11,8 @@ use std::io;
 use std::net::{Net, SocketAddr, TcpStream};
 
 impl Sockets {
-    /// Begins a dial to the first of these addresses that takes it; false where there is no place for it.
+    /// Begins a dial to the first of these addresses that can be connected; false if there is no
+    /// place for it.
     pub(crate) fn dial<R: Net<Stream = TcpStream>>(
         &mut self,
         rt: &R,
@@ -33,7 +34,8 @@ impl Sockets {
         true
     }
 
-    /// Begins to connect a dial to the next of its addresses, and fails it where there is no further one.
+    /// Begins to connect a dial to the next of its addresses, and fails it if there is no further
+    /// one.
     fn connect<R: Net<Stream = TcpStream>>(&mut self, rt: &R, place: usize, now: u64) {
         for _ in 0..MOST_ADDRESSES {
             let address = match dial_at(&mut self.dials, place) {
@@ -54,8 +56,8 @@ impl Sockets {
         }
     }
 
-    /// A socket that is being connected. Where the system has no more files, a connection gives way: a node that
-    /// can't dial loses its place in the tree, while a client comes again.
+    /// A socket that is being connected. If the system has no more files, a connection gives way: a
+    /// node that can't dial loses its place in the tree, while a client comes again.
     fn stream_to<R: Net<Stream = TcpStream>>(
         &mut self,
         rt: &R,
@@ -69,7 +71,7 @@ impl Sockets {
         }
     }
 
-    /// Has the system tell when this socket of a dial is ready.
+    /// Registers the socket of a dial with the system.
     fn watch_dial(&mut self, place: usize, stream: Stream, now: u64) {
         let Some(dial) = dial_at(&mut self.dials, place) else {
             return;
@@ -89,7 +91,7 @@ impl Sockets {
         }
     }
 
-    /// Does what can be done on the dial at this place, and tells its reply once it is over.
+    /// Makes progress on the dial at this place, and reports its reply once it is over.
     pub(super) fn look_at_dial<R: Net<Stream = TcpStream>>(
         &mut self,
         rt: &R,

@@ -1,4 +1,4 @@
-//! What is done at one place, in its turn.
+//! The work at one place, in its turn.
 
 use super::{SocketEvent, Sockets};
 use crate::connection::Fate;
@@ -7,8 +7,8 @@ use oc_link::{LinkEvent, Loss};
 use std::net::{Net, TcpStream};
 
 impl Sockets {
-    /// Looks at one place, and tells what happened there, if anything did. Those that were dropped are told first:
-    /// each is told once.
+    /// Looks at one place, and reports an event there, if there is one. Lost connections are
+    /// reported first, once each.
     pub(super) fn look<R: Net<Stream = TcpStream>>(
         &mut self,
         rt: &R,
@@ -26,7 +26,7 @@ impl Sockets {
         }
     }
 
-    /// Does what can be done on the connection at this place, and tells what happened on it, if anything did.
+    /// Makes progress on the connection at this place, and reports an event on it, if there is one.
     fn look_at(&mut self, place: usize, now: u64) -> Option<SocketEvent> {
         let connection = self.places.get_mut(place)?;
         let most = if connection.is_large || self.large < MOST_LARGE {
@@ -57,11 +57,12 @@ impl Sockets {
                 return Some(self.with_nothing(event));
             }
         }
-        // One that was dropped is told at the next look.
+        // A connection that was dropped is reported at the next look.
         None
     }
 
-    /// Nothing more can be done at this place now: the system is asked to tell when something can.
+    /// Leaves a place without progress for now: the system is asked to report when its socket is
+    /// ready.
     fn leave_at(&mut self, place: usize, most: usize) {
         let Some(connection) = self.places.get_mut(place) else {
             return;

@@ -8,13 +8,14 @@ use std::alloc::Global;
 use std::str;
 use test_tools::{Fault, RowFields, RowStep};
 
-/// The room of a link and of a sink.
+/// The capacity of a link and of a sink, in bytes.
 const ROOM: usize = 1_000_000;
 
-/// More dials than a row makes.
+/// An upper bound on the dials of a row.
 const MOST_DIALS: u64 = 20;
 
-/// Puts the words of a row: how the download ended, what was written, and what each dial was sent.
+/// Appends the words of a row: the end of the download, the bytes written, and the requests sent on
+/// each dial.
 pub fn put_words(alloc: Global, given: &str, said: &mut String) -> Result<(), Fault> {
     let mut fields = RowFields::of(given, ' ');
     let call = RowStep::of(fields.text());
@@ -22,7 +23,7 @@ pub fn put_words(alloc: Global, given: &str, said: &mut String) -> Result<(), Fa
     put_conversation(alloc, call, &address, fields, said)
 }
 
-/// Puts the words of a call for this address, where the fields have the link and the sink.
+/// Appends the words of a call for this address; the fields have the link and the sink.
 fn put_conversation(
     alloc: Global,
     call: RowStep<'_>,
@@ -38,7 +39,8 @@ fn put_conversation(
     tell(end, &link, &sink, said)
 }
 
-/// A link with these replies, of which one read gives at most `cut` bytes, and whose calls of these numbers fail.
+/// A link with these replies, of which one read gives at most `cut` bytes, and whose calls with these
+/// numbers fail.
 pub fn link_in(
     alloc: Global,
     replies: RowFields<'_>,
@@ -79,7 +81,7 @@ fn download<L: Dialler, S: Sink>(
     }
 }
 
-/// The byte to begin from and the token, where they are given.
+/// The first byte to ask for and the token, if they are given.
 fn manner_in<'a>(fields: &mut RowFields<'a>) -> Result<FetchOptions<'a>, Fault> {
     let from = given(fields.text());
     let token = given(fields.text());
@@ -100,7 +102,7 @@ fn given(field: &str) -> Option<&str> {
     }
 }
 
-/// Tells how a download ended, what was written, and what each dial was sent.
+/// Appends the end of a download, the bytes written, and the requests sent on each dial.
 fn tell(end: GetEnd, link: &MemDialler, sink: &MemSink, said: &mut String) -> Result<(), Fault> {
     write!(said, "{end:?} ")?;
     put_text(said, sink.text())?;

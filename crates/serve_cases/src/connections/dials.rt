@@ -1,13 +1,13 @@
-//! Dials of a client in memory: what each call gives, and what is kept.
+//! Dials of a client in memory: the result of each call, and the bytes kept.
 
 use oc_link::{Dialler, MemDialler};
 use std::alloc::Global;
 use test_tools::{Fault, RowFields, RowStep, put_hex};
 
-/// More calls than a row has.
+/// An upper bound on the calls of a row.
 const MOST: u32 = 100;
 
-/// Puts the words of a row: what each call says.
+/// Appends the words of a row: the result of each call.
 pub fn put_words(alloc: Global, given: &str, said: &mut String) -> Result<(), Fault> {
     let mut fields = RowFields::of(given, ' ');
     let mut link = link_in(alloc, &mut fields)?;
@@ -27,7 +27,7 @@ fn link_in(alloc: Global, fields: &mut RowFields<'_>) -> Result<MemDialler, Faul
     Ok(MemDialler::new(alloc, replies, room, cut, fails)?)
 }
 
-/// Makes the calls, and puts what each says.
+/// Makes the calls, and appends the result of each.
 fn play(
     alloc: Global,
     link: &mut MemDialler,
@@ -43,7 +43,7 @@ fn play(
     Ok(())
 }
 
-/// Makes a call, and puts what it says.
+/// Makes a call, and appends its result.
 fn act(
     alloc: Global,
     link: &mut MemDialler,
@@ -58,7 +58,7 @@ fn act(
     Ok(())
 }
 
-/// Makes a call that says something, and puts that and a space.
+/// Makes a call with a result, and appends the result and a space.
 fn put_asked<L: Dialler>(
     alloc: Global,
     link: &mut L,
@@ -69,7 +69,7 @@ fn put_asked<L: Dialler>(
     Ok(said.push_str(" ")?)
 }
 
-/// Puts bytes that are kept, if they are there.
+/// Appends the bytes that are kept, if there are any.
 fn put_kept(kept: Option<&[u8]>, said: &mut String) -> Result<(), Fault> {
     match kept {
         Some(bytes) => put_hex(said, bytes)?,
@@ -78,7 +78,7 @@ fn put_kept(kept: Option<&[u8]>, said: &mut String) -> Result<(), Fault> {
     Ok(said.push_str(" ")?)
 }
 
-/// Makes a call of a link that says something, and puts that.
+/// Makes a call of a link with a result, and appends the result.
 fn ask<L: Dialler>(
     alloc: Global,
     link: &mut L,

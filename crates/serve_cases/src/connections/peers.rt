@@ -17,7 +17,7 @@ struct Rates {
     ghost peers: { length gauge ≡ 3 },
 }
 
-/// Puts the words of a row: what each step says.
+/// Appends the words of a row: the result of each step.
 pub fn put_words(alloc: Global, given: &str, said: &mut String) -> Result<(), Fault> {
     let mut rates = Rates {
         gauge: Gauge::new(alloc, PEERS)?,
@@ -37,7 +37,7 @@ fn play(rates: &mut Rates, steps: &str, said: &mut String) -> Result<(), Fault> 
     Ok(())
 }
 
-/// Puts a rate of a peer, and says the median.
+/// Puts a rate of a peer, and appends the median.
 fn put(rates: &mut Rates, mut fields: RowFields<'_>, said: &mut String) -> Result<(), Fault> {
     let peer = fields.node()?;
     let rate = fields.number()?;
@@ -48,7 +48,7 @@ fn put(rates: &mut Rates, mut fields: RowFields<'_>, said: &mut String) -> Resul
     Ok(write!(said, "{median} ")?)
 }
 
-/// Says the first peers of a node.
+/// Appends the first peers of a node.
 fn turn(mut fields: RowFields<'_>, said: &mut String) -> Result<(), Fault> {
     let me = fields.node()?;
     let nodes = fields.small()?;
@@ -60,7 +60,7 @@ fn turn(mut fields: RowFields<'_>, said: &mut String) -> Result<(), Fault> {
     put_turns(&mut rotation, count, said)
 }
 
-/// Says the next peers of a rotation.
+/// Appends the next peers of a rotation.
 fn put_turns(rotation: &mut Rotation, count: u8, said: &mut String) -> Result<(), Fault> {
     for _ in 0..count {
         match rotation.next() {

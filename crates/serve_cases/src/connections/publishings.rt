@@ -9,10 +9,10 @@ use std::alloc::Global;
 use std::str;
 use test_tools::{Fault, RowFields, RowStep};
 
-/// The room of the lines.
+/// The capacity for the lines, in bytes.
 const ROOM: usize = 10_000;
 
-/// More dials than a row makes.
+/// An upper bound on the dials of a row.
 const MOST_DIALS: u64 = 20;
 
 /// The pauses that were made.
@@ -25,7 +25,8 @@ impl Pause for Pauses {
     }
 }
 
-/// Puts the words of a row: how the publishing ended, the pauses, the lines, and what each dial was sent.
+/// Appends the words of a row: the end of the publishing, the pauses, the lines, and the requests
+/// sent on each dial.
 pub fn put_words(alloc: Global, given: &str, said: &mut String) -> Result<(), Fault> {
     let mut fields = RowFields::of(given, ' ');
     let mut call = RowStep::of(fields.text());
@@ -56,8 +57,8 @@ pub fn put_words(alloc: Global, given: &str, said: &mut String) -> Result<(), Fa
     tell(end, &link, aside, said)
 }
 
-/// What gives the input of a row: a connection on which this text comes, at most `cut` bytes in one read. Its calls of these
-/// numbers fail, of which the first makes it.
+/// The input of a row: a connection on which this text comes, at most `cut` bytes in one read. The
+/// calls with these numbers fail; call 1 makes the connection.
 fn feed_in(alloc: Global, text: Vec<u8>, cut: u32, fails: Vec<u64>) -> Result<MemDialler, Fault> {
     let cut = cut as usize;
     if cut < 1 {
@@ -70,7 +71,7 @@ fn feed_in(alloc: Global, text: Vec<u8>, cut: u32, fails: Vec<u64>) -> Result<Me
     }
 }
 
-/// How a row publishes: `new`, `append` or `resume`, and `seal`, `live`, `live+seal` or `-`.
+/// The publication of a row: `new`, `append` or `resume`, and `seal`, `live`, `live+seal` or `-`.
 fn plan_in(call: &mut RowStep<'_>) -> Result<Publication, Fault> {
     let place = match call.word {
         "new" => WriteMode::New,
@@ -87,7 +88,8 @@ fn plan_in(call: &mut RowStep<'_>) -> Result<Publication, Fault> {
     Ok(Publication { place, seal, live })
 }
 
-/// Tells how a publishing ended, how many pauses it made, its lines, and what each dial was sent.
+/// Appends the end of a publishing, the number of its pauses, its lines, and the requests sent on
+/// each dial.
 fn tell(
     end: PutEnd,
     link: &MemDialler,

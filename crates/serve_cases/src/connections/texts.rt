@@ -1,5 +1,5 @@
-//! Texts of heads and bodies in the fields of a row. `~` stands for a space, `|` for CR LF, `!` for `=`,
-//! `^` for the byte 255, and `*` for 70,000 bytes `x`; `_` is the empty text.
+//! Texts of heads and bodies in the fields of a row. `~` means a space, `|` CR LF, `!` a `=`, `^`
+//! the byte 255, and `*` 70,000 bytes `x`; `_` is the empty text.
 
 use std::alloc::Global;
 use test_tools::{Fault, RowFields};
@@ -7,7 +7,7 @@ use test_tools::{Fault, RowFields};
 /// The most items of a list.
 const MOST: u32 = 100;
 
-/// How many bytes `*` stands for.
+/// The number of bytes that `*` means.
 const MANY: usize = 70_000;
 
 /// The most bytes of a text that is printed.
@@ -42,7 +42,7 @@ pub fn texts_in(alloc: Global, mut list: RowFields<'_>) -> Result<Vec<Vec<u8>>, 
     Ok(texts)
 }
 
-/// Puts a text as rows write it, except that `=` stands for itself, and for a long one its length.
+/// Appends a text as rows write it, except that `=` is itself, and for a long text its length.
 pub fn put_text(out: &mut String, text: &[u8]) -> Result<(), Fault> {
     let length = text.len();
     if length == 0 {

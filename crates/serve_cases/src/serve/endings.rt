@@ -8,8 +8,8 @@ use crate::serve::table::Scenes;
 use std::alloc::Global;
 use test_tools::{Fault, spelled_in};
 
-/// The words of a row: after how many numbers of bytes, from none to all, one after another, the connection
-/// comes to the same lines and replies, and to which.
+/// The words of a row: the results of the connection in order of the number of its bytes, from none
+/// to all, each as a range of numbers and its lines and replies.
 pub struct EndingScenes;
 
 impl Scenes for EndingScenes {
@@ -37,7 +37,7 @@ fn put_all(
     Ok(())
 }
 
-/// The words of a connection that brings these bytes alone, with these steps after it.
+/// The words of a connection with these bytes alone, and these steps after it.
 fn words_of_front(
     alloc: Global,
     setting: &Setting,

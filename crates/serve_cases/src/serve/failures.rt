@@ -7,7 +7,7 @@ use crate::serve::table::Scenes;
 use std::alloc::Global;
 use test_tools::{Fault, RowFields};
 
-/// The words of a row: how often, one after another, it comes to the same end and lines, and to which.
+/// The words of a row: the number of consecutive failures with the same end and lines, and those.
 pub struct FailureScenes;
 
 impl Scenes for FailureScenes {

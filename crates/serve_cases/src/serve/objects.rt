@@ -1,5 +1,5 @@
-//! What a scene brings: what happens at the link, step by step, an output, and the calls of disks and of the output
-//! that fail.
+//! The objects of a scene: the link with its events, step by step, an output, and the failing calls
+//! of disks and of the output.
 
 use crate::serve::steps::{MOST_STEPS, numbers_in, small_in, split_step};
 use oc_base::Bytes;
@@ -8,7 +8,7 @@ use oc_link::{Coming, ConnectionId, DialId, Happening, Loss, MemLink, Step};
 use std::alloc::Global;
 use test_tools::{Fault, RowFields, spelled_in};
 
-/// The bytes that an output keeps where a scene does not say it.
+/// The capacity of an output in bytes, unless a scene gives one.
 const ROOM: u32 = 40_000;
 
 /// The script of a scene so far.
@@ -16,28 +16,30 @@ const ROOM: u32 = 40_000;
 struct Script {
     alloc: Global,
     steps: Vec<Step>,
-    /// How many connections came.
+    /// The number of connections so far.
     connections: u64,
-    /// The connection of which steps speak.
+    /// The connection that steps refer to.
     connection: u64,
-    /// The dial of which they speak.
+    /// The dial that steps refer to.
     dial: u64,
-    /// How many bytes of a connection come at a time; 0 for all.
+    /// The number of bytes of a connection that come at a time; 0 for all.
     cut: usize,
-    /// The milliseconds until the next step.
+    /// The time until the next step, in milliseconds.
     after: u64,
 }
 
-/// The link of a scene, and how many things happen there.
+/// The link of a scene, and the number of its events.
 ///
 /// - `come:TEXT` is a new connection, with the next number from 0, whose sending ends after these bytes; `part:TEXT` one
 ///   that does not end, and `broken:TEXT` one that fails. Of the last one, or that of the last `on:N`, `more:TEXT` are
 ///   further bytes, `last:TEXT` are further bytes and then its end, and `again:N` has its end told N times more. `cut:N` has
 ///   the bytes of connections come N at a time from there on.
-/// - `room`, `gone` and `gave` tell of the same connection that it has room, that it failed, that it gave way.
-/// - `reply:TEXT` is what dial 0, or that of the last `dial:N`, is replied; `failed:TEXT` is the same where the dial fails
-///   after these bytes.
-/// - `quiet` is nothing, and `fails` a failure of the link. `wait:N` has N milliseconds pass until the next of these.
+/// - `room`, `gone` and `gave` report that the same connection has room, that it failed, that it
+///   gave way.
+/// - `reply:TEXT` is the reply to dial 0, or to that of the last `dial:N`; `failed:TEXT` is a reply
+///   on which the dial fails after these bytes.
+/// - `quiet` is no event, and `fails` a failure of the link. `wait:N` lets N milliseconds pass
+///   until the next event.
 pub fn link_in(alloc: Global, scene: &str) -> Result<(MemLink, u32), Fault> {
     let mut script = Script {
         alloc,
@@ -83,7 +85,7 @@ impl Script {
         }
     }
 
-    /// Takes a step that says something of those after it, if it is one.
+    /// Takes a step that sets a value for the steps after it, if it is one.
     fn set(&mut self, word: &str, said: &str) -> Result<(), Fault> {
         match word {
             "on" => self.connection = number_in(said)?,
@@ -95,12 +97,12 @@ impl Script {
         Ok(())
     }
 
-    /// The connection of which steps speak.
+    /// The connection that steps refer to.
     fn connection(&self) -> ConnectionId {
         ConnectionId(self.connection)
     }
 
-    /// Bytes come on it: at once, or piece by piece with the end after the last one.
+    /// Bytes come on the connection: at once, or piece by piece with the end after the last one.
     fn comes(&mut self, said: &str, coming: Coming) -> Result<(), Fault> {
         let bytes = spelled_in(self.alloc, said)?;
         if self.cut == 0 {
@@ -112,7 +114,7 @@ impl Script {
         self.put_bytes(&[], coming)
     }
 
-    /// Its end is told so often.
+    /// The end of the connection is reported `times` times.
     fn comes_again(&mut self, times: u64) -> Result<(), Fault> {
         for _ in 0..times {
             self.put_bytes(&[], Coming::Ended)?;
@@ -120,19 +122,19 @@ impl Script {
         Ok(())
     }
 
-    /// These bytes come on it, which end so.
+    /// These bytes come on the connection, with this end.
     fn put_bytes(&mut self, bytes: &[u8], coming: Coming) -> Result<(), Fault> {
         let bytes = Bytes::of(bytes.to_vec(self.alloc)?);
         self.put(Happening::Comes(self.connection(), bytes, coming))
     }
 
-    /// What the dial is replied, which ends so.
+    /// The dial gets this reply, with this end.
     fn replies(&mut self, said: &str, coming: Coming) -> Result<(), Fault> {
         let bytes = Bytes::of(spelled_in(self.alloc, said)?);
         self.put(Happening::Replies(DialId(self.dial), bytes, coming))
     }
 
-    /// One thing happens.
+    /// An event happens.
     fn put(&mut self, happening: Happening) -> Result<(), Fault> {
         let after = self.after;
         self.after = 0;
@@ -140,7 +142,7 @@ impl Script {
     }
 }
 
-/// How the bytes of a step end.
+/// The end of a step's bytes.
 fn coming_of(word: &str) -> Coming {
     match word {
         "come" | "last" | "reply" => Coming::Ended,
@@ -149,23 +151,24 @@ fn coming_of(word: &str) -> Coming {
     }
 }
 
-/// The number that a step says.
+/// The number in a step.
 fn number_in(said: &str) -> Result<u64, Fault> {
     RowFields::of(said, ',').number()
 }
 
-/// The output of a scene: `sink:N,N` the calls that fail, and `output:N` how many bytes it keeps.
+/// The output of a scene: `sink:N,N` lists the calls that fail, and `output:N` gives the capacity
+/// in bytes.
 pub fn sink_in(alloc: Global, scene: &str) -> Result<MemSink, Fault> {
     let room = small_in(scene, "output", ROOM)?;
     Ok(MemSink::new(alloc, room as usize, numbers_in(alloc, scene, "sink")?)?)
 }
 
-/// A disk that holds nothing.
+/// An empty disk.
 pub fn new_disk(alloc: Global) -> MemDisk {
     MemDisk::new(Vec::new(alloc))
 }
 
-/// Has those calls of a disk fail that a scene lists after this word, counted from here.
+/// Lets those calls of a disk fail that a scene lists after this word, counted from here.
 pub fn fail_in(alloc: Global, scene: &str, word: &str, disk: &mut MemDisk) -> Result<(), Fault> {
     let calls = numbers_in(alloc, scene, word)?;
     disk.fail_at(calls);

@@ -1,4 +1,4 @@
-//! What a scene leads to.
+//! The outcome of a scene.
 
 use crate::serve::objects::{fail_in, link_in, new_disk, sink_in};
 use crate::serve::running::{Play, run};
@@ -11,10 +11,10 @@ use oc_service::{Log, NodeEnd, Ran, Site};
 use std::alloc::Global;
 use test_tools::{Fault, put_spelled};
 
-/// More connections than a scene has.
+/// An upper bound on the connections of a scene.
 const MOST_CONNECTIONS: u64 = 100;
 
-/// What a scene led to: how the run of the node ended, and what it ran on.
+/// The outcome of a scene: the end of the node's run, and its site.
 type SceneEnd = Ran<MemDisk, MemLink, MemSink>;
 
 /// The outcome of a scene in a setting, on new files.
@@ -43,8 +43,8 @@ fn files_of(outcome: SceneEnd) -> Files<MemDisk> {
     files
 }
 
-/// Has the node of these files live through a scene: `turns:N` turns, as many as things happen where that step is
-/// absent, with probes where there is a step `probes`.
+/// Runs the node of these files through a scene: `turns:N` turns, or one for each event if that
+/// step is absent, with probes if there is a step `probes`.
 fn live(
     alloc: Global,
     setting: &Setting,
@@ -70,7 +70,7 @@ fn live(
     run(alloc, &setting.config, play, site)
 }
 
-/// What the node writes of its inputs: where there is a step `brief`, what is told to people; where there is a step
+/// The form in which the node logs its inputs: with a step `brief`, lines for people; with a step
 /// `record`, a record.
 fn log_in(scene: &str) -> Log {
     if said_by(scene, "brief").is_some() {
@@ -82,20 +82,20 @@ fn log_in(scene: &str) -> Log {
     }
 }
 
-/// What the words of a row tell of an outcome.
+/// The parts of an outcome that the words of a row have.
 #[derive(Clone, Copy)]
 pub enum Part<'a> {
-    /// How the run of the node ended, and this after it.
+    /// The end of the node's run, with this after it.
     End(&'a str),
     /// The lines.
     Lines,
     /// The lines without those of ticks.
     Deeds,
-    /// What each connection was given.
+    /// The bytes given to each connection.
     Written,
-    /// The same piece by piece, and what became of each connection.
+    /// The pieces given to each connection, and its further use.
     Pieces,
-    /// What was written on each dial.
+    /// The bytes written on each dial.
     Dialled,
 }
 
@@ -152,7 +152,7 @@ fn put_part(
     }
 }
 
-/// Puts how the run of the node ended.
+/// Appends the end of the node's run.
 fn put_end(said: &mut String, outcome: &SceneEnd) -> Result<(), Fault> {
     match outcome.end {
         NodeEnd::Load(error) => Ok(write!(said, "load {error:?}")?),
@@ -175,7 +175,7 @@ fn put_deeds(said: &mut String, outcome: &SceneEnd) -> Result<(), Fault> {
     Ok(())
 }
 
-/// Puts what each connection that came was given, with a `>` before it.
+/// Appends the bytes given to each connection, with a `>` before them.
 fn put_written(alloc: Global, said: &mut String, outcome: &SceneEnd) -> Result<(), Fault> {
     let calls = calls_of(outcome)?;
     for number in 0..MOST_CONNECTIONS {
@@ -189,7 +189,7 @@ fn put_written(alloc: Global, said: &mut String, outcome: &SceneEnd) -> Result<(
     Ok(())
 }
 
-/// Puts what each connection that came was given and what became of it, with a `>` before it.
+/// Appends the pieces given to each connection and its further use, with a `>` before them.
 fn put_pieces(said: &mut String, outcome: &SceneEnd) -> Result<(), Fault> {
     let calls = calls_of(outcome)?;
     for number in 0..MOST_CONNECTIONS {
@@ -204,7 +204,7 @@ fn put_pieces(said: &mut String, outcome: &SceneEnd) -> Result<(), Fault> {
     Ok(())
 }
 
-/// Puts what a call gave a connection, or did with it.
+/// Appends the bytes that a call gave a connection, or its effect on it.
 fn put_call(said: &mut String, call: &Call, connection: ConnectionId) -> Result<(), Fault> {
     match call {
         Call::Give(to, bytes) if *to == connection => {
@@ -239,7 +239,7 @@ fn comes_by(call: &Call, connection: ConnectionId) -> bool {
     }
 }
 
-/// Puts what was written on each dial, with a `@` before it.
+/// Appends the bytes written on each dial, with a `@` before them.
 fn put_dialled(said: &mut String, outcome: &SceneEnd) -> Result<(), Fault> {
     for call in calls_of(outcome)? {
         if let Call::Dial(_, _, text) = call {

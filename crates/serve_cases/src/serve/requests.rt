@@ -1,4 +1,4 @@
-//! Single connections: their lines, and what they are answered.
+//! Single connections: their lines and their replies.
 
 use crate::serve::outcome::{Part, both_words_of, words_of};
 use crate::serve::settings::Setting;
@@ -7,23 +7,24 @@ use crate::serve::table::Scenes;
 use std::alloc::Global;
 use test_tools::{Fault, spelled_in};
 
-/// How many pieces a connection is cut into.
+/// The numbers of pieces into which a connection is cut.
 const PIECES: [usize; 3] = [2, 3, 7];
 
-/// One of at most this many bytes comes byte by byte too.
+/// The length in bytes up to which a connection also comes byte by byte.
 const SHORT: usize = 40;
 
-/// One of more than this many bytes is cut in one way alone.
+/// The length in bytes above which a connection is cut in one way only.
 const LONG: usize = 1_000;
 
-/// What the words of a row tell.
+/// The parts that the words of a row have.
 pub const PARTS: [Part<'static>; 2] = [Part::Lines, Part::Written];
 
-/// The same without the ticks, which come by the number of turns.
+/// The same parts without ticks, which depend on the number of turns.
 const WITHOUT_TICKS: [Part<'static>; 2] = [Part::Deeds, Part::Written];
 
-/// The words of a row: the lines, and what the connection is given. Where they are others, but for ticks, as its bytes
-/// come piece by piece, those; with a step `whole` they come at once alone.
+/// The words of a row: the lines, and the bytes given to the connection. If these differ, apart
+/// from ticks, when the bytes come piece by piece, the other words follow; with a step `whole` the
+/// bytes only come at once.
 pub struct RequestScenes;
 
 impl Scenes for RequestScenes {
@@ -42,8 +43,8 @@ impl Scenes for RequestScenes {
     }
 }
 
-/// The scene of a connection, with the steps after it, whose bytes come `cut` at a time. Its end is told once more,
-/// as after the permission to send a body.
+/// The scene of a connection, with the steps after it, whose bytes come `cut` at a time. Its end is
+/// reported once more, as after the permission to send a body.
 pub fn scene_of(alloc: Global, text: &str, cut: usize) -> Result<String, Fault> {
     Ok(format!(in alloc; "cut:{cut} ^ come:{text} ^ again:1")?)
 }
@@ -53,7 +54,8 @@ pub fn split_connection(text: &str) -> (&str, &str) {
     text.split_once(" ^ ").unwrap_or((text, ""))
 }
 
-/// The first other words of a connection of this length that is cut, with how many bytes come at a time.
+/// The first different words of a connection of this length that is cut, with the number of bytes
+/// that come at a time.
 fn first_other(
     alloc: Global,
     setting: &Setting,
@@ -73,7 +75,7 @@ fn first_other(
     Ok(None)
 }
 
-/// The words of a connection whose bytes come `cut` at a time, where they are others.
+/// The words of a connection whose bytes come `cut` at a time, if they differ.
 fn other(
     alloc: Global,
     setting: &Setting,

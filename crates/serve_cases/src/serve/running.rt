@@ -8,7 +8,7 @@ use oc_service::{Log, Ran, Site, Task, run_node};
 use std::alloc::Global;
 use test_tools::Fault;
 
-/// What a node is asked to do in a scene.
+/// The task of a node in a scene.
 #[derive(Clone, Copy)]
 pub struct Play {
     pub me: NodeId,
@@ -17,7 +17,7 @@ pub struct Play {
     pub log: Log,
 }
 
-/// Runs a node of the configuration of this text.
+/// Runs a node of the configuration in this text.
 pub fn run<D: Disk + Drop, L: Link + Drop, K: Sink + Drop>(
     alloc: Global,
     config: &[u8],

@@ -1,9 +1,9 @@
-//! Words that come one after another.
+//! Sequences of equal words.
 
 use std::alloc::Global;
 use test_tools::Fault;
 
-/// Words, of which those that are the same one after another are counted.
+/// Words, with consecutive equal ones counted.
 #[derive(Drop)]
 pub struct Runs {
     text: String,

@@ -4,7 +4,7 @@ use oc_base::NodeId;
 use std::alloc::Global;
 use test_tools::{Fault, Row, RowFields, spelled_in};
 
-/// A node of a configuration, and what it lived through before.
+/// A node of a configuration, and the scene before it.
 #[derive(Drop)]
 pub struct Setting {
     pub node: NodeId,
@@ -27,7 +27,7 @@ impl Setting {
         Err(Fault::Field)
     }
 
-    /// The setting of a row, which is given the id of the node and the configuration.
+    /// The setting of a row, which has the id of the node and the configuration.
     fn read(alloc: Global, given: &str, before: &str) -> Result<Setting, Fault> {
         let (node, config) = given.split_once(' ').unwrap_or((given, ""));
         Ok(Setting {

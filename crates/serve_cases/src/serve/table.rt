@@ -7,14 +7,14 @@ use std::io;
 use std::rt::Files;
 use test_tools::{Fault, Row, read_table, tell};
 
-/// What the rows of a table come to.
+/// The answers of a table to its rows.
 pub trait Scenes {
-    /// The words that result from what a row is given after its setting.
+    /// The words that result from the rest of a row after its setting.
     fn answer(alloc: Global, setting: &Setting, given: &str) -> Result<String, Fault>;
 }
 
-/// Plays a table, which is the file of its name with `.txt` after it. Prints for each row the names of the
-/// table and of the row and `ok`, or the words that came in place of those that are expected.
+/// Plays a table, which is the file `NAME.txt`. Prints for each row the names of the table and of
+/// the row and `ok`, or the words that came instead of the expected ones.
 pub fn play_table<T: Scenes, R: Files + Print + Eprint + AllocGlobal>(
     rt: &R,
     settings: &str,

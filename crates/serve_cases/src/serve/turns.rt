@@ -6,8 +6,8 @@ use crate::serve::table::Scenes;
 use std::alloc::Global;
 use test_tools::Fault;
 
-/// The words of a row: how the run ended, the lines, what each connection was given piece by piece and what
-/// became of it, and what was written on each dial.
+/// The words of a row: the end of the run, the lines, the pieces given to each connection and its
+/// further use, and the bytes written on each dial.
 pub struct TurnScenes;
 
 impl Scenes for TurnScenes {

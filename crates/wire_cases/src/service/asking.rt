@@ -1,4 +1,4 @@
-//! What the bytes of a connection ask, and the access rules of a row.
+//! The meaning of the bytes of a connection, and the access rules of a row.
 
 ghost use Rattle.std.specs.Prelude.{◌≤◌, IfOk, length};
 ghost use Rattle.oc_base.specs.declared.limits.TheConstants.{MAX_BODY_BYTES};
@@ -20,7 +20,7 @@ pub struct ReadRequest {
     pub body: Vec<u8>,
 }
 
-/// What the bytes of a connection ask, with the body.
+/// The request in the bytes of a connection, with its body.
 pub fn request_in(alloc: Global, bytes: Vec<u8>, rules: &[Rule]) -> Result<ReadRequest, RouteFault>
     requires { length rules.now ≤ MAX_RULES }
     ensures asks { IfOk result (λ request. IsAsked request.asks) }
@@ -30,7 +30,7 @@ pub fn request_in(alloc: Global, bytes: Vec<u8>, rules: &[Rule]) -> Result<ReadR
     let head = read_head(alloc, &mut source)?;
     let asks = route(&head, rules)?;
 
-    // A longer one was refused with the head.
+    // A longer body was refused with the head.
     if head.length > MAX_BODY_BYTES {
         return Err(RouteFault::Refused(Refused::BodyLong));
     }
@@ -38,8 +38,9 @@ pub fn request_in(alloc: Global, bytes: Vec<u8>, rules: &[Rule]) -> Result<ReadR
     Ok(ReadRequest { head, asks, body })
 }
 
-/// The rules of a text, with commas between them, or `-` for none. Each is `allow` or `deny`, `get`, `post`
-/// or `any`, a prefix, an area or `any`, and a token where one is demanded, with colons between them.
+/// The rules in a text, with commas between them, or `-` for none. Each is `allow` or `deny`,
+/// `get`, `post` or `any`, a prefix, an area or `any`, and a token if one is required, with colons
+/// between them.
 pub fn rules_in(alloc: Global, text: &str) -> Result<Vec<Rule>, Fault>
     ensures { IfOk result (λ rules. length rules.items ≤ MAX_RULES) }
 {

@@ -5,7 +5,7 @@ use oc_chunked::{ChunkFault, Unchunker, chunk_text};
 use std::alloc::Global;
 use test_tools::{Fault, RowFields, put_hex};
 
-/// Puts the words of a row: what was written, or the result of the text.
+/// Appends the words of a row: the text that was written, or the result of reading the text.
 pub fn put_words(alloc: Global, given: &str, said: &mut String) -> Result<(), Fault> {
     let mut fields = RowFields::of(given, ' ');
     let kind = fields.text();
@@ -26,13 +26,14 @@ fn put_result(alloc: Global, said: &mut String, kind: &str, text: &[u8]) -> Resu
     }
 }
 
-/// Puts the result of a text that is written, and fed in pieces of seven bytes.
+/// Appends the result of a text that is written, and fed in pieces of seven bytes.
 fn put_back(said: &mut String, alloc: Global, text: &[u8]) -> Result<(), Fault> {
     let written = chunk_text(alloc, text)?;
     put_fed(said, &result_of(alloc, &written, 7, 7)?)
 }
 
-/// The result of a text: how many bytes were taken, their content, and whether the text ended, or the fault.
+/// The result of a text: the number of bytes taken, their content, and whether the text ended, or
+/// the fault.
 #[derive(Drop)]
 struct Fed {
     taken: usize,
@@ -60,7 +61,7 @@ fn result_of(alloc: Global, text: &[u8], first: usize, size: usize) -> Result<Fe
     })
 }
 
-/// Feeds the text: how many bytes were taken, and whether the text ended, or the fault.
+/// Feeds the text; gives the number of bytes taken, and whether the text ended, or the fault.
 fn feed_all(
     reader: &mut Unchunker,
     text: &[u8],
@@ -91,7 +92,7 @@ fn feed_all(
     Ok((taken, end))
 }
 
-/// Feeds a piece: how many bytes were taken, or the fault of the text.
+/// Feeds a piece; gives the number of bytes taken, or the fault of the text.
 fn feed(
     reader: &mut Unchunker,
     piece: &[u8],
@@ -118,7 +119,7 @@ fn put_fed(said: &mut String, fed: &Fed) -> Result<(), Fault> {
     }
 }
 
-/// Puts how many bytes were taken, and their content, or how long it is.
+/// Appends the number of bytes taken, and their content, or its length.
 fn put_taken(said: &mut String, fed: &Fed) -> Result<(), Fault> {
     let taken = fed.taken;
     write!(said, "{taken} ")?;
@@ -129,7 +130,7 @@ fn put_taken(said: &mut String, fed: &Fed) -> Result<(), Fault> {
     Ok(write!(said, "{count} bytes")?)
 }
 
-/// Puts how long a text is, and its first and last bytes.
+/// Appends the length of a text, and its first and last bytes.
 fn put_size(said: &mut String, text: &[u8]) -> Result<(), Fault> {
     let count = text.len();
     write!(said, "{count} ")?;
@@ -138,8 +139,8 @@ fn put_size(said: &mut String, text: &[u8]) -> Result<(), Fault> {
     put_hex(said, &text[count.saturating_sub(8)..])
 }
 
-/// Puts the result of a text that is fed in two pieces, cut at each of its places, where that is always the
-/// same as its result when it is fed whole.
+/// Appends the result of a text that is fed in two pieces, cut at each offset, if it is always the
+/// same as when the text is fed whole.
 fn put_every(said: &mut String, alloc: Global, text: &[u8]) -> Result<(), Fault> {
     let length = text.len();
     let whole = result_of(alloc, text, length, length)?;
@@ -151,8 +152,8 @@ fn put_every(said: &mut String, alloc: Global, text: &[u8]) -> Result<(), Fault>
     put_fed(said, &whole)
 }
 
-/// Whether two results of a text are the same. If the text is refused, the content is left out, since the pieces
-/// before the refused one have given theirs.
+/// Whether two results of a text are equal. If the text is refused, the content is left out, since
+/// the pieces before the refused one have given theirs.
 fn are_alike(one: &Fed, other: &Fed) -> bool {
     one.end == other.end
         && (matches!(one.end, TextEnd::Bad | TextEnd::Long)

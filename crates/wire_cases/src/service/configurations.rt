@@ -1,4 +1,4 @@
-//! Configurations: what they say, or why they are refused.
+//! Configurations: their settings, or their faults.
 
 use crate::service::measure_lines::put_measure;
 use crate::service::rules::put_rules;
@@ -7,12 +7,12 @@ use oc_config::{Config, ConfigFault, FIRST_CHUNK, read};
 use std::alloc::Global;
 use test_tools::Fault;
 
-/// Puts the words of a row: what the text says, or its fault.
+/// Appends the words of a row: the settings of the text, or its fault.
 pub fn put_words(alloc: Global, given: &str, said: &mut String) -> Result<(), Fault> {
     put_read(alloc, &text_in(alloc, given)?, said)
 }
 
-/// Puts what a text says, or its fault.
+/// Appends the settings of a text, or its fault.
 fn put_read(alloc: Global, text: &[u8], said: &mut String) -> Result<(), Fault> {
     match read(alloc, text) {
         Ok(config) => put_config(said, &config),
@@ -44,7 +44,7 @@ fn put_config(said: &mut String, config: &Config) -> Result<(), Fault> {
     put_rules(said, &config.rules)
 }
 
-/// Puts the chunk, where it is not the first one.
+/// Appends the chunk, if it is not the default.
 fn put_chunk(said: &mut String, chunk: u32) -> Result<(), Fault> {
     if chunk != FIRST_CHUNK {
         write!(said, " chunk {chunk}")?;

@@ -1,4 +1,4 @@
-//! What is to be done with the bytes that came on a connection.
+//! The verdict on the bytes that came on a connection.
 
 use crate::service::requests::put_refusal;
 use oc_base::NodeId;
@@ -30,7 +30,7 @@ pub fn put_words(alloc: Global, given: &str, said: &mut String) -> Result<(), Fa
     put_verdict(alloc, said, &verdict)
 }
 
-/// What came, of a text such as `open,1` or `ended,16,permitted`.
+/// The arrival in a text such as `open,1` or `ended,16,permitted`.
 fn arrival_in(mut fields: RowFields<'_>) -> Result<Arrival, Fault> {
     let coming = match fields.text() {
         "open" => Coming::Open,
@@ -63,17 +63,17 @@ fn put_verdict(alloc: Global, said: &mut String, verdict: &Verdict) -> Result<()
         Verdict::Wait => Ok(said.push_str("wait")?),
         Verdict::Leave => Ok(said.push_str("leave")?),
         Verdict::Permit => Ok(said.push_str("permit")?),
-        Verdict::Refuse(why) => put_refusal(alloc, said, *why),
+        Verdict::Refuse(refusal) => put_refusal(alloc, said, *refusal),
         Verdict::Ask(request) => put_request(said, request),
     }
 }
 
-/// Puts how many bytes a request has, what it asks, and what else it tells.
+/// Appends the length of a request in bytes, its meaning, and its other parts.
 fn put_request(said: &mut String, request: &Request) -> Result<(), Fault> {
     let count = request.count;
-    let asks = word_of(&request.operation);
+    let asks = word_of(&request.asked.operation);
     write!(said, "{count} {asks}")?;
-    put_hint(said, request.hint)?;
+    put_hint(said, request.asked.hint)?;
     if request.last {
         said.push_str(" last")?;
     }

@@ -5,7 +5,7 @@ use oc_policy::{Key, hmac_sha256, is_mac_of, mac_of};
 use std::alloc::Global;
 use test_tools::{Fault, RowFields, put_hex, put_shown};
 
-/// Puts the words of a row: a MAC, or what a text is as a key.
+/// Appends the words of a row: a MAC, or the result of reading a text as a key.
 pub fn put_words(alloc: Global, given: &str, said: &mut String) -> Result<(), Fault> {
     let mut fields = RowFields::of(given, ' ');
     let kind = fields.text();

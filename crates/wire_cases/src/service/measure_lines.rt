@@ -1,18 +1,18 @@
-//! Measure lines: what they say, or the first bad one.
+//! Measure lines: their measures, or the first bad line.
 
 use crate::service::texts::text_in;
 use oc_updown::{Measure, MeasureFault, read_lines};
 use std::alloc::Global;
 use test_tools::{Fault, RowFields};
 
-/// Puts the words of a row: the measures, or the bad line and its cause.
+/// Appends the words of a row: the measures, or the bad line and its fault.
 pub fn put_words(alloc: Global, given: &str, said: &mut String) -> Result<(), Fault> {
     let (nodes, written) = given.split_once('|').ok_or(Fault::Field)?;
     let nodes = RowFields::of(nodes.trim(), ' ').small()?;
     put_read(alloc, &text_in(alloc, written.trim())?, nodes, said)
 }
 
-/// Puts what a text says, or the bad line and its cause.
+/// Appends the measures of a text, or the bad line and its fault.
 fn put_read(alloc: Global, text: &[u8], nodes: u32, said: &mut String) -> Result<(), Fault> {
     match read_lines(alloc, text, nodes) {
         Ok(measures) => put_measures(said, &measures),

@@ -1,4 +1,4 @@
-//! Which message of a step is the reply.
+//! The message of a step that is the reply.
 
 use oc_base::NodeId;
 use oc_model::{Body, Message};
@@ -6,7 +6,7 @@ use oc_routes::split_reply;
 use std::alloc::Global;
 use test_tools::{Fault, RowFields};
 
-/// More messages than a row has.
+/// An upper bound on the messages of a row.
 const MOST_MESSAGES: u32 = 100;
 
 /// Puts the words of a row: the reply, and the other messages.

@@ -1,5 +1,5 @@
-//! What requests ask: the line of the input that results from a request, or the line and the reply of one that is
-//! refused.
+//! The meaning of requests: the line of the input that results from a request, or the line and the
+//! reply of one that is refused.
 
 ghost use Rattle.std.specs.Prelude.{◌≤◌, length};
 ghost use Rattle.oc_policy.specs.declared.deciding.TheConstants.{MAX_RULES as RULE_LIMIT};
@@ -7,7 +7,7 @@ ghost use Rattle.oc_policy.specs.declared.deciding.TheConstants.{MAX_RULES as RU
 use crate::service::asking::{request_in, rules_in};
 use oc_base::NodeId;
 use oc_policy::Rule;
-use oc_routes::{Refused, RouteFault, input_of, put_input_line, put_refusal_line, refusal_reply};
+use oc_routes::{Refusal, RouteFault, input_of, put_input_line, put_refusal_line, refusal_reply};
 use std::alloc::Global;
 use test_tools::{Fault, RowFields, put_spelled, spelled_in};
 
@@ -22,12 +22,19 @@ pub fn put_words(alloc: Global, given: &str, said: &mut String) -> Result<(), Fa
     let rules = rules_in(alloc, rules)?;
     match line_of(alloc, spelled_in(alloc, text)?, &rules, me) {
         Ok(line) => put_line(said, &line),
-        Err(RouteFault::Refused(refused)) => put_refusal(alloc, said, refused),
+        Err(RouteFault::Refused(why)) => put_refusal(
+            alloc,
+            said,
+            Refusal {
+                why,
+                head_alone: false,
+            },
+        ),
         Err(RouteFault::Memory) => Err(Fault::Memory),
     }
 }
 
-/// The line of the input that results from a request; empty where there is none.
+/// The line of the input that results from a request; empty if there is none.
 fn line_of(alloc: Global, bytes: Vec<u8>, rules: &[Rule], me: NodeId) -> Result<Vec<u8>, RouteFault>
     requires { length rules.now ≤ RULE_LIMIT }
 {
@@ -41,11 +48,11 @@ fn line_of(alloc: Global, bytes: Vec<u8>, rules: &[Rule], me: NodeId) -> Result<
 }
 
 /// Puts the line and the reply of a refused request.
-pub(crate) fn put_refusal(alloc: Global, said: &mut String, refused: Refused) -> Result<(), Fault> {
+pub(crate) fn put_refusal(alloc: Global, said: &mut String, refusal: Refusal) -> Result<(), Fault> {
     let mut line = Vec::new(alloc);
-    put_refusal_line(&mut line, refused)?;
+    put_refusal_line(&mut line, refusal.why)?;
     put_line(said, &line)?;
-    match refusal_reply(alloc, refused)? {
+    match refusal_reply(alloc, refusal)? {
         Some(reply) => {
             said.push(' ')?;
             put_spelled(said, &reply)

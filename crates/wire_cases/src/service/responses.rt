@@ -1,4 +1,4 @@
-//! What a request is answered for the answer of its step.
+//! The reply to a request, given the answer of its step.
 
 ghost use Rattle.std.specs.Prelude.{option_map};
 ghost use Rattle.std.specs.Option.{ForSome};
@@ -8,21 +8,27 @@ ghost use Rattle.oc_wire.specs.Spelling.{HasSpelling};
 use crate::service::asking::{ReadRequest, request_in};
 use oc_base::NodeId;
 use oc_model::{Answer, Message};
-use oc_routes::{Answered, Directory, Operation, Persistence, Response, is_last, respond};
+use oc_routes::{
+    Answered, Asked, Directory, Hint, Holding, Operation, Persistence, Response, is_last, respond,
+};
 use oc_wire::decode;
 use std::alloc::Global;
 use test_tools::{Fault, RowFields, put_spelled, spelled_in};
 
-/// Puts the words of a row: what becomes of the connection, the content that is sent, and the text.
+/// Appends the words of a row: the further use of the connection, the content that is sent, and the
+/// text.
 pub fn put_words(alloc: Global, given: &str, said: &mut String) -> Result<(), Fault> {
     let (turn, rest) = given.split_once(' ').unwrap_or((given, ""));
     let (reply, text) = rest.split_once(' ').unwrap_or((rest, ""));
-    // A match, since a check does not find the type of the answer in a `?` that is an argument.
+    // A `match`, since the check does not find the type of the answer in a `?` that is an argument.
     match turn_in(RowFields::of(turn, ',')) {
         Ok(turn) => put_answered(alloc, turn, reply, text, said),
         Err(fault) => Err(fault),
     }
 }
+
+/// How many bytes the node holds of the group that is asked for.
+const HELD: u64 = 9;
 
 /// What comes to a request besides its bytes.
 #[derive(Clone, Copy)]
@@ -79,7 +85,8 @@ fn answer_in(mut fields: RowFields<'_>) -> Result<Answer, Fault> {
     }
 }
 
-/// The response, where the message of these bytes goes back to the sender, or this is what the node tells of itself.
+/// The response, if the message of these bytes goes back to the sender, or if this is the node's
+/// report about itself.
 fn response_of(
     alloc: Global,
     request: &ReadRequest,
@@ -109,17 +116,25 @@ fn respond_with(
 {
     let addresses = addresses(alloc)?;
     let last = is_last(&request.head, turn.number);
+    let asked = Asked {
+        operation: request.asks,
+        hint: Hint::Plain,
+    };
     let answered = Answered {
         answer: turn.answer,
-        sealed: turn.sealed,
-        last,
+        back: reply,
+        holding: Holding {
+            there: true,
+            held: HELD,
+            sealed: turn.sealed,
+        },
         report,
     };
     let network = Directory {
         addresses: &addresses,
         key: None,
     };
-    Ok(respond(alloc, &request.asks, answered, reply, &network)?)
+    Ok(respond(alloc, asked, last, answered, &network)?)
 }
 
 fn addresses(alloc: Global) -> Result<Vec<String>, Fault> {

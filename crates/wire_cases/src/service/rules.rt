@@ -3,7 +3,7 @@
 use oc_policy::{Action, MAX_RULES, Rule, shadow};
 use test_tools::Fault;
 
-/// Puts each rule with its number, and the number of the rule that shadows it, if one does.
+/// Appends each rule with its number, and the number of the rule that shadows it, if any.
 pub(crate) fn put_rules(said: &mut String, rules: &[Rule]) -> Result<(), Fault> {
     if rules.len() > MAX_RULES {
         return Err(Fault::Unready);

@@ -22,7 +22,7 @@ pub(crate) fn text_in(alloc: Global, written: &str) -> Result<Vec<u8>, Fault> {
     Ok(text)
 }
 
-/// The bytes of the fields, each in hexadecimal, with `N*` before it where it occurs N times.
+/// The bytes of the fields, each in hexadecimal, with `N*` before it if it occurs N times.
 pub(crate) fn bytes_in(alloc: Global, mut fields: RowFields<'_>) -> Result<Vec<u8>, Fault> {
     let mut bytes = Vec::new(alloc);
     for _ in 0..100u8 {

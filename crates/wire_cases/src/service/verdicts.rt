@@ -1,4 +1,4 @@
-//! What the access rules of a configuration say of requests.
+//! The verdicts of a configuration's access rules on requests.
 
 use crate::service::texts::text_in;
 use oc_base::GroupName;
@@ -26,7 +26,7 @@ pub fn put_words(alloc: Global, given: &str, said: &mut String) -> Result<(), Fa
     }
 }
 
-/// The group that is asked for; none for `!`, the pages of a node.
+/// The group of a request; none for `!`, the pages of a node.
 fn some_group(text: &str) -> Result<Option<GroupName>, Fault> {
     match text {
         "!" => Ok(None),
@@ -34,7 +34,8 @@ fn some_group(text: &str) -> Result<Option<GroupName>, Fault> {
     }
 }
 
-/// The value of an Authorization field, in which `_` is written for a space; none where nothing is written.
+/// The value of an Authorization field, in which `_` is written for a space; none for an empty
+/// text.
 fn shown_in(alloc: Global, text: &str) -> Result<Option<Vec<u8>>, Fault> {
     if text.is_empty() {
         return Ok(None);
@@ -46,7 +47,7 @@ fn shown_in(alloc: Global, text: &str) -> Result<Option<Vec<u8>>, Fault> {
     Ok(Some(value))
 }
 
-/// Puts what rules say of a request.
+/// Appends the verdict of rules on a request.
 fn put_verdict<'a>(
     rules: &'a [Rule],
     action: Action,

@@ -4,8 +4,8 @@ use crate::wire::pieces::Pieces;
 use crate::wire::words::{put, put_value};
 use oc_base::Text;
 use oc_http::{
-    Head, HttpFault, Method, Reply, ReplyHead, read_body, read_head, read_response,
-    read_response_head,
+    Head, HttpFault, Method, Reply, ReplyHead, begins_with_head, read_body, read_head,
+    read_response, read_response_head,
 };
 use oc_io::{MemSource, Source, read_all};
 use std::alloc::Global;
@@ -41,8 +41,11 @@ struct Reader {
 /// Puts the words of a row: what is read, and what is read otherwise where the bytes come in other pieces.
 pub fn put_words(alloc: Global, given: &str, said: &mut String) -> Result<(), Fault> {
     let (word, text) = given.split_once(' ').unwrap_or((given, ""));
-    let reader = reader_of(word)?;
     let bytes = spelled_in(alloc, text)?;
+    if word == "first" {
+        return put_value(said, "head=", begins_with_head(&bytes));
+    }
+    let reader = reader_of(word)?;
     put_source(alloc, said, reader, &bytes, MOST_BYTES, MOST_BYTES)?;
     put_alone(alloc, said, reader, &bytes)?;
     put_cuts(alloc, said, reader, &bytes)
@@ -247,15 +250,23 @@ fn put_head(said: &mut String, head: &Head) -> Result<(), Fault> {
             Method::Other => "method=OTHER path=",
         },
     )?;
-    put_spelled(said, head.path.items())?;
+    put_text_or_none(said, &head.path)?;
     put(said, " query=")?;
     put_spelled(said, head.query.items())?;
     put_value(said, " length=", head.length)?;
     put_value(said, " expects=", head.expects)?;
     put_value(said, " minor=", head.minor)?;
     put_value(said, " closes=", head.closes)?;
-    put_some(said, " authorization=", &head.authorization)?;
+    put_authorization(said, head)?;
     put_some(said, " mac=", &head.mac)
+}
+
+/// Puts the value of the one Authorization field, or that there are several.
+fn put_authorization(said: &mut String, head: &Head) -> Result<(), Fault> {
+    if head.has_authorization && head.authorization.is_none() {
+        return put(said, " authorizations");
+    }
+    put_some(said, " authorization=", &head.authorization)
 }
 
 /// Puts a text with its name, where there is one.
@@ -289,12 +300,12 @@ fn put_reply_head(said: &mut String, head: &ReplyHead) -> Result<(), Fault> {
     put_some(said, " mac=", &head.mac)
 }
 
-/// Puts a reply that was read; reading gives neither a content type nor a rule.
+/// Puts a reply that was read; reading gives neither a content type nor a rule nor a content range.
 fn put_reply(said: &mut String, reply: &Reply) -> Result<(), Fault> {
     put_status(said, reply.status, &reply.location)?;
     put(said, " body=")?;
     put_spelled(said, reply.body.items())?;
-    if reply.content_type.is_some() || reply.rule.is_some() {
+    if reply.content_type.is_some() || reply.rule.is_some() || reply.content_range.is_some() {
         put(said, " and more")?;
     }
     put_group_length(said, reply.group_length)?;
@@ -304,8 +315,12 @@ fn put_reply(said: &mut String, reply: &Reply) -> Result<(), Fault> {
 fn put_status(said: &mut String, status: u16, location: &Option<Text>) -> Result<(), Fault> {
     put_value(said, "status=", status)?;
     put(said, " location=")?;
-    match location {
-        Some(location) => put_spelled(said, location.items()),
+    put_text_or_none(said, location)
+}
+
+fn put_text_or_none(said: &mut String, text: &Option<Text>) -> Result<(), Fault> {
+    match text {
+        Some(text) => put_spelled(said, text.items()),
         None => put(said, "none"),
     }
 }

@@ -1,4 +1,4 @@
-//! Messages of nodes: what bytes say, and how that is written.
+//! Messages of nodes: the meaning of bytes, and the bytes of messages.
 
 ghost use Rattle.oc_wire.specs.Spelling.{HasSpelling};
 
@@ -8,8 +8,8 @@ use oc_wire::{Message, decode, encode, from_http, to_http};
 use std::alloc::Global;
 use test_tools::{Fault, RowFields, put_hex};
 
-/// Puts the words of a row: the message of the bytes, or their fault. Where it is written as other bytes, these
-/// follow, and where its request brings another message, that.
+/// Appends the words of a row: the message of the bytes, or their fault. If the message is written
+/// as other bytes, these follow, and if its request brings another message, that.
 pub fn put_words(alloc: Global, given: &str, said: &mut String) -> Result<(), Fault> {
     let mut fields = RowFields::of(given, ' ');
     let nodes = fields.small()?;
@@ -20,7 +20,7 @@ pub fn put_words(alloc: Global, given: &str, said: &mut String) -> Result<(), Fa
     }
 }
 
-/// Puts a message, and what results from it. Nothing is put before it.
+/// Appends a message, and its results, to an empty text.
 fn put_read(
     alloc: Global,
     said: &mut String,
@@ -41,7 +41,7 @@ fn put_read(
     Ok(())
 }
 
-/// Puts the bytes as which a message is written, where these are others.
+/// Appends the bytes as which a message is written, if they differ.
 fn put_written(
     alloc: Global,
     said: &mut String,
@@ -58,7 +58,7 @@ fn put_written(
     put_hex(said, &written)
 }
 
-/// Puts what the request of a message brings.
+/// Appends the message that the request of a message brings.
 fn put_brought(alloc: Global, said: &mut String, message: &Message, nodes: u32) -> Result<(), Fault>
     requires { HasSpelling message.now.body }
 {

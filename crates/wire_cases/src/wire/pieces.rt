@@ -7,7 +7,7 @@ use oc_io::{Failed, MemSource, Source};
 #[derive(Drop)]
 pub struct Pieces {
     source: MemSource,
-    /// The bytes of the piece under way that have not come.
+    /// The number of bytes of the present piece that have not come.
     left: usize,
     /// The length of each further piece in bytes.
     piece: usize,

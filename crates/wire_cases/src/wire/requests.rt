@@ -8,7 +8,7 @@ use oc_wire::{HttpWireFault, Key, Message, decode, from_http, is_authentic, to_h
 use std::alloc::Global;
 use test_tools::{Fault, RowFields, spelled_in};
 
-/// Puts the words of a row: what a request brings, or the request of a message.
+/// Appends the words of a row: the message that a request brings, or the request of a message.
 pub fn put_words(alloc: Global, given: &str, said: &mut String) -> Result<(), Fault> {
     let (word, rest) = given.split_once(' ').unwrap_or((given, ""));
     match word {
@@ -20,7 +20,7 @@ pub fn put_words(alloc: Global, given: &str, said: &mut String) -> Result<(), Fa
     }
 }
 
-/// Puts the same under a key.
+/// Appends the words of a row with a key.
 fn put_under(alloc: Global, mut fields: RowFields<'_>, said: &mut String) -> Result<(), Fault> {
     match Key::parse(fields.text().as_bytes()) {
         Some(key) => put_written(alloc, fields, Some(&key), said),
@@ -28,7 +28,7 @@ fn put_under(alloc: Global, mut fields: RowFields<'_>, said: &mut String) -> Res
     }
 }
 
-/// Puts whether what a head says of a body is authentic under a key, or without one.
+/// Appends whether the fields of a head about its body are authentic under a key, or without one.
 fn put_authentic(alloc: Global, mut fields: RowFields<'_>, said: &mut String) -> Result<(), Fault> {
     let key = Key::parse(fields.text().as_bytes());
     let told = said_in(alloc, fields.text())?;
@@ -37,7 +37,7 @@ fn put_authentic(alloc: Global, mut fields: RowFields<'_>, said: &mut String) ->
     put(said, if is { "yes" } else { "no" })
 }
 
-/// What a head says; `none` for nothing.
+/// A field of a head; `none` for no field.
 fn said_in(alloc: Global, text: &str) -> Result<Option<Text>, Fault> {
     match text {
         "none" => Ok(None),
@@ -77,7 +77,7 @@ fn put_request(
     }
 }
 
-/// Puts what the request of a text brings to some nodes.
+/// Appends the message that the request of a text brings to some nodes.
 fn put_read(alloc: Global, given: &str, said: &mut String) -> Result<(), Fault> {
     let (nodes, text) = given.split_once(' ').unwrap_or((given, ""));
     let nodes = RowFields::of(nodes, ' ').small()?;

@@ -6,8 +6,8 @@ ghost use Rattle.oc_http.specs.Writing.{HasPhrase};
 use crate::wire::words::put_text;
 use oc_base::{Bytes, Text};
 use oc_http::{
-    ContentType, Framing, Persistence, Reply, write_follow, write_get, write_probe,
-    write_reply_head, write_request, write_response, write_response_head,
+    ContentType, Framing, Persistence, Reply, put_path, write_follow, write_get, write_probe,
+    write_reply_head, write_request, write_response, write_response_head, write_response_to_head,
 };
 use std::alloc::Global;
 use test_tools::{Fault, RowFields, spelled_in};
@@ -22,6 +22,9 @@ pub fn put_words(alloc: Global, given: &str, said: &mut String) -> Result<(), Fa
         "follow" => put_follow(alloc, fields, said),
         "reply" => put_reply(alloc, fields, said),
         "told" => put_told(alloc, fields, said),
+        "unmet" => put_unmet(alloc, fields, said),
+        "to_head" => put_to_head(alloc, fields, said),
+        "path" => put_path_text(alloc, fields, said),
         "head" => put_head(alloc, fields, said),
         "stream" => put_stream(alloc, fields, said),
         _ => Err(Fault::Field),
@@ -62,6 +65,23 @@ fn put_told(alloc: Global, mut fields: RowFields<'_>, said: &mut String) -> Resu
     reply.group_length = group_length;
     reply.mac = mac;
     put_text(said, write_response(alloc, &reply))
+}
+
+fn put_unmet(alloc: Global, mut fields: RowFields<'_>, said: &mut String) -> Result<(), Fault> {
+    let length = fields.number()?;
+    let mut reply = reply_in(alloc, fields)?;
+    reply.content_range = Some(length);
+    put_text(said, write_response(alloc, &reply))
+}
+
+fn put_to_head(alloc: Global, fields: RowFields<'_>, said: &mut String) -> Result<(), Fault> {
+    let reply = reply_in(alloc, fields)?;
+    put_text(said, write_response_to_head(alloc, &reply))
+}
+
+fn put_path_text(alloc: Global, mut fields: RowFields<'_>, said: &mut String) -> Result<(), Fault> {
+    let path = spelled_in(alloc, fields.text())?;
+    Ok(put_path(said, &path)?)
 }
 
 fn put_head(alloc: Global, mut fields: RowFields<'_>, said: &mut String) -> Result<(), Fault> {
@@ -107,6 +127,7 @@ fn reply_in(alloc: Global, mut fields: RowFields<'_>) -> Result<Reply, Fault>
         content_type,
         body: Bytes::of(spelled_in(alloc, fields.text())?),
         rule,
+        content_range: None,
         group_length: None,
         mac: None,
     })
@@ -119,6 +140,7 @@ fn content_type_in(text: &str) -> Result<Option<ContentType>, Fault> {
         "json" => Ok(Some(ContentType::Json)),
         "metrics" => Ok(Some(ContentType::Metrics)),
         "html" => Ok(Some(ContentType::Html)),
+        "text" => Ok(Some(ContentType::Text)),
         _ => Err(Fault::Field),
     }
 }
@@ -165,6 +187,6 @@ fn has_phrase(status: u16) -> bool
 {
     matches!(
         status,
-        200 | 204 | 302 | 400 | 403 | 404 | 405 | 409 | 411 | 413 | 431 | 501
+        200 | 204 | 302 | 400 | 401 | 403 | 404 | 405 | 409 | 411 | 413 | 416 | 431 | 501 | 503
     )
 }

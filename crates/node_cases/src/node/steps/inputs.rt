@@ -10,7 +10,7 @@ use oc_model::Input;
 use std::alloc::Global;
 use test_tools::{Fault, RowStep};
 
-/// How many nodes there are.
+/// The number of nodes.
 pub const NODES: u32 = 5;
 
 /// The input of a step such as `move:1`, to this node: an act, or `recv:BYTES`, a message.

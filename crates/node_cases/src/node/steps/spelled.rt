@@ -3,11 +3,11 @@
 use std::alloc::Global;
 use test_tools::{Fault, RowFields};
 
-/// More fields than a text of bytes has.
+/// An upper bound on the fields of a text of bytes.
 const MOST_FIELDS: u32 = 1_000;
 
-/// The bytes of fields, one after another: `7` is a number in eight bytes, `#7` in four, `.7` in one, and
-/// `x2f61` is bytes. A word that says what it is may come before a `#` and a `.`.
+/// The bytes of fields, one after another: `7` is a number in eight bytes, `#7` in four, `.7` in
+/// one, and `x2f61` is bytes. A word before the `#` and the `.` is a label.
 pub fn spelled(alloc: Global, mut fields: RowFields<'_>) -> Result<Vec<u8>, Fault> {
     let mut bytes = Vec::new(alloc);
     for _ in 0..MOST_FIELDS {

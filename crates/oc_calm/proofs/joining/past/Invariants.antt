@@ -1,4 +1,4 @@
--- What was put, and what the rest of the nodes will add, is all.
+-- The nodes so far, and those that the rest will add, are all nodes of the result.
 use Rattle.std.proofs.Common.{◌≡◌, ◌++◌, filter, drop, nat_lt}
 use Rattle.oc_calm.proofs.joining.past.Given as goal
 

@@ -1,4 +1,4 @@
--- What was done, and what the leader may still do, is all.
+-- The acts so far, and those that the leader may still do, are all acts.
 use Rattle.std.proofs.Common.{◌-◌, ◌*◌}
 use Rattle.oc_calm.specs.Cluster.{IsUpNode}
 use Rattle.oc_calm.specs.CalmRuns.{rise_left, rise_run}

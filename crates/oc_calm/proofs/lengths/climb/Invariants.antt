@@ -1,4 +1,4 @@
--- How far the way up has come, and what was found.
+-- The way up so far, and the known lengths.
 use Rattle.oc_calm.proofs.FoundLengths.{unknown, IsClimb}
 use Rattle.oc_calm.proofs.lengths.climb.Given as goal
 

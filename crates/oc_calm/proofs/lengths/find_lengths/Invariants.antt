@@ -1,4 +1,4 @@
--- What was found is so, and something was found of each node that was looked at.
+-- The known lengths are right, and each node that was looked at has one.
 use Rattle.std.proofs.Common.{ℕ, ◌<◌, ◌≤◌}
 use Rattle.oc_calm.specs.Tree.{AreFound, IsKnown}
 use Rattle.oc_calm.proofs.lengths.find_lengths.Given as goal

@@ -1,4 +1,4 @@
--- What is left of the way up, and what was found.
+-- The rest of the way up, and the known lengths.
 use Rattle.std.proofs.Common.{◌≤◌}
 use Rattle.oc_calm.specs.Cluster.{IsNodeOf}
 use Rattle.oc_calm.specs.Tree.{KeepKnown}

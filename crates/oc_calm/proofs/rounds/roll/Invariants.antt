@@ -1,4 +1,4 @@
--- Those that were found, and those among the nodes that are left, are all that are up.
+-- The nodes found so far, and those that are up among the rest, are all that are up.
 use Rattle.std.proofs.Common.{◌≡◌, ◌-◌, ◌++◌, filter}
 use Rattle.std.specs.List.{range_with_len}
 use Rattle.oc_model.specs.World.{is_up, up_ids}

@@ -1,4 +1,4 @@
--- What was told, and what the rest of the nodes will tell, is all.
+-- The acts so far, and those of the rest of the nodes, are all acts.
 use Rattle.std.proofs.Common.{drop}
 use Rattle.std.specs.List.{AllByRecursion}
 use Rattle.oc_model.specs.Runs.{for_each}

@@ -1,4 +1,4 @@
--- What was put, and what the rest of the nodes will add, is all of that length.
+-- The nodes so far, and those that the rest will add, are all nodes of that length.
 use Rattle.std.proofs.Common.{◌≡◌, ◌++◌, filter, length, drop}
 use Rattle.std.specs.List.{AllByRecursion}
 use Rattle.oc_base.specs.Lawful.{IsNode}

@@ -1,4 +1,4 @@
--- What was sorted, and what the shorter lengths will add, is all.
+-- The nodes sorted so far, and those of the shorter lengths, are all nodes.
 use Rattle.std.proofs.Common.{◌≡◌, ◌++◌, length}
 use Rattle.oc_calm.specs.Longest.{longest_first}
 use Rattle.oc_calm.proofs.settling.sorted_by_length.Given as goal

@@ -1,4 +1,4 @@
--- What was told, and what the node will still tell, is all.
+-- The acts so far, and the check-ins that the node will still make, are all acts.
 use Rattle.std.proofs.Common.{◌-◌}
 use Rattle.oc_calm.specs.Cluster.{IsUpNode}
 use Rattle.oc_calm.specs.CalmRuns.{telling_left, telling_run}

@@ -1,4 +1,4 @@
--- What was put are the nodes of the way up.
+-- The nodes so far are those of the way up.
 use Rattle.std.proofs.Common.{◌≡◌, Some}
 use Rattle.std.specs.List.{AllByRecursion}
 use Rattle.oc_calm.specs.Cluster.{IsNodeOf}

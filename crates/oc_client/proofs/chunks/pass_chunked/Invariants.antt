@@ -1,4 +1,5 @@
--- What came led to the stage of the reader; its content was passed on, except what is gathered.
+-- The bytes that came led to the stage of the reader; their content was passed on, except for the
+-- gathered bytes.
 use Rattle.std.proofs.Common.{◌+◌, ◌<◌, ◌≤◌, length}
 use Rattle.oc_client.proofs.ChunkSteps.{HasPassed}
 use Rattle.oc_client.proofs.chunks.pass_chunked.Given as goal

@@ -1,4 +1,4 @@
--- What is not left was moved.
+-- The bytes that are not left were moved.
 use Rattle.std.proofs.Common.{◌≤◌, ◌-◌}
 use Rattle.oc_client.proofs.content.pass_counted.Given as goal
 use Rattle.oc_client.specs.Passing.{IsMoved}

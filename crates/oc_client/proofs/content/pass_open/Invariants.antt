@@ -1,4 +1,4 @@
--- This many bytes were moved.
+-- This number of bytes was moved.
 use Rattle.std.proofs.Common.{◌≤◌, ◌-◌}
 use Rattle.oc_client.proofs.content.pass_open.Given as goal
 use Rattle.oc_client.specs.Passing.{IsMoved}

@@ -1,4 +1,4 @@
--- what is filled came from the source
+-- the filled bytes came from the source
 use Rattle.std.proofs.Common.{◌≤◌, ◌-◌, ◌≡◌, length, take}
 use Rattle.oc_io.specs.Faults.{NoFall}
 use Rattle.oc_client.proofs.filling.fill.Given as goal

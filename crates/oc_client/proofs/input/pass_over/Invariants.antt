@@ -1,4 +1,4 @@
--- what is not left was passed over
+-- the bytes that are not left were passed over
 use Rattle.std.proofs.Common.{ℕ, List, ◌≡◌, ◌+◌, ◌<◌, length}
 use Rattle.oc_io.specs.Faults.{NoFall}
 use Rattle.oc_client.proofs.input.pass_over.Given as goal

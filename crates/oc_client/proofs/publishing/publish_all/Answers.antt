@@ -94,7 +94,7 @@ returns-clause-told g c =
     let passed = c.passed_over.ensures ∙ passed_length c.args.job.now.plan.place c.in_ok-found.found.length at.before at.begins in
     on_ok_weaker c.close.result (λ _. (at.before ++ told.0, g.met.S.Source.gives_then _ _ _ _ _ at.came told.1, grew_then g.E.Sink.takes g.E.Sink.fails laws c.args.aside.now.lines c.add.new.self c.carry.new.aside.lines at.before told.0 _ (length told.0) passed refl c.add.ensures told.2)) c.close.ensures.sealed
 
--- What does not end so is not done
+-- An end of another kind is not `Done`
 
 pub returns-in_err-found-clause-unfinished : goal.returns-in_err-found-clause-unfinished
 returns-in_err-found-clause-unfinished g c = λ e.

@@ -5,7 +5,7 @@ use Rattle.oc_client.proofs.query.first_start.Given as goal
 use Rattle.oc_client.specs.Queries.{first_start}
 use Rattle.oc_http.specs.Queries.{parts}
 
--- what the rest says is what the whole says
+-- the answer of the rest is that of the whole
 abbrev pub invariant-parts : goal.invariant-parts
 invariant-parts l = (first_start (parts l.rest) ≡ first_start (parts l.fn.query)) × shadow (Utf8 l.rest)
 

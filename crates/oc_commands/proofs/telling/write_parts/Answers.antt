@@ -8,7 +8,7 @@ use Rattle.oc_replay.specs.Pieces.{SomeFront}
 use Rattle.oc_commands.proofs.Parts.{joined_front, on_err}
 use Rattle.oc_commands.proofs.telling.write_parts.Goals as goal
 
--- what follows the last part
+-- the part after the last one
 abbrev no_part : Bor (List ℕ)
 no_part = record { ref_ptr = (0, 0); now = [] }
 

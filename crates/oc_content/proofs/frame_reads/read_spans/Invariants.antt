@@ -5,7 +5,7 @@ use Rattle.oc_content.specs.Indexes.{bytes_at}
 use Rattle.oc_content.specs.Founds.{BeginsWithin}
 use Rattle.oc_content.proofs.frame_reads.read_spans.Given as goal
 
--- what was read so far, and what the spans to come give, is the whole
+-- the bytes read so far, and those of the spans to come, are the whole
 abbrev pub invariant-loop-span : goal.invariant-loop-span
 invariant-loop-span g l = record {
   within : l.count ≤ length l.buf;

@@ -1,6 +1,7 @@
 use Rattle.std.proofs.Common.{refl}
 use Rattle.std.specs.Fmt.{digits}
 use Rattle.httparse.proofs.OnLiterals.{httparse_on_literals}
+use Rattle.percent_encoding.proofs.OnLiterals.{percent_encoding_on_literals}
 use Rattle.oc_http.proofs.law.examples_compute.Goals as goal
 
 pub returns-clause-refused : goal.returns-clause-refused
@@ -17,4 +18,8 @@ returns-clause-parts c = record { path = refl; query = refl; no_query = refl; ab
 
 pub returns-clause-texts : goal.returns-clause-texts
 unfolding httparse_on_literals digits
-returns-clause-texts c = record { request = refl; request_with_mac = refl; get = refl; probe = refl; follow = refl; redirect = refl; content = refl; no_content = refl; method = refl; denied = refl; elsewhere = refl; page = refl; message = refl; kept = refl }
+returns-clause-texts c = record { request = refl; request_with_mac = refl; get = refl; probe = refl; follow = refl; redirect = refl; content = refl; no_content = refl; method = refl; denied = refl; elsewhere = refl; unknown = refl; past_the_end = refl; to_head = refl; page = refl; message = refl; kept = refl }
+
+pub returns-clause-paths : goal.returns-clause-paths
+unfolding httparse_on_literals percent_encoding_on_literals digits
+returns-clause-paths c = record { plain = refl; either_case = refl; once = refl; empty = refl; alone = refl; one_digit = refl; no_digit = refl; no_first_digit = refl; two_marks = refl; nul = refl; slash = refl; small_slash = refl; written = refl; head = refl; no_head = refl; other = refl }

@@ -14,7 +14,7 @@ loop-buffer-init g c = record {
   count = omega arith;
 }
 
--- what came so far, and then a call that gave nothing and failed
+-- the bytes so far, and then a call without bytes that failed
 pub returns-in_err-count-clause-failed : goal.returns-in_err-count-clause-failed
 returns-in_err-count-clause-failed g c = λ _.
     let bytes = c.loop-buffer.bytes.items in
@@ -25,7 +25,7 @@ pub returns-in_err-count-clause-cause : goal.returns-in_err-count-clause-cause
 returns-in_err-count-clause-cause g c = λ _.
     Rose-after _ _ _ c.loop-buffer.invariant.count c.in_err-count.ensures.cause
 
--- what came so far, and then nothing
+-- the bytes so far, and then the end
 pub returns-then-count-eq0-clause-gives : goal.returns-then-count-eq0-clause-gives
 returns-then-count-eq0-clause-gives g c =
     let bytes = c.loop-buffer.bytes.items in
@@ -38,7 +38,7 @@ length-piece : (bytes buffer : List ℕ) (n : ℕ) → n ≤ length buffer → l
 length-piece bytes buffer n fits =
     omega (arith, length-append bytes (take n buffer), length-take-le n buffer fits)
 
--- what came so far, and more than may still come
+-- the bytes so far, and more than are allowed
 pub returns-then-count-most-clause-too_many : goal.returns-then-count-most-clause-too_many
 returns-then-count-most-clause-too_many g c = λ _.
     let bytes = c.loop-buffer.bytes.items in
@@ -48,7 +48,7 @@ returns-then-count-most-clause-too_many g c = λ _.
     let long : c.args.most < length (bytes ++ piece) = omega (arith, length-piece bytes c.read.new.buf c.in_ok-count.count fits, c.loop-buffer.bytes.ok.0) in
     (bytes ++ piece, both, long)
 
--- what came so far, and a piece that is kept
+-- the bytes so far, and a piece that is kept
 pub loop-buffer-preserved : goal.loop-buffer-preserved
 loop-buffer-preserved g c =
     let bytes = c.loop-buffer.bytes.items in
@@ -64,7 +64,7 @@ loop-buffer-preserved g c =
       count = omega arith;
     }
 
--- what came so far, and a piece for which there was no memory
+-- the bytes so far, and a piece for which there was no memory
 pub returns-in_err-extend_from_slice-clause-memory : goal.returns-in_err-extend_from_slice-clause-memory
 returns-in_err-extend_from_slice-clause-memory g c = λ _.
     let bytes = c.loop-buffer.bytes.items in

@@ -1,4 +1,4 @@
--- The bytes so far are what the source gave, and there are not too many.
+-- The bytes so far are those that the source gave, and are within the limit.
 use Rattle.std.proofs.Common.{◌<◌, ◌≤◌, ◌+◌, suc, ◌-◌, vec_len}
 use Rattle.oc_io.specs.Faults.{NoFall}
 use Rattle.oc_io.proofs.gathering.read_all.Given as goal

@@ -4,7 +4,7 @@ use Rattle.std.proofs.lemmas.Result.{err_from_is_err_and}
 use Rattle.oc_io.proofs.Fronts.{length-rest, next-front, next-within}
 use Rattle.oc_io.proofs.writing.write_all.Goals as goal
 
--- what had been taken, and then a call that took nothing and failed
+-- the bytes taken before, and then a call that took none and failed
 pub returns-in_err-done-clause-fails : goal.returns-in_err-done-clause-fails
 returns-in_err-done-clause-fails g c =
     let front = take c.loop-done.done c.args.bytes.now in
@@ -12,7 +12,7 @@ returns-in_err-done-clause-fails g c =
     let p = err_from_is_err_and c.from_residual.result c.from_residual.ensures.1 in
     rw p.1 (c.loop-done.done, omega arith, subst (λ bytes. g.K.Sink.fails c.args.sink.now bytes c.write.new.self) (append-nil front) failed)
 
--- what had been taken, and the front of the rest that was taken now
+-- the bytes taken before, and the front of the rest that was taken now
 pub loop-done-preserved : goal.loop-done-preserved
 loop-done-preserved g c =
     let bytes = c.args.bytes.now in

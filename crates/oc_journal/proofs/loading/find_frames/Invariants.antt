@@ -3,7 +3,7 @@ use Rattle.oc_io.specs.DiskView.{StaysAsItWas, HasNoFault}
 use Rattle.oc_journal.specs.Scanning.{IsScanned}
 use Rattle.oc_journal.proofs.loading.find_frames.Given as goal
 
--- the frames before the gate are found, and the disk stays as it was
+-- the frames before the gate are found, and the disk is unchanged
 abbrev pub invariant-loop-extents : goal.invariant-loop-extents
 invariant-loop-extents g l = record {
   scanned : IsScanned (g.D.Disk.view l.fn.disk) l.extents.items l.gate;

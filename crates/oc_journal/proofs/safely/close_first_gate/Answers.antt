@@ -19,7 +19,7 @@ returns-clause-clears g c =
       no_fault = w2.1;
     }) (ok_pair _ _ r e.written e.safe) (ok_pair _ _ r e.turns e.no_fault)
 
--- what a read gives is the old file with the gate torn
+-- a read gives the old file with the gate torn
 pub returns-clause-behind : goal.returns-clause-behind
 returns-clause-behind g c = λ honest.
     let v = g.D.Disk.view c.args.disk.now in

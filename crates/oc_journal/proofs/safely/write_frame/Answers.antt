@@ -8,12 +8,12 @@ use Rattle.oc_journal.proofs.Blocks.{frames_of-ended}
 use Rattle.oc_journal.proofs.Writes.{both, ok_pair, IsSettled-from, behind_torn, gate_torn, gate_ends, gate_body, torn_seen}
 use Rattle.oc_journal.proofs.safely.write_frame.Goals as goal
 
--- what a torn write leaves before its range
+-- the bytes before the range of a torn write
 before_range : (v w : DiskView) (end at n : ℕ) → at ≡ end + 1 → IsTorn at n v.seen w.seen → take end w.seen ≡ take end v.seen
 before_range v w end at n is torn =
     sym (take-take end at w.seen (omega arith)) ∙ ap (take end) torn.before ∙ take-take end at v.seen (omega arith)
 
--- the first write, whole or torn, leaves what is before the gate
+-- the first write, complete or torn, does not change the bytes before the gate
 pub returns-in_err-write_safely-clause-front : goal.returns-in_err-write_safely-clause-front
 returns-in_err-write_safely-clause-front g c = λ honest.
     let v = g.D.Disk.view c.args.disk.now in

@@ -5,16 +5,15 @@ use Rattle.oc_model.specs.Records.{folded}
 use Rattle.oc_node.specs.NodeView.{IsReached}
 use Rattle.oc_node.proofs.Folding.{kept_all}
 use Rattle.oc_node.proofs.Reaching.{reached_kept, reached_new, reached_with}
-use Rattle.oc_keep.specs.KeptView.{header_in}
 use Rattle.oc_keep.proofs.starting.start.Goals as goal
 
 pub returns-in-Ok-clause-reached : goal.returns-in-Ok-clause-reached
 returns-in-Ok-clause-reached c =
     let a = c.args in
-    let h = header_in a.seat in
+    let h = a.seat.header in
     let n = new_control h a.seat.id in
     let reached = reached_new h a.seat.id c.requires.header c.requires.id in
-    let kept = kept_all a.seat.nodes n.kept a.list.now c.requires.lawful (reached_kept n reached) in
+    let kept = kept_all a.seat.header.nodes n.kept a.list.now c.requires.lawful (reached_kept n reached) in
     let is : c.recover.new.self.control ≡ record n { kept = folded n.kept a.list.now } = c.in-Ok.ensures.ok ∙ ap (λ (m : Control). record m { kept = folded m.kept a.list.now }) c.in_ok-node.ensures in
     subst (λ (m : Control). IsReached m) (sym is) (reached_with n (folded n.kept a.list.now) reached kept)
 

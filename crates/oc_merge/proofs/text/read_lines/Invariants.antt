@@ -4,7 +4,7 @@ use Rattle.oc_merge.specs.Reader.{reading_of}
 use Rattle.oc_merge.specs.Reading.{is_ended, nothing_read, read_lines}
 use Rattle.oc_merge.proofs.text.read_lines.Given as goal
 
--- what is left of the text gives what the whole of it gives
+-- the rest of the text gives the same as the whole
 abbrev pub invariant-lines : goal.invariant-lines
 invariant-lines l = read_lines l.number (is_ended l.bytes) (reading_of l.reader) (lines l.rest) ≡ read_lines 1 (is_ended l.bytes) nothing_read (lines l.bytes)
 

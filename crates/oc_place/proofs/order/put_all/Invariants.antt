@@ -3,7 +3,7 @@ use Rattle.oc_place.specs.LeftOut.{out_of}
 use Rattle.oc_place.specs.Once.{with_once}
 use Rattle.oc_place.proofs.order.put_all.Given as goal
 
--- what is there and the rest once is all of them once; and there is room for the rest
+-- the ids so far and the rest, each once, are the whole list; and there is room for the rest
 abbrev pub invariant-loop-id : goal.invariant-loop-id
 invariant-loop-id l =
     record {

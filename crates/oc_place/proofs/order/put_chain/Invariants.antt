@@ -4,7 +4,7 @@ use Rattle.oc_place.specs.LeftOut.{out_of}
 use Rattle.oc_place.specs.Once.{with_once}
 use Rattle.oc_place.proofs.order.put_chain.Given as goal
 
--- what is there and the rest of the chain once is all of it once; and there is room for the rest
+-- the ids so far and the rest of the chain, each once, are the whole list; and there is room for the rest
 abbrev pub invariant-loop-before : goal.invariant-loop-before
 invariant-loop-before l =
     record {

@@ -4,7 +4,7 @@ use Rattle.oc_place.specs.LeftOut.{out_of}
 use Rattle.oc_place.specs.Once.{with_once}
 use Rattle.oc_place.proofs.order.put_earlier.Given as goal
 
--- what is there and the rest once is all of them once; and there is room for the rest
+-- the ids so far and the rest, each once, are the whole list; and there is room for the rest
 abbrev pub invariant-loop-earlier : goal.invariant-loop-earlier
 invariant-loop-earlier l =
     record {

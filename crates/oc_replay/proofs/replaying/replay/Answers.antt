@@ -8,7 +8,7 @@ use Rattle.oc_replay.specs.declared.fault.ReportFault.TheVariants.{Sink, Memory}
 use Rattle.oc_replay.proofs.Opened.{as_large}
 use Rattle.oc_replay.proofs.replaying.replay.Goals as goal
 
--- a report that failed is no end but at the sink, or for want of memory
+-- a report that failed is no end but at the sink, or for lack of memory
 
 on_done : (P : Type 0) (fault : ReportFault) (end : ReplayEnd) → end ≡ end_of_report fault → OnDone end P
 on_done P Sink end is = subst (λ e. OnDone e P) (sym is) tt
@@ -65,6 +65,6 @@ returns-clause-memory g c =
     on_memory c.in-Err-play.fault c.from.result c.from.ensures
     (λ is. inr (_, c.in-Ok.ensures.input, c.play.ensures.memory (c.in-Err-play.is ∙ ap (λ (fault : ReportFault). Err fault) is)))
 
--- what was read may be played, whatever its scale
+-- the schedule that was read may be played, at any scale
 pub play-requires : goal.play-requires
 play-requires g c = as_large c.args.scale _ c.in-Ok.ensures.lawful

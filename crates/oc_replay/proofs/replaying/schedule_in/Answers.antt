@@ -13,7 +13,7 @@ returns-in_err-schedule-clause-limit g c =
     let p = err_from_is_err_and c.from_residual-in_err-schedule.result c.from_residual-in_err-schedule.ensures.1 in
     rw (p.1, p.2) (limit-at c.args.scale g.S.Source.gives g.S.Source.ended c.args.source.now c.read_all.new.source c.deref.result.now c.in_err-schedule.field-0.0 came c.in_ok-bytes.ensures.end c.in_err-schedule.ensures.exact)
 
--- what is so in any case is so at Memory
+-- a property in every case is one at Memory
 on_memory : (P : Type 0) (end : ReplayEnd) → P → OnMemory end P
 on_memory P Done p = tt
 on_memory P (Text line why) p = tt

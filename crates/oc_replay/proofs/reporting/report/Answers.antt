@@ -33,7 +33,7 @@ tell_at-requires-clause-time g c = λ e is.
     let stage = g.T.Stage in
     (next_given (stage.world c.args.stage.now) c.args.events.now c.requires (stage.world c.loop-place.stage) e c.loop-place.place (omega (arith, c.loop-place-test.true, c.len-place-end.ensures)) (as_found c.args.events.now c.loop-place.place e is) c.loop-place.invariant.way).time
 
--- one event more is gathered, and a prefix of what is gathered is passed on
+-- one more event is gathered, and a prefix of the gathered bytes is passed on
 pub loop-place-preserved : goal.loop-place-preserved
 loop-place-preserved g c =
     let stage = g.T.Stage in

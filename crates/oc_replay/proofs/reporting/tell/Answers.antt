@@ -6,7 +6,7 @@ use Rattle.oc_model.proofs.GoesOn.{ids-next_world}
 use Rattle.oc_replay.proofs.Runs.{event_told}
 use Rattle.oc_replay.proofs.reporting.tell.Goals as goal
 
--- what the stage said it sent is what its world has more
+-- the messages in the stage's answer are those added to its world
 pub put_told-requires-clause-all : goal.put_told-requires-clause-all
 put_told-requires-clause-all g c = search rules
 

@@ -10,7 +10,7 @@ tally_at-requires-clause-node g c =
     let count : length (ids (g.T.Stage.world c.args.stage.now)) ≡ c.args.nodes = ap length c.requires.ids ∙ length-range_with_len 1 c.args.nodes in
     (omega arith, omega (arith, count))
 
--- what is counted of one node more fits
+-- the counts with one more node fit
 pub with-total-requires : goal.with-total-requires
 with-total-requires g c =
     subst (FitsWith c.loop-id.total) (sym c.in_ok-tally_at.ensures)

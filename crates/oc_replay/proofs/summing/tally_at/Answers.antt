@@ -5,7 +5,7 @@ use Rattle.oc_model.specs.World.{World, node}
 use Rattle.oc_replay.proofs.Counts.{node_within, within_bytes}
 use Rattle.oc_replay.proofs.summing.tally_at.Goals as goal
 
--- what a node holds is within the limits
+-- the bytes that a node holds are within the limits
 pub held_in_all-requires : goal.held_in_all-requires
 held_in_all-requires g c =
     let w : World = g.T.Stage.world c.args.stage.now in

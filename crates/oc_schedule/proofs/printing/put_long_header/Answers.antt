@@ -23,15 +23,15 @@ two_fields a b = ap (λ t. (codes " " ++ a) ++ t) (append-nil (codes " " ++ b))
 
 pub returns : goal.returns
 returns c =
-    let front = spaced (header_with c.args.nodes c.args.chain []) in
+    let front = spaced (header_with c.args.sizes.nodes c.args.sizes.chain []) in
     let name = codes " chunk" in
     let number : ℕ → List ℕ = λ n. codes " " ++ decimal n in
-    let chunk = codes "chunk" ∷ decimal c.args.chunk ∷ [] in
+    let chunk = codes "chunk" ∷ decimal c.args.sizes.chunk ∷ [] in
     let second = more _ front name _ _ c.in_ok-put_front.ensures c.in_ok-put.ensures.ok in
     let third = more _ (front ++ name) (number c.from.result) _ _ second c.in_ok-put_number_field.ensures in
-    let fields : fields_text chunk ≡ name ++ number c.args.chunk = two_fields (codes "chunk") (decimal c.args.chunk) in
-    let words : (front ++ name) ++ number c.args.chunk ≡ spaced (header_with c.args.nodes c.args.chain chunk) =
-    append_assoc front name (number c.args.chunk) ∙ ap (λ t. front ++ t) (sym fields) ∙ sym (header_on c.args.nodes c.args.chain chunk) in
+    let fields : fields_text chunk ≡ name ++ number c.args.sizes.chunk = two_fields (codes "chunk") (decimal c.args.sizes.chunk) in
+    let words : (front ++ name) ++ number c.args.sizes.chunk ≡ spaced (header_with c.args.sizes.nodes c.args.sizes.chain chunk) =
+    append_assoc front name (number c.args.sizes.chunk) ∙ ap (λ t. front ++ t) (sym fields) ∙ sym (header_on c.args.sizes.nodes c.args.sizes.chain chunk) in
     subst (λ (t : List ℕ). OnOk c.put-2.result (c.put-2.new.out.items ≡ c.args.out.now.items ++ t))
     (ap (λ (n : ℕ). ((front ++ name) ++ number n) ++ codes "\n") c.from.ensures ∙ ap (λ t. t ++ codes "\n") words)
     (more_on_ok c.put-2.result _ ((front ++ name) ++ number c.from.result) (codes "\n") _ _ third c.put-2.ensures.ok)

@@ -1,5 +1,5 @@
 use Rattle.std.proofs.Common.{ℕ, List, refl}
-use Rattle.oc_server.proofs.Answered.{turn_answers}
+use Rattle.oc_deeds.proofs.Answered.{turn_answers}
 use Rattle.oc_server.proofs.TurnsOrdered.{ends_served, turned_ordered}
 use Rattle.oc_server.proofs.order_law.turns_are_in_order.Goals as goal
 

@@ -2,7 +2,7 @@ use Rattle.std.proofs.Common.{◌≡◌, ℕ, Err, ap, rules, subst, sym, ◌∙
 use Rattle.oc_keep.specs.KeptView.{node_of}
 use Rattle.oc_keep.specs.declared.errors.KeepError.{KeepError}
 use Rattle.oc_node.specs.OutcomeView.{OutcomeView}
-use Rattle.oc_server.specs.Sending.{AreSendable}
+use Rattle.oc_deeds.specs.Sending.{AreSendable}
 use Rattle.oc_server.proofs.Takes.{keep_stops, step_sendable}
 use Rattle.oc_server.proofs.taking.keep.Goals as goal
 

@@ -1,5 +1,5 @@
 use Rattle.oc_server.proofs.Looking.{looks_then, stops_behind}
-use Rattle.oc_server.proofs.Results.{done_then, err_then}
+use Rattle.oc_deeds.proofs.Results.{done_then, err_then}
 use Rattle.oc_server.proofs.tidying.tidy.Goals as goal
 
 pub returns-clause-looks : goal.returns-clause-looks

@@ -1,6 +1,6 @@
 use Rattle.std.proofs.Common.{refl}
 use Rattle.std.proofs.lemmas.Bool.{false≢true}
-use Rattle.oc_server.specs.Sends.{sends}
+use Rattle.oc_deeds.specs.Sends.{sends}
 use Rattle.oc_service.proofs.BorneOut.{rise_for_lines}
 use Rattle.oc_service.proofs.law.lines_of_failures_raise_counts.Goals as goal
 

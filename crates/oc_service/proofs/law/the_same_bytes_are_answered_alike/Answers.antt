@@ -1,5 +1,5 @@
 use Rattle.std.proofs.Common.{refl}
-use Rattle.oc_server.specs.Sends.{sends}
+use Rattle.oc_deeds.specs.Sends.{sends}
 use Rattle.oc_service.proofs.Alike.{early_alike, held_cut, same_alike}
 use Rattle.oc_service.proofs.law.the_same_bytes_are_answered_alike.Goals as goal
 

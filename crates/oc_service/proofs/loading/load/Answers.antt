@@ -3,8 +3,8 @@ use Rattle.oc_config.specs.Settings.{Settings}
 use Rattle.oc_keep.specs.Files.{disks_in}
 use Rattle.oc_keep.specs.KeptView.{disks_of}
 use Rattle.oc_keep.specs.Promises.{IsNodeOf, LoadsSafely}
-use Rattle.oc_server.specs.Pace.{first_pace}
-use Rattle.oc_server.specs.Records.{is_record}
+use Rattle.oc_deeds.specs.Pace.{first_pace}
+use Rattle.oc_deeds.specs.Records.{is_record}
 use Rattle.oc_service.specs.OnSite.{header_of_settings}
 use Rattle.oc_model.specs.Node.{Header}
 use Rattle.oc_service.proofs.Headers.{settings_header}

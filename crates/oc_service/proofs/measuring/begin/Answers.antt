@@ -4,12 +4,13 @@ use Rattle.std.proofs.lemmas.Result.{err_from_is_err_and}
 use Rattle.oc_base.specs.declared.shelf.Shelf.{Shelf}
 use Rattle.oc_config.specs.Settings.{Settings}
 use Rattle.oc_model.specs.Node.{Header}
-use Rattle.oc_server.specs.Brief.{told_first}
-use Rattle.oc_server.specs.Deeds.{Deed, Says, Setting}
-use Rattle.oc_server.specs.Parts.{Stops, one, ◌>>◌}
+use Rattle.oc_deeds.specs.Brief.{told_first}
+use Rattle.oc_deeds.specs.Deeds.{Deed, Says, Setting}
+use Rattle.oc_server.specs.Parts.{Stops}
+use Rattle.oc_deeds.specs.Parts.{one, ◌>>◌}
 use Rattle.oc_server.specs.Scenes.{Did, setting}
 use Rattle.oc_server.proofs.Parts.{does_one, stops_as, stops_behind, stops_in}
-use Rattle.oc_server.proofs.Results.{done_then, err_then}
+use Rattle.oc_deeds.proofs.Results.{done_then, err_then}
 use Rattle.oc_server.proofs.Scenes.{did_then, setting_stays, still_serving}
 use Rattle.oc_server.proofs.Stopping.{note_stops}
 use Rattle.oc_updown.specs.MeasureLines.{IsMeasure}
@@ -29,7 +30,7 @@ take_measures-requires-clause-lawful g c =
     subst (λ (x : Settings). All (IsMeasure c.says_first.new.self.kept.node.control.nodes) x.measures) (sym first.config)
     (subst (λ (h : Header). All (IsMeasure h.nodes) s.config.measures) (sym first.same.header) c.requires.lawful)
 
--- it is told first, and then what was measured is taken
+-- the position is reported first, and then the measures are taken
 pub returns-clause-did : goal.returns-clause-did
 returns-clause-did g c =
     let s = c.args.server.now in

@@ -1,10 +1,10 @@
 use Rattle.std.proofs.Common.{◌≡◌, List, rules, subst, sym}
 use Rattle.oc_model.specs.declared.input.Input.TheVariants.{Measured}
-use Rattle.oc_server.specs.Deeds.{Deed}
+use Rattle.oc_deeds.specs.Deeds.{Deed}
 use Rattle.oc_server.specs.Scenes.{Did, setting}
-use Rattle.oc_server.specs.Telling.{takes_ahead}
+use Rattle.oc_deeds.specs.Telling.{takes_ahead}
 use Rattle.oc_server.proofs.Parts.{stops_as}
-use Rattle.oc_server.proofs.Results.{done_then, err_then}
+use Rattle.oc_deeds.proofs.Results.{done_then, err_then}
 use Rattle.oc_service.specs.Measuring.{takes_own_measure}
 use Rattle.oc_service.proofs.Measured.{own_deeds}
 use Rattle.oc_service.proofs.measuring.take_measure.Goals as goal

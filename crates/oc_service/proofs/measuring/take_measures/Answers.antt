@@ -5,11 +5,11 @@ use Rattle.std.proofs.lemmas.Result.{err_from_is_err_and}
 use Rattle.oc_config.specs.Settings.{Settings}
 use Rattle.oc_keep.specs.KeptView.{IsHonest}
 use Rattle.oc_model.specs.Node.{Header}
-use Rattle.oc_server.specs.Deeds.{Deed, Setting}
-use Rattle.oc_server.specs.Parts.{Cuts}
+use Rattle.oc_deeds.specs.Deeds.{Deed, Setting}
+use Rattle.oc_deeds.specs.Under.{Cuts}
 use Rattle.oc_server.specs.Scenes.{Did, setting}
 use Rattle.oc_service.specs.WhatNodeDoes.{own_measure, own_measures}
-use Rattle.oc_server.proofs.Parts.{cuts_behind, cuts_more}
+use Rattle.oc_deeds.proofs.Cuts.{cuts_behind, cuts_more}
 use Rattle.oc_server.proofs.Scenes.{breaks_then, did_none, did_then, setting_stays, still_honest, still_serving}
 use Rattle.oc_service.proofs.Measured.{all_measured, measure_more, measures_here}
 use Rattle.oc_service.proofs.measuring.take_measures.Goals as goal

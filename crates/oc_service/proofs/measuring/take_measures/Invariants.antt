@@ -1,7 +1,7 @@
 use Rattle.std.proofs.Common.{◌≡◌, List, ◌++◌, drop}
 use Rattle.std.specs.Prelude.{All}
 use Rattle.oc_updown.specs.MeasureLines.{IsMeasure}
-use Rattle.oc_server.specs.Deeds.{Deed}
+use Rattle.oc_deeds.specs.Deeds.{Deed}
 use Rattle.oc_server.specs.Scenes.{Did, IsServing, setting}
 use Rattle.oc_service.specs.WhatNodeDoes.{own_measures}
 use Rattle.oc_service.proofs.measuring.take_measures.Given as goal

@@ -2,7 +2,7 @@ use Rattle.std.proofs.Common.{refl}
 use Rattle.std.proofs.lemmas.Result.{err_from_is_err_and}
 use Rattle.oc_store.proofs.turning.turn_over.Goals as goal
 
--- where the snapshot was not written, the current journal is as it was, and the calls were made on the other
+-- if the snapshot was not written, the current journal is unchanged, since the calls were made on the other
 pub returns-in_err-put_in_place-clause-stays : goal.returns-in_err-put_in_place-clause-stays
 returns-in_err-put_in_place-clause-stays g c =
     let p = err_from_is_err_and c.from_residual.result c.from_residual.ensures.1 in

@@ -4,7 +4,7 @@ use Rattle.std.specs.Str.Lines.{lines}
 use Rattle.oc_updown.specs.MeasureLines.{IsMeasure, with_measures}
 use Rattle.oc_updown.proofs.measure_lines.read_lines.Given as goal
 
--- what is left of the text gives what the whole of it gives
+-- the rest of the text gives the result of the whole text
 abbrev pub invariant-lines : goal.invariant-lines
 invariant-lines l = record {
   exact : with_measures l.nodes l.number l.measures.items (lines l.rest) ≡ with_measures l.nodes 1 [] (lines l.text);

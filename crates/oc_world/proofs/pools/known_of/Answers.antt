@@ -4,7 +4,7 @@ use Rattle.std.proofs.lemmas.Slice.Eq.{starts_is}
 use Rattle.oc_world.proofs.Shared.{all_behind, all_held, some_held}
 use Rattle.oc_world.proofs.pools.known_of.Goals as goal
 
--- what is held from there on begins with the bytes
+-- the stored bytes from there on begin with the bytes
 pub returns-then-starts_with : goal.returns-then-starts_with
 returns-then-starts_with c =
     let held = c.args.held.now in

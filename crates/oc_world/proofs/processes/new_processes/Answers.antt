@@ -1,6 +1,5 @@
 use Rattle.std.proofs.Common.{◌≡◌, ◌+◌, ◌-◌, List, [], ◌∷◌, ◌++◌, ap, ◌∙◌, map}
 use Rattle.std.specs.List.{range_with_len}
-use Rattle.oc_keep.specs.KeptView.{header}
 use Rattle.oc_model.specs.Node.{Header}
 use Rattle.oc_model.specs.World.{Process}
 use Rattle.oc_world.specs.ProcessView.{ProcessView}
@@ -14,8 +13,8 @@ loop-before-preserved c =
     let sites = c.loop-before.processes.items in
     let ps = processes_of sites in
     let k = c.loop-before.before in
-    let h : Header = header c.args.network.nodes c.args.network.chain c.args.network.chunk c.args.areas.now in
+    let h : Header = c.args.header.now in
     let pushed : processes_of c.push.new.self.items ≡ ps ++ new_process h (k + 1) ∷ [] =
     ap processes_of c.in_ok-push.ensures.items ∙ (one_behind sites c.in_ok-new.field-0 ∙ ap (λ (p : ProcessView). ps ++ p.process ∷ []) c.in_ok-new.ensures) in
-    ap (λ (l : List Process). l ++ map (new_process h) (range_with_len (1 + (k + 1)) (c.args.network.nodes - (k + 1)))) pushed
-    ∙ one_more h ps k c.args.network.nodes (map (new_process h) (range_with_len 1 c.args.network.nodes)) c.loop-before-test.true c.loop-before.invariant
+    ap (λ (l : List Process). l ++ map (new_process h) (range_with_len (1 + (k + 1)) (c.args.header.now.nodes - (k + 1)))) pushed
+    ∙ one_more h ps k c.args.header.now.nodes (map (new_process h) (range_with_len 1 c.args.header.now.nodes)) c.loop-before-test.true c.loop-before.invariant

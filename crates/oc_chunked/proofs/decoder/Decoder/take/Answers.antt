@@ -1,4 +1,4 @@
--- What an advance adds to what was taken before it.
+-- The effect of an advance on the bytes taken before it.
 use Rattle.std.proofs.Common.{◌≡◌, ℕ, ◌+◌, ◌-◌, ◌≤◌, true, not, None, List, ◌++◌, length, take, drop, sym, ap, ◌∙◌, refl, arith, length-drop}
 use Rattle.std.proofs.lemmas.List.{append_assoc, take-take, length-take-le}
 use Rattle.std.proofs.Math.Seq.{take-add}
@@ -16,7 +16,7 @@ Advances-then a b c x y p q r first second = record {
   takes = Takes-then (stage_of a) (stage_of b) (stage_of c) x y first.content second.content first.takes second.takes;
 }
 
--- more of a piece is what was taken before and the front of the rest
+-- more of a piece is the part taken before and the front of the rest
 more_taken : (taken count : ℕ) (piece : List ℕ) → taken + count ≤ length piece → take (taken + count) piece ≡ take taken piece ++ take count (take (length piece - taken) (drop taken piece))
 more_taken taken count piece within =
     take-add taken count piece
@@ -34,7 +34,7 @@ open_fine (in_trailer front) goes = refl
 open_fine ended goes = refl
 open_fine (refused fault) goes = cc
 
--- what is still wanted after one step and the next
+-- the bytes still wanted after one step and the next
 wants_then : (a b c : DecoderState) (m n : ℕ) → true ≡ not (is_final b) → StillWants a m b → StillWants b n c → StillWants a (m + n) c
 wants_then a b c m n goes first second = λ fine.
     let before = first (open_fine b goes) in

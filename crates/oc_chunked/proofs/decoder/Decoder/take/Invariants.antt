@@ -3,7 +3,7 @@ use Rattle.oc_chunked.specs.Stages.{StillWants}
 use Rattle.oc_chunked.specs.Views.{stage_of, Advances}
 use Rattle.oc_chunked.proofs.decoder.Decoder.take.Given as goal
 
--- what was taken of the piece led on, and there is room for the rest
+-- the bytes taken of the piece led on, and there is room for the rest
 abbrev pub invariant-bytes : goal.invariant-bytes
 invariant-bytes l = record {
   within : l.taken ≤ length l.piece;

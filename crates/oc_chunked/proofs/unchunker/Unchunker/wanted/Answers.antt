@@ -1,4 +1,4 @@
--- What is wanted is missing.
+-- The wanted bytes are missing.
 use Rattle.std.proofs.Common.{◌≡◌, ◌∙◌, ap}
 use Rattle.oc_chunked.specs.Stages.{wanted_at}
 use Rattle.oc_chunked.proofs.Wanted.{wanted_missing}

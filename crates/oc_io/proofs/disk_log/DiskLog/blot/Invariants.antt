@@ -2,7 +2,7 @@ use Rattle.std.proofs.Common.{◌≡◌, length, reverse, vec_len}
 use Rattle.oc_io.proofs.LogBlots.{blotted_by, AreWithin}
 use Rattle.oc_io.proofs.disk_log.DiskLog.blot.Given as goal
 
--- the steps that are left make of the bytes what all steps make of the bytes at first
+-- the remaining steps turn these bytes into those that all steps make of the first bytes
 abbrev pub invariant-loop-step : goal.invariant-loop-step
 invariant-loop-step l = record {
   rest : blotted_by l.image (reverse l.steps.items) l.bytes ≡ blotted_by l.image (reverse l.initial.steps.items) l.fn.bytes;

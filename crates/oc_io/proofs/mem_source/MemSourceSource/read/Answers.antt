@@ -3,7 +3,7 @@ use Rattle.oc_io.specs.Tally.{Passes}
 use Rattle.oc_io.proofs.Fronts.{left-copied, length-rest}
 use Rattle.oc_io.proofs.mem_source.MemSourceSource.read.Goals as goal
 
--- what was left is what was copied into the buffer, and what is left now
+-- the bytes left before are those copied into the buffer, and those left now
 pub returns-clause-gives : goal.returns-clause-gives
 returns-clause-gives c =
     let at = c.self.inside.at in

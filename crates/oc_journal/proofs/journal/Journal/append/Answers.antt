@@ -30,7 +30,7 @@ returns-clause-appends g c =
       no_fault = search rules;
     }
 
--- what was written failed: the bodies before the gate are the same
+-- the write failed: the bodies before the gate are the same
 pub returns-in_default-clause-disk : goal.returns-in_default-clause-disk
 returns-in_default-clause-disk g c = λ _.
     let inside = λ (honest : IsTrue (g.D.Disk.view c.args.self.now.disk).honest). subst (λ (j : JournalView g.row.D.Denot). IsTrue (g.D.Disk.view j.disk).honest) (sym c.self.view_is) honest in

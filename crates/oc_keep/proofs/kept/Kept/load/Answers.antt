@@ -1,14 +1,13 @@
 use Rattle.std.proofs.Common.{ℕ, ◌+◌, ◌≤◌, refl, subst}
 use Rattle.oc_base.specs.declared.limits.TheConstants.{MAX_BASE_ACKED}
 use Rattle.oc_store.specs.StoreView.{first_disk, second_disk}
-use Rattle.oc_keep.specs.KeptView.{header_in}
 use Rattle.oc_keep.proofs.Loads.{loaded_kept, loaded_node, loads_controls, loads_files}
 use Rattle.oc_keep.proofs.kept.Kept.load.Goals as goal
 
 pub returns-in-Err-clause-safely_err : goal.returns-in-Err-clause-safely_err
 returns-in-Err-clause-safely_err g c =
     let a = c.args in
-    loads_controls g.D.Disk.view (header_in a.seat) a.seat.id a.files.control a.files.alternate a.files.content c.in-Err.control c.in-Err.alternate (λ x h. g.met.D.Disk.consistent x h) c.in-Err.ensures.safely_err
+    loads_controls g.D.Disk.view a.seat.header a.seat.id a.files.control a.files.alternate a.files.content c.in-Err.control c.in-Err.alternate (λ x h. g.met.D.Disk.consistent x h) c.in-Err.ensures.safely_err
 
 pub returns-in-Err-clause-refuses : goal.returns-in-Err-clause-refuses
 returns-in-Err-clause-refuses g c = c.in-Err.ensures.refuses
@@ -20,7 +19,7 @@ pub returns-in-Err-load-clause-safely_err : goal.returns-in-Err-load-clause-safe
 returns-in-Err-load-clause-safely_err g c =
     let a = c.args in
     let d = c.into_disks-control.result in
-    loads_files g.D.Disk.view (header_in a.seat) a.seat.id a.files.control a.files.alternate a.files.content d.0 d.1 c.in-Err-load.content c.in-Ok.loaded.0 c.in-Err-load.content
+    loads_files g.D.Disk.view a.seat.header a.seat.id a.files.control a.files.alternate a.files.content d.0 d.1 c.in-Err-load.content c.in-Ok.loaded.0 c.in-Err-load.content
     c.in-Ok.ensures.safely c.in-Err-load.ensures.safely_err c.into_disks-control.ensures.first c.into_disks-control.ensures.second refl
 
 pub returns-in-Ok-start-clause-safely : goal.returns-in-Ok-start-clause-safely
@@ -28,7 +27,7 @@ returns-in-Ok-start-clause-safely g c =
     let a = c.args in
     let s = c.in-Ok.loaded.0 in
     let l = c.in-Ok-load.content in
-    loads_files g.D.Disk.view (header_in a.seat) a.seat.id a.files.control a.files.alternate a.files.content (first_disk s) (second_disk s) l.journal.disk s l.journal.disk
+    loads_files g.D.Disk.view a.seat.header a.seat.id a.files.control a.files.alternate a.files.content (first_disk s) (second_disk s) l.journal.disk s l.journal.disk
     c.in-Ok.ensures.safely c.in-Ok-load.ensures.safely refl refl refl
 
 pub returns-clause-safely_err : goal.returns-clause-safely_err
@@ -36,7 +35,7 @@ returns-clause-safely_err g c =
     let a = c.args in
     let d = c.into_disks-control-in-Err-start.result in
     let l = c.in-Ok-load.content in
-    loads_files g.D.Disk.view (header_in a.seat) a.seat.id a.files.control a.files.alternate a.files.content d.0 d.1 c.into_disk.result c.in-Ok.loaded.0 l.journal.disk
+    loads_files g.D.Disk.view a.seat.header a.seat.id a.files.control a.files.alternate a.files.content d.0 d.1 c.into_disk.result c.in-Ok.loaded.0 l.journal.disk
     c.in-Ok.ensures.safely c.in-Ok-load.ensures.safely c.into_disks-control-in-Err-start.ensures.first c.into_disks-control-in-Err-start.ensures.second c.into_disk.ensures.disk
 
 pub invariant_of-result : goal.invariant_of-result
@@ -46,7 +45,7 @@ invariant_of-result g c =
     let l = c.in-Ok-load.content in
     let n = c.in-Ok-start.node in
     let started = rw c.deref.ensures.value at c.in-Ok-start.ensures.started in
-    loaded_kept g.D.Disk.view (header_in a.seat) a.seat.id a.files.control a.files.alternate a.files.content n s l c.in-Ok.loaded.1.items
+    loaded_kept g.D.Disk.view a.seat.header a.seat.id a.files.control a.files.alternate a.files.content n s l c.in-Ok.loaded.1.items
     started c.in-Ok.ensures.loaded c.in-Ok.ensures.safely c.in-Ok-load.ensures.loaded c.in-Ok-load.ensures.safely
     c.in-Ok-start.ensures.reached (subst (λ (end : ℕ). n.control.kept.log.length ≤ MAX_BASE_ACKED + end) c.end.ensures c.in-Ok-start.ensures.log) c.in-Ok-start.ensures.short
 
@@ -57,7 +56,7 @@ returns-in-Ok-start-clause-loaded g c =
     let l = c.in-Ok-load.content in
     let n = c.in-Ok-start.node in
     let started = rw c.deref.ensures.value at c.in-Ok-start.ensures.started in
-    let h = header_in a.seat in
+    let h = a.seat.header in
     loaded_node g.D.Disk.view h a.seat.id a.files.control a.files.alternate a.files.content n s l c.in-Ok.loaded.1.items
     started c.in-Ok.ensures.loaded c.in-Ok.ensures.safely c.in-Ok-load.ensures.loaded c.in-Ok-load.ensures.safely
     (loaded_kept g.D.Disk.view h a.seat.id a.files.control a.files.alternate a.files.content n s l c.in-Ok.loaded.1.items

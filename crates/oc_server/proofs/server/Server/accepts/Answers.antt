@@ -2,10 +2,10 @@ use Rattle.std.proofs.Common.{List, Option, IfSome, ℕ, ap, refl, rules, subst,
 use Rattle.oc_model.specs.declared.message.Message.{Message}
 use Rattle.std.proofs.lemmas.Result.{err_from_is_err_and}
 use Rattle.oc_node.specs.OutcomeView.{OutcomeView}
-use Rattle.oc_server.specs.Deeds.{back_to, sender_of}
-use Rattle.oc_server.specs.Sending.{AreSendable}
+use Rattle.oc_deeds.specs.Deeds.{back_to, sender_of}
+use Rattle.oc_deeds.specs.Sending.{AreSendable}
 use Rattle.oc_wire.specs.Spelling.{HasSpelling}
-use Rattle.oc_server.proofs.Messages.{back_has_text}
+use Rattle.oc_deeds.proofs.Messages.{back_has_text}
 use Rattle.oc_server.proofs.Takes.{did_accept, keep_breaks, memory_before, write_breaks_as}
 use Rattle.oc_server.proofs.server.Server.accepts.Goals as goal
 

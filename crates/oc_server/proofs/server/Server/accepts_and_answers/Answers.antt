@@ -1,7 +1,7 @@
 use Rattle.std.proofs.Common.{◌∙◌, ap}
 use Rattle.std.proofs.lemmas.Result.{err_from_is_err_and}
 use Rattle.oc_model.specs.declared.answer.Answer.{Answer}
-use Rattle.oc_server.specs.Hurries.{hurries}
+use Rattle.oc_deeds.specs.Hurries.{hurries}
 use Rattle.oc_server.proofs.Responding.{accept_stops, responded, responds_stops}
 use Rattle.oc_server.proofs.server.Server.accepts_and_answers.Goals as goal
 

@@ -2,10 +2,10 @@ use Rattle.std.proofs.Common.{ap, ◌∙◌}
 use Rattle.std.proofs.lemmas.Result.{err_from_is_err_and}
 use Rattle.oc_model.specs.Node.{Node}
 use Rattle.oc_model.specs.Step.{step}
-use Rattle.oc_server.specs.Deeds.{back_to, sender_of}
-use Rattle.oc_server.specs.Telling.{accepts_told}
+use Rattle.oc_deeds.specs.Deeds.{back_to, sender_of}
+use Rattle.oc_deeds.specs.Telling.{accepts_told}
 use Rattle.oc_server.proofs.Ahead.{ahead_honest, ahead_input, ahead_node, ahead_serving, ahead_stops, ahead_then, ahead_then_stops}
-use Rattle.oc_server.proofs.Results.{done_then, err_then, ok_then}
+use Rattle.oc_deeds.proofs.Results.{done_then, err_then, ok_then}
 use Rattle.oc_server.proofs.server.Server.accepts_in.Goals as goal
 
 pub accepts_told-requires-clause-serving : goal.accepts_told-requires-clause-serving

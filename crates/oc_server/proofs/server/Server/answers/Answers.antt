@@ -3,11 +3,11 @@ use Rattle.std.proofs.lemmas.Result.{err_from_is_err_and}
 use Rattle.oc_keep.specs.KeptView.{node_of}
 use Rattle.oc_model.specs.declared.input.Input.{Input}
 use Rattle.oc_model.specs.declared.answer.Answer.TheVariants as answers
-use Rattle.oc_server.specs.Asks.{replies, responds}
-use Rattle.oc_server.specs.Hurries.{input_hurries}
+use Rattle.oc_deeds.specs.Asks.{replies, responds}
+use Rattle.oc_deeds.specs.Hurries.{input_hurries}
 use Rattle.oc_server.specs.Scenes.{running, setting}
 use Rattle.oc_server.proofs.Parts.{does_as, stops_as}
-use Rattle.oc_server.proofs.Results.{done_then, err_then, ok_then}
+use Rattle.oc_deeds.proofs.Results.{done_then, err_then, ok_then}
 use Rattle.oc_server.proofs.Stopping.{stops_idle}
 use Rattle.oc_server.proofs.server.Server.answers.Goals as goal
 

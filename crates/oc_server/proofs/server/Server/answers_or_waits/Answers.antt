@@ -1,15 +1,15 @@
 use Rattle.std.proofs.Common.{◌∷◌, [], Bool, false, is_some, ap, sym, ◌∙◌}
 use Rattle.std.proofs.lemmas.Result.{err_from_is_err_and}
-use Rattle.oc_server.specs.Asks.{responds, answers_or_waits, waiting}
-use Rattle.oc_server.specs.Deeds.{Waits}
-use Rattle.oc_server.specs.Parts.{nothing, one, ◌>>◌}
+use Rattle.oc_deeds.specs.Asks.{responds, answers_or_waits, waiting}
+use Rattle.oc_deeds.specs.Deeds.{Waits}
+use Rattle.oc_deeds.specs.Parts.{nothing, one, ◌>>◌}
 use Rattle.oc_server.specs.Scenes.{running, setting}
-use Rattle.oc_server.specs.Works.{pending}
-use Rattle.oc_server.specs.declared.work.Pending.{Pending}
-use Rattle.oc_server.specs.declared.work.Waiting.{Waiting}
+use Rattle.oc_deeds.specs.Works.{pending}
+use Rattle.oc_deeds.specs.declared.work.Pending.{Pending}
+use Rattle.oc_deeds.specs.declared.work.Waiting.{Waiting}
 use Rattle.oc_server.proofs.Parts.{does_after, does_as, does_one, does_then, stops_after, stops_as, stops_behind}
-use Rattle.oc_server.proofs.Responding.{answers_part, waits_part}
-use Rattle.oc_server.proofs.Results.{done_then, err_then}
+use Rattle.oc_deeds.proofs.Responding.{answers_part, waits_part}
+use Rattle.oc_deeds.proofs.Results.{done_then, err_then}
 use Rattle.oc_server.proofs.Stopping.{stops_idle}
 use Rattle.oc_server.proofs.server.Server.answers_or_waits.Goals as goal
 

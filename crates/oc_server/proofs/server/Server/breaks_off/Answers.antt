@@ -1,10 +1,10 @@
 use Rattle.std.proofs.Common.{List, refl, ap, subst, sym}
 use Rattle.std.specs.List.{AllByRecursion}
 use Rattle.oc_keep.specs.KeptView.{node_of}
-use Rattle.oc_server.specs.Deeds.{BreaksOff}
-use Rattle.oc_server.specs.Scenes.{IsLawfulWork}
-use Rattle.oc_server.specs.declared.work.Work.{Work}
-use Rattle.oc_server.proofs.Lawful.{works_without}
+use Rattle.oc_deeds.specs.Deeds.{BreaksOff}
+use Rattle.oc_deeds.specs.Lawful.{IsLawfulWork}
+use Rattle.oc_deeds.specs.declared.work.Work.{Work}
+use Rattle.oc_deeds.proofs.Lawful.{works_without}
 use Rattle.oc_server.proofs.Steps.{did_works}
 use Rattle.oc_server.proofs.server.Server.breaks_off.Goals as goal
 

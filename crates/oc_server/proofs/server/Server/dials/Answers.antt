@@ -1,8 +1,8 @@
 use Rattle.std.proofs.Common.{refl, sym, ◌∙◌}
 use Rattle.std.proofs.lemmas.Result.{err_from_is_err_and}
 use Rattle.oc_server.proofs.Dialled.{dialled}
-use Rattle.oc_server.proofs.Lawful.{none_there}
-use Rattle.oc_server.proofs.Messages.{one_sendable, receiver_of_sendable, text_of_sendable}
+use Rattle.oc_deeds.proofs.Lawful.{none_there}
+use Rattle.oc_deeds.proofs.Messages.{one_sendable, receiver_of_sendable, text_of_sendable}
 use Rattle.oc_server.proofs.Steps.{memory_breaks}
 use Rattle.oc_server.proofs.server.Server.dials.Goals as goal
 

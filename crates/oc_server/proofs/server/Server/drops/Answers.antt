@@ -3,10 +3,10 @@ use Rattle.std.proofs.lemmas.Result.{err_from_is_err_and}
 use Rattle.std.specs.List.{AllByRecursion}
 use Rattle.oc_link.proofs.Stories.{adds-none}
 use Rattle.oc_keep.specs.KeptView.{node_of}
-use Rattle.oc_server.specs.Deeds.{Drops, note_line}
-use Rattle.oc_server.specs.Scenes.{IsLawfulWork}
-use Rattle.oc_server.specs.declared.work.Work.{Work}
-use Rattle.oc_server.proofs.Lawful.{works_without}
+use Rattle.oc_deeds.specs.Deeds.{Drops, note_line}
+use Rattle.oc_deeds.specs.Lawful.{IsLawfulWork}
+use Rattle.oc_deeds.specs.declared.work.Work.{Work}
+use Rattle.oc_deeds.proofs.Lawful.{works_without}
 use Rattle.oc_server.proofs.Steps.{did_line, line_breaks}
 use Rattle.oc_server.proofs.server.Server.drops.Goals as goal
 

@@ -2,13 +2,13 @@ use Rattle.std.proofs.Common.{◌≡◌, List, Option, refl, ap, subst, sym, ◌
 use Rattle.std.proofs.lemmas.Result.{err_from_is_err_and}
 use Rattle.std.specs.List.{AllByRecursion}
 use Rattle.oc_keep.specs.KeptView.{node_of}
-use Rattle.oc_server.specs.Deeds.{Gives, piece, rest, with_content}
-use Rattle.oc_server.specs.Scenes.{IsLawfulWork}
-use Rattle.oc_server.specs.Works.{without}
+use Rattle.oc_deeds.specs.Deeds.{Gives, piece, rest, with_content}
+use Rattle.oc_deeds.specs.Lawful.{IsLawfulWork}
+use Rattle.oc_deeds.specs.Works.{without}
 use Rattle.oc_server.specs.declared.ends.TurnEnd.TheVariants.{Memory}
-use Rattle.oc_server.specs.declared.work.Transfer.{Transfer}
-use Rattle.oc_server.specs.declared.work.Work.{Work}
-use Rattle.oc_server.proofs.Lawful.{works_with_content, works_without}
+use Rattle.oc_deeds.specs.declared.work.Transfer.{Transfer}
+use Rattle.oc_deeds.specs.declared.work.Work.{Work}
+use Rattle.oc_deeds.proofs.Lawful.{works_with_content, works_without}
 use Rattle.oc_server.proofs.Looking.{memory_looks, stops_behind}
 use Rattle.oc_server.proofs.Steps.{did_given, gave, look_breaks, look_breaks_by}
 use Rattle.oc_server.proofs.server.Server.gives.Goals as goal

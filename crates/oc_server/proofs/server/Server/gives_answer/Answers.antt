@@ -2,11 +2,11 @@ use Rattle.std.proofs.Common.{ℕ, ap, refl, ◌∙◌}
 use Rattle.std.proofs.lemmas.Result.{err_from_is_err_and}
 use Rattle.oc_model.specs.Node.{Control}
 use Rattle.oc_routes.specs.Reports.{report_of}
-use Rattle.oc_routes.specs.Shown.{response_for}
+use Rattle.oc_routes.specs.Routes.{response_for}
 use Rattle.oc_routes.specs.declared.response.Response.{Response}
-use Rattle.oc_server.specs.Asks.{holding_in}
+use Rattle.oc_deeds.specs.Asks.{holding_in}
 use Rattle.oc_server.proofs.Responding.{replied}
-use Rattle.oc_server.proofs.Results.{done_then, err_then}
+use Rattle.oc_deeds.proofs.Results.{done_then, err_then}
 use Rattle.oc_server.proofs.Steps.{memory_breaks}
 use Rattle.oc_server.proofs.Stopping.{look_only}
 use Rattle.oc_server.proofs.server.Server.gives_answer.Goals as goal

@@ -1,10 +1,10 @@
 use Rattle.std.proofs.Common.{List, sym, ap, ◌∙◌}
 use Rattle.oc_base.specs.declared.shelf.Shelf.{Shelf}
-use Rattle.oc_server.specs.Choices.{prospect_of}
-use Rattle.oc_server.specs.Deeds.{BreaksOff, Gives, LaysAside}
-use Rattle.oc_server.specs.Rooms.{goes_on, moves}
+use Rattle.oc_deeds.specs.Choices.{prospect_of}
+use Rattle.oc_deeds.specs.Deeds.{BreaksOff, Gives, LaysAside}
+use Rattle.oc_deeds.specs.Rooms.{goes_on, moves}
 use Rattle.oc_server.proofs.Parts.{does_one}
-use Rattle.oc_server.proofs.Results.{done_then, err_then}
+use Rattle.oc_deeds.proofs.Results.{done_then, err_then}
 use Rattle.oc_server.proofs.Stopping.{look_stops, stops_idle}
 use Rattle.oc_server.proofs.server.Server.goes_on.Goals as goal
 

@@ -1,11 +1,11 @@
 use Rattle.std.proofs.Common.{Option, List, sym, ap, ◌∙◌}
-use Rattle.oc_server.specs.Rooms.{content_in, goes_on, room, room_for}
+use Rattle.oc_deeds.specs.Rooms.{content_in, goes_on, room, room_for}
 use Rattle.oc_server.specs.Scenes.{running, setting}
-use Rattle.oc_server.specs.Works.{work_on}
-use Rattle.oc_server.specs.declared.work.Transfer.{Transfer}
-use Rattle.oc_server.specs.declared.work.Work.{Work}
+use Rattle.oc_deeds.specs.Works.{work_on}
+use Rattle.oc_deeds.specs.declared.work.Transfer.{Transfer}
+use Rattle.oc_deeds.specs.declared.work.Work.{Work}
 use Rattle.oc_server.proofs.Parts.{does_as, does_nothing, stops_as}
-use Rattle.oc_server.proofs.Results.{done_then, err_then}
+use Rattle.oc_deeds.proofs.Results.{done_then, err_then}
 use Rattle.oc_server.proofs.server.Server.has_room.Goals as goal
 
 pub returns-in-Some-clause-did : goal.returns-in-Some-clause-did

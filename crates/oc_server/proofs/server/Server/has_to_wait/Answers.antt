@@ -1,6 +1,6 @@
 use Rattle.std.proofs.Common.{refl}
 use Rattle.oc_server.proofs.Responding.{looked_on}
-use Rattle.oc_server.proofs.Results.{done_then, err_then}
+use Rattle.oc_deeds.proofs.Results.{done_then, err_then}
 use Rattle.oc_server.proofs.Steps.{look_breaks}
 use Rattle.oc_server.proofs.server.Server.has_to_wait.Goals as goal
 

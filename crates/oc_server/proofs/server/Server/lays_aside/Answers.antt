@@ -3,12 +3,12 @@ use Rattle.std.proofs.lemmas.Result.{err_from_is_err_and}
 use Rattle.std.specs.List.{AllByRecursion}
 use Rattle.oc_link.proofs.Stories.{adds-none}
 use Rattle.oc_keep.specs.KeptView.{node_of}
-use Rattle.oc_server.specs.Deeds.{LaysAside}
-use Rattle.oc_server.specs.Scenes.{IsLawfulWork}
-use Rattle.oc_server.specs.Works.{without}
-use Rattle.oc_server.specs.declared.work.Work.{Work}
-use Rattle.oc_server.specs.declared.work.Work.TheVariants as works
-use Rattle.oc_server.proofs.Lawful.{works_with, works_without}
+use Rattle.oc_deeds.specs.Deeds.{LaysAside}
+use Rattle.oc_deeds.specs.Lawful.{IsLawfulWork}
+use Rattle.oc_deeds.specs.Works.{without}
+use Rattle.oc_deeds.specs.declared.work.Work.{Work}
+use Rattle.oc_deeds.specs.declared.work.Work.TheVariants as works
+use Rattle.oc_deeds.proofs.Lawful.{works_with, works_without}
 use Rattle.oc_server.proofs.Steps.{did_works, memory_breaks}
 use Rattle.oc_server.proofs.server.Server.lays_aside.Goals as goal
 

@@ -1,12 +1,12 @@
 use Rattle.std.proofs.Common.{◌&&◌, Bool, List, [], ◌∷◌, sym, ap, ◌∙◌, codes}
 use Rattle.oc_link.specs.Failures.{is_failure}
-use Rattle.oc_server.specs.Deeds.{Drops, note_line}
-use Rattle.oc_server.specs.Parts.{under_of}
-use Rattle.oc_server.specs.Rooms.{gone, is_told}
-use Rattle.oc_server.specs.Works.{work_on}
-use Rattle.oc_server.specs.declared.work.Work.{Work}
+use Rattle.oc_deeds.specs.Deeds.{Drops, note_line}
+use Rattle.oc_deeds.specs.Under.{under_of}
+use Rattle.oc_deeds.specs.Rooms.{gone, is_told}
+use Rattle.oc_deeds.specs.Works.{work_on}
+use Rattle.oc_deeds.specs.declared.work.Work.{Work}
 use Rattle.oc_server.proofs.Parts.{does_one}
-use Rattle.oc_server.proofs.Results.{done_then, err_then}
+use Rattle.oc_deeds.proofs.Results.{done_then, err_then}
 use Rattle.oc_server.proofs.Stopping.{note_stops}
 use Rattle.oc_server.proofs.server.Server.loses.Goals as goal
 

@@ -1,8 +1,8 @@
 use Rattle.std.proofs.Common.{◌≡◌, List, [], ℕ, refl, rules, subst, ◌∙◌}
 use Rattle.std.proofs.lemmas.Result.{err_from_is_err_and}
 use Rattle.oc_link.proofs.Stories.{adds-none}
-use Rattle.oc_server.specs.Deeds.{Notes, note_line}
-use Rattle.oc_server.proofs.Results.{done_then, err_then}
+use Rattle.oc_deeds.specs.Deeds.{Notes, note_line}
+use Rattle.oc_deeds.proofs.Results.{done_then, err_then}
 use Rattle.oc_server.proofs.Steps.{did_line, line_breaks_as, memory_breaks, put_first}
 use Rattle.oc_server.proofs.server.Server.notes.Goals as goal
 

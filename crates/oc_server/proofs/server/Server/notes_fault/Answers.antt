@@ -1,9 +1,9 @@
 use Rattle.std.proofs.Common.{◌∷◌, [], List, ℕ, ap, sym, ◌∙◌, refl}
 use Rattle.std.proofs.lemmas.Result.{err_from_is_err_and}
-use Rattle.oc_server.specs.Deeds.{Notes, note_line}
-use Rattle.oc_server.specs.Turns.{notes_fault}
+use Rattle.oc_deeds.specs.Deeds.{Notes, note_line}
+use Rattle.oc_deeds.specs.Turns.{notes_fault}
 use Rattle.oc_server.proofs.Parts.{does_one}
-use Rattle.oc_server.proofs.Results.{done_then, err_then}
+use Rattle.oc_deeds.proofs.Results.{done_then, err_then}
 use Rattle.oc_server.proofs.Steps.{memory_breaks}
 use Rattle.oc_server.proofs.Stopping.{note_stops, stops_idle}
 use Rattle.oc_server.proofs.server.Server.notes_fault.Goals as goal

@@ -3,12 +3,12 @@ use Rattle.std.proofs.lemmas.Result.{err_from_is_err_and}
 use Rattle.oc_keep.specs.KeptView.{node_of}
 use Rattle.oc_routes.specs.declared.verdict.Verdict.{Verdict}
 use Rattle.oc_routes.specs.Refusals.{why_text}
-use Rattle.oc_server.specs.Asks.{obeys, takes_on}
-use Rattle.oc_server.specs.Deeds.{BreaksOff, Permits, Refuses, note_line}
-use Rattle.oc_server.specs.Hurries.{verdict_hurries}
+use Rattle.oc_deeds.specs.Asks.{obeys, takes_on}
+use Rattle.oc_deeds.specs.Deeds.{BreaksOff, Permits, Refuses, note_line}
+use Rattle.oc_deeds.specs.Hurries.{verdict_hurries}
 use Rattle.oc_server.specs.Scenes.{running, setting}
 use Rattle.oc_server.proofs.Parts.{does_as, does_nothing, does_one, stops_as}
-use Rattle.oc_server.proofs.Results.{done_then, err_then, ok_then}
+use Rattle.oc_deeds.proofs.Results.{done_then, err_then, ok_then}
 use Rattle.oc_server.proofs.Stopping.{note_stops}
 use Rattle.oc_server.proofs.server.Server.obeys.Goals as goal
 
@@ -42,7 +42,7 @@ returns-in-Permit-clause-hurries g c = λ honest. sym (ap (λ (v : Verdict). ver
 pub returns-in_ok-refuses-in-Refuse-clause-did : goal.returns-in_ok-refuses-in-Refuse-clause-did
 returns-in_ok-refuses-in-Refuse-clause-did g c =
     let s = c.args.self.now in
-    does_one g.D.Disk.view g.K.Sink.takes g.K.Sink.fails g.K.Sink.faults g.L.Link.story g.L.Link.counts (Refuses c.args.connection c.args.count c.in-Refuse.why) (obeys c.args.connection c.args.count c.args.verdict c.args.now) s c.refuses.new.self
+    does_one g.D.Disk.view g.K.Sink.takes g.K.Sink.fails g.K.Sink.faults g.L.Link.story g.L.Link.counts (Refuses c.args.connection c.args.count c.in-Refuse.refusal) (obeys c.args.connection c.args.count c.args.verdict c.args.now) s c.refuses.new.self
     (λ honest. ap (λ (v : Verdict). obeys c.args.connection c.args.count v c.args.now (setting s) (running s)) c.in-Refuse.is) c.in_ok-refuses-in-Refuse.ensures.did
 
 pub returns-in_ok-refuses-in-Refuse-clause-hurries : goal.returns-in_ok-refuses-in-Refuse-clause-hurries
@@ -52,7 +52,7 @@ pub returns-in_err-refuses-in-Refuse-clause-breaks : goal.returns-in_err-refuses
 returns-in_err-refuses-in-Refuse-clause-breaks g c =
     let p = err_from_is_err_and c.from_residual.result c.from_residual.ensures.1 in
     let s = c.args.self.now in
-    rw (p.1, p.2) (note_stops g.D.Disk.view g.K.Sink.takes g.K.Sink.fails g.K.Sink.faults g.L.Link.story g.L.Link.counts g.met.K.Sink.takes_nothing c.in_err-refuses-in-Refuse.field-0.0 (note_line (why_text c.in-Refuse.why)) (Refuses c.args.connection c.args.count c.in-Refuse.why) (obeys c.args.connection c.args.count c.args.verdict c.args.now) s c.refuses.new.self c.requires.serving.is_open
+    rw (p.1, p.2) (note_stops g.D.Disk.view g.K.Sink.takes g.K.Sink.fails g.K.Sink.faults g.L.Link.story g.L.Link.counts g.met.K.Sink.takes_nothing c.in_err-refuses-in-Refuse.field-0.0 (note_line (why_text c.in-Refuse.refusal.why)) (Refuses c.args.connection c.args.count c.in-Refuse.refusal) (obeys c.args.connection c.args.count c.args.verdict c.args.now) s c.refuses.new.self c.requires.serving.is_open
     (λ honest. ap (λ (v : Verdict). obeys c.args.connection c.args.count v c.args.now (setting s) (running s)) c.in-Refuse.is) refl c.in_err-refuses-in-Refuse.ensures.breaks)
 
 pub returns-in-Ask-clause-did : goal.returns-in-Ask-clause-did

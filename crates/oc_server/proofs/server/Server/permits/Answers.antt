@@ -1,5 +1,5 @@
 use Rattle.std.proofs.Common.{refl}
-use Rattle.oc_server.specs.Deeds.{Permits}
+use Rattle.oc_deeds.specs.Deeds.{Permits}
 use Rattle.oc_server.proofs.Steps.{did_works}
 use Rattle.oc_server.proofs.server.Server.permits.Goals as goal
 

@@ -1,8 +1,8 @@
 use Rattle.std.proofs.Common.{◌∷◌, [], ℕ, ap, ◌∙◌, refl}
-use Rattle.oc_server.specs.Choices.{free_number}
-use Rattle.oc_server.specs.Deeds.{Probes, Reads, Running}
-use Rattle.oc_server.specs.Scenes.{Idle}
-use Rattle.oc_server.proofs.Results.{done_then, err_then}
+use Rattle.oc_deeds.specs.Choices.{free_number}
+use Rattle.oc_deeds.specs.Deeds.{Probes, Reads, Running}
+use Rattle.oc_deeds.specs.Under.{Idle}
+use Rattle.oc_deeds.proofs.Results.{done_then, err_then}
 use Rattle.oc_server.proofs.Scenes.{breaks_behind, did_then, still_serving}
 use Rattle.oc_server.proofs.server.Server.probes_it.Goals as goal
 

@@ -1,5 +1,5 @@
 use Rattle.std.proofs.Common.{refl}
-use Rattle.oc_server.specs.Deeds.{Reads}
+use Rattle.oc_deeds.specs.Deeds.{Reads}
 use Rattle.oc_server.proofs.Steps.{did_works}
 use Rattle.oc_server.proofs.server.Server.reads.Goals as goal
 

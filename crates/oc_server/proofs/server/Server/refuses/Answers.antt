@@ -2,15 +2,15 @@ use Rattle.std.proofs.Common.{List, ℕ, Option, refl, rules, subst, ◌∙◌}
 use Rattle.std.proofs.lemmas.Result.{err_from_is_err_and}
 use Rattle.oc_link.specs.Told.{AddsAll}
 use Rattle.oc_routes.specs.Refusals.{why_text}
-use Rattle.oc_server.specs.Deeds.{Refuses, note_line, refuses}
+use Rattle.oc_deeds.specs.Deeds.{Refuses, note_line, refuses}
 use Rattle.oc_server.proofs.Steps.{did_line, line_breaks_as, memory_breaks, put_first}
 use Rattle.oc_server.proofs.server.Server.refuses.Goals as goal
 
 pub returns-clause-did : goal.returns-clause-did
 returns-clause-did g c =
     let s = c.args.self.now in
-    did_line g.D.Disk.view g.K.Sink.takes g.K.Sink.fails g.K.Sink.faults g.L.Link.story g.L.Link.counts (Refuses c.args.connection c.args.count c.args.why) s c.write_line.new.sink s.works c.refuse.new.link refl c.requires.is_open c.refuse.ensures.counts
-    (subst (λ (t : List ℕ). g.K.Sink.takes s.sink t c.write_line.new.sink) (c.deref.ensures.value ∙ put_first c.new-line.result.items (note_line (why_text c.args.why)) _ (search rules) c.in_ok-put_refusal_line.ensures) c.in_ok-write_line.ensures.wrote) c.write_line.ensures.count (λ all. all) refl
+    did_line g.D.Disk.view g.K.Sink.takes g.K.Sink.fails g.K.Sink.faults g.L.Link.story g.L.Link.counts (Refuses c.args.connection c.args.count c.args.refusal) s c.write_line.new.sink s.works c.refuse.new.link refl c.requires.is_open c.refuse.ensures.counts
+    (subst (λ (t : List ℕ). g.K.Sink.takes s.sink t c.write_line.new.sink) (c.deref.ensures.value ∙ put_first c.new-line.result.items (note_line (why_text c.args.refusal.why)) _ (search rules) c.in_ok-put_refusal_line.ensures) c.in_ok-write_line.ensures.wrote) c.write_line.ensures.count (λ all. all) refl
     (subst (λ (reply : Option (List ℕ)). AddsAll (refuses c.args.connection c.args.count reply) (g.L.Link.story s.link) (g.L.Link.story c.refuse.new.link)) c.in_ok-reply.ensures c.refuse.ensures.calls)
 
 pub returns-in_err-reply-clause-breaks : goal.returns-in_err-reply-clause-breaks
@@ -26,4 +26,4 @@ returns-in_err-put_refusal_line-clause-breaks g c =
 pub returns-in_err-write_line-clause-breaks : goal.returns-in_err-write_line-clause-breaks
 returns-in_err-write_line-clause-breaks g c =
     let p = err_from_is_err_and c.from_residual-in_err-write_line.result c.from_residual-in_err-write_line.ensures.1 in
-    rw (p.1, p.2) (line_breaks_as g.D.Disk.view g.K.Sink.takes g.K.Sink.fails g.K.Sink.faults g.L.Link.story g.L.Link.counts c.in_err-write_line.field-0.0 _ _ c.args.self.now _ (c.deref.ensures.value ∙ put_first c.new-line.result.items (note_line (why_text c.args.why)) _ (search rules) c.in_ok-put_refusal_line.ensures) refl refl refl c.in_err-write_line.ensures.stops (c.recovers.ensures.survives c.requires.is_open))
+    rw (p.1, p.2) (line_breaks_as g.D.Disk.view g.K.Sink.takes g.K.Sink.fails g.K.Sink.faults g.L.Link.story g.L.Link.counts c.in_err-write_line.field-0.0 _ _ c.args.self.now _ (c.deref.ensures.value ∙ put_first c.new-line.result.items (note_line (why_text c.args.refusal.why)) _ (search rules) c.in_ok-put_refusal_line.ensures) refl refl refl c.in_err-write_line.ensures.stops (c.recovers.ensures.survives c.requires.is_open))

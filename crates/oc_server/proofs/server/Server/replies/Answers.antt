@@ -4,13 +4,13 @@ use Rattle.std.specs.List.{AllByRecursion}
 use Rattle.oc_link.specs.declared.call.Call.TheVariants as acts
 use Rattle.oc_link.proofs.Stories.{adds-then}
 use Rattle.oc_keep.specs.KeptView.{IsHonest, node_of}
-use Rattle.oc_server.specs.Deeds.{Replies, finish, first_piece, first_rest, keeps, place_of, takes_request, with_content}
-use Rattle.oc_server.specs.Scenes.{IsLawfulWork}
-use Rattle.oc_server.specs.Works.{without}
+use Rattle.oc_deeds.specs.Deeds.{Replies, finish, first_piece, first_rest, keeps, place_of, takes_request, with_content}
+use Rattle.oc_deeds.specs.Lawful.{IsLawfulWork}
+use Rattle.oc_deeds.specs.Works.{without}
 use Rattle.oc_server.specs.declared.ends.TurnEnd.TheVariants.{Memory}
-use Rattle.oc_server.specs.declared.work.Transfer.{Transfer}
-use Rattle.oc_server.specs.declared.work.Work.{Work}
-use Rattle.oc_server.proofs.Lawful.{works_with_content, works_without}
+use Rattle.oc_deeds.specs.declared.work.Transfer.{Transfer}
+use Rattle.oc_deeds.specs.declared.work.Work.{Work}
+use Rattle.oc_deeds.proofs.Lawful.{works_with_content, works_without}
 use Rattle.oc_server.proofs.Looking.{memory_looks, stops_behind}
 use Rattle.oc_server.proofs.Steps.{did_given, gave, look_breaks, look_breaks_by}
 use Rattle.oc_server.proofs.server.Server.replies.Goals as goal

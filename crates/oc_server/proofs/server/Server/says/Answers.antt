@@ -1,7 +1,7 @@
 use Rattle.std.proofs.Common.{refl}
 use Rattle.oc_link.proofs.Stories.{adds-none}
-use Rattle.oc_server.specs.Deeds.{Says}
-use Rattle.oc_server.proofs.Results.{done_then, err_then}
+use Rattle.oc_deeds.specs.Deeds.{Says}
+use Rattle.oc_deeds.proofs.Results.{done_then, err_then}
 use Rattle.oc_server.proofs.Steps.{did_line, line_breaks}
 use Rattle.oc_server.proofs.server.Server.says.Goals as goal
 

@@ -1,10 +1,10 @@
 use Rattle.std.proofs.Common.{◌≡◌, ◌∷◌, [], List, ℕ, refl, subst, ◌∙◌}
 use Rattle.std.proofs.lemmas.Result.{err_from_is_err_and}
-use Rattle.oc_server.specs.Deeds.{Says}
+use Rattle.oc_deeds.specs.Deeds.{Says}
 use Rattle.oc_server.specs.Noting.{NoteBreaks}
-use Rattle.oc_server.specs.Records.{told_ahead}
+use Rattle.oc_deeds.specs.Records.{told_ahead}
 use Rattle.oc_server.specs.Scenes.{Did}
-use Rattle.oc_server.proofs.Results.{done_then, err_then}
+use Rattle.oc_deeds.proofs.Results.{done_then, err_then}
 use Rattle.oc_server.proofs.Steps.{memory_breaks}
 use Rattle.oc_server.proofs.server.Server.says_ahead.Goals as goal
 

@@ -1,10 +1,11 @@
 use Rattle.std.proofs.Common.{List, refl, ap, subst, sym, arith}
 use Rattle.std.specs.List.{AllByRecursion}
 use Rattle.oc_keep.specs.KeptView.{node_of}
-use Rattle.oc_server.specs.Deeds.{Sees}
-use Rattle.oc_server.specs.Scenes.{IsLawfulDial}
-use Rattle.oc_server.specs.declared.dials.Dialling.{Dialling}
-use Rattle.oc_server.proofs.Lawful.{dials_seen, lawful_of}
+use Rattle.oc_deeds.specs.Deeds.{Sees}
+use Rattle.oc_deeds.specs.Lawful.{IsLawfulDial}
+use Rattle.oc_deeds.specs.declared.dials.Dialling.{Dialling}
+use Rattle.oc_deeds.proofs.Lawful.{dials_seen}
+use Rattle.oc_server.proofs.Lawful.{lawful_of}
 use Rattle.oc_server.proofs.Looking.{looks_none}
 use Rattle.oc_server.proofs.Steps.{did_step, event_bytes, link_breaks}
 use Rattle.oc_server.proofs.server.Server.sees.Goals as goal

@@ -1,11 +1,12 @@
 use Rattle.std.proofs.Common.{◌≡◌, ℕ, ◌+◌, ◌-◌, suc, List, [], ◌∷◌, ◌++◌, None, Some, sym, ap, ◌∙◌, subst, arith, rules}
 use Rattle.std.proofs.lemmas.Result.{err_from_is_err_and}
-use Rattle.oc_server.specs.Choices.{free_number, next_to_dial}
-use Rattle.oc_server.specs.Deeds.{Deed, Dials}
-use Rattle.oc_server.specs.Scenes.{Idle, running, setting}
-use Rattle.oc_server.specs.declared.choosing.TheConstants.{MAX_DIALS}
-use Rattle.oc_server.specs.declared.dials.Dialling.{Dialling}
-use Rattle.oc_server.proofs.Outgoing.{AreWhole, whole_all, whole_cut, whole_last, whole_none, whole_one}
+use Rattle.oc_deeds.specs.Choices.{free_number, next_to_dial}
+use Rattle.oc_deeds.specs.Deeds.{Deed, Dials}
+use Rattle.oc_deeds.specs.Under.{Idle}
+use Rattle.oc_server.specs.Scenes.{running, setting}
+use Rattle.oc_deeds.specs.declared.choosing.TheConstants.{MAX_DIALS}
+use Rattle.oc_deeds.specs.declared.dials.Dialling.{Dialling}
+use Rattle.oc_deeds.proofs.Outgoing.{AreWhole, whole_all, whole_cut, whole_last, whole_none, whole_one}
 use Rattle.oc_server.proofs.Scenes.{breaks_behind, did_none, did_then, still_serving}
 use Rattle.oc_server.proofs.server.Server.sends.Goals as goal
 

@@ -1,10 +1,10 @@
 -- The dials so far and those that the others would make are the whole.
 use Rattle.std.proofs.Common.{◌-◌, List}
 use Rattle.oc_keep.specs.KeptView.{IsHonest}
-use Rattle.oc_server.specs.Deeds.{Deed}
+use Rattle.oc_deeds.specs.Deeds.{Deed}
 use Rattle.oc_server.specs.Scenes.{Did, IsServing, running, setting}
-use Rattle.oc_server.specs.declared.choosing.TheConstants.{MAX_DIALS}
-use Rattle.oc_server.proofs.Outgoing.{AreWhole}
+use Rattle.oc_deeds.specs.declared.choosing.TheConstants.{MAX_DIALS}
+use Rattle.oc_deeds.proofs.Outgoing.{AreWhole}
 use Rattle.oc_server.proofs.server.Server.sends.Given as goal
 
 abbrev pub invariant-messages : goal.invariant-messages

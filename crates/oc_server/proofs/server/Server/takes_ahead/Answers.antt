@@ -1,9 +1,9 @@
 use Rattle.std.proofs.Common.{◌∷◌, [], refl}
 use Rattle.std.proofs.lemmas.Result.{err_from_is_err_and}
-use Rattle.oc_server.specs.Deeds.{Says, Takes}
-use Rattle.oc_server.specs.Parts.{one, ◌>>◌}
-use Rattle.oc_server.specs.Records.{told_ahead}
-use Rattle.oc_server.specs.Telling.{says_ahead, takes_ahead}
+use Rattle.oc_deeds.specs.Deeds.{Says, Takes}
+use Rattle.oc_deeds.specs.Parts.{one, ◌>>◌}
+use Rattle.oc_deeds.specs.Records.{told_ahead}
+use Rattle.oc_deeds.specs.Telling.{says_ahead, takes_ahead}
 use Rattle.oc_server.proofs.Ahead.{ahead_input, ahead_serving, ahead_stops, ahead_then_stops}
 use Rattle.oc_server.proofs.Parts.{stops_as}
 use Rattle.oc_server.proofs.Scenes.{did_then}

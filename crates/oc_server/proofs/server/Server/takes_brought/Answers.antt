@@ -1,10 +1,10 @@
 use Rattle.std.proofs.Common.{Option, ap}
 use Rattle.oc_model.specs.declared.input.Input.{Input}
 use Rattle.oc_server.specs.Scenes.{running, setting}
-use Rattle.oc_server.specs.Telling.{takes_in}
-use Rattle.oc_server.specs.Turns.{brought}
+use Rattle.oc_deeds.specs.Telling.{takes_in}
+use Rattle.oc_deeds.specs.Turns.{brought}
 use Rattle.oc_server.proofs.Parts.{does_as, does_nothing, stops_as}
-use Rattle.oc_server.proofs.Results.{done_then, err_then}
+use Rattle.oc_deeds.proofs.Results.{done_then, err_then}
 use Rattle.oc_server.proofs.server.Server.takes_brought.Goals as goal
 
 pub returns-in-Some-clause-did : goal.returns-in-Some-clause-did

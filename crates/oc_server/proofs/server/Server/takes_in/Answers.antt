@@ -1,7 +1,7 @@
 use Rattle.std.proofs.lemmas.Result.{err_from_is_err_and}
-use Rattle.oc_server.specs.Telling.{takes_told}
+use Rattle.oc_deeds.specs.Telling.{takes_told}
 use Rattle.oc_server.proofs.Ahead.{ahead_input, ahead_serving, ahead_stops, ahead_then, ahead_then_stops}
-use Rattle.oc_server.proofs.Results.{done_then, err_then}
+use Rattle.oc_deeds.proofs.Results.{done_then, err_then}
 use Rattle.oc_server.proofs.server.Server.takes_in.Goals as goal
 
 pub takes_told-requires-clause-serving : goal.takes_told-requires-clause-serving

@@ -3,10 +3,10 @@ use Rattle.oc_model.specs.Measures.{reading_of}
 use Rattle.oc_model.specs.declared.input.Input.TheVariants as inputs
 use Rattle.oc_model.specs.declared.reading.Reading.{Reading}
 use Rattle.oc_server.specs.Scenes.{running, setting}
-use Rattle.oc_server.specs.Telling.{takes_ahead}
-use Rattle.oc_server.specs.Turns.{measured}
+use Rattle.oc_deeds.specs.Telling.{takes_ahead}
+use Rattle.oc_deeds.specs.Turns.{measured}
 use Rattle.oc_server.proofs.Parts.{stops_as}
-use Rattle.oc_server.proofs.Results.{done_then, err_then}
+use Rattle.oc_deeds.proofs.Results.{done_then, err_then}
 use Rattle.oc_server.proofs.server.Server.takes_measure.Goals as goal
 
 pub returns-clause-did : goal.returns-clause-did

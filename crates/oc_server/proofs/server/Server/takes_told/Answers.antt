@@ -1,8 +1,8 @@
 use Rattle.std.proofs.Common.{refl, subst}
 use Rattle.std.proofs.lemmas.Result.{err_from_is_err_and}
-use Rattle.oc_server.specs.Deeds.{Takes}
-use Rattle.oc_server.specs.Telling.{IsBefore, takes_told}
-use Rattle.oc_server.proofs.Results.{done_then, err_then}
+use Rattle.oc_deeds.specs.Deeds.{Takes}
+use Rattle.oc_deeds.specs.Telling.{IsBefore, takes_told}
+use Rattle.oc_deeds.proofs.Results.{done_then, err_then}
 use Rattle.oc_server.proofs.Steps.{memory_breaks}
 use Rattle.oc_server.proofs.Stopping.{stops_idle}
 use Rattle.oc_server.proofs.ToldInputs.{taking_stops, telling_stops, told_then}

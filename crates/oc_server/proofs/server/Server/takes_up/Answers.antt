@@ -1,13 +1,13 @@
 use Rattle.std.proofs.Common.{List, sym, ap, ◌∙◌, slice_get}
-use Rattle.oc_server.specs.Asks.{due_of, taken_up, takes_up}
-use Rattle.oc_server.specs.Rooms.{goes_on}
+use Rattle.oc_deeds.specs.Asks.{due_of, taken_up, takes_up}
+use Rattle.oc_deeds.specs.Rooms.{goes_on}
 use Rattle.oc_server.specs.Scenes.{running, setting}
-use Rattle.oc_server.specs.declared.taking_up.Due.{Due}
-use Rattle.oc_server.specs.declared.taking_up.Due.TheVariants as dues
-use Rattle.oc_server.specs.declared.work.Work.{Work}
-use Rattle.oc_server.proofs.Lawful.{due_lawful}
+use Rattle.oc_deeds.specs.declared.due.Due.{Due}
+use Rattle.oc_deeds.specs.declared.due.Due.TheVariants as dues
+use Rattle.oc_deeds.specs.declared.work.Work.{Work}
+use Rattle.oc_deeds.proofs.Lawful.{due_lawful}
 use Rattle.oc_server.proofs.Parts.{does_as, does_nothing, stops_as}
-use Rattle.oc_server.proofs.Results.{done_then, err_then}
+use Rattle.oc_deeds.proofs.Results.{done_then, err_then}
 use Rattle.oc_server.proofs.server.Server.takes_up.Goals as goal
 
 pub returns-in-Aside-clause-did : goal.returns-in-Aside-clause-did

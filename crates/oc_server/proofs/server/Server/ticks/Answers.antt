@@ -1,9 +1,9 @@
 use Rattle.std.proofs.Common.{◌∷◌, [], Bool, ap, refl, sym, ◌∙◌}
 use Rattle.std.proofs.lemmas.Result.{err_from_is_err_and}
-use Rattle.oc_server.specs.Deeds.{Tells}
-use Rattle.oc_server.specs.Parts.{one, ◌>>◌}
+use Rattle.oc_deeds.specs.Deeds.{Tells}
+use Rattle.oc_deeds.specs.Parts.{one, ◌>>◌}
 use Rattle.oc_server.specs.Scenes.{running, setting}
-use Rattle.oc_server.specs.Turns.{ticked, ticks_if}
+use Rattle.oc_deeds.specs.Turns.{ticked, ticks_if}
 use Rattle.oc_server.proofs.Parts.{does_as, does_one, does_then, stops_as, stops_behind}
 use Rattle.oc_server.proofs.Scenes.{still_serving}
 use Rattle.oc_server.proofs.server.Server.ticks.Goals as goal

@@ -1,10 +1,10 @@
 use Rattle.std.proofs.Common.{Bool, ℕ, true, ap, sym, ◌∙◌}
 use Rattle.oc_model.specs.declared.input.Input.TheVariants as inputs
 use Rattle.oc_server.specs.Scenes.{running, setting}
-use Rattle.oc_server.specs.Telling.{takes_in}
-use Rattle.oc_server.specs.Turns.{ticks_if}
+use Rattle.oc_deeds.specs.Telling.{takes_in}
+use Rattle.oc_deeds.specs.Turns.{ticks_if}
 use Rattle.oc_server.proofs.Parts.{does_as, does_nothing, stops_as}
-use Rattle.oc_server.proofs.Results.{done_then, err_then}
+use Rattle.oc_deeds.proofs.Results.{done_then, err_then}
 use Rattle.oc_server.proofs.server.Server.ticks_if.Goals as goal
 
 pub returns-then-passed-clause-did : goal.returns-then-passed-clause-did

@@ -1,6 +1,6 @@
 use Rattle.std.proofs.Common.{refl}
 use Rattle.oc_server.proofs.Lawful.{lawful_of}
-use Rattle.oc_server.proofs.Results.{done_then, err_then}
+use Rattle.oc_deeds.proofs.Results.{done_then, err_then}
 use Rattle.oc_server.proofs.Steps.{did_look, look_breaks}
 use Rattle.oc_server.proofs.server.Server.tidies.Goals as goal
 

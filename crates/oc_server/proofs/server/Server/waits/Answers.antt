@@ -2,11 +2,11 @@ use Rattle.std.proofs.Common.{refl, ap, subst, sym, List}
 use Rattle.std.proofs.lemmas.Result.{err_from_is_err_and}
 use Rattle.std.specs.List.{AllByRecursion}
 use Rattle.oc_keep.specs.KeptView.{node_of}
-use Rattle.oc_server.specs.Deeds.{Waits}
-use Rattle.oc_server.specs.Scenes.{IsLawfulWork}
-use Rattle.oc_server.specs.declared.work.Work.{Work}
-use Rattle.oc_server.specs.declared.work.Work.TheVariants as works
-use Rattle.oc_server.proofs.Lawful.{works_with}
+use Rattle.oc_deeds.specs.Deeds.{Waits}
+use Rattle.oc_deeds.specs.Lawful.{IsLawfulWork}
+use Rattle.oc_deeds.specs.declared.work.Work.{Work}
+use Rattle.oc_deeds.specs.declared.work.Work.TheVariants as works
+use Rattle.oc_deeds.proofs.Lawful.{works_with}
 use Rattle.oc_server.proofs.Steps.{did_works, memory_breaks}
 use Rattle.oc_server.proofs.server.Server.waits.Goals as goal
 

@@ -1,9 +1,9 @@
 use Rattle.std.proofs.Common.{Option, ap, sym}
 use Rattle.std.proofs.lemmas.Result.{err_from_is_err_and}
 use Rattle.oc_model.specs.declared.input.Input.{Input}
-use Rattle.oc_server.specs.Asks.{responds, taken_up}
+use Rattle.oc_deeds.specs.Asks.{responds, taken_up}
 use Rattle.oc_server.specs.Scenes.{running, setting}
-use Rattle.oc_server.specs.declared.taking_up.Due.TheVariants as dues
+use Rattle.oc_deeds.specs.declared.due.Due.TheVariants as dues
 use Rattle.oc_server.proofs.Parts.{does_as, stops_as}
 use Rattle.oc_server.proofs.server.Server.wakes.Goals as goal
 

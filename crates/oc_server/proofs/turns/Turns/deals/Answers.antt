@@ -1,8 +1,8 @@
 use Rattle.std.proofs.Common.{Bool, ap, subst, ◌∙◌}
 use Rattle.std.proofs.lemmas.Result.{err_from_is_err_and}
 use Rattle.oc_server.specs.Parts.{Does, Stops}
-use Rattle.oc_server.specs.Turns.{happens, paced, quickened, ticks_and_sends}
-use Rattle.oc_server.specs.declared.pace.Pace.{Pace}
+use Rattle.oc_deeds.specs.Turns.{happens, paced, quickened, ticks_and_sends}
+use Rattle.oc_deeds.specs.declared.pace.Pace.{Pace}
 use Rattle.oc_server.proofs.Parts.{does_serve}
 use Rattle.oc_server.proofs.Probings.{ready_then}
 use Rattle.oc_server.proofs.Turning.{does_deal, stops_deal, stops_in_deal}

@@ -1,16 +1,16 @@
 use Rattle.std.proofs.Common.{ap, sym, subst, ◌∙◌}
 use Rattle.std.proofs.lemmas.Result.{err_from_is_err_and}
 use Rattle.oc_keep.specs.KeptView.{node_of}
-use Rattle.oc_server.specs.Asks.{obeys}
-use Rattle.oc_server.specs.Hurries.{came_hurries}
-use Rattle.oc_server.specs.Lawful.{IsLawfulCame}
-use Rattle.oc_server.specs.Rooms.{gone, room}
-use Rattle.oc_server.specs.Runs.{IsMeasured}
+use Rattle.oc_deeds.specs.Asks.{obeys}
+use Rattle.oc_deeds.specs.Hurries.{came_hurries}
+use Rattle.oc_deeds.specs.Lawful.{IsLawfulCame}
+use Rattle.oc_deeds.specs.Rooms.{gone, room}
+use Rattle.oc_deeds.specs.Measured.{IsMeasured}
 use Rattle.oc_server.specs.Scenes.{running, setting}
-use Rattle.oc_server.specs.Turns.{brought, happens, measures, probed, probes_next}
-use Rattle.oc_server.specs.declared.came.Came.{Came}
+use Rattle.oc_deeds.specs.Turns.{brought, happens, measures, probed, probes_next}
+use Rattle.oc_deeds.specs.declared.came.Came.{Came}
 use Rattle.oc_server.proofs.Parts.{does_as, stops_as}
-use Rattle.oc_server.proofs.Results.{done_then, err_then, ok_then}
+use Rattle.oc_deeds.proofs.Results.{done_then, err_then, ok_then}
 use Rattle.oc_server.proofs.turns.Turns.happens.Goals as goal
 
 pub obeys-requires-clause-verdict : goal.obeys-requires-clause-verdict

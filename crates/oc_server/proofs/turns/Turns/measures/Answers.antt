@@ -1,12 +1,12 @@
 use Rattle.std.proofs.Common.{Option, None, ℕ, ap, sym, subst, ◌∙◌}
 use Rattle.oc_probe.specs.declared.fault.ProbeFault.{ProbeFault}
 use Rattle.oc_probe.specs.Rates.{rate_of}
-use Rattle.oc_server.specs.Runs.{IsMeasured, IsMedianOf}
+use Rattle.oc_deeds.specs.Measured.{IsMeasured, IsMedianOf}
 use Rattle.oc_server.specs.Scenes.{running, setting}
-use Rattle.oc_server.specs.Turns.{gauged, measures, notes_fault, takes_median}
-use Rattle.oc_server.specs.declared.came.Came.TheVariants as comes
+use Rattle.oc_deeds.specs.Turns.{gauged, measures, notes_fault, takes_median}
+use Rattle.oc_deeds.specs.declared.came.Came.TheVariants as comes
 use Rattle.oc_server.proofs.Parts.{does_as, stops_as}
-use Rattle.oc_server.proofs.Results.{done_then, err_then}
+use Rattle.oc_deeds.proofs.Results.{done_then, err_then}
 use Rattle.oc_server.proofs.turns.Turns.measures.Goals as goal
 
 pub returns-in-None-clause-did : goal.returns-in-None-clause-did

@@ -1,10 +1,10 @@
 use Rattle.std.proofs.Common.{◌≡◌, ℕ, Option, None, Some, List, sym, ap, ◌∙◌}
 use Rattle.oc_server.specs.Scenes.{running, setting}
-use Rattle.oc_server.specs.Turns.{next_peer, probes_it, probes_next}
-use Rattle.oc_server.specs.declared.dials.Dialling.{Dialling}
+use Rattle.oc_deeds.specs.Turns.{next_peer, probes_it, probes_next}
+use Rattle.oc_deeds.specs.declared.dials.Dialling.{Dialling}
 use Rattle.oc_server.proofs.Parts.{does_as, does_nothing, stops_as}
-use Rattle.oc_server.proofs.Probings.{peer_is_node}
-use Rattle.oc_server.proofs.Results.{done_then, err_then}
+use Rattle.oc_deeds.proofs.Probings.{peer_is_node}
+use Rattle.oc_deeds.proofs.Results.{done_then, err_then}
 use Rattle.oc_server.proofs.turns.Turns.probes_next.Goals as goal
 
 pub probes_it-requires-clause-peer : goal.probes_it-requires-clause-peer

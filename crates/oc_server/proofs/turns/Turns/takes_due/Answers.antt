@@ -1,7 +1,7 @@
 use Rattle.std.proofs.Common.{slice_get, refl, ◌∙◌}
 use Rattle.std.proofs.lemmas.Result.{err_from_is_err_and}
-use Rattle.oc_server.specs.Asks.{takes_up}
-use Rattle.oc_server.specs.Turns.{ticks_and_sends}
+use Rattle.oc_deeds.specs.Asks.{takes_up}
+use Rattle.oc_deeds.specs.Turns.{ticks_and_sends}
 use Rattle.oc_server.proofs.Parts.{does_serve, does_then, stops_behind, stops_in}
 use Rattle.oc_server.proofs.Probings.{ready_still}
 use Rattle.oc_server.proofs.turns.Turns.takes_due.Goals as goal

@@ -1,10 +1,10 @@
 use Rattle.std.proofs.Common.{ℕ, Option, ap, sym, subst, ◌∙◌}
-use Rattle.oc_server.specs.Runs.{IsMedianIn}
+use Rattle.oc_deeds.specs.Measured.{IsMedianIn}
 use Rattle.oc_server.specs.Scenes.{running, setting}
-use Rattle.oc_server.specs.Turns.{measured, takes_median}
+use Rattle.oc_deeds.specs.Turns.{measured, takes_median}
 use Rattle.oc_server.proofs.Parts.{does_as, does_nothing, stops_as}
-use Rattle.oc_server.proofs.Probings.{is_gauged, median_of, median_part, no_median, no_median_part}
-use Rattle.oc_server.proofs.Results.{done_then, err_then}
+use Rattle.oc_deeds.proofs.Probings.{is_gauged, median_of, median_part, no_median, no_median_part}
+use Rattle.oc_deeds.proofs.Results.{done_then, err_then}
 use Rattle.oc_server.proofs.turns.Turns.takes_median.Goals as goal
 
 pub measured-requires : goal.measured-requires

@@ -2,14 +2,14 @@ use Rattle.std.proofs.Common.{◌∷◌, [], Bool, Option, IfSome, List, ℕ, ap
 use Rattle.std.proofs.lemmas.Result.{err_from_is_err_and}
 use Rattle.oc_keep.specs.KeptView.{header_of}
 use Rattle.oc_model.specs.Node.{Header}
-use Rattle.oc_server.specs.Choices.{wait_for}
-use Rattle.oc_server.specs.Deeds.{Reads, Sees}
-use Rattle.oc_server.specs.Lawful.{IsLawfulCame}
+use Rattle.oc_deeds.specs.Choices.{wait_for}
+use Rattle.oc_deeds.specs.Deeds.{Reads, Sees}
+use Rattle.oc_deeds.specs.Lawful.{IsLawfulCame}
 use Rattle.oc_server.specs.Runs.{NextTaken}
-use Rattle.oc_server.specs.Scenes.{IsLawfulErrand}
-use Rattle.oc_server.specs.declared.dials.Errand.{Errand}
-use Rattle.oc_server.specs.declared.work.Work.{Work}
-use Rattle.oc_server.proofs.Lawful.{errand_seen}
+use Rattle.oc_deeds.specs.Lawful.{IsLawfulErrand}
+use Rattle.oc_deeds.specs.declared.dials.Errand.{Errand}
+use Rattle.oc_deeds.specs.declared.work.Work.{Work}
+use Rattle.oc_deeds.proofs.Lawful.{errand_seen}
 use Rattle.oc_server.proofs.Probings.{ready_still}
 use Rattle.oc_server.proofs.Scenes.{still_serving}
 use Rattle.oc_server.proofs.Turning.{next_stops, next_taken, next_unasked, next_unread, serving_heads}

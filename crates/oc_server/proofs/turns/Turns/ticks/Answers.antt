@@ -1,9 +1,9 @@
 use Rattle.std.proofs.Common.{◌∙◌}
 use Rattle.std.proofs.lemmas.Result.{err_from_is_err_and}
 use Rattle.oc_server.specs.Scenes.{running, setting}
-use Rattle.oc_server.specs.Turns.{ticked, ticks}
+use Rattle.oc_deeds.specs.Turns.{ticked, ticks}
 use Rattle.oc_server.proofs.Parts.{does_as, does_nothing, stops_as}
-use Rattle.oc_server.proofs.Turning.{a_tick, a_tick_paced, no_tick, no_tick_paced}
+use Rattle.oc_deeds.proofs.TickDue.{a_tick, a_tick_paced, no_tick, no_tick_paced}
 use Rattle.oc_server.proofs.turns.Turns.ticks.Goals as goal
 
 pub returns-then-wait-ne0-clause-did : goal.returns-then-wait-ne0-clause-did

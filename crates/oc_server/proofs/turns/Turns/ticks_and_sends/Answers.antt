@@ -1,9 +1,9 @@
 use Rattle.std.proofs.lemmas.Result.{err_from_is_err_and}
-use Rattle.oc_server.specs.Sends.{sends}
-use Rattle.oc_server.specs.Turns.{ticks}
-use Rattle.oc_server.specs.declared.choosing.TheConstants.{MAX_DIALS}
+use Rattle.oc_deeds.specs.Sends.{sends}
+use Rattle.oc_deeds.specs.Turns.{ticks}
+use Rattle.oc_deeds.specs.declared.choosing.TheConstants.{MAX_DIALS}
 use Rattle.oc_server.proofs.Parts.{does_serve, does_then, stops_behind, stops_in}
-use Rattle.oc_server.proofs.Results.{done_then, err_then}
+use Rattle.oc_deeds.proofs.Results.{done_then, err_then}
 use Rattle.oc_server.proofs.turns.Turns.ticks_and_sends.Goals as goal
 
 pub sends-requires : goal.sends-requires

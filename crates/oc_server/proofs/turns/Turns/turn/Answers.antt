@@ -1,13 +1,13 @@
 use Rattle.std.proofs.Common.{◌≡◌, ◌∷◌, [], Bool, List, None, Some, ap, sym, subst, refl, ◌∙◌, arith}
 use Rattle.std.proofs.lemmas.Result.{err_from_is_err_and}
 use Rattle.oc_keep.specs.KeptView.{IsHonest}
-use Rattle.oc_server.specs.Choices.{due_place}
-use Rattle.oc_server.specs.Deeds.{Reads}
+use Rattle.oc_deeds.specs.Choices.{due_place}
+use Rattle.oc_deeds.specs.Deeds.{Reads}
 use Rattle.oc_server.specs.Looks.{Renews}
 use Rattle.oc_server.specs.Runs.{Turned, due_in}
-use Rattle.oc_server.specs.declared.work.Work.{Work}
+use Rattle.oc_deeds.specs.declared.work.Work.{Work}
 use Rattle.oc_server.proofs.Probings.{ready_still}
-use Rattle.oc_server.proofs.Results.{err_then, ok_then, ok_with}
+use Rattle.oc_deeds.proofs.Results.{err_then, ok_then, ok_with}
 use Rattle.oc_server.proofs.Scenes.{did_then, still_renewed, still_serving}
 use Rattle.oc_server.proofs.Turning.{due_then, stopped_at_once, stopped_due, stopped_next, turned_due, turned_next}
 use Rattle.oc_server.proofs.turns.Turns.turn.Goals as goal

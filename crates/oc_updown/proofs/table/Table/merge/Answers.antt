@@ -1,7 +1,7 @@
 use Rattle.std.proofs.Common.{rules, tests}
 use Rattle.oc_updown.proofs.table.Table.merge.Goals as goal
 
--- what is no news changes nothing, and the answer says so
+-- a certificate that is no news changes nothing, and the answer says so
 pub returns-then-not-is_news-clause-news : goal.returns-then-not-is_news-clause-news
 returns-then-not-is_news-clause-news c = search (tests, rules)
 

@@ -7,7 +7,7 @@ use Rattle.oc_world.proofs.NetLists.{all_more, ends_more, kept_letters, kept_mes
 use Rattle.oc_world.proofs.Sites.{on_err}
 use Rattle.oc_world.proofs.net.Net.send.Goals as goal
 
--- the letters are what they were, whatever was put into the pools
+-- the letters are unchanged, for all bytes put into the pools
 pub invariant_of-self-in_err-letter : goal.invariant_of-self-in_err-letter
 invariant_of-self-in_err-letter c =
     let s = c.self.inside in

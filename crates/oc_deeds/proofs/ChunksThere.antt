@@ -1,0 +1,182 @@
+-- What a client is given as chunks is there, where the answer is that of its step.
+use Rattle.std.proofs.Common.{◌≡◌, ◌≤◌, ℕ, ◌+◌, ◌-◌, ◌^◌, Bool, true, false, Option, Some, None, List, length, refl, sym, ap, subst, ◌∙◌, arith}
+use Rattle.std.specs.Prelude.{if◌then◌else◌, nat_le}
+use Rattle.std.specs.Option.{option_map}
+use Rattle.std.proofs.lemmas.Bool.{false≢true}
+use Rattle.oc_base.specs.Groups.{bytes_of, group_of, or_empty, shelf, shelf_of}
+use Rattle.oc_base.specs.Shelves.{line_of}
+use Rattle.oc_base.specs.declared.group.Group.{Group}
+use Rattle.oc_base.specs.declared.shelf.Shelf.{Shelf}
+use Rattle.oc_model.proofs.Shelves.{line_of-shelf}
+use Rattle.oc_model.specs.Node.{Node}
+use Rattle.oc_model.specs.Plan.{Plan, begun as plan_begun}
+use Rattle.oc_model.specs.Serving.{client_of, redirects, server_for}
+use Rattle.oc_model.specs.Step.{kept_at, piece_of, plan, step}
+use Rattle.oc_model.specs.declared.answer.Answer.{Answer}
+use Rattle.oc_model.specs.declared.answer.Answer.TheVariants as answers
+use Rattle.oc_model.specs.declared.input.Input.TheVariants as inputs
+use Rattle.oc_routes.specs.Contents.{begun}
+use Rattle.oc_routes.specs.Shown.{known_shown, of_shown, shown, told_text}
+use Rattle.oc_routes.specs.Waits.{holding}
+use Rattle.oc_routes.specs.declared.hint.Hint.{Hint}
+use Rattle.oc_routes.specs.declared.hint.Hint.TheVariants.{Plain, Here, Of, Known}
+use Rattle.oc_routes.specs.declared.holding.Holding.{Holding}
+use Rattle.oc_routes.specs.declared.showing.Shown.{Shown}
+use Rattle.oc_routes.specs.Group.{client_response, is_past, past_reply, served}
+use Rattle.oc_routes.specs.Responses.{whole_for}
+use Rattle.oc_routes.specs.declared.manner.Manner.{Manner}
+use Rattle.oc_routes.specs.declared.manner.Manner.TheVariants.{HeadAlone, Once, Follow}
+use Rattle.oc_routes.specs.declared.routes.Operation.TheVariants as asks
+use Rattle.oc_routes.proofs.Holdings.{held_is}
+use Rattle.oc_deeds.specs.Deeds.{content_at}
+use Rattle.oc_deeds.specs.Replying.{IsGivable, client_content}
+
+-- an answer serves no more than the node holds from there on
+abbrev Serves : Answer → ℕ → ℕ → Type 0
+Serves (answers.Serve count) held start = count ≤ held - start
+Serves answer held start = Unit {0}
+
+-- the same of what a client is shown of a group that may still grow
+abbrev ServesShown : Bool → Answer → ℕ → ℕ → Type 0
+ServesShown true answer held start = Unit {0}
+ServesShown false answer held start = Serves answer held start
+
+shown_serves : (sealed : Bool) (answer : Answer) (held start : ℕ) → Serves answer held start → ServesShown sealed answer held start
+shown_serves true answer held start h = tt
+shown_serves false answer held start h = h
+
+here_serves : (there sealed : Bool) (held start : ℕ) → ServesShown sealed (if there then answers.Serve (held - start) else answers.NoGroup) held start
+here_serves true true held start = tt
+here_serves true false held start = omega arith
+here_serves false true held start = tt
+here_serves false false held start = tt
+
+of_serves : (length : ℕ) (answer : Answer) (sealed : Bool) (held start : ℕ) → Serves answer held start → ServesShown (of_shown length answer sealed start).sealed (of_shown length answer sealed start).answer held start
+of_serves length answer true held start h = tt
+of_serves length answers.Ok false held start h = tt
+of_serves length answers.Ignored false held start h = tt
+of_serves length answers.Gap false held start h = tt
+of_serves length answers.NotSource false held start h = tt
+of_serves length answers.NoGroup false held start h = tt
+of_serves length answers.Groups false held start h = tt
+of_serves length answers.TooLong false held start h = tt
+of_serves length answers.Own false held start h = tt
+of_serves length answers.Fixed false held start h = tt
+of_serves length answers.Waiting false held start h = tt
+of_serves length answers.Spent false held start h = tt
+of_serves length answers.Sealed false held start h = tt
+of_serves length (answers.Redirect node) false held start h = tt
+of_serves length (answers.Serve count) false held start h = tt
+
+known_serves : (answer : Answer) (sealed : Bool) (held start : ℕ) → Serves answer held start → ServesShown (known_shown answer sealed).sealed (known_shown answer sealed).answer held start
+known_serves answers.Ok sealed held start h = shown_serves sealed answers.Ok held start h
+known_serves answers.Ignored sealed held start h = shown_serves sealed answers.Ignored held start h
+known_serves answers.Gap sealed held start h = shown_serves sealed answers.Gap held start h
+known_serves answers.NotSource sealed held start h = shown_serves sealed answers.NotSource held start h
+known_serves answers.NoGroup sealed held start h = omega arith
+known_serves answers.Groups sealed held start h = shown_serves sealed answers.Groups held start h
+known_serves answers.TooLong sealed held start h = shown_serves sealed answers.TooLong held start h
+known_serves answers.Own sealed held start h = shown_serves sealed answers.Own held start h
+known_serves answers.Fixed sealed held start h = shown_serves sealed answers.Fixed held start h
+known_serves answers.Waiting sealed held start h = shown_serves sealed answers.Waiting held start h
+known_serves answers.Spent sealed held start h = shown_serves sealed answers.Spent held start h
+known_serves answers.Sealed sealed held start h = shown_serves sealed answers.Sealed held start h
+known_serves (answers.Redirect node) sealed held start h = shown_serves sealed (answers.Redirect node) held start h
+known_serves (answers.Serve count) sealed held start h = shown_serves sealed (answers.Serve count) held start h
+
+all_serve : (hint : Hint) (answer : Answer) (h : Holding) (start : ℕ) → Serves answer h.held start → ServesShown (shown hint answer h start).sealed (shown hint answer h start).answer h.held start
+all_serve Plain answer h start serves = shown_serves h.sealed answer h.held start serves
+all_serve Here answer h start serves = here_serves h.there h.sealed h.held start
+all_serve (Of length) answer h start serves = of_serves length answer h.sealed h.held start serves
+all_serve Known answer h start serves = known_serves answer h.sealed h.held start serves
+
+-- what is served as chunks is there
+range_there : (group : List ℕ) (start count : ℕ) (chunked : Bool) (ks : List Group) → (chunked ≡ true → count ≤ length (bytes_of group ks) - start) → IsGivable (content_at group (Some (record { start = start; count = count; chunked = chunked }))) ks
+range_there group start count chunked ks fits = by_test (nat_le (start + count) (2 ^ 64 - 1))
+  where
+    by_test : (b : Bool) → IsGivable (if b then Some (begun group (record { start = start; count = count; chunked = chunked })) else None) ks
+    by_test true = λ is. let few = fits is in omega (arith, few)
+    by_test false = tt
+
+served_there : (group : List ℕ) (manner : Manner) (sealed last : Bool) (start count : ℕ) (ks : List Group) → ServesShown sealed (answers.Serve count) (length (bytes_of group ks)) start
+    → IsGivable (content_at group (served manner sealed last start count).content) ks
+served_there group HeadAlone sealed last start count ks h = tt
+served_there group Once sealed last start count ks h = range_there group start count false ks (λ (is : false ≡ true). absurd (false≢true is))
+served_there group Follow true last start count ks h = range_there group start count false ks (λ (is : false ≡ true). absurd (false≢true is))
+served_there group Follow false last start count ks h = range_there group start count true ks (λ is. h)
+
+-- or its start is past the end of its group, and it is given nothing
+past_or_served : (group : List ℕ) (start count : ℕ) (manner : Manner) (sealed last past : Bool) (h : Holding) (ks : List Group) → ServesShown sealed (answers.Serve count) (length (bytes_of group ks)) start
+    → IsGivable (content_at group (if past then whole_for manner (past_reply h.held) else served manner sealed last start count).content) ks
+past_or_served group start count manner sealed last true h ks serves = tt
+past_or_served group start count manner sealed last false h ks serves = served_there group manner sealed last start count ks serves
+
+client_there : (group : List ℕ) (start : ℕ) (manner : Manner) (told : List ℕ) (answer : Answer) (sealed last : Bool) (h : Holding) (addresses : List (List ℕ)) (ks : List Group) → ServesShown sealed answer (length (bytes_of group ks)) start
+    → IsGivable (content_at group (client_response group start manner told answer sealed last h addresses).content) ks
+client_there group start manner told answers.Ok sealed last h addresses ks serves = tt
+client_there group start manner told answers.Ignored sealed last h addresses ks serves = tt
+client_there group start manner told answers.Gap sealed last h addresses ks serves = tt
+client_there group start manner told answers.NotSource sealed last h addresses ks serves = tt
+client_there group start manner told answers.NoGroup sealed last h addresses ks serves = tt
+client_there group start manner told answers.Groups sealed last h addresses ks serves = tt
+client_there group start manner told answers.TooLong sealed last h addresses ks serves = tt
+client_there group start manner told answers.Own sealed last h addresses ks serves = tt
+client_there group start manner told answers.Fixed sealed last h addresses ks serves = tt
+client_there group start manner told answers.Waiting sealed last h addresses ks serves = tt
+client_there group start manner told answers.Spent sealed last h addresses ks serves = tt
+client_there group start manner told answers.Sealed sealed last h addresses ks serves = tt
+client_there group start manner told (answers.Redirect node) sealed last h addresses ks serves = tt
+client_there group start manner told (answers.Serve count) sealed last h addresses ks serves = past_or_served group start count manner sealed last (is_past start h) h ks serves
+
+-- the reply to a client that is shown no more than is held
+reply_there : (group : List ℕ) (area start : ℕ) (manner : Manner) (hint : Hint) (last : Bool) (answer : Answer) (ks : List Group) (addresses : List (List ℕ))
+    → ServesShown (shown hint answer (holding group (shelf ks)) start).sealed (shown hint answer (holding group (shelf ks)) start).answer (holding group (shelf ks)).held start
+    → IsGivable (client_content (asks.Client group area start manner) hint last answer ks addresses) ks
+reply_there group area start manner hint last answer ks addresses serves =
+    let h = holding group (shelf ks) in
+    client_there group start manner (told_text hint h) (shown hint answer h start).answer (shown hint answer h start).sealed last h addresses ks
+    (subst (λ (n : ℕ). ServesShown (shown hint answer h start).sealed (shown hint answer h start).answer n start) (held_is group ks) serves)
+
+-- where the node answers itself
+pub here_there : (answer : Answer) (ks : List Group) (group : List ℕ) (area start : ℕ) (manner : Manner) (last : Bool) (addresses : List (List ℕ)) → IsGivable (client_content (asks.Client group area start manner) Here last answer ks addresses) ks
+here_there answer ks group area start manner last addresses =
+    let h = holding group (shelf ks) in
+    reply_there group area start manner Here last answer ks addresses (here_serves h.there h.sealed h.held start)
+
+-- Steps
+
+redirects_serves : (k : Option ℕ) (o : Plan) (held start : ℕ) → Serves (redirects k o (held - start)).answer held start
+redirects_serves None o held start = omega arith
+redirects_serves (Some k) o held start = tt
+
+client_serves : (found : Option Group) (o : Plan) (group : List ℕ) (area start : ℕ) → Serves (client_of (option_map shelf_of found) o area start).answer (length (or_empty group found).bytes) start
+client_serves None o group area start = tt
+client_serves (Some k) o group area start = redirects_serves (server_for o.node area) o (length k.bytes) start
+
+redirects_keeps : (k : Option ℕ) (o : Plan) (count : ℕ) → (redirects k o count).keeps ≡ o.keeps
+redirects_keeps None o count = refl
+redirects_keeps (Some k) o count = refl
+
+client_keeps : (found : Option Shelf) (o : Plan) (area start : ℕ) → (client_of found o area start).keeps ≡ o.keeps
+client_keeps None o area start = refl
+client_keeps (Some l) o area start = redirects_keeps (server_for o.node area) o (l.held - start)
+
+step_serves : (n : Node) (area start : ℕ) (group : List ℕ) → Serves (step n (inputs.Client area start group)).answer (length (bytes_of group n.groups)) start
+step_serves n area start group =
+    subst (λ (line : Option Shelf). Serves (client_of line (plan_begun n.control) area start).answer (length (bytes_of group n.groups)) start) (sym (line_of-shelf group n.groups))
+    (client_serves (group_of group n.groups) (plan_begun n.control) group area start)
+
+groups_same : (n : Node) (area start : ℕ) (group : List ℕ) → (step n (inputs.Client area start group)).node.groups ≡ n.groups
+groups_same n area start group =
+    ap (λ (at : Option ℕ). kept_at at n.groups (piece_of (inputs.Client area start group)) (plan n.control (shelf n.groups) (inputs.Client area start group)).seals)
+    (client_keeps (line_of group (shelf n.groups)) (plan_begun n.control) area start)
+
+-- where the answer is that of the step
+pub step_there : (n : Node) (group : List ℕ) (area start : ℕ) (manner : Manner) (hint : Hint) (last : Bool) (addresses : List (List ℕ))
+    → IsGivable (client_content (asks.Client group area start manner) hint last (step n (inputs.Client area start group)).answer (step n (inputs.Client area start group)).node.groups addresses) (step n (inputs.Client area start group)).node.groups
+step_there n group area start manner hint last addresses =
+    let o = step n (inputs.Client area start group) in
+    let h = holding group (shelf o.node.groups) in
+    let held : h.held ≡ length (bytes_of group n.groups) = held_is group o.node.groups ∙ ap (λ (ks : List Group). length (bytes_of group ks)) (groups_same n area start group) in
+    reply_there group area start manner hint last o.answer o.node.groups addresses
+    (all_serve hint o.answer h start (subst (λ (count : ℕ). Serves o.answer count start) (sym held) (step_serves n area start group)))

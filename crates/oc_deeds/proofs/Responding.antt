@@ -1,0 +1,34 @@
+-- Which deeds answer a request, or let it wait.
+use Rattle.std.proofs.Common.{◌≡◌, ℕ, Bool, true, false, Option, [], ◌∷◌, cond, is_some, ap}
+use Rattle.oc_base.specs.Groups.{shelf}
+use Rattle.oc_model.specs.Node.{Node}
+use Rattle.oc_routes.specs.Conditions.{unmet}
+use Rattle.oc_routes.specs.declared.verdict.Request.{Request}
+use Rattle.oc_routes.specs.declared.verdict.Refusal.{Refusal}
+use Rattle.oc_deeds.specs.Asks.{answers_or_waits, has_to_wait, refuses_or, responds, takes_on, waiting}
+use Rattle.oc_deeds.specs.Deeds.{Running, Setting, Waits}
+use Rattle.oc_deeds.specs.Hurries.{hurries_unless, request_hurries}
+use Rattle.oc_deeds.specs.Parts.{nothing, one, ◌>>◌}
+use Rattle.oc_deeds.specs.Works.{pending}
+
+-- by why a request is refused for its condition, if it is
+pub condition_part : (c now : ℕ) (request : Request) (why : Option Refusal) (s : Setting) (a : Running) → unmet request.asked.operation a.node.control.me (shelf a.node.groups) ≡ why
+    → takes_on c request now s a ≡ refuses_or why c request now s a
+condition_part c now request why s a is = ap (λ (o : Option Refusal). refuses_or o c request now s a) is
+
+-- and whether it hurries the next tick
+pub condition_hurries : (request : Request) (why : Option Refusal) (n : Node) → unmet request.asked.operation n.control.me (shelf n.groups) ≡ why
+    → request_hurries request.asked.operation request.input n ≡ hurries_unless why request.asked.operation request.input n
+condition_hurries request why n is = ap (λ (o : Option Refusal). hurries_unless o request.asked.operation request.input n) is
+
+-- a request that is to wait
+pub waits_part : (c now : ℕ) (request : Request) (s : Setting) (a : Running) → has_to_wait request a.node ≡ true
+    → answers_or_waits c request now s a ≡ (nothing >> one (Waits (waiting c request now))) s a
+waits_part c now request s a is =
+    ap (λ (b : Bool). cond b (Waits (waiting c request now) ∷ []) (responds (pending c request (is_some request.input) false) request.input now s a)) is
+
+-- and one that is answered
+pub answers_part : (c now : ℕ) (request : Request) (s : Setting) (a : Running) → has_to_wait request a.node ≡ false
+    → answers_or_waits c request now s a ≡ (nothing >> responds (pending c request (is_some request.input) false) request.input now) s a
+answers_part c now request s a is =
+    ap (λ (b : Bool). cond b (Waits (waiting c request now) ∷ []) (responds (pending c request (is_some request.input) false) request.input now s a)) is

@@ -1,0 +1,36 @@
+use Rattle.std.proofs.Common.{refl}
+use Rattle.std.specs.Fmt.{digits}
+use Rattle.oc_deeds.specs.Sends.{sends}
+use Rattle.oc_deeds.proofs.turn_law.turns_compute.Goals as goal
+
+pub returns : goal.returns
+unfolding digits sends
+returns c = record {
+  gives = refl;
+  lays_aside = refl;
+  breaks = refl;
+  no_content = refl;
+  failed = refl;
+  gave_way = refl;
+  not_due = refl;
+  grown = refl;
+  late = refl;
+  first_wait = refl;
+  tick_wait = refl;
+  work_wait = refl;
+  second_wait = refl;
+  interval_wait = refl;
+  oldest = refl;
+  besides = refl;
+  neither = refl;
+  least = refl;
+  next = refl;
+  permits = refl;
+  waits = refl;
+  first_tick = refl;
+  no_tick = refl;
+  first_recorded = refl;
+  same_second = refl;
+  next_second = refl;
+  quiet_turn = refl;
+}

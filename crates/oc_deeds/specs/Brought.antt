@@ -1,0 +1,92 @@
+-- What came back on a dial, as it is read.
+use Rattle.std.specs.Prelude.{ℕ, Bool, false, ◌==◌, ◌&&◌, if◌then◌else◌, Option, Some, None, Result, Ok, Err, List, ◌++◌, length}
+use Rattle.oc_link.specs.ArrivedView.{ArrivedView, FailsBehind, GivesFront, IsAtEnd, arrived}
+use Rattle.oc_link.specs.declared.event.Coming.{Coming}
+use Rattle.oc_http.specs.Responses.{reply_of}
+use Rattle.oc_http.specs.Taking.{RefusesReply, SaysReply, Took}
+use Rattle.oc_http.specs.declared.fault.HttpFault.{HttpFault}
+use Rattle.oc_http.specs.declared.fault.HttpFault.TheVariants as https
+use Rattle.oc_http.specs.declared.reply.Reply.{Reply}
+use Rattle.oc_model.specs.declared.input.Input.{Input}
+use Rattle.oc_model.specs.declared.input.Input.TheVariants.{Delivered, Unreachable}
+use Rattle.oc_model.specs.declared.message.Message.{Message}
+use Rattle.oc_probe.specs.Faults.{fault_of_http}
+use Rattle.oc_probe.specs.declared.fault.ProbeFault.{ProbeFault}
+use Rattle.oc_probe.specs.declared.fault.ProbeFault.TheVariants as faults
+use Rattle.oc_probe.specs.declared.rate.TheConstants.{PROBE_BYTES}
+use Rattle.oc_wire.specs.Macs.{is_authentic}
+use Rattle.oc_wire.specs.MessageReading.{decoded}
+use Rattle.oc_wire.specs.declared.fault.WireFault.{WireFault}
+use Rattle.oc_deeds.specs.declared.came.Came.{Came}
+use Rattle.oc_deeds.specs.declared.came.Came.TheVariants as comes
+use Rattle.oc_deeds.specs.declared.dials.Errand.{Errand}
+use Rattle.oc_deeds.specs.declared.dials.Errand.TheVariants as errands
+use Rattle.oc_deeds.specs.declared.reply_in_place.ReplyInPlace.{ReplyInPlace}
+
+-- What is read
+
+-- what a reader of responses says of these bytes, which end so: a response, or a fault
+abbrev pub IsReading : List ℕ → Coming → Result Reply HttpFault → Type 0
+IsReading bytes coming (Ok reply) = (head body : List ℕ) × (end : ArrivedView) × GivesFront (arrived bytes coming) (head ++ body) end × SaysReply head body (IsAtEnd end) reply
+IsReading bytes coming (Err fault) = (front : List ℕ) × (end : ArrivedView) × Took GivesFront FailsBehind (arrived bytes coming) front end fault × RefusesReply front (IsAtEnd end) fault
+
+-- a response where it lies among the bytes that came, as a value
+abbrev pub reply_in : ReplyInPlace → Reply
+reply_in reply = reply_of reply.head reply.body.now
+
+abbrev pub reading : Result ReplyInPlace HttpFault → Result Reply HttpFault
+reading (Ok reply) = Ok (reply_in reply)
+reading (Err fault) = Err fault
+
+-- there was memory to read it
+abbrev pub HadMemory : Result Reply HttpFault → Type 0
+HadMemory (Err https.Memory) = ⊥
+HadMemory reading = Unit {0}
+
+-- What results from a message's reply
+
+-- the message to the node me that was read, if it was one
+abbrev pub message_to : ℕ → Result Message WireFault → Option Message
+message_to me (Ok message) = if message.to == me then Some message else None
+message_to me (Err fault) = None
+
+-- a message that came, or else that the peer is not reached
+abbrev pub delivered_or : ℕ → Option Message → Input
+delivered_or peer (Some message) = Delivered message
+delivered_or peer None = Unreachable peer
+
+-- a response of 200 that has the MAC of its body, where the network has a key
+abbrev pub brings_message : Option (List ℕ) → Reply → Bool
+brings_message key reply = (reply.status == 200) && is_authentic key reply.mac reply.body
+
+-- the message of such a response to the node me, if it is one
+abbrev pub message_in : ℕ → ℕ → Option (List ℕ) → Reply → Option Message
+message_in me nodes key reply = if brings_message key reply then message_to me (decoded nodes reply.body) else None
+
+-- The input that results from a response: of such a one, the message that it is; of 204, none; and of any other that the peer is not reached.
+abbrev pub input_of_reply : ℕ → ℕ → Option (List ℕ) → ℕ → Reply → Option Input
+input_of_reply me nodes key peer reply = if reply.status == 204 then None else Some (delivered_or peer (message_in me nodes key reply))
+
+-- the same of what was read: where it is no response, the peer is not reached
+abbrev pub input_of : ℕ → ℕ → Option (List ℕ) → ℕ → Result Reply HttpFault → Option Input
+input_of me nodes key peer (Ok reply) = input_of_reply me nodes key peer reply
+input_of me nodes key peer (Err fault) = Some (Unreachable peer)
+
+abbrev pub is_taken : Option (List ℕ) → Result Reply HttpFault → Bool
+is_taken key (Ok reply) = brings_message key reply
+is_taken key (Err fault) = false
+
+-- What results from a probe's reply
+
+abbrev pub is_answer : Reply → Bool
+is_answer reply = (reply.status == 200) && (length reply.body == PROBE_BYTES)
+
+-- why what was read is no answer, if it is none
+abbrev pub fault_of : Result Reply HttpFault → Option ProbeFault
+fault_of (Ok reply) = if is_answer reply then None else Some faults.Reply
+fault_of (Err fault) = Some (fault_of_http fault)
+
+-- What came back on a dial that was made for this, of which this was read.
+abbrev pub comes_back : ℕ → ℕ → Option (List ℕ) → Errand → Result Reply HttpFault → Came
+comes_back me nodes key (errands.Message to fetch) reading = comes.Reply (input_of me nodes key to reading) (is_taken key reading)
+comes_back me nodes key (errands.Probe peer since) reading = comes.Probed peer since (fault_of reading)

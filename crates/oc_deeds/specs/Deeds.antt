@@ -1,0 +1,285 @@
+-- What a running node does, deed by deed: what each deed makes of the node, the line that it writes, and the calls that it makes on the link.
+use Rattle.std.specs.Prelude.{ℕ, Bool, true, false, if◌then◌else◌, Option, None, Some, List, [], ◌∷◌, ◌++◌, codes, length, remove, nat_le, ◌+◌, ◌-◌, ◌^◌}
+use Rattle.std.specs.Option.{option_map}
+use Rattle.oc_base.specs.declared.group.Group.{Group}
+use Rattle.oc_link.specs.declared.call.Call.{Call}
+use Rattle.oc_link.specs.declared.call.Call.TheVariants as acts
+use Rattle.oc_link.specs.declared.event.LinkEvent.{LinkEvent}
+use Rattle.oc_link.specs.declared.event.LinkEvent.TheVariants as events
+use Rattle.oc_http.specs.Writing.{probe_text}
+use Rattle.oc_http.specs.declared.framing.Persistence.{Persistence}
+use Rattle.oc_http.specs.declared.framing.Persistence.TheVariants.{Close, Keep}
+use Rattle.oc_model.specs.declared.input.Input.{Input}
+use Rattle.oc_model.specs.declared.input.Input.TheVariants.{Delivered}
+use Rattle.oc_model.specs.declared.message.Message.{Message}
+use Rattle.oc_model.specs.Node.{Node}
+use Rattle.oc_model.specs.Step.{step}
+use Rattle.oc_routes.specs.Contents.{begun, behind, piece_of, piece_text}
+use Rattle.oc_routes.specs.declared.content.UnderWay.{UnderWay}
+use Rattle.oc_routes.specs.Inputs.{input_line}
+use Rattle.oc_routes.specs.Refusals.{refusal_text, why_text}
+use Rattle.oc_routes.specs.Replies.{others, reply_to}
+use Rattle.oc_routes.specs.Responses.{address_of}
+use Rattle.oc_routes.specs.declared.connections.TheConstants.{CONTINUE}
+use Rattle.oc_routes.specs.declared.verdict.Refusal.{Refusal}
+use Rattle.oc_routes.specs.declared.response.GroupRange.{GroupRange}
+use Rattle.oc_routes.specs.declared.response.Response.{Response}
+use Rattle.oc_routes.specs.declared.routes.Operation.{Operation}
+use Rattle.oc_routes.specs.declared.routes.Operation.TheVariants as asks
+use Rattle.oc_wire.specs.Macs.{request_of}
+use Rattle.oc_deeds.specs.Dials.{brings, dialling}
+use Rattle.oc_deeds.specs.Dials as dials
+use Rattle.oc_deeds.specs.Outboxes.{with_messages}
+use Rattle.oc_deeds.specs.Works.{without}
+use Rattle.oc_deeds.specs.declared.dials.Dialling.{Dialling}
+use Rattle.oc_deeds.specs.declared.dials.Errand.{Errand}
+use Rattle.oc_deeds.specs.declared.dials.Errand.TheVariants as errands
+use Rattle.oc_deeds.specs.declared.log.Log.{Log}
+use Rattle.oc_deeds.specs.declared.log.Log.TheVariants.{Brief, Inputs, Record}
+use Rattle.oc_deeds.specs.declared.work.Pending.{Pending}
+use Rattle.oc_deeds.specs.declared.work.Transfer.{Transfer}
+use Rattle.oc_deeds.specs.declared.work.Waiting.{Waiting}
+use Rattle.oc_deeds.specs.declared.work.Work.{Work}
+use Rattle.oc_deeds.specs.declared.work.Work.TheVariants as works
+
+-- which node it is, the addresses of all by their ids, the key of the network, where it has one, and what is written of inputs
+pub record Setting : Type 0 where
+  pub me : ℕ
+  pub addresses : List (List ℕ)
+  pub key : Option (List ℕ)
+  pub log : Log
+
+abbrev pub address_in : Setting → ℕ → List ℕ
+address_in s node = address_of s.addresses node
+
+-- a running node: its state, the messages that it has still to send, what is under way on its connections, and its dials
+pub record Running : Type 0 where
+  pub node : Node
+  pub outbox : List Message
+  pub works : List Work
+  pub dials : List Dialling
+
+pub data Deed : Type 0 where
+  -- the link was asked, with this wait, and told this event, by which these bytes came
+  Sees : LinkEvent → ℕ → List ℕ → Deed
+  -- the clock gave this number of milliseconds
+  Reads : ℕ → Deed
+  -- the clock gave this number of seconds
+  Tells : ℕ → Deed
+  -- an input was taken, and its line was written, where each has one after its frame; its messages go to the outbox
+  Takes : Input → Deed
+  -- the same for the input of a request: a message back to its sender is the reply
+  Accepts : Input → Deed
+  -- what is told before an input or after it was written: these lines, or none
+  Says : List ℕ → Deed
+  -- the line `! WHY` was written
+  Notes : List ℕ → Deed
+  -- a connection was given the permission to send the body of its request
+  Permits : ℕ → Deed
+  -- a request was taken, and it waits
+  Waits : Waiting → Deed
+  -- a request was answered at this time
+  Replies : Pending → Response → ℕ → Deed
+  -- a request of this many bytes was refused
+  Refuses : ℕ → ℕ → Refusal → Deed
+  -- a connection was broken off
+  BreaksOff : ℕ → Deed
+  -- the next piece of a content was given at this time
+  Gives : Transfer → ℕ → Deed
+  -- a content has nothing to give until its group has grown
+  LaysAside : Transfer → Deed
+  -- a connection is over; true where a line says that its reply was not sent
+  Drops : ℕ → Bool → Deed
+  -- the message at this place of the outbox was dialled under this number
+  Dials : ℕ → Message → ℕ → Deed
+  -- the probe of a node began under this number and at this time
+  Probes : ℕ → ℕ → ℕ → Deed
+
+-- Lines
+
+-- `! WHY`
+abbrev pub note_line : List ℕ → List ℕ
+note_line why = codes "! " ++ why ++ codes "\n"
+
+-- the line of a reply that was not sent, where one says so
+abbrev pub drop_line : Bool → List ℕ
+drop_line told = if told then note_line (codes "write") else []
+
+-- the line of an input that is written after its frame; that of a record is written before it
+abbrev pub taken_line : Log → ℕ → Input → List ℕ
+taken_line Inputs me i = input_line me i
+taken_line Record me i = []
+taken_line Brief me i = []
+
+-- the lines of a deed
+abbrev pub line : Setting → Deed → List ℕ
+line s (Takes i) = taken_line s.log s.me i
+line s (Accepts i) = taken_line s.log s.me i
+line s (Says text) = text
+line s (Notes why) = note_line why
+line s (Refuses c count refusal) = note_line (why_text refusal.why)
+line s (Drops c told) = drop_line told
+line s d = []
+
+-- What a content gives
+
+-- the next piece as it is sent
+abbrev pub piece : Transfer → List Group → List ℕ
+piece p groups = piece_text p.content (piece_of p.content groups)
+
+-- the content after it, if anything is left
+abbrev pub place_behind : Transfer → ℕ → ℕ → Option Transfer
+place_behind p now count = option_map (λ (u : UnderWay). record p { content = u; since = now }) (behind p.content count)
+
+abbrev pub rest : Transfer → ℕ → List Group → Option Transfer
+rest p now groups = place_behind p now (length (piece_of p.content groups))
+
+abbrev pub keeps : Persistence → Bool
+keeps Keep = true
+keeps Close = false
+
+-- the content of a response to a client
+abbrev pub content_of : List ℕ → GroupRange → Option UnderWay
+content_of group range = if nat_le (range.start + range.count) (2 ^ 64 - 1) then Some (begun group range) else None
+
+abbrev pub content_at : List ℕ → Option GroupRange → Option UnderWay
+content_at group None = None
+content_at group (Some range) = content_of group range
+
+abbrev pub content_in : Operation → Option GroupRange → Option UnderWay
+content_in (asks.Client group area start manner) range = content_at group range
+content_in asked range = None
+
+-- the place from which it is given
+abbrev pub place_of : Pending → Response → ℕ → Option Transfer
+place_of r response now = option_map (λ (u : UnderWay). record {
+  connection = r.connection;
+  content = u;
+  keeps = keeps response.connection;
+  told = r.told;
+  since = now;
+}) (content_in r.asked.operation response.content)
+
+-- the first piece of a content, and what is left of it
+abbrev pub first_piece : Option Transfer → List Group → List ℕ
+first_piece None groups = []
+first_piece (Some p) groups = piece p groups
+
+abbrev pub first_rest : Option Transfer → ℕ → List Group → Option Transfer
+first_rest None now groups = None
+first_rest (Some p) now groups = rest p now groups
+
+-- The node after a deed
+
+abbrev pub took : Input → (List Message → List Message) → Running → Running
+took i kept a = record a { node = (step a.node i).node; outbox = with_messages a.outbox (kept (step a.node i).sends) }
+
+-- who sent the message that an input is
+abbrev pub sender_of : Input → Option ℕ
+sender_of (Delivered m) = Some m.from
+sender_of i = None
+
+-- the message that goes back to this sender
+abbrev pub back_to : Option ℕ → List Message → Option Message
+back_to None sends = None
+back_to (Some sender) sends = reply_to sends sender
+
+-- all that is sent to others
+abbrev pub others_than : Option ℕ → List Message → List Message
+others_than None sends = sends
+others_than (Some sender) sends = others sends sender
+
+abbrev pub for_outbox : Input → List Message → List Message
+for_outbox i sends = others_than (sender_of i) sends
+
+-- with what is left of a content
+abbrev pub with_content : Option Transfer → List Work → List Work
+with_content None ws = ws
+with_content (Some p) ws = ws ++ works.Content p ∷ []
+
+-- a dial whose reply came is over
+abbrev pub dials_behind : LinkEvent → List Dialling → List Dialling
+dials_behind (events.Reply d coming) ds = dials.without d ds
+dials_behind e ds = ds
+
+-- for what the dial was made whose reply an event is
+abbrev pub errand_in : LinkEvent → List Dialling → Option Errand
+errand_in (events.Reply d coming) ds = dials.errand_of d ds
+errand_in e ds = None
+
+abbrev pub after : Deed → Running → Running
+after (Sees e wait bytes) a = record a { dials = dials_behind e a.dials }
+after (Takes i) a = took i (λ sends. sends) a
+after (Accepts i) a = took i (for_outbox i) a
+after (Waits w) a = record a { works = a.works ++ works.Waits w ∷ [] }
+after (Replies r response now) a =
+    record a { works = with_content (first_rest (place_of r response now) now a.node.groups) (without r.connection a.works) }
+after (BreaksOff c) a = record a { works = without c a.works }
+after (Gives p now) a = record a { works = with_content (rest p now a.node.groups) (without p.connection a.works) }
+after (LaysAside p) a = record a { works = without p.connection a.works ++ works.Aside p ∷ [] }
+after (Drops c told) a = record a { works = without c a.works }
+after (Dials place m d) a = record a { outbox = remove a.outbox place; dials = a.dials ++ dialling d (brings m) ∷ [] }
+after (Probes peer d now) a = record a { dials = a.dials ++ dialling d (errands.Probe peer now) ∷ [] }
+after d a = a
+
+-- The calls of a deed
+
+-- after a whole reply the connection ends, or its next request is awaited; where a line was written, one says that it was not sent
+abbrev pub finish : ℕ → Bool → Bool → Option Transfer → List Call
+finish c keeps watched None = acts.Finish c (record { keeps = keeps; watched = watched }) ∷ []
+finish c keeps watched (Some left) = []
+
+-- a refusal ends the connection; where it has no text it is broken off
+abbrev pub refuses : ℕ → ℕ → Option (List ℕ) → List Call
+refuses c count None = acts.BreakOff c ∷ []
+refuses c count (Some text) = acts.Take c count ∷ acts.Give c text ∷ finish c false false None
+
+-- a request that has waited was taken before
+abbrev pub takes_request : Pending → List Call
+takes_request r = if r.waited then [] else acts.Take r.connection r.count ∷ []
+
+abbrev pub calls : Setting → Deed → Running → List Call
+calls s (Sees e wait bytes) a = acts.Next e bytes ∷ []
+calls s (Reads t) a = acts.Millis t ∷ []
+calls s (Tells t) a = acts.Now t ∷ []
+calls s (Permits c) a = acts.Give c CONTINUE.now ∷ []
+calls s (Waits w) a = acts.Take w.connection w.request.count ∷ []
+calls s (Replies r response now) a =
+    takes_request r
+    ++ acts.Give r.connection (response.text ++ first_piece (place_of r response now) a.node.groups)
+    ∷ finish r.connection (keeps response.connection) r.told (first_rest (place_of r response now) now a.node.groups)
+calls s (Refuses c count refusal) a = refuses c count (refusal_text refusal)
+calls s (BreaksOff c) a = acts.BreakOff c ∷ []
+calls s (Gives p now) a = acts.Give p.connection (piece p a.node.groups) ∷ finish p.connection p.keeps p.told (rest p now a.node.groups)
+calls s (Dials place m d) a = acts.Dial d (address_in s m.to) (request_of s.key (address_in s m.to) m) ∷ []
+calls s (Probes peer d now) a = acts.Dial d (address_in s peer) (probe_text (address_in s peer)) ∷ []
+calls s d a = []
+
+-- Deeds one after another
+
+abbrev pub after_all : List Deed → Running → Running
+after_all [] a = a
+after_all (d ∷ ds) a = after_all ds (after d a)
+
+abbrev pub lines : Setting → List Deed → List ℕ
+lines s [] = []
+lines s (d ∷ ds) = line s d ++ lines s ds
+
+abbrev pub calls_of : Setting → List Deed → Running → List Call
+calls_of s [] a = []
+calls_of s (d ∷ ds) a = calls s d a ++ calls_of s ds (after d a)
+
+-- the input of a deed, if it takes one
+abbrev pub input_of : Deed → Option Input
+input_of (Takes i) = Some i
+input_of (Accepts i) = Some i
+input_of d = None
+
+abbrev pub with_input : Option Input → List Input → List Input
+with_input None is = is
+with_input (Some i) is = i ∷ is
+
+-- the inputs that were taken, in their order
+abbrev pub inputs_of : List Deed → List Input
+inputs_of [] = []
+inputs_of (d ∷ ds) = with_input (input_of d) (inputs_of ds)

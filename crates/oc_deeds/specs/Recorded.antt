@@ -1,0 +1,74 @@
+-- What the lines of a record tell: the inputs of the deeds, in their order, and between them why requests were refused or replies not sent.
+use Rattle.std.specs.Prelude.{◌≡◌, ℕ, Bool, true, false, Option, None, Some, List, [], ◌∷◌, ◌++◌, codes}
+use Rattle.oc_base.specs.Groups.{shelf}
+use Rattle.oc_model.specs.declared.input.Input.{Input}
+use Rattle.oc_model.specs.Node.{Node}
+use Rattle.oc_routes.specs.Inputs.{input_line}
+use Rattle.oc_routes.specs.Refusals.{why_text}
+use Rattle.oc_deeds.specs.Deeds.{Accepts, Deed, Drops, Notes, Refuses, Setting, Takes, input_of, inputs_of, lines, note_line, with_input}
+use Rattle.oc_deeds.specs.Records.{record_head}
+use Rattle.oc_deeds.specs.declared.log.Log.TheVariants.{Record}
+
+-- a line after the beginning: that of an input, or one that begins with `!`
+pub data RecordLine : Type 0 where
+  Taken : Input → RecordLine
+  Noted : List ℕ → RecordLine
+
+-- as it is written
+abbrev pub record_line_text : ℕ → RecordLine → List ℕ
+record_line_text me (Taken i) = input_line me i
+record_line_text me (Noted line) = line
+
+abbrev pub record_text : ℕ → List RecordLine → List ℕ
+record_text me [] = []
+record_text me (l ∷ ls) = record_line_text me l ++ record_text me ls
+
+-- the input that a line tells
+abbrev pub input_in : RecordLine → Option Input
+input_in (Taken i) = Some i
+input_in (Noted line) = None
+
+abbrev pub inputs_in : List RecordLine → List Input
+inputs_in [] = []
+inputs_in (l ∷ ls) = with_input (input_in l) (inputs_in ls)
+
+abbrev pub drop_lines : Bool → List RecordLine
+drop_lines true = Noted (note_line (codes "write")) ∷ []
+drop_lines false = []
+
+-- the line of a deed, if it has one
+abbrev pub record_lines_of : Deed → List RecordLine
+record_lines_of (Takes i) = Taken i ∷ []
+record_lines_of (Accepts i) = Taken i ∷ []
+record_lines_of (Notes why) = Noted (note_line why) ∷ []
+record_lines_of (Refuses c count refusal) = Noted (note_line (why_text refusal.why)) ∷ []
+record_lines_of (Drops c told) = drop_lines told
+record_lines_of d = []
+
+-- the lines of deeds, in their order
+abbrev pub record_lines : List Deed → List RecordLine
+record_lines [] = []
+record_lines (d ∷ ds) = record_lines_of d ++ record_lines ds
+
+-- and the line of the input that is taken next
+abbrev pub line_of_next : Option Input → List RecordLine
+line_of_next None = []
+line_of_next (Some i) = Taken i ∷ []
+
+-- nothing is said of it, or the first of these deeds takes it
+abbrev pub IsNext : Option Input → List Deed → Type 0
+IsNext None ds = Unit {0}
+IsNext (Some i) [] = ⊥
+IsNext (Some i) (d ∷ ds) = input_of d ≡ Some i
+
+-- After the beginning of a record come the lines of these deeds, and perhaps the line of one more input, which the deeds after it begin with.
+pub record IsRecorded (s : Setting) (head : List ℕ) (deeds behind : List Deed) : Type 0 where
+  pub next : Option Input
+  pub follows : IsNext next behind
+  pub text : lines s deeds ≡ head ++ record_text s.me (record_lines deeds ++ line_of_next next)
+  pub inputs : inputs_in (record_lines deeds) ≡ inputs_of deeds
+
+-- Of a node that begins so, a record is nothing yet, or its beginning and these lines.
+abbrev pub IsRecordOf : Setting → Node → List Deed → List Deed → Type 0
+IsRecordOf s n [] behind = Unit {0}
+IsRecordOf s n (d ∷ ds) behind = s.log ≡ Record → IsRecorded s (record_head n.control (shelf n.groups)) (d ∷ ds) behind

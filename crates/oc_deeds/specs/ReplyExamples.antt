@@ -1,0 +1,59 @@
+-- Worked examples of what a connection is given.
+use Rattle.std.specs.Prelude.{◌≡◌, ℕ, true, false, None, Some, List, [], ◌∷◌, codes}
+use Rattle.oc_link.specs.Traffic.{given}
+use Rattle.oc_http.specs.declared.framing.Persistence.TheVariants.{Keep}
+use Rattle.oc_model.specs.Node.{new_node}
+use Rattle.oc_model.specs.declared.input.Input.TheVariants as inputs
+use Rattle.oc_routes.specs.declared.hint.Hint.TheVariants.{Of}
+use Rattle.oc_routes.specs.declared.manner.Manner.TheVariants.{Follow}
+use Rattle.oc_routes.specs.declared.routes.Operation.TheVariants as asks
+use Rattle.oc_deeds.specs.Deeds.{Accepts, BreaksOff, Deed, Gives, Permits, Replies, Running, Setting, after_all, calls_of}
+use Rattle.oc_deeds.specs.Replying.{IsOrdered, replies}
+use Rattle.oc_deeds.specs.declared.log.Log.TheVariants.{Inputs}
+use Rattle.oc_deeds.specs.declared.work.Transfer.{Transfer}
+
+-- node 1 of 2, which holds three bytes of a group
+abbrev node_one : Setting
+node_one = record { me = 1; addresses = codes "a:1" ∷ codes "b:2" ∷ []; key = None; log = Inputs }
+
+abbrev holds_three : Running
+holds_three = record {
+  node = record (new_node (record { nodes = 2; chain = 1; chunk = 4096; areas = 0 ∷ 0 ∷ [] }) 1) { groups = record { name = codes "/a"; bytes = codes "abc"; sealed = false } ∷ [] };
+  outbox = [];
+  works = [];
+  dials = [];
+}
+
+-- on connection 8 a client is told six bytes of it
+abbrev head_of_six : Deed
+head_of_six = Replies
+    (record { connection = 8; count = 40; asked = record { operation = asks.Client (codes "/a") 0 0 Follow; hint = Of 6 }; last = false; told = true; waited = false })
+    (record { text = codes "200:"; content = Some (record { start = 0; count = 6; chunked = false }); connection = Keep })
+    5
+
+-- what is left of them after the first three
+abbrev other_three : Transfer
+other_three = record { connection = 8; content = record { group = codes "/a"; at = 3; end = 6; chunked = false }; keeps = true; told = true; since = 5 }
+
+-- three bytes are given, three more are published, and given
+abbrev six : List Deed
+six = head_of_six ∷ Accepts (inputs.Publish (codes "/a") (codes "def")) ∷ Gives other_three 9 ∷ []
+
+-- or the connection is broken off
+abbrev cut_off : List Deed
+cut_off = head_of_six ∷ Accepts (inputs.Publish (codes "/a") (codes "def")) ∷ BreaksOff 8 ∷ []
+
+abbrev is_given : ℕ → List Deed → List ℕ → Type 0
+is_given c deeds text = given c (calls_of node_one deeds holds_three) ≡ text
+
+abbrev is_owed : ℕ → List Deed → List ℕ → Type 0
+is_owed c deeds text = replies c deeds (after_all deeds holds_three).node.groups ≡ text
+
+pub record AreReplied : Type 0 where
+  pub ordered : IsOrdered node_one [] six holds_three
+  pub whole : is_given 8 six (codes "200:abcdef")
+  pub owed : is_owed 8 six (codes "200:abcdef")
+  pub other : is_owed 7 six []
+  pub cut : is_given 8 cut_off (codes "200:abc")
+  pub owed_then : is_owed 8 cut_off (codes "200:abcdef")
+  pub permission : is_owed 8 (Permits 8 ∷ six) (codes "HTTP/1.1 100 Continue\r\n\r\n200:abcdef")

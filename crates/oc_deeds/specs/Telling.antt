@@ -1,0 +1,55 @@
+-- Inputs that are taken, with what is told of them.
+use Rattle.std.specs.Prelude.{◌≡◌, ℕ, Option, None, Some, List, [], ◌∷◌, ◌++◌}
+use Rattle.oc_model.specs.declared.answer.Answer.{Answer}
+use Rattle.oc_model.specs.declared.input.Input.{Input}
+use Rattle.oc_model.specs.Node.{Control}
+use Rattle.oc_deeds.specs.Brief.{asked_line, at_stake, lost_lines, moved_line, told_input, told_of}
+use Rattle.oc_deeds.specs.Deeds.{Accepts, Says, Takes}
+use Rattle.oc_deeds.specs.Parts.{Part, ◌>>◌}
+use Rattle.oc_deeds.specs.Records.{told_ahead}
+use Rattle.oc_deeds.specs.declared.log.Log.{Log}
+use Rattle.oc_deeds.specs.declared.log.Log.TheVariants as logs
+use Rattle.oc_deeds.specs.declared.brief.Before.{Before}
+
+-- what is told of an input before its frame
+abbrev pub says_ahead : Input → Part
+says_ahead i s a = Says (told_ahead s.log s.me i) ∷ []
+
+-- an input is taken, of which nothing is told after it
+abbrev pub takes_ahead : Input → Part
+takes_ahead i s a = Says (told_ahead s.log s.me i) ∷ Takes i ∷ []
+
+-- an input is taken, and what is told after it is said
+abbrev pub takes_told : Input → Part
+takes_told i s a = Takes i ∷ Says (told_of s.log a.node i) ∷ []
+
+-- the same for the input of a request
+abbrev pub accepts_told : Input → Part
+accepts_told i s a = Accepts i ∷ Says (told_of s.log a.node i) ∷ []
+
+-- an input is taken, and what is told of it is said, before it and after it
+abbrev pub takes_in : Input → Part
+takes_in i = says_ahead i >> takes_told i
+
+-- the same for the input of a request
+abbrev pub accepts_in : Input → Part
+accepts_in i = says_ahead i >> accepts_told i
+
+-- What is known before an input
+
+-- all that is to be told of it, but for what it changes
+pub record IsNoted (n : Control) (i : Input) (b : Before) : Type 0 where
+  pub told : b.told.items ≡ told_input n.me i
+  pub leased : b.leased.items ≡ at_stake n i
+  pub mode : b.mode ≡ n.kept.mode
+
+abbrev pub IsBefore : Log → Control → Input → Option Before → Type 0
+IsBefore logs.Inputs n i before = before ≡ None
+IsBefore logs.Record n i before = before ≡ None
+IsBefore logs.Brief n i None = ⊥
+IsBefore logs.Brief n i (Some b) = IsNoted n i b
+
+-- what is told by that, of a node that is so after the input and answered so
+abbrev pub told_behind : Option Before → Control → Answer → List ℕ
+told_behind None n answer = []
+told_behind (Some b) n answer = asked_line b.told.items answer ++ lost_lines n b.leased.items ++ moved_line b.mode n

@@ -1,0 +1,113 @@
+-- Worked examples of turns and their parts.
+use Rattle.std.specs.Prelude.{◌≡◌, ℕ, true, false, None, Some, List, [], ◌∷◌, codes}
+use Rattle.oc_base.specs.declared.shelf.Shelf.{Shelf}
+use Rattle.oc_link.specs.declared.event.LinkEvent.TheVariants as events
+use Rattle.oc_link.specs.declared.event.Loss.TheVariants as losses
+use Rattle.oc_model.specs.Node.{new_node}
+use Rattle.oc_model.specs.declared.input.Input.TheVariants as inputs
+use Rattle.oc_model.specs.declared.message.Body.TheVariants as bodies
+use Rattle.oc_model.specs.declared.message.Message.{Message}
+use Rattle.oc_routes.specs.declared.hint.Hint.TheVariants.{Plain}
+use Rattle.oc_routes.specs.declared.verdict.Request.{Request}
+use Rattle.oc_routes.specs.declared.verdict.Verdict.TheVariants as verdicts
+use Rattle.oc_routes.specs.declared.manner.Manner.TheVariants.{Follow}
+use Rattle.oc_routes.specs.declared.routes.Operation.TheVariants as asks
+use Rattle.oc_deeds.specs.Asks.{obeys, waiting}
+use Rattle.oc_deeds.specs.Choices.{due_place, free_number, next_to_dial, wait_for}
+use Rattle.oc_deeds.specs.Deeds.{Accepts, BreaksOff, Drops, Gives, LaysAside, Permits, Reads, Running, Says, Sees, Setting, Takes, Tells, Waits, after_all}
+use Rattle.oc_deeds.specs.Dials.{dialling}
+use Rattle.oc_deeds.specs.Pace.{first_pace}
+use Rattle.oc_deeds.specs.Rooms.{gone, room}
+use Rattle.oc_deeds.specs.Turns.{Observation, ticks, turn}
+use Rattle.oc_deeds.specs.declared.came.Came.TheVariants as comes
+use Rattle.oc_deeds.specs.declared.dials.Errand.TheVariants as errands
+use Rattle.oc_deeds.specs.declared.pace.Pace.{Pace}
+use Rattle.oc_deeds.specs.declared.log.Log.TheVariants.{Inputs, Record}
+use Rattle.oc_deeds.specs.declared.work.Transfer.{Transfer}
+use Rattle.oc_deeds.specs.declared.work.Work.{Work}
+use Rattle.oc_deeds.specs.declared.work.Work.TheVariants as works
+
+-- node 1 of 2, at these addresses
+abbrev example : Setting
+example = record { me = 1; addresses = codes "a:1" ∷ codes "b:2" ∷ []; key = None; log = Inputs }
+
+-- node 1, new, with this under way
+abbrev started : List Work → Running
+started ws = record { node = new_node (record { nodes = 2; chain = 1; chunk = 4096; areas = 0 ∷ 0 ∷ [] }) 1; outbox = []; works = ws; dials = [] }
+
+-- the same with a group of three bytes
+abbrev held : List Work → Running
+held ws = after_all (Accepts (inputs.Publish (codes "/a") (codes "abc")) ∷ []) (started ws)
+
+-- a content of connection 8 that goes up to byte 6, from this byte on
+abbrev place : ℕ → Transfer
+place at = record { connection = 8; content = record { group = codes "/a"; at = at; end = 6; chunked = false }; keeps = true; told = true; since = 5 }
+
+abbrev shelf_line : ℕ → List Shelf
+shelf_line count = record { group = codes "/a"; held = count; sealed = false } ∷ []
+
+-- messages to node 2
+abbrev look : Message
+look = record { from = 1; to = 2; body = bodies.Look }
+
+abbrev fetch : Message
+fetch = record { from = 1; to = 2; body = bodies.Fetch [] }
+
+-- what a quiet turn is told
+abbrev quiet : Observation
+quiet = record { before = 0; event = events.Quiet; bytes = []; came = comes.Nothing; now = 5; median = 0; started = 5; seconds = 7 }
+
+-- a client that follows the group has all of it
+abbrev follows : Request
+follows = record { count = 40; asked = record { operation = asks.Client (codes "/a") 0 3 Follow; hint = Plain }; input = Some (inputs.Client 0 3 (codes "/a")); last = false }
+
+-- a tick was taken at 0
+abbrev ticked_once : Pace
+ticked_once = record { last = Some 0; interval = 100; most = 1000; whole = false; second = None }
+
+-- the same node, which writes a record; its tick at 0 was of second 7
+abbrev recording : Setting
+recording = record example { log = Record }
+
+abbrev ticked_at_seven : Pace
+ticked_at_seven = record { last = Some 0; interval = 100; most = 1000; whole = true; second = Some 7 }
+
+pub record AreTurns : Type 0 where
+  -- a content is given what is there, and is laid aside until there is more
+  pub gives : room 8 9 example (held (works.Content (place 0) ∷ [])) ≡ Gives (place 0) 9 ∷ []
+  pub lays_aside : room 8 9 example (held (works.Content (place 3) ∷ [])) ≡ LaysAside (place 3) ∷ []
+  pub breaks : room 8 30005 example (held (works.Content (place 3) ∷ [])) ≡ BreaksOff 8 ∷ []
+  pub no_content : room 7 9 example (held (works.Content (place 3) ∷ [])) ≡ []
+  -- a connection that failed is told of, and one that gave way is not
+  pub failed : gone 8 losses.Failed example (started (works.Content (place 0) ∷ [])) ≡ Drops 8 true ∷ []
+  pub gave_way : gone 8 losses.GaveWay example (started (works.Content (place 0) ∷ [])) ≡ Drops 8 false ∷ []
+  -- a content laid aside is due when its group has grown, and after its time
+  pub not_due : due_place (works.Aside (place 3) ∷ []) (shelf_line 3) 100 ≡ None
+  pub grown : due_place (works.Aside (place 3) ∷ []) (shelf_line 4) 100 ≡ Some 0
+  pub late : due_place (works.Content (place 0) ∷ works.Aside (place 3) ∷ []) (shelf_line 3) 30005 ≡ Some 1
+  -- how long a turn waits
+  pub first_wait : wait_for (first_pace false 1000) [] 5 ≡ 0
+  pub tick_wait : wait_for ticked_once (works.Aside (place 3) ∷ []) 10 ≡ 90
+  pub work_wait : wait_for ticked_once (works.Aside (place 3) ∷ []) 29990 ≡ 0
+  pub second_wait : wait_for ticked_at_seven [] 130 ≡ 100
+  pub interval_wait : wait_for ticked_at_seven [] 10 ≡ 100
+  -- to one receiver a message may be dialled, and besides it one that asks for content
+  pub oldest : next_to_dial (look ∷ fetch ∷ []) [] ≡ Some 0
+  pub besides : next_to_dial (look ∷ fetch ∷ []) (dialling 0 (errands.Message 2 false) ∷ []) ≡ Some 1
+  pub neither : next_to_dial (look ∷ fetch ∷ []) (dialling 0 (errands.Message 2 false) ∷ dialling 1 (errands.Message 2 true) ∷ []) ≡ None
+  -- numbers of dials
+  pub least : free_number (dialling 0 (errands.Probe 2 0) ∷ dialling 2 (errands.Probe 2 0) ∷ []) ≡ 1
+  pub next : free_number (dialling 0 (errands.Probe 2 0) ∷ dialling 1 (errands.Probe 2 0) ∷ []) ≡ 2
+  -- a permission
+  pub permits : obeys 7 30 verdicts.Permit 9 example (started []) ≡ Permits 7 ∷ []
+  -- a client that follows a group and has all of it waits
+  pub waits : obeys 7 40 (verdicts.Ask follows) 9 example (held []) ≡ Waits (waiting 7 follows 9) ∷ []
+  -- a tick
+  pub first_tick : ticks (first_pace false 1000) 5 7 example (started []) ≡ Tells 7 ∷ Says [] ∷ Takes (inputs.Tick 7) ∷ Says [] ∷ []
+  pub no_tick : ticks ticked_once 5 7 example (started []) ≡ []
+  -- a tick in a record: its line comes first, and the clock has to pass the second of the last one
+  pub first_recorded : ticks (first_pace true 1000) 5 7 recording (started []) ≡ Tells 7 ∷ Says (codes "tick 1 7\n") ∷ Takes (inputs.Tick 7) ∷ Says [] ∷ []
+  pub same_second : ticks ticked_at_seven 130 7 recording (started []) ≡ Tells 7 ∷ []
+  pub next_second : ticks ticked_at_seven 130 8 recording (started []) ≡ Tells 8 ∷ Says (codes "tick 1 8\n") ∷ Takes (inputs.Tick 8) ∷ Says [] ∷ []
+  -- a first turn in which nothing happens
+  pub quiet_turn : turn (first_pace false 1000) None quiet example (started []) ≡ Reads 0 ∷ Sees events.Quiet 0 [] ∷ Reads 5 ∷ Tells 7 ∷ Says [] ∷ Takes (inputs.Tick 7) ∷ Says [] ∷ []

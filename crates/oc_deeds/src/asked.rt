@@ -1,0 +1,76 @@
+//! What is known of a request by itself: how it waits, what of a shelf it asks for, and to whom its reply goes.
+
+ghost use Rattle.std.specs.Prelude.{◌≡◌};
+ghost use Rattle.oc_deeds.specs.Asks.{holding_in};
+ghost use Rattle.oc_deeds.specs.Asks as asks;
+ghost use Rattle.oc_deeds.specs.Deeds.{back_to, others_than};
+ghost use Rattle.oc_deeds.specs.Deeds as deeds;
+ghost use Rattle.oc_deeds.specs.Hurries.{hurries};
+
+use crate::work::Waiting;
+use oc_base::{NodeId, Shelf};
+use oc_link::ConnectionId;
+use oc_model::{Answer, Input, Message};
+use oc_routes::{Holding, Operation, Request, split_reply};
+
+/// A request that waits on this connection since this time, in milliseconds, without its input.
+pub fn waiting(connection: ConnectionId, request: Request, now: u64) -> Waiting
+    ensures { result ≡ asks.waiting connection request now }
+{
+    Waiting {
+        connection,
+        request: Request {
+            count: request.count,
+            asked: request.asked,
+            input: None,
+            last: request.last,
+        },
+        since: now,
+    }
+}
+
+/// What the node holds of the group that was asked for.
+pub fn holding_for(operation: &Operation, shelf: &[Shelf]) -> Holding
+    ensures { result ≡ holding_in operation.now shelf.now }
+{
+    match operation {
+        Operation::Client { group, .. } => Holding::in_shelf(shelf, group),
+        _ => Holding {
+            there: false,
+            held: 0,
+            sealed: false,
+        },
+    }
+}
+
+/// Whether the next tick is to come soon after this answer: what was asked added to a group, or closed it.
+pub fn hurries(operation: &Operation, answer: Answer) -> bool
+    ensures { result ≡ hurries operation.now answer }
+{
+    match operation {
+        Operation::Publish { .. } => answer == Answer::Ok,
+        Operation::Seal { .. } => answer == Answer::Ok || answer == Answer::Ignored,
+        _ => false,
+    }
+}
+
+/// Who sent the message that an input is.
+pub fn sender_of(input: &Input) -> Option<NodeId>
+    ensures { result ≡ deeds.sender_of input.now }
+{
+    match input {
+        Input::Delivered(message) => Some(message.from),
+        _ => None,
+    }
+}
+
+/// Splits messages into what goes back to a sender and all others.
+pub fn held_back(sender: Option<NodeId>, sends: Vec<Message>) -> (Option<Message>, Vec<Message>)
+    ensures back { result.0 ≡ back_to sender sends.items }
+    ensures others { result.1.items ≡ others_than sender sends.items }
+{
+    match sender {
+        Some(sender) => split_reply(sends, sender),
+        None => (None, sends),
+    }
+}

@@ -1,0 +1,46 @@
+ghost use Rattle.std.specs.Prelude.{◌≡◌};
+
+use oc_base::NodeId;
+use oc_link::{ConnectionId, Loss};
+use oc_model::Input;
+use oc_probe::ProbeFault;
+use oc_routes::Verdict;
+
+/// What came by an event, once its bytes were read.
+#[derive(Debug, Drop)]
+pub enum Came {
+    /// This many bytes of a request, with what is to be done with them.
+    Request {
+        connection: ConnectionId,
+        count: u64,
+        verdict: Verdict,
+    },
+    /// A connection wants more of its reply.
+    Room(ConnectionId),
+    /// A connection is over before its reply was sent whole.
+    Gone(ConnectionId, Loss),
+    /// The reply to a message, with the input that results from it. `taken` where its status is 200.
+    Reply {
+        input: Option<Input>,
+        taken: bool,
+    },
+    /// The reply to a probe of a peer that began at this time, in milliseconds; `fault` where it is no answer.
+    Probed {
+        peer: NodeId,
+        since: u64,
+        fault: Option<ProbeFault>,
+    },
+    /// Nothing.
+    Nothing,
+}
+
+impl Came {
+    ghost use Rattle.oc_deeds.specs.Served.{is_something};
+
+    /// Whether it is something to be served.
+    pub fn is_something(&self) -> bool
+        ensures { result ≡ is_something self.now }
+    {
+        !matches!(self, Came::Nothing)
+    }
+}

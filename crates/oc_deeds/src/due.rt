@@ -1,0 +1,38 @@
+//! What is to be done with work that is due by itself.
+
+ghost use Rattle.std.specs.Prelude.{◌≡◌, is_some, slice_get, true};
+ghost use Rattle.oc_deeds.specs.Asks.{due_of};
+ghost use Rattle.oc_deeds.specs.Works.{client_input, pending};
+
+use crate::work::{Pending, Transfer, Waiting, Work, client_input, pending_of};
+
+/// What is to be done with work that is due by itself.
+#[derive(Debug, Drop)]
+pub enum Due {
+    /// A content goes on.
+    Aside(Transfer),
+    /// A client that waits is answered.
+    Waits(Pending),
+    Nothing,
+}
+
+/// What is to be done with the work at a place.
+pub fn due_at(works: &[Work], place: usize) -> Due
+    ensures { result ≡ due_of (slice_get works.now place) }
+{
+    match works.get(place) {
+        Some(Work::Aside(place)) => Due::Aside(*place),
+        Some(Work::Waits(waiting)) => Due::Waits(to_wake(waiting)),
+        Some(Work::Content(_)) => Due::Nothing,
+        None => Due::Nothing,
+    }
+}
+
+/// A request that waits is to be answered.
+fn to_wake(waiting: &Waiting) -> Pending
+    ensures { result ≡ pending waiting.now.connection waiting.now.request (is_some (client_input waiting.now.request.asked.operation waiting.now.request.asked.hint)) true }
+{
+    let request = &waiting.request;
+    let input = client_input(&request.asked.operation, request.asked.hint);
+    pending_of(waiting.connection, request, input.is_some(), true)
+}

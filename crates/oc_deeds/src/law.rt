@@ -1,0 +1,48 @@
+//! Laws of the definitions.
+
+ghost use Rattle.std.specs.Prelude.{◌≡◌, ◌≢◌, ◌⊎◌, ℕ, Bool, List, [], ◌++◌};
+ghost use Rattle.oc_base.specs.declared.group.Group.{Group};
+ghost use Rattle.oc_link.specs.Calls.{IsFront};
+ghost use Rattle.oc_link.specs.Traffic.{given};
+ghost use Rattle.oc_link.specs.declared.call.Call.{Call};
+ghost use Rattle.oc_link.specs.declared.phase.Phase.TheVariants.{Answering, Awaiting, Whole};
+ghost use Rattle.oc_model.specs.Node.{Node};
+ghost use Rattle.oc_model.specs.Step.{step};
+ghost use Rattle.oc_model.specs.declared.answer.Answer.{Answer};
+ghost use Rattle.oc_model.specs.declared.input.Input.TheVariants.{Client as ClientInput};
+ghost use Rattle.oc_routes.specs.declared.hint.Hint.{Hint};
+ghost use Rattle.oc_routes.specs.declared.hint.Hint.TheVariants.{Here};
+ghost use Rattle.oc_routes.specs.declared.manner.Manner.{Manner};
+ghost use Rattle.oc_routes.specs.declared.routes.Operation.TheVariants.{Client};
+ghost use Rattle.oc_deeds.specs.Deeds.{Deed, Running, Setting, after_all, calls_of};
+ghost use Rattle.oc_deeds.specs.Examples.{AreRuns};
+ghost use Rattle.oc_deeds.specs.ReplyExamples.{AreReplied};
+ghost use Rattle.oc_deeds.specs.Replying.{IsGivable, IsOrdered, client_content, replies, phase_on};
+
+/// Worked examples of short runs come out as they should. They are computed.
+pub fn examples_compute()
+    ensures { AreRuns }
+{}
+
+/// Whatever a running node does from a moment at which nothing is under way: each connection was given a beginning of the
+/// replies to its requests, one after another, and all of them where its next request is awaited or its last reply is
+/// whole.
+pub fn connections_are_given_their_replies()
+    ensures front { (s : Setting) (made : List Call) (deeds : List Deed) (a : Running) (c : ℕ)
+        → a.works ≡ [] → phase_on c made ≢ Answering → IsOrdered s made deeds a
+        → IsFront (given c (calls_of s deeds a)) (replies c deeds (after_all deeds a).node.groups) }
+    ensures whole { (s : Setting) (made : List Call) (deeds : List Deed) (a : Running) (c : ℕ)
+        → a.works ≡ [] → phase_on c made ≢ Answering → IsOrdered s made deeds a
+        → (phase_on c (made ++ calls_of s deeds a) ≡ Awaiting) ⊎ (phase_on c (made ++ calls_of s deeds a) ≡ Whole)
+        → given c (calls_of s deeds a) ≡ replies c deeds (after_all deeds a).node.groups }
+    ensures examples { AreReplied }
+{}
+
+/// What a client is given in chunks is there when it is answered, by the answer of its step or by the node itself.
+pub fn what_is_given_in_chunks_is_there()
+    ensures step { (n : Node) (group : List ℕ) (area start : ℕ) (manner : Manner) (hint : Hint) (last : Bool) (addresses : List (List ℕ))
+        → IsGivable (client_content (Client group area start manner) hint last (step n (ClientInput area start group)).answer (step n (ClientInput area start group)).node.groups addresses)
+        (step n (ClientInput area start group)).node.groups }
+    ensures here { (answer : Answer) (groups : List Group) (group : List ℕ) (area start : ℕ) (manner : Manner) (last : Bool) (addresses : List (List ℕ))
+        → IsGivable (client_content (Client group area start manner) Here last answer groups addresses) groups }
+{}

@@ -1,0 +1,54 @@
+//! What is under way on a connection that has room, or that is over.
+
+ghost use Rattle.std.specs.Prelude.{◌≡◌, ◌&&◌};
+ghost use Rattle.std.specs.Option.{option_copied};
+ghost use Rattle.oc_link.specs.Failures.{is_failure};
+ghost use Rattle.oc_deeds.specs.Rooms.{is_told};
+ghost use Rattle.oc_deeds.specs.Rooms as rooms;
+ghost use Rattle.oc_deeds.specs.Works.{work_on};
+
+use crate::work::{Transfer, Work};
+use crate::works::place_on;
+use oc_link::{ConnectionId, Loss};
+
+/// The content that is given on a connection.
+pub fn content_on(works: &[Work], connection: ConnectionId) -> Option<Transfer>
+    ensures { result ≡ rooms.content_in (work_on connection works.now) }
+{
+    match work_on(works, connection) {
+        Some(Work::Content(place)) => Some(*place),
+        _ => None,
+    }
+}
+
+/// What is under way on a connection.
+fn work_on(works: &[Work], connection: ConnectionId) -> Option<&Work>
+    ensures { option_copied result ≡ work_on connection works.now }
+{
+    match place_on(works, connection) {
+        Some(place) => works.get(place),
+        None => None,
+    }
+}
+
+/// Whether a line was written for the request of a connection that is over: also for one whose reply was given
+/// whole, since only such a connection is told of.
+pub fn is_told(works: &[Work], connection: ConnectionId) -> bool
+    ensures { result ≡ is_told (work_on connection works.now) }
+{
+    match work_on(works, connection) {
+        None => true,
+        Some(Work::Content(place) | Work::Aside(place)) => place.told,
+        Some(Work::Waits(_)) => false,
+    }
+}
+
+/// Whether a line tells of this loss, where one was written for the request or not.
+pub fn tells(loss: Loss, told: bool) -> bool
+    ensures { result ≡ (is_failure loss && told) }
+{
+    match loss {
+        Loss::Failed => told,
+        Loss::GaveWay => false,
+    }
+}

@@ -1,0 +1,72 @@
+ghost use Rattle.std.specs.Prelude.{◌≡◌, ◌++◌, ◌∷◌, [], OnErr, OnOk};
+ghost use Rattle.oc_deeds.specs.Works.{place_on};
+
+use crate::work::Work;
+use oc_base::Memory;
+use oc_link::ConnectionId;
+use std::alloc::Global;
+use std::marker::Model;
+
+/// What is under way, the oldest first.
+#[derive(Debug, Drop)]
+pub struct Works {
+    list: Vec<Work>,
+}
+
+impl Model for Works {
+    ghost use Rattle.std.specs.Prelude.{List};
+    ghost use Rattle.oc_deeds.specs.declared.work.Work.{Work};
+
+    ghost Value = { List Work };
+
+    ghost view = { λ w. w.list.items };
+}
+
+impl Works {
+    ghost use Rattle.oc_deeds.specs.Works.{work_on, without};
+
+    /// Nothing is under way.
+    pub fn new(alloc: Global) -> Works
+        ensures { result ≡ [] }
+    {
+        Works {
+            list: Vec::new(alloc),
+        }
+    }
+
+    /// Begins some work. Where memory runs out, all is as before.
+    pub fn begin(&mut self, work: Work) -> Result<(), Memory>
+        ensures begun { OnOk result (self.new ≡ self.old ++ work ∷ []) }
+        ensures fails { OnErr result (self.new ≡ self.old) }
+    {
+        self.list.push(work)?;
+        Ok(())
+    }
+
+    /// Takes out what is under way on a connection, if anything is.
+    pub fn take(&mut self, connection: ConnectionId) -> Option<Work>
+        ensures work { result ≡ work_on connection self.old }
+        ensures rest { self.new ≡ without connection self.old }
+    {
+        match place_on(&self.list, connection) {
+            Some(place) => Some(self.list.remove(place)),
+            None => None,
+        }
+    }
+
+    /// All of it.
+    pub fn list(&self) -> &[Work]
+        ensures { result.now ≡ self.now }
+    {
+        &self.list
+    }
+}
+
+/// The place of what is under way on a connection, if anything is.
+pub fn place_on(works: &[Work], connection: ConnectionId) -> Option<usize>
+    ensures { result ≡ place_on connection works.now }
+{
+    works
+        .iter()
+        .position(|work| work.connection() == connection)
+}

@@ -1,5 +1,0 @@
-use Rattle.oc_server.proofs.ChunksThere.{here_there, step_there}
-use Rattle.oc_server.proofs.law.what_is_given_in_chunks_is_there.Goals as goal
-
-pub returns : goal.returns
-returns c = record { step = step_there; here = here_there }

@@ -29,6 +29,7 @@ fn play(rt: &HostRuntime) -> io::Result<()> {
     wire_cases::wire::play(rt)?;
     serve_cases::connections::play(rt)?;
     wire_cases::service::play(rt)?;
+    folder_cases::play(rt)?;
     node_cases::node::play(rt)?;
     serve_cases::serve::play(rt)?;
     process_tools::play(rt)

@@ -1,0 +1,5 @@
+pub mod Forms
+pub mod Moves
+pub mod Rows
+pub mod Star
+pub mod Arrivals

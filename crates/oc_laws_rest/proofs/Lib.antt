@@ -3,3 +3,4 @@ pub mod Moves
 pub mod Rows
 pub mod Star
 pub mod Arrivals
+pub mod Ticks

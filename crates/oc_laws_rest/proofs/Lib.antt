@@ -4,3 +4,5 @@ pub mod Rows
 pub mod Star
 pub mod Arrivals
 pub mod Ticks
+pub mod Rested
+pub mod News

@@ -2,5 +2,7 @@
 #![tactic(auto)]
 
 mod examples;
+mod law;
 
 pub use examples::rounds_compute;
+pub use law::new_networks_rest;

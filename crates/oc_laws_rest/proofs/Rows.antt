@@ -18,6 +18,10 @@ pub record IsLeaf (h : Header) (up : ℕ → Bool) (x : ℕ) : Type 0 where
   pub past : h.chain < x
   pub within : x ≤ h.nodes
 
+-- the end of the lease of x, if it is set
+abbrev pub end_of : List (Option ℕ) → ℕ → Option ℕ
+end_of ends x = at ends x None
+
 -- this table has the lease of x
 abbrev pub Row : List Cert → ℕ → Type 0
 Row t x = newest t x ≡ Some (birth x 1 1)

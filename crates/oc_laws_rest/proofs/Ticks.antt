@@ -15,7 +15,7 @@ use Rattle.oc_model.specs.Checking.{is_due}
 use Rattle.oc_model.specs.ClaimsTree.{table_of}
 use Rattle.oc_model.specs.Leases.{start_all, ended}
 use Rattle.oc_model.specs.Node.{Header, Node, new_node, new_control}
-use Rattle.oc_model.specs.Numbers.{at, has}
+use Rattle.oc_model.specs.Numbers.{has}
 use Rattle.oc_model.specs.Table.{leased_children}
 use Rattle.oc_model.specs.World.{World, Process, process, node, is_up, up_ids, after_act}
 use Rattle.oc_model.specs.WorldBounds.{IsOneOf}
@@ -24,7 +24,7 @@ use Rattle.oc_model.proofs.Members.{all_test}
 use Rattle.oc_laws_rest.specs.Rounds.{Turn, Round, after_turns, arrived, after_arrivals, after_round, is_distinct, are_the_up, is_timely, are_sent, new_messages, is_round}
 use Rattle.oc_laws_rest.proofs.Forms.{root_node, Going, looking_node, joined_node, letter, leaf_begins, leaf_checks, root_begins, root_ticks, HasTicked}
 use Rattle.oc_laws_rest.proofs.Moves.{Is, Turned, ticked, Waits, waits_new, waits_more}
-use Rattle.oc_laws_rest.proofs.Rows.{IsLeaf, Row, leased_row, none_set, none_ended}
+use Rattle.oc_laws_rest.proofs.Rows.{IsLeaf, Row, end_of, leased_row, none_set, none_ended}
 use Rattle.oc_laws_rest.proofs.Star.{LooksTo, SeenBy, AsksFor, Accepts, ChecksIn, search_of, HasRow, Looks, Asks, Joins, LeafIs, RootIs, AreFresh, IsKnown, Arriving, net_on, ups_on}
 use Rattle.oc_laws_rest.proofs.Arrivals.{source_apart, arrives}
 
@@ -57,7 +57,7 @@ due_then (Some d) clock c e = le-leb d (max clock c) (omega (arith, leb-true d c
 module _ (h : Header) (up : ℕ → Bool) (some : 1 ≤ h.chain) (source : up 1 ≡ true) (kinds : (y : ℕ) → up y ≡ true → (y ≡ 1) ⊎ IsLeaf h up y) where
   -- each lease ends a lease's time from now
   abbrev AreRenewed : (w : World) → RootIs h up w → Type 0
-  AreRenewed w r = (y : ℕ) → IsLeaf h up y → Row r.table y → at r.ends y None ≡ Some (r.soft.clock + 30)
+  AreRenewed w r = (y : ℕ) → IsLeaf h up y → Row r.table y → end_of r.ends y ≡ Some (r.soft.clock + 30)
 
   -- a world in which a round may begin: each node is new, or has its place
   pub record Begins (w : World) : Type 0 where
@@ -164,7 +164,7 @@ module _ (h : Header) (up : ℕ → Bool) (some : 1 ≤ h.chain) (source : up 1 
           let soon : nat_le c (r.soft.clock + 29) ≡ true =
           (and_parts (nat_le (unwrap_or r.soft.due r.soft.clock) c) (nat_le c (r.soft.clock + 29)) (sym (ap (λ (p : Process). is_timely p.node.control c) r.is) ∙ timely)).1 in
           let ahead : now < r.soft.clock + 30 = omega (arith, leb-true c (r.soft.clock + 29) soon) in
-          let each : (y : ℕ) → IsOneOf y (leased_children r.table 1) → at r.ends y None ≡ Some (r.soft.clock + 30) = λ y one. let row = leased_row h up r.table y r.rows one in renewed y row.1 row.0 in
+          let each : (y : ℕ) → IsOneOf y (leased_children r.table 1) → end_of r.ends y ≡ Some (r.soft.clock + 30) = λ y one. let row = leased_row h up r.table y r.rows one in renewed y row.1 row.0 in
           let ticks : HasTicked h r.epoch r.table r.ends r.rates now r.soft c =
           root_ticks h r.epoch r.table r.ends r.rates now r.soft c refl (none_set r.table r.ends now (r.soft.clock + 30) each) (none_ended r.table r.ends now (r.soft.clock + 30) ahead each) in
           let next : Node = root_node h ticks.epoch r.table ticks.soft r.ends r.rates in
@@ -240,9 +240,7 @@ module _ (h : Header) (up : ℕ → Bool) (some : 1 ≤ h.chain) (source : up 1 
             waits_new w (after_act w (At x (Tick c))) (length w0.net) [] (ChecksIn x) check_in rest turn.net at.before (λ j one. absurd one) (checks.1, refl),
           )) (
             record { node = x; leaf = leaf; said = inr (inr (inr (inr (inl ((checks.1, refl), row))))) },
-            record { node = x; leaf = leaf; said = inl refl },
-            record { node = x; leaf = leaf; said = inr (inr (inr (inr (inr (inr ([], refl)))))) },
-            tt,
+            (record { node = x; leaf = leaf; said = inl refl }, (record { node = x; leaf = leaf; said = inr (inr (inr (inr (inr (inr ([], refl)))))) }, tt)),
           )
 
     -- All ticks

@@ -1,5 +1,5 @@
 -- Each message that arrives in a star that forms: what it does at the source, or at the node past the chain to which it goes.
-use Rattle.std.proofs.Common.{◌≡◌, ℕ, zero, suc, ◌+◌, ◌-◌, ◌≤◌, ◌<◌, Bool, true, false, Option, Some, None, List, [], ◌∷◌, ◌++◌, ◌⊎◌, inl, inr, length, refl, ap, sym, subst, ◌∙◌, ⊎_elim, arith, length-append}
+use Rattle.std.proofs.Common.{◌≡◌, ℕ, zero, suc, ◌+◌, ◌-◌, ◌≤◌, Bool, true, false, Some, None, List, [], ◌∷◌, ◌++◌, ◌⊎◌, inl, inr, length, refl, ap, sym, subst, ◌∙◌, ⊎_elim, arith}
 use Rattle.std.specs.List.{AllByRecursion}
 use Rattle.std.proofs.lemmas.Bool.{cases_eq}
 use Rattle.std.proofs.lemmas.List.{length-set}
@@ -23,8 +23,8 @@ use Rattle.oc_laws_step.proofs.Tables.{newest-put_same, newest-put_other}
 use Rattle.oc_laws_rest.specs.Rounds.{arrived}
 use Rattle.oc_laws_rest.proofs.Forms.{root_node, Going, looking_node, asking_node, joined_node, top, letter, leaf_asks, leaf_looking_yes, leaf_looking_ack, leaf_joins, leaf_asking_seen, leaf_asking_ack, leaf_joined_yes, leaf_reviews, leaf_joined_seen, leaf_acked, root_looked, root_fetched, root_checked_in, root_asked_again, root_asked}
 use Rattle.oc_laws_rest.proofs.Moves.{Is, Turned, Waits, taken, waits_new, waits_on, at_some}
-use Rattle.oc_laws_rest.proofs.Rows.{IsLeaf, Row, IsRow, AreRows, row_or_none, rows_put, no_member, renewed, renewed_other}
-use Rattle.oc_laws_rest.proofs.Star.{LooksTo, SeenBy, AsksFor, Accepts, ChecksIn, Acks, Fetches, ends_of, tag, search_of, HasRow, table_same, Looks, Asks, Joins, LeafIs, RootIs, AreFresh, IsSaid, IsKnown, Arriving, ups_on, leaf_stays, root_stays, fresh_stays, assemble}
+use Rattle.oc_laws_rest.proofs.Rows.{IsLeaf, Row, AreRows, row_or_none, rows_put, no_member, renewed, renewed_other}
+use Rattle.oc_laws_rest.proofs.Star.{LooksTo, SeenBy, AsksFor, Accepts, ChecksIn, ends_of, tag, search_of, HasRow, table_same, LeafIs, RootIs, AreFresh, IsSaid, IsKnown, Arriving, ups_on, leaf_stays, root_stays, fresh_stays, assemble}
 
 -- the source is no node past the chain
 pub source_apart : (h : Header) (up : ℕ → Bool) → 1 ≤ h.chain → (y : ℕ) → IsLeaf h up y → 1 ≡ y → ⊥

@@ -1,5 +1,5 @@
 -- The nodes of a star under node 1: the forms that the source and the others take, and the effect of each input on them.
-use Rattle.std.proofs.Common.{◌≡◌, ℕ, zero, suc, ◌+◌, ◌-◌, ◌%◌, ◌≤◌, ◌<◌, max, Bool, true, false, not, ◌&&◌, ◌==◌, nat_lt, nat_le, if◌then◌else◌, Option, Some, None, List, [], ◌∷◌, get_or, replicate, map, filter, refl, ap, sym, subst, ◌∙◌, arith, ne_eqb}
+use Rattle.std.proofs.Common.{◌≡◌, ℕ, zero, suc, ◌+◌, ◌-◌, ◌%◌, ◌≤◌, ◌<◌, max, Bool, true, false, not, ◌==◌, nat_lt, nat_le, if◌then◌else◌, Option, Some, None, List, [], ◌∷◌, get_or, replicate, map, filter, refl, ap, sym, subst, ◌∙◌, arith, ne_eqb}
 use Rattle.std.proofs.lemmas.Bool.{lt-leb, lt-ltb}
 use Rattle.std.specs.List.{range_with_len}
 use Rattle.oc_base.specs.declared.cert.Cert.{Cert}
@@ -14,7 +14,7 @@ use Rattle.oc_model.specs.declared.input.Input.TheVariants.{Tick, Delivered}
 use Rattle.oc_model.specs.declared.message.Body.{Body}
 use Rattle.oc_model.specs.declared.message.Body.TheVariants.{Look, LookIs, Ask, Yes, CheckIn, CheckAck, Fetch}
 use Rattle.oc_model.specs.declared.message.Message.{Message}
-use Rattle.oc_model.specs.declared.mode.Mode.TheVariants.{Idle, Asking, Joined, Acting}
+use Rattle.oc_model.specs.declared.mode.Mode.TheVariants.{Asking, Joined, Acting}
 use Rattle.oc_model.specs.declared.record.Record.{Record}
 use Rattle.oc_model.specs.declared.record.Record.TheVariants.{Epoch, Entry, Ranked}
 use Rattle.oc_model.specs.declared.soft.Search.{Search}

@@ -1,19 +1,16 @@
 -- New networks: each node that was started is new.
-use Rattle.std.proofs.Common.{◌≡◌, ℕ, zero, suc, ◌+◌, ◌≤◌, ◌<◌, Bool, true, false, ◌&&◌, nat_le, Option, Some, None, List, [], ◌∷◌, ◌⊎◌, inl, inr, length, map, refl, ap, sym, subst, ◌∙◌, ⊎_elim, arith}
+use Rattle.std.proofs.Common.{◌≡◌, ℕ, zero, suc, ◌+◌, ◌≤◌, ◌<◌, Bool, true, false, nat_le, Some, None, List, [], ◌∷◌, ◌⊎◌, inl, inr, length, map, refl, ap, sym, subst, ◌∙◌, ⊎_elim, arith}
 use Rattle.std.specs.List.{AllByRecursion, range_with_len}
-use Rattle.std.proofs.lemmas.Bool.{cases_eq, cases_Bool, cond_both, leb-true, leb-false, and_parts}
-use Rattle.oc_base.specs.declared.cert.Cert.{Cert}
-use Rattle.oc_model.specs.declared.event.Event.{Event}
+use Rattle.std.proofs.lemmas.Bool.{cases_eq, cond_both, leb-true, leb-false, and_parts}
 use Rattle.oc_model.specs.declared.event.Event.TheVariants.{Up}
 use Rattle.oc_model.specs.Adopting.{birth}
 use Rattle.oc_model.specs.Chains.{IsUp}
-use Rattle.oc_model.specs.ClaimsTree.{table_of, seq_of}
-use Rattle.oc_model.specs.Heal.{IsMember}
-use Rattle.oc_model.specs.NextWorld.{put, started, next_world, world_after}
+use Rattle.oc_model.specs.ClaimsTree.{seq_of}
+use Rattle.oc_model.specs.NextWorld.{put, next_world, world_after}
 use Rattle.oc_model.specs.Node.{Header, new_node, restarted}
 use Rattle.oc_model.specs.Plan.{is_member}
 use Rattle.oc_model.specs.Table.{newest}
-use Rattle.oc_model.specs.World.{World, Process, down, process, process_in, with_process, is_up, ids, new_world}
+use Rattle.oc_model.specs.World.{World, Process, process, process_in, with_process, is_up, ids, new_world}
 use Rattle.oc_model.specs.WorldBounds.{IsOneOf}
 use Rattle.oc_model.proofs.GoesOn.{ids-always}
 use Rattle.oc_model.proofs.Places.{ids-with_process}

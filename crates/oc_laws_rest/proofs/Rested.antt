@@ -1,24 +1,20 @@
 -- A whole star is at rest.
-use Rattle.std.proofs.Common.{◌≡◌, ℕ, zero, suc, ◌+◌, ◌≤◌, ◌<◌, Bool, true, false, not, ◌&&◌, ◌==◌, if◌then◌else◌, Option, Some, None, List, [], ◌∷◌, ◌⊎◌, inl, inr, length, refl, ap, sym, subst, ◌∙◌, ⊎_elim, arith, eqb-true, ne_eqb}
-use Rattle.std.proofs.lemmas.Bool.{cases_eq, cases_Bool, cond_both, le-leb}
+use Rattle.std.proofs.Common.{◌≡◌, ℕ, ◌≤◌, Bool, true, false, ◌==◌, Option, Some, None, List, [], ◌∷◌, ◌⊎◌, inl, inr, refl, ap, sym, subst, ◌∙◌, ⊎_elim, arith, ne_eqb}
+use Rattle.std.proofs.lemmas.Bool.{cases_Bool, cond_both, le-leb}
 use Rattle.oc_base.specs.declared.cert.Cert.{Cert}
-use Rattle.oc_model.specs.declared.mode.Mode.{Mode}
-use Rattle.oc_model.specs.declared.mode.Mode.TheVariants.{Joined, Acting}
 use Rattle.oc_model.specs.Adopting.{birth}
-use Rattle.oc_model.specs.Chains.{IsUp, IsJoined, IsRoot, IsTrueChain, HasTrueChain, first_link, chain_to, true_line}
+use Rattle.oc_model.specs.Chains.{IsUp, IsJoined, IsRoot, IsTrueChain, first_link, chain_to, true_line}
 use Rattle.oc_model.specs.ChangeLog.{IsWaiting}
 use Rattle.oc_model.specs.ClaimsTree.{table_of, seq_of, KnowsNumber}
-use Rattle.oc_model.specs.Heal.{IsMember}
 use Rattle.oc_model.specs.Node.{Header, Log, empty_log}
 use Rattle.oc_model.specs.Plan.{is_member}
-use Rattle.oc_model.specs.Ready.{HoldsLease, IsLeased, IsReadyUnder, IsSettled}
+use Rattle.oc_model.specs.Ready.{HoldsLease, IsReadyUnder, IsSettled}
 use Rattle.oc_model.specs.Table.{newest, lease_number, leased_by, live_parent, parent_in, is_listed, table_line}
-use Rattle.oc_model.specs.World.{World, Process, process, node, is_up, mode_of}
+use Rattle.oc_model.specs.World.{World, Process, node, is_up}
 use Rattle.oc_model.proofs.Chains.{acting_alone, joined_once, chain_to-finds, chain_to-true}
 use Rattle.oc_laws_rest.specs.Rest.{IsAtRest}
-use Rattle.oc_laws_rest.proofs.Moves.{Is}
 use Rattle.oc_laws_rest.proofs.Rows.{IsLeaf, Row, row_found, row_or_none}
-use Rattle.oc_laws_rest.proofs.Star.{HasRow, Joins, RootIs}
+use Rattle.oc_laws_rest.proofs.Star.{RootIs}
 use Rattle.oc_laws_rest.proofs.Ticks.{Rests}
 
 -- the line of a row

@@ -1,5 +1,5 @@
 -- A star that forms under node 1: what holds while messages arrive.
-use Rattle.std.proofs.Common.{◌≡◌, ℕ, ◌+◌, ◌≤◌, ◌<◌, Bool, true, false, Option, Some, None, List, [], ◌∷◌, ◌++◌, ◌⊎◌, inl, inr, length, refl, ap, sym, subst, ◌∙◌, ⊎_elim, arith, length-append}
+use Rattle.std.proofs.Common.{◌≡◌, ℕ, ◌+◌, ◌≤◌, Bool, true, false, Option, Some, None, List, [], ◌∷◌, ◌++◌, ◌⊎◌, inl, inr, length, ap, sym, subst, ◌∙◌, ⊎_elim, arith, length-append}
 use Rattle.std.specs.List.{AllByRecursion}
 use Rattle.std.proofs.lemmas.Bool.{cases_eq}
 use Rattle.oc_base.specs.declared.cert.Cert.{Cert}
@@ -16,7 +16,6 @@ use Rattle.oc_model.specs.ClaimsTree.{table_of}
 use Rattle.oc_model.specs.Node.{Header, Node}
 use Rattle.oc_model.specs.Numbers.{at}
 use Rattle.oc_model.specs.World.{World, Process, process, is_up, message_at}
-use Rattle.oc_model.specs.WorldBounds.{IsOneOf}
 use Rattle.oc_model.proofs.Lists.{all_weaker, all_append}
 use Rattle.oc_laws_rest.proofs.Forms.{root_node, Going, looking_node, asking_node, joined_node, top, letter}
 use Rattle.oc_laws_rest.proofs.Moves.{Is, Turned, Waits, AreSent, waits_on}

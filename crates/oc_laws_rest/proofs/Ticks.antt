@@ -4,16 +4,13 @@ use Rattle.std.specs.List.{AllByRecursion, list_all, range_with_len}
 use Rattle.std.proofs.lemmas.Bool.{cases_eq, and_parts, or_cases, le-leb, leb-true, ltb-true, not-true}
 use Rattle.std.proofs.lemmas.List.{length-replicate}
 use Rattle.oc_base.specs.declared.cert.Cert.{Cert}
-use Rattle.oc_base.specs.declared.rank.Rank.{Rank}
 use Rattle.oc_model.specs.declared.event.Act.TheVariants.{At}
 use Rattle.oc_model.specs.declared.input.Input.TheVariants.{Tick}
 use Rattle.oc_model.specs.declared.message.Body.TheVariants.{Look, CheckIn, Fetch}
 use Rattle.oc_model.specs.declared.message.Message.{Message}
 use Rattle.oc_model.specs.declared.soft.Search.TheVariants.{Review}
-use Rattle.oc_model.specs.declared.soft.Soft.{Soft}
 use Rattle.oc_model.specs.Checking.{is_due}
 use Rattle.oc_model.specs.ClaimsTree.{table_of}
-use Rattle.oc_model.specs.Leases.{start_all, ended}
 use Rattle.oc_model.specs.Node.{Header, Node, new_node, new_control}
 use Rattle.oc_model.specs.Numbers.{has}
 use Rattle.oc_model.specs.Table.{leased_children}
@@ -25,7 +22,7 @@ use Rattle.oc_laws_rest.specs.Rounds.{Turn, Round, after_turns, arrived, after_a
 use Rattle.oc_laws_rest.proofs.Forms.{root_node, Going, looking_node, joined_node, letter, leaf_begins, leaf_checks, root_begins, root_ticks, HasTicked}
 use Rattle.oc_laws_rest.proofs.Moves.{Is, Turned, ticked, Waits, waits_new, waits_more}
 use Rattle.oc_laws_rest.proofs.Rows.{IsLeaf, Row, end_of, leased_row, none_set, none_ended}
-use Rattle.oc_laws_rest.proofs.Star.{LooksTo, SeenBy, AsksFor, Accepts, ChecksIn, search_of, HasRow, Looks, Asks, Joins, LeafIs, RootIs, AreFresh, IsKnown, Arriving, net_on, ups_on}
+use Rattle.oc_laws_rest.proofs.Star.{LooksTo, SeenBy, AsksFor, Accepts, ChecksIn, search_of, HasRow, Looks, Joins, LeafIs, RootIs, IsKnown, Arriving, net_on, ups_on}
 use Rattle.oc_laws_rest.proofs.Arrivals.{source_apart, arrives}
 
 -- Lists

@@ -1,6 +1,7 @@
 -- What one input at one node makes of a world, and messages that still have to arrive.
 use Rattle.std.proofs.Common.{◌≡◌, ℕ, zero, suc, ◌≤◌, ◌<◌, Bool, true, false, not, ◌&&◌, if◌then◌else◌, Option, Some, List, [], ◌∷◌, ◌++◌, ◌⊎◌, inl, inr, length, slice_get, refl, ap, sym, subst, ◌∙◌, ⊎_elim, arith, length-append}
 use Rattle.std.proofs.lemmas.Bool.{cases_eq}
+use Rattle.std.specs.List.{AllByRecursion}
 use Rattle.oc_model.specs.declared.event.Act.TheVariants.{At, Deliver}
 use Rattle.oc_model.specs.declared.input.Input.{Input}
 use Rattle.oc_model.specs.declared.input.Input.TheVariants.{Tick, Unreachable, Delivered}
@@ -9,6 +10,7 @@ use Rattle.oc_model.specs.Node.{Node}
 use Rattle.oc_model.specs.Step.{step}
 use Rattle.oc_model.specs.World.{World, Process, process, process_in, with_process, is_up, message_at, stepped, delivery, acted, after_act}
 use Rattle.oc_model.specs.WorldBounds.{IsOneOf}
+use Rattle.oc_model.proofs.Lists.{all_get}
 use Rattle.oc_model.proofs.Processes.{process_in-with_up, process_in-with_other}
 use Rattle.oc_laws_rest.specs.Rounds.{is_dial, arriving, arrived}
 use Rattle.oc_laws_rest.proofs.Forms.{Gives}
@@ -61,6 +63,14 @@ pub taken : (w : World) (k : ℕ) (m : Message) (n n2 : Node) (ms : List Message
 taken w k m n n2 ms found is me gives =
     subst (Turned w m.to n2 ms) (sym (delivered w k m found (ap (λ (p : Process). p.up) is))) (turned w m.to (Delivered m) n n2 ms is me gives)
 
+-- a dial to a node that is down fails, and its sender is told so
+pub failed : (w : World) (k : ℕ) (m : Message) (n n2 : Node) (ms : List Message) → message_at w.net k ≡ Some m → is_dial m.body ≡ true → is_up w m.to ≡ false → Is w m.from n → n2.control.me ≡ m.from
+    → Gives n (Unreachable m.to) n2 ms → Turned w m.from n2 ms (arrived w k)
+failed w k m n n2 ms found dials down is me gives =
+    let both : is_dial m.body && not (is_up w m.to) ≡ true = ap (λ (b : Bool). b && not (is_up w m.to)) dials ∙ ap (λ (b : Bool). true && not b) down in
+    let act : arriving w k (message_at w.net k) ≡ At m.from (Unreachable m.to) = ap (arriving w k) found ∙ ap (λ (b : Bool). if b then At m.from (Unreachable m.to) else Deliver k) both in
+    subst (Turned w m.from n2 ms) (sym (ap (after_act w) act)) (turned w m.from (Unreachable m.to) n n2 ms is me gives)
+
 -- Messages by their numbers
 
 -- a message keeps its number
@@ -89,6 +99,16 @@ get_some (n ∷ ns) (suc k) few = get_some ns k (omega arith)
 pub at_some : (net : List Message) (k : ℕ) → 1 ≤ k → k ≤ length net → (m : Message) × (message_at net k ≡ Some m)
 at_some net zero some few = absurd (omega (arith, some))
 at_some net (suc k) some few = get_some net k (omega (arith, few))
+
+-- what holds of each later message holds of one with such a number
+get_after : (P : Message → Type 0) (front new : List Message) (k : ℕ) (m : Message) → length front ≤ k → slice_get (front ++ new) k ≡ Some m → AllByRecursion P new → P m
+get_after P [] new k m low e all = all_get P new k m all e
+get_after P (f ∷ fs) new zero m low e all = absurd (omega (arith, low))
+get_after P (f ∷ fs) new (suc k) m low e all = get_after P fs new k m (omega (arith, low)) e all
+
+pub at_after : (P : Message → Type 0) (front new : List Message) (k : ℕ) (m : Message) → length front < k → message_at (front ++ new) k ≡ Some m → AllByRecursion P new → P m
+at_after P front new zero m low e all = absurd cc
+at_after P front new (suc k) m low e all = get_after P front new k m (omega (arith, low)) e all
 
 -- Messages that still have to arrive
 

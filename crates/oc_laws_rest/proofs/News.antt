@@ -1,11 +1,12 @@
 -- New networks: each node that was started is new.
 use Rattle.std.proofs.Common.{◌≡◌, ℕ, zero, suc, ◌+◌, ◌≤◌, ◌<◌, Bool, true, false, nat_le, Some, None, List, [], ◌∷◌, ◌⊎◌, inl, inr, length, map, refl, ap, sym, subst, ◌∙◌, ⊎_elim, arith}
 use Rattle.std.specs.List.{AllByRecursion, range_with_len}
-use Rattle.std.proofs.lemmas.Bool.{cases_eq, cond_both, leb-true, leb-false, and_parts}
+use Rattle.std.proofs.lemmas.Bool.{cases_eq, cond_both, leb-true, leb-false, le-leb, and_parts, false_from_ne_true}
 use Rattle.oc_model.specs.declared.event.Event.TheVariants.{Up}
 use Rattle.oc_model.specs.Adopting.{birth}
 use Rattle.oc_model.specs.Chains.{IsUp}
 use Rattle.oc_model.specs.ClaimsTree.{seq_of}
+use Rattle.oc_model.specs.Lawful.{IsHeader}
 use Rattle.oc_model.specs.NextWorld.{put, next_world, world_after}
 use Rattle.oc_model.specs.Node.{Header, new_node, restarted}
 use Rattle.oc_model.specs.Plan.{is_member}
@@ -18,11 +19,12 @@ use Rattle.oc_model.proofs.Processes.{process_in-me, process_in-with_other, up_i
 use Rattle.oc_laws_world.proofs.Present.{new_found, found_at}
 use Rattle.oc_laws_rest.specs.Rounds.{Round, after_round, after_rounds, is_round, are_later_rounds, is_quiet}
 use Rattle.oc_laws_rest.specs.Rest.{IsAtRest, begun, IsOnlyMember}
+use Rattle.oc_laws_rest.proofs.Forms.{numbers_in}
 use Rattle.oc_laws_rest.proofs.Moves.{Is}
 use Rattle.oc_laws_rest.proofs.Rows.{IsLeaf}
-use Rattle.oc_laws_rest.proofs.Star.{HasRow, IsKnown}
-use Rattle.oc_laws_rest.proofs.Ticks.{Begins, Rests, rest_begins, round_rests}
-use Rattle.oc_laws_rest.proofs.Rested.{at_rest, asked}
+use Rattle.oc_laws_rest.proofs.Star.{HasRow, Idles, Joins, RootIs}
+use Rattle.oc_laws_rest.proofs.Ticks.{Begins, Ends, round_ends}
+use Rattle.oc_laws_rest.proofs.Rested.{Rests, at_rest, asked}
 
 -- a new node, up or down
 abbrev new_process : Header → ℕ → Bool → Process
@@ -58,15 +60,27 @@ fresh_after : (h : Header) (xs : List ℕ) (w : World) → IsFresh h w → IsFre
 fresh_after h [] w fresh = fresh
 fresh_after h (x ∷ xs) w fresh = fresh_after h xs (next_world w (Up x)) (fresh_started h w x fresh)
 
-numbers_within : (b n x : ℕ) → IsOneOf x (range_with_len b n) → x < b + n
-numbers_within b zero x one = absurd one
-numbers_within b (suc n) x (inl e) = omega (arith, e)
-numbers_within b (suc n) x (inr later) = omega (arith, numbers_within (b + 1) n x later)
+-- the same of a root and of a child, whichever rounds are early
 
-module _ (h : Header) (xs : List ℕ) (only : IsOnlyMember (begun h xs) 1) where
-  w : World
-  w = begun h xs
+root_as : (h : Header) (up : ℕ → Bool) (m : ℕ) (within : m ≤ h.chain) (E F : Type 0) (w : World) → RootIs h up m within E w → RootIs h up m within F w
+root_as h up m within E F w r = record {
+  asks = r.asks;
+  epoch = r.epoch;
+  table = r.table;
+  soft = r.soft;
+  ends = r.ends;
+  rates = r.rates;
+  is = r.is;
+  search = r.search;
+  some = r.some;
+  rows = r.rows;
+  size = r.size;
+}
 
+joins_as : (h : Header) (up : ℕ → Bool) (m : ℕ) (within : m ≤ h.chain) (E F : Type 0) (w : World) (y : ℕ) → Joins h up m within E w y → Joins h up m within F w y
+joins_as h up m within E F w y joins = record { going = joins.going; rank = joins.rank; review = joins.review; is = joins.is; row = joins.row }
+
+module _ (h : Header) (header : IsHeader h) (xs : List ℕ) (m : ℕ) (only : IsOnlyMember (begun h xs) m) where
   abbrev lives : ℕ → Bool
   lives = is_up (begun h xs)
 
@@ -83,58 +97,110 @@ module _ (h : Header) (xs : List ℕ) (only : IsOnlyMember (begun h xs) 1) where
       let alive : was.0 ≡ true = sym (ap (λ (p : Process). p.up) was.1) ∙ up in
       was.1 ∙ ap (new_process h x) alive
 
-  some : 1 ≤ h.chain
-  some = leb-true 1 h.chain (sym (ap (λ (p : Process). is_member p.node.control) (is_new 1 only.up)) ∙ only.member)
+  within : m ≤ h.chain
+  within = leb-true m h.chain (sym (ap (λ (p : Process). is_member p.node.control) (is_new m only.up)) ∙ only.member)
 
-  kinds : (y : ℕ) → lives y ≡ true → (y ≡ 1) ⊎ IsLeaf h lives y
+  some : 1 ≤ m
+  some = (numbers_in 1 h.nodes m (is_id m only.up)).0
+
+  short : m ≤ 16
+  short = omega (arith, within, header.short)
+
+  kinds : (y : ℕ) → lives y ≡ true → (y ≡ m) ⊎ IsLeaf h lives y
   kinds y up = by_test (nat_le y h.chain) refl where
-    by_test : (b : Bool) → nat_le y h.chain ≡ b → (y ≡ 1) ⊎ IsLeaf h lives y
+    by_test : (b : Bool) → nat_le y h.chain ≡ b → (y ≡ m) ⊎ IsLeaf h lives y
     by_test true e = inl (only.only y up (ap (λ (p : Process). is_member p.node.control) (is_new y up) ∙ e))
-    by_test false e = inr record { lives = up; past = leb-false y h.chain e; within = omega (arith, numbers_within 1 h.nodes y (is_id y up)) }
+    by_test false e = inr record { lives = up; past = leb-false y h.chain e; within = let id = numbers_in 1 h.nodes y (is_id y up) in omega (arith, id.1) }
 
-  begins : Begins h lives some only.up kinds (begun h xs)
+  down : (p : ℕ) → p ≤ h.chain → (p ≡ m → ⊥) → lives p ≡ false
+  down p member other = false_from_ne_true (lives p) (λ up. other (only.only p up (ap (λ (q : Process). is_member q.node.control) (is_new p up) ∙ le-leb p h.chain member)))
+
+  -- The first round: a member past the first has to ask the earlier ones
+
+  abbrev Late : Type 0
+  Late = m ≡ 1 → ⊥
+
+  begins : Begins h lives m within some short only.up kinds down Late (begun h xs)
   begins = record {
     ups = λ y. refl;
-    root = inl (is_new 1 only.up);
-    leaves = λ y leaf. inl (is_new y leaf.lives, λ row. none y row);
-    net = subst (AllByRecursion (IsKnown h lives (begun h xs))) (sym fresh.net) tt;
+    root = inl (is_new m only.up, cases_eq m 1);
+    leaves = λ y leaf. inl (inl (is_new y leaf.lives), λ row. none y row);
   } where
-    none : (y : ℕ) → HasRow (begun h xs) y → ⊥
+    none : (y : ℕ) → HasRow m (begun h xs) y → ⊥
     none y row =
-        let found : None ≡ Some (birth y 1 1) = sym (ap (λ (p : Process). newest p.node.control.kept.table y) (is_new 1 only.up)) ∙ row in
+        let found : None ≡ Some (birth y 1 m) = sym (ap (λ (p : Process). newest p.node.control.kept.table y) (is_new m only.up)) ∙ row in
         cc
 
-  -- later rounds leave it at rest
-  stays : (rs : List Round) (v : World) → Rests h lives some only.up kinds v → are_later_rounds v rs ≡ true → Rests h lives some only.up kinds (after_rounds v rs)
-  stays [] v rests quiet = rests
-  stays (r ∷ rs) v rests quiet =
+  first_ends : (r : Round) (rs : List Round) → is_quiet (begun h xs) (r ∷ rs) ≡ true → Ends h lives m within some short only.up kinds down Late (after_round (begun h xs) r)
+  first_ends r rs quiet =
+      let both = and_parts (is_round 0 (begun h xs) r) (are_later_rounds (after_round (begun h xs) r) rs) quiet in
+      let none_sent : length (begun h xs).net ≡ 0 = ap length fresh.net in
+      round_ends h lives m within some short only.up kinds down Late 0 (begun h xs) r (omega (arith, none_sent)) begins both.0
+
+  -- Later rounds
+
+  begins_again : (v : World) → Ends h lives m within some short only.up kinds down Late v → Begins h lives m within some short only.up kinds down ⊥ v
+  begins_again v ends = record {
+    ups = ends.ups;
+    root = inr (root_as h lives m within Late ⊥ v ends.root, ends.renewed);
+    leaves = λ y leaf. ⊎_elim (λ idles. inl (inr (idles.going, idles.is), idles.none)) (λ joins. inr (joins_as h lives m within Late ⊥ v y joins)) (ends.leaves y leaf);
+  }
+
+  begins_more : (v : World) → Ends h lives m within some short only.up kinds down ⊥ v → Begins h lives m within some short only.up kinds down ⊥ v
+  begins_more v ends = record {
+    ups = ends.ups;
+    root = inr (ends.root, ends.renewed);
+    leaves = λ y leaf. ⊎_elim (λ idles. absurd idles.early) (λ joins. inr joins) (ends.leaves y leaf);
+  }
+
+  ends_rest : (v : World) → Ends h lives m within some short only.up kinds down ⊥ v → Rests h lives m within ⊥ v
+  ends_rest v ends = record { ups = ends.ups; root = ends.root; leaves = λ y leaf. ⊎_elim (λ idles. absurd idles.early) (λ joins. joins) (ends.leaves y leaf) }
+
+  -- a round that begins without new nodes ends at rest, and so do those after it
+  later_ends : (r : Round) (rs : List Round) (v : World) → Begins h lives m within some short only.up kinds down ⊥ v → are_later_rounds v (r ∷ rs) ≡ true
+      → Ends h lives m within some short only.up kinds down ⊥ (after_rounds v (r ∷ rs))
+  later_ends r rs v begins quiet =
       let both = and_parts (is_round (length v.net) v r) (are_later_rounds (after_round v r) rs) quiet in
-      stays rs (after_round v r) (round_rests h lives some only.up kinds (length v.net) v r (rest_begins h lives some only.up kinds v rests) both.0) both.1
+      stays rs (after_round v r) (round_ends h lives m within some short only.up kinds down ⊥ (length v.net) v r (omega arith) begins both.0) both.1 where
+        stays : (rs : List Round) (v : World) → Ends h lives m within some short only.up kinds down ⊥ v → are_later_rounds v rs ≡ true
+            → Ends h lives m within some short only.up kinds down ⊥ (after_rounds v rs)
+        stays [] v ends quiet = ends
+        stays (r ∷ rs) v ends quiet =
+            let both = and_parts (is_round (length v.net) v r) (are_later_rounds (after_round v r) rs) quiet in
+            stays rs (after_round v r) (round_ends h lives m within some short only.up kinds down ⊥ (length v.net) v r (omega arith) (begins_more v ends) both.0) both.1
 
-  first_rests : (r : Round) (rs : List Round) → is_quiet (begun h xs) (r ∷ rs) ≡ true → Rests h lives some only.up kinds (after_round (begun h xs) r)
-  first_rests r rs quiet =
-      let both = and_parts (is_round 0 (begun h xs) r) (are_later_rounds (after_round (begun h xs) r) rs) quiet in
-      round_rests h lives some only.up kinds 0 (begun h xs) r begins both.0
+  second_ends : (q r : Round) (rs : List Round) → is_quiet (begun h xs) (q ∷ r ∷ rs) ≡ true → Ends h lives m within some short only.up kinds down ⊥ (after_rounds (begun h xs) (q ∷ r ∷ rs))
+  second_ends q r rs quiet =
+      let both = and_parts (is_round 0 (begun h xs) q) (are_later_rounds (after_round (begun h xs) q) (r ∷ rs)) quiet in
+      later_ends r rs (after_round (begun h xs) q) (begins_again (after_round (begun h xs) q) (first_ends q (r ∷ rs) quiet)) both.1
 
-  rests_after : (r : Round) (rs : List Round) → is_quiet (begun h xs) (r ∷ rs) ≡ true → Rests h lives some only.up kinds (after_rounds (begun h xs) (r ∷ rs))
-  rests_after r rs quiet =
-      let both = and_parts (is_round 0 (begun h xs) r) (are_later_rounds (after_round (begun h xs) r) rs) quiet in
-      stays rs (after_round (begun h xs) r) (first_rests r rs quiet) both.1
+  -- from the second round on the network is at rest
+  pub second_rests : (q r : Round) (rs : List Round) → is_quiet (begun h xs) (q ∷ r ∷ rs) ≡ true → Rests h lives m within ⊥ (after_rounds (begun h xs) (q ∷ r ∷ rs))
+  second_rests q r rs quiet = ends_rest (after_rounds (begun h xs) (q ∷ r ∷ rs)) (second_ends q r rs quiet)
 
-  pub new_rests : (r : Round) (rs : List Round) → is_quiet (begun h xs) (r ∷ rs) ≡ true → IsAtRest (after_rounds (begun h xs) (r ∷ rs)) 1
-  new_rests r rs quiet = at_rest h lives some only.up kinds (after_rounds (begun h xs) (r ∷ rs)) (rests_after r rs quiet)
+  pub rests_at : (v : World) → Rests h lives m within ⊥ v → IsAtRest v m
+  rests_at v rests = at_rest h lives m within kinds ⊥ v rests
 
-  pub same_up : (r : Round) (rs : List Round) → is_quiet (begun h xs) (r ∷ rs) ≡ true → (x : ℕ) → is_up (after_rounds (begun h xs) (r ∷ rs)) x ≡ is_up (begun h xs) x
-  same_up r rs quiet x = (rests_after r rs quiet).ups x
+  pub new_rests : (q r : Round) (rs : List Round) → is_quiet (begun h xs) (q ∷ r ∷ rs) ≡ true → IsAtRest (after_rounds (begun h xs) (q ∷ r ∷ rs)) m
+  new_rests q r rs quiet = rests_at (after_rounds (begun h xs) (q ∷ r ∷ rs)) (second_rests q r rs quiet)
 
-  pub none_asks : (r : Round) (rs : List Round) → is_quiet (begun h xs) (r ∷ rs) ≡ true → (x : ℕ) → IsUp (begun h xs) x
-      → seq_of (after_rounds (begun h xs) (r ∷ rs)) x ≡ seq_of (after_round (begun h xs) r) x
-  none_asks r rs quiet x up =
-      let first : Rests h lives some only.up kinds (after_round (begun h xs) r) = first_rests r rs quiet in
-      let last : Rests h lives some only.up kinds (after_rounds (begun h xs) (r ∷ rs)) = rests_after r rs quiet in
-      both (asked h lives some only.up kinds (after_round (begun h xs) r) first x (first.ups x ∙ up)) (asked h lives some only.up kinds (after_rounds (begun h xs) (r ∷ rs)) last x (last.ups x ∙ up)) where
-        both : {a b : ℕ} → ((x ≡ 1) × (a ≡ 0)) ⊎ ((x ≡ 1 → ⊥) × (a ≡ 1)) → ((x ≡ 1) × (b ≡ 0)) ⊎ ((x ≡ 1 → ⊥) × (b ≡ 1)) → b ≡ a
-        both (inl f) (inl g) = g.1 ∙ sym f.1
-        both (inl f) (inr g) = absurd (g.0 f.0)
-        both (inr f) (inl g) = absurd (f.0 g.0)
-        both (inr f) (inr g) = g.1 ∙ sym f.1
+  pub same_up : (q r : Round) (rs : List Round) → is_quiet (begun h xs) (q ∷ r ∷ rs) ≡ true → (x : ℕ) → is_up (after_rounds (begun h xs) (q ∷ r ∷ rs)) x ≡ is_up (begun h xs) x
+  same_up q r rs quiet x = (second_rests q r rs quiet).ups x
+
+  -- each other node has asked once
+  pub asks_once : (q r : Round) (rs : List Round) → is_quiet (begun h xs) (q ∷ r ∷ rs) ≡ true → (x : ℕ) → IsUp (begun h xs) x → (x ≡ m → ⊥) → seq_of (after_rounds (begun h xs) (q ∷ r ∷ rs)) x ≡ 1
+  asks_once q r rs quiet x up other =
+      let rests = second_rests q r rs quiet in
+      asked h lives m within kinds ⊥ (after_rounds (begun h xs) (q ∷ r ∷ rs)) rests x (rests.ups x ∙ up) other
+
+  -- The source alone: the first round is enough
+
+  pub source_rests : m ≡ 1 → (q : Round) (rs : List Round) → is_quiet (begun h xs) (q ∷ rs) ≡ true → IsAtRest (after_rounds (begun h xs) (q ∷ rs)) m
+  source_rests one q [] quiet =
+      let ends = first_ends q [] quiet in
+      rests_at (after_round (begun h xs) q) record {
+        ups = ends.ups;
+        root = root_as h lives m within Late ⊥ (after_round (begun h xs) q) ends.root;
+        leaves = λ y leaf. ⊎_elim (λ idles. absurd (idles.early one)) (λ joins. joins_as h lives m within Late ⊥ (after_round (begun h xs) q) y joins) (ends.leaves y leaf);
+      }
+  source_rests one q (r ∷ rs) quiet = new_rests q r rs quiet

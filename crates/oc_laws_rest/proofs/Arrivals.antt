@@ -200,8 +200,8 @@ module _ (h : Header) (up : ℕ → Bool) (m : ℕ) (within : m ≤ h.chain) (Ea
       s : Message
       s = letter x p Look
 
-      is_down : is_up w p ≡ false
-      is_down = a.ups p ∙ down p most other
+      off : is_up w p ≡ false
+      off = a.ups p ∙ down p most other
 
       of_x : greater (letter x p Look) ≡ x
       of_x = omega (arith, most, leaf.past)
@@ -218,7 +218,7 @@ module _ (h : Header) (up : ℕ → Bool) (m : ℕ) (within : m ≤ h.chain) (Ea
         here same =
             let found_here : message_at w.net k ≡ Some (letter x l.target Look) = subst (λ (q : ℕ). message_at w.net k ≡ Some (letter x q Look)) (sym same) found in
             goes_on (letter x l.target Look) l (Unreachable l.target) found_here (omega (arith, most, leaf.past, same))
-            (λ n2 ms me gives. failed w k (letter x l.target Look) (looking_node h x l.target l.going) n2 ms found_here refl (subst (λ (q : ℕ). is_up w q ≡ false) (sym same) is_down) l.is me gives)
+            (λ n2 ms me gives. failed w k (letter x l.target Look) (looking_node h x l.target l.going) n2 ms found_here refl (subst (λ (q : ℕ). is_up w q ≡ false) (sym same) off) l.is me gives)
             (leaf_told h m x some within leaf.past l.going l.target)
             (⊎_elim (λ early. inl early) (λ one. ⊎_elim (λ (e : m ≡ l.target). absurd (other (sym (e ∙ same)))) (λ later. inr later) one) l.hope)
             (not_checks (letter x l.target Look) (λ e. omega (arith, e))) (not_root (letter x l.target Look) (inr (λ e. omega (arith, e))))
@@ -226,22 +226,22 @@ module _ (h : Header) (up : ℕ → Bool) (m : ℕ) (within : m ≤ h.chain) (Ea
         away : (l.target ≡ p → ⊥) → Arrives
         away differs =
             let n : Node = looking_node h x l.target l.going in
-            let turn : Turned w x n [] (arrived w k) = failed w k s n n [] found refl is_down l.is refl (leaf_told_other h m x some within leaf.past l.going l.target p differs) in
+            let turn : Turned w x n [] (arrived w k) = failed w k s n n [] found refl off l.is refl (leaf_told_other h m x some within leaf.past l.going l.target p differs) in
             same_leaf s n found of_x l.is turn checks asks
             (λ keeps same. looks_on s turn.net found keeps l (λ e. differs (sym (ap (λ (n2 : Message). n2.to) e))) (λ at_m e. not_seen s x (λ c. omega (arith, c)) e) same)
       by_state (inr (inl idles)) =
           let n : Node = idle_node h x idles.going in
-          let turn : Turned w x n [] (arrived w k) = failed w k s n n [] found refl is_down idles.is refl (leaf_idle_told h m x some within leaf.past idles.going p) in
+          let turn : Turned w x n [] (arrived w k) = failed w k s n n [] found refl off idles.is refl (leaf_idle_told h m x some within leaf.past idles.going p) in
           same_leaf s n found of_x idles.is turn checks asks (λ keeps same. inr (inl (idles_stay h up m within Early w (arrived w k) (length front) done k s [] found turn.net keeps x same idles)))
       by_state (inr (inr (inl asking))) =
           let n : Node = asking_node h m x asking.going in
-          let turn : Turned w x n [] (arrived w k) = failed w k s n n [] found refl is_down asking.is refl (leaf_asking_told h m x some within leaf.past asking.going p (λ e. other (sym e))) in
+          let turn : Turned w x n [] (arrived w k) = failed w k s n n [] found refl off asking.is refl (leaf_asking_told h m x some within leaf.past asking.going p (λ e. other (sym e))) in
           same_leaf s n found of_x asking.is turn checks asks
           (λ keeps same. asks_on s turn.net found asking (not_asks s x (λ c. omega (arith, c))) (not_accepts s x (λ c. omega (arith, c))) same)
       by_state (inr (inr (inr joins))) =
           let n : Node = joined_node h m x joins.going joins.rank (search_of joins.review) in
           let turn : Turned w x n [] (arrived w k) =
-          failed w k s n n [] found refl is_down joins.is refl (leaf_joined_told h m x some within leaf.past joins.going joins.rank joins.review p (λ e. other (sym e))) in
+          failed w k s n n [] found refl off joins.is refl (leaf_joined_told h m x some within leaf.past joins.going joins.rank joins.review p (λ e. other (sym e))) in
           same_leaf s n found of_x joins.is turn checks asks (λ keeps same. inr (inr (inr (joins_stay h up m within Early w (arrived w k) (length front) done k s [] found turn.net keeps x same joins))))
 
     -- A position, an acceptance, an acknowledgement

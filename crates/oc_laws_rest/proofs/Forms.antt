@@ -208,12 +208,12 @@ member_order (suc (suc n)) chain low within =
       few = omega (arith, each_once_few (suc n ∷ suc (suc n) ∷ []) (below (suc n)), below_few (suc n));
     }
 
-numbers_in : (b n p : ℕ) → IsOneOf p (range_with_len b n) → (b ≤ p) × (p < b + n)
+pub numbers_in : (b n p : ℕ) → IsOneOf p (range_with_len b n) → (b ≤ p) × (p < b + n)
 numbers_in b zero p one = absurd one
 numbers_in b (suc n) p (inl e) = (omega (arith, e), omega (arith, e))
 numbers_in b (suc n) p (inr later) = let rest = numbers_in (b + 1) n p later in (omega (arith, rest.0), omega (arith, rest.1))
 
-in_numbers : (b n x : ℕ) → b ≤ x → x < b + n → IsOneOf x (range_with_len b n)
+pub in_numbers : (b n x : ℕ) → b ≤ x → x < b + n → IsOneOf x (range_with_len b n)
 in_numbers b zero x least most = absurd (omega arith)
 in_numbers b (suc n) x least most = ⊎_elim (λ (e : x ≡ b). inl e) (λ apart. inr (in_numbers (b + 1) n x (omega (arith, apart)) (omega arith))) (cases_eq x b)
 

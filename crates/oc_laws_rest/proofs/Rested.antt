@@ -1,5 +1,5 @@
 -- A whole star is at rest.
-use Rattle.std.proofs.Common.{◌≡◌, ℕ, ◌≤◌, Bool, true, false, not, ◌&&◌, ◌==◌, Option, Some, None, List, [], ◌∷◌, ◌⊎◌, inl, inr, refl, ap, sym, subst, ◌∙◌, ⊎_elim, arith, eq-eqb, ne_eqb}
+use Rattle.std.proofs.Common.{◌≡◌, ℕ, ◌≤◌, Bool, true, false, not, ◌&&◌, ◌==◌, if◌then◌else◌, Option, Some, None, List, [], ◌∷◌, ◌⊎◌, inl, inr, refl, ap, sym, subst, ◌∙◌, ⊎_elim, arith, eq-eqb, ne_eqb}
 use Rattle.std.proofs.lemmas.Bool.{cases_Bool, cond_both, le-leb}
 use Rattle.oc_base.specs.declared.cert.Cert.{Cert}
 use Rattle.oc_model.specs.Adopting.{birth}
@@ -14,7 +14,7 @@ use Rattle.oc_model.specs.World.{World, Process, node, is_up}
 use Rattle.oc_model.proofs.Chains.{acting_alone, joined_once, chain_to-finds, chain_to-true}
 use Rattle.oc_laws_rest.specs.Rest.{IsAtRest}
 use Rattle.oc_laws_rest.proofs.Rows.{IsLeaf, Row, row_found, row_or_none}
-use Rattle.oc_laws_rest.proofs.Star.{RootIs}
+use Rattle.oc_laws_rest.proofs.Star.{Joins, RootIs}
 
 -- the line of a row
 line_of_row : (m : ℕ) (t : List Cert) (x : ℕ) → (x ≡ m → ⊥) → Row m t x → table_line t m x ≡ Some m

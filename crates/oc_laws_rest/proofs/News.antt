@@ -140,6 +140,7 @@ module _ (h : Header) (header : IsHeader h) (xs : List ℕ) (m : ℕ) (only : Is
   -- Later rounds
 
   begins_again : (v : World) → Ends h lives m within some short only.up kinds down Late v → Begins h lives m within some short only.up kinds down ⊥ v
+  unfolding root_as
   begins_again v ends = record {
     ups = ends.ups;
     root = inr (root_as h lives m within Late ⊥ v ends.root, ends.renewed);
@@ -175,10 +176,10 @@ module _ (h : Header) (header : IsHeader h) (xs : List ℕ) (m : ℕ) (only : Is
       later_ends r rs (after_round (begun h xs) q) (begins_again (after_round (begun h xs) q) (first_ends q (r ∷ rs) quiet)) both.1
 
   -- from the second round on the network is at rest
-  pub second_rests : (q r : Round) (rs : List Round) → is_quiet (begun h xs) (q ∷ r ∷ rs) ≡ true → Rests h lives m within ⊥ (after_rounds (begun h xs) (q ∷ r ∷ rs))
+  second_rests : (q r : Round) (rs : List Round) → is_quiet (begun h xs) (q ∷ r ∷ rs) ≡ true → Rests h lives m within ⊥ (after_rounds (begun h xs) (q ∷ r ∷ rs))
   second_rests q r rs quiet = ends_rest (after_rounds (begun h xs) (q ∷ r ∷ rs)) (second_ends q r rs quiet)
 
-  pub rests_at : (v : World) → Rests h lives m within ⊥ v → IsAtRest v m
+  rests_at : (v : World) → Rests h lives m within ⊥ v → IsAtRest v m
   rests_at v rests = at_rest h lives m within kinds ⊥ v rests
 
   pub new_rests : (q r : Round) (rs : List Round) → is_quiet (begun h xs) (q ∷ r ∷ rs) ≡ true → IsAtRest (after_rounds (begun h xs) (q ∷ r ∷ rs)) m

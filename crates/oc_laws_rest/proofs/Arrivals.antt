@@ -1,5 +1,5 @@
 -- Each message that arrives in a star that forms: what it does at m, or at the node past the chain that takes it or is told that it failed.
-use Rattle.std.proofs.Common.{◌≡◌, ℕ, zero, suc, ◌+◌, ◌-◌, ◌≤◌, ◌<◌, max, Bool, true, false, ◌==◌, Option, Some, None, List, [], ◌∷◌, ◌++◌, ◌⊎◌, inl, inr, length, refl, ap, sym, subst, ◌∙◌, ⊎_elim, arith, length-append, ne_eqb}
+use Rattle.std.proofs.Common.{◌≡◌, ℕ, ◌+◌, ◌-◌, ◌≤◌, ◌<◌, Bool, true, false, ◌==◌, Some, None, List, [], ◌∷◌, ◌++◌, ◌⊎◌, inl, inr, length, refl, ap, sym, subst, ◌∙◌, ⊎_elim, arith, length-append, ne_eqb}
 use Rattle.std.specs.List.{AllByRecursion}
 use Rattle.std.proofs.lemmas.Bool.{cases_eq}
 use Rattle.std.proofs.lemmas.List.{length-set, length-replicate}
@@ -11,22 +11,21 @@ use Rattle.oc_model.specs.declared.input.Input.{Input}
 use Rattle.oc_model.specs.declared.input.Input.TheVariants.{Unreachable, Delivered}
 use Rattle.oc_model.specs.declared.message.Body.TheVariants.{Look, LookIs, Ask, Yes, CheckIn, CheckAck, Fetch}
 use Rattle.oc_model.specs.declared.message.Message.{Message}
-use Rattle.oc_model.specs.declared.mode.Mode.{Mode}
 use Rattle.oc_model.specs.declared.mode.Mode.TheVariants.{Asking, Acting}
 use Rattle.oc_model.specs.Adopting.{birth}
-use Rattle.oc_model.specs.ClaimsTree.{table_of, seq_of}
+use Rattle.oc_model.specs.ClaimsTree.{table_of}
 use Rattle.oc_model.specs.Leases.{renew}
 use Rattle.oc_model.specs.Node.{Header, Node, new_control}
 use Rattle.oc_model.specs.Numbers.{number_end, put_at}
 use Rattle.oc_model.specs.Table.{newest, put}
-use Rattle.oc_model.specs.World.{World, Process, process, is_up, mode_of, message_at}
+use Rattle.oc_model.specs.World.{World, Process, process, is_up, message_at}
 use Rattle.oc_model.specs.WorldBounds.{IsOneOf}
 use Rattle.oc_laws_step.proofs.Tables.{newest-put_same, newest-put_other}
 use Rattle.oc_laws_rest.specs.Rounds.{arrived}
-use Rattle.oc_laws_rest.proofs.Forms.{root_node, Going, rising_node, looking_node, idle_node, asking_node, joined_node, top, letter, search_of, Gives, LooksEarlier, Tried, leaf_told, leaf_told_other, leaf_idle_told, leaf_asking_told, leaf_joined_told, leaf_asks, leaf_passes, leaf_looking_seen, leaf_idle_seen, leaf_asking_seen, leaf_joined_seen, leaf_looking_yes, leaf_idle_yes, leaf_joins, leaf_joined_yes, leaf_looking_ack, leaf_idle_ack, leaf_asking_ack, leaf_acked, Shows, Reigns, Asked, root_goes_on, rising_told, rising_looked, root_looked, root_told, root_fetched, root_checked_in, root_asked_again, root_asked}
+use Rattle.oc_laws_rest.proofs.Forms.{root_node, Going, rising_node, looking_node, idle_node, asking_node, joined_node, top, letter, search_of, Gives, Tried, leaf_told, leaf_told_other, leaf_idle_told, leaf_asking_told, leaf_joined_told, leaf_asks, leaf_passes, leaf_looking_seen, leaf_idle_seen, leaf_asking_seen, leaf_joined_seen, leaf_looking_yes, leaf_idle_yes, leaf_joins, leaf_joined_yes, leaf_looking_ack, leaf_idle_ack, leaf_asking_ack, leaf_acked, Shows, Reigns, Asked, root_goes_on, rising_told, rising_looked, root_looked, root_told, root_fetched, root_checked_in, root_asked_again, root_asked}
 use Rattle.oc_laws_rest.proofs.Moves.{Is, Turned, Waits, taken, failed, waits_new, waits_on, at_some, at_after}
-use Rattle.oc_laws_rest.proofs.Rows.{IsLeaf, Row, IsRow, AreRows, end_of, row_or_none, rows_put, no_member, renewed, renewed_other}
-use Rattle.oc_laws_rest.proofs.Star.{tag, greater, HasRow, Acts, HasAsked, Keeps, top_apart, LooksAt, Sees, AsksFor, Accepts, ChecksIn, Acks, Fetches, RootAsks, Looks, Idles, Asks, Joins, LeafIs, RootIs, Rising, AreFresh, TopIs, LooksSomewhere, IsSaid, OfLeaf, OfTop, IsKnown, Arriving, ups_on, none_on, on, joins_stay, idles_stay, looks_stay, leaf_stays, root_stays, fresh_stays, top_stays, assemble}
+use Rattle.oc_laws_rest.proofs.Rows.{IsLeaf, Row, AreRows, end_of, row_or_none, rows_put, no_member, renewed, renewed_other}
+use Rattle.oc_laws_rest.proofs.Star.{tag, greater, HasRow, Acts, HasAsked, Keeps, top_apart, LooksAt, Sees, AsksFor, Accepts, ChecksIn, RootAsks, Looks, Asks, LeafIs, RootIs, Rising, AreFresh, TopIs, IsSaid, IsKnown, Arriving, ups_on, none_on, joins_stay, idles_stay, looks_stay, leaf_stays, root_stays, fresh_stays, top_stays, assemble}
 
 -- where no process of m changed, and no other node forgot that it asked
 keeps_still : (m : ℕ) (w v : World) → process v m ≡ process w m → ((y : ℕ) → (m ≡ y → ⊥) → HasAsked w y → HasAsked v y) → Keeps m w v

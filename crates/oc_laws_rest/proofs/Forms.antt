@@ -14,7 +14,7 @@ use Rattle.oc_model.specs.declared.input.Input.TheVariants.{Tick, Unreachable, D
 use Rattle.oc_model.specs.declared.message.Body.{Body}
 use Rattle.oc_model.specs.declared.message.Body.TheVariants.{Look, LookIs, Ask, Yes, CheckIn, CheckAck, Fetch}
 use Rattle.oc_model.specs.declared.message.Message.{Message}
-use Rattle.oc_model.specs.declared.mode.Mode.TheVariants.{Idle, Asking, Joined, Acting}
+use Rattle.oc_model.specs.declared.mode.Mode.TheVariants.{Asking, Joined, Acting}
 use Rattle.oc_model.specs.declared.record.Record.{Record}
 use Rattle.oc_model.specs.declared.record.Record.TheVariants as records
 use Rattle.oc_model.specs.declared.soft.Search.{Search}

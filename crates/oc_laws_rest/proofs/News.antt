@@ -1,6 +1,6 @@
 -- New networks: each node that was started is new.
-use Rattle.std.proofs.Common.{◌≡◌, ℕ, zero, suc, ◌+◌, ◌≤◌, ◌<◌, Bool, true, false, nat_le, Some, None, List, [], ◌∷◌, ◌⊎◌, inl, inr, length, map, refl, ap, sym, subst, ◌∙◌, ⊎_elim, arith}
-use Rattle.std.specs.List.{AllByRecursion, range_with_len}
+use Rattle.std.proofs.Common.{◌≡◌, ℕ, ◌≤◌, Bool, true, false, nat_le, Some, None, List, [], ◌∷◌, ◌⊎◌, inl, inr, length, map, refl, ap, sym, subst, ◌∙◌, ⊎_elim, arith}
+use Rattle.std.specs.List.{range_with_len}
 use Rattle.std.proofs.lemmas.Bool.{cases_eq, cond_both, leb-true, leb-false, le-leb, and_parts, false_from_ne_true}
 use Rattle.oc_model.specs.declared.event.Event.TheVariants.{Up}
 use Rattle.oc_model.specs.Adopting.{birth}
@@ -22,7 +22,7 @@ use Rattle.oc_laws_rest.specs.Rest.{IsAtRest, begun, IsOnlyMember}
 use Rattle.oc_laws_rest.proofs.Forms.{numbers_in}
 use Rattle.oc_laws_rest.proofs.Moves.{Is}
 use Rattle.oc_laws_rest.proofs.Rows.{IsLeaf}
-use Rattle.oc_laws_rest.proofs.Star.{HasRow, Idles, Joins, RootIs}
+use Rattle.oc_laws_rest.proofs.Star.{HasRow, Joins, RootIs}
 use Rattle.oc_laws_rest.proofs.Ticks.{Begins, Ends, round_ends}
 use Rattle.oc_laws_rest.proofs.Rested.{Rests, at_rest, asked}
 

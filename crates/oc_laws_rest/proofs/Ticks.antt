@@ -1,5 +1,5 @@
 -- The ticks of a round in a star, and the whole round.
-use Rattle.std.proofs.Common.{◌≡◌, ℕ, zero, suc, ◌+◌, ◌-◌, ◌≤◌, ◌<◌, max, Bool, true, false, not, ◌&&◌, ◌||◌, ◌==◌, nat_le, nat_lt, Option, Some, None, unwrap_or, List, [], ◌∷◌, ◌++◌, ◌⊎◌, inl, inr, length, map, refl, ap, sym, subst, ◌∙◌, ⊎_elim, arith, eqb-true, eq-eqb, length-append, append_assoc, append-nil}
+use Rattle.std.proofs.Common.{◌≡◌, ℕ, ◌+◌, ◌-◌, ◌≤◌, ◌<◌, max, Bool, true, false, not, ◌&&◌, ◌||◌, ◌==◌, nat_le, nat_lt, Option, Some, None, unwrap_or, List, [], ◌∷◌, ◌++◌, ◌⊎◌, inl, inr, length, map, refl, ap, sym, subst, ◌∙◌, ⊎_elim, arith, eqb-true, eq-eqb, length-append, append_assoc, append-nil}
 use Rattle.std.specs.List.{AllByRecursion, list_all}
 use Rattle.std.proofs.lemmas.Bool.{cases_eq, and_parts, or_cases, le-leb, leb-true, ltb-true, not-true}
 use Rattle.std.proofs.lemmas.List.{length-replicate}
@@ -8,16 +8,14 @@ use Rattle.oc_model.specs.declared.event.Act.TheVariants.{At}
 use Rattle.oc_model.specs.declared.input.Input.TheVariants.{Tick}
 use Rattle.oc_model.specs.declared.message.Body.TheVariants.{Look, Ask, CheckIn, Fetch}
 use Rattle.oc_model.specs.declared.message.Message.{Message}
-use Rattle.oc_model.specs.declared.mode.Mode.{Mode}
 use Rattle.oc_model.specs.declared.mode.Mode.TheVariants.{Idle, Acting}
-use Rattle.oc_model.specs.declared.soft.Search.TheVariants.{Review}
 use Rattle.oc_model.specs.Adopting.{birth}
 use Rattle.oc_model.specs.Checking.{is_due}
-use Rattle.oc_model.specs.ClaimsTree.{table_of, seq_of}
+use Rattle.oc_model.specs.ClaimsTree.{table_of}
 use Rattle.oc_model.specs.Node.{Header, Node, new_node, new_control}
 use Rattle.oc_model.specs.Numbers.{has}
 use Rattle.oc_model.specs.Table.{newest, leased_children}
-use Rattle.oc_model.specs.World.{World, Process, process, node, is_up, up_ids, mode_of, after_act}
+use Rattle.oc_model.specs.World.{World, Process, process, node, is_up, up_ids, after_act}
 use Rattle.oc_model.specs.WorldBounds.{IsOneOf}
 use Rattle.oc_model.proofs.Able.{among_up}
 use Rattle.oc_model.proofs.Lists.{all_weaker, all_append}
@@ -26,7 +24,7 @@ use Rattle.oc_laws_rest.specs.Rounds.{Turn, Round, after_turns, arrived, after_a
 use Rattle.oc_laws_rest.proofs.Forms.{root_node, Going, rising_node, looking_node, idle_node, joined_node, letter, search_of, LooksEarlier, in_numbers, Sets, leaf_begins, leaf_begins_again, Checked, leaf_checks, Reigns, root_begins, Rises, root_rises, HasTicked, root_ticks}
 use Rattle.oc_laws_rest.proofs.Moves.{Is, Turned, ticked, Waits, waits_new, waits_more}
 use Rattle.oc_laws_rest.proofs.Rows.{IsLeaf, Row, leased_row, none_set, none_ended, end_of}
-use Rattle.oc_laws_rest.proofs.Star.{HasRow, Acts, HasAsked, Keeps, top_apart, LooksAt, Sees, AsksFor, Accepts, ChecksIn, RootAsks, Looks, Idles, Asks, Joins, LeafIs, RootIs, Rising, TopIs, IsKnown, Arriving, known_on, none_on, ups_on}
+use Rattle.oc_laws_rest.proofs.Star.{HasRow, Acts, HasAsked, Keeps, top_apart, LooksAt, Sees, AsksFor, Accepts, ChecksIn, RootAsks, Looks, Idles, Joins, LeafIs, RootIs, Rising, TopIs, IsKnown, Arriving, known_on, none_on, ups_on}
 use Rattle.oc_laws_rest.proofs.Arrivals.{arrives}
 
 -- Lists

@@ -1,0 +1,9 @@
+ghost use Rattle.oc_laws_rest.specs.Examples.{NewNetworkRests, FailuresAreTold, UntoldFailuresAreNone, TurnsNeedAClock};
+
+/// Checks worked examples of rounds.
+pub fn rounds_compute()
+    ensures rests { NewNetworkRests }
+    ensures told { FailuresAreTold }
+    ensures untold { UntoldFailuresAreNone }
+    ensures clock { TurnsNeedAClock }
+{}

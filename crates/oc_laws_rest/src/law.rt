@@ -1,0 +1,27 @@
+ghost use Rattle.std.specs.Prelude.{◌≡◌, ℕ, true, List, ◌∷◌};
+ghost use Rattle.oc_model.specs.Chains.{IsUp};
+ghost use Rattle.oc_model.specs.ClaimsTree.{seq_of};
+ghost use Rattle.oc_model.specs.Lawful.{IsHeader};
+ghost use Rattle.oc_model.specs.Node.{Header};
+ghost use Rattle.oc_model.specs.World.{is_up};
+ghost use Rattle.oc_laws_rest.specs.Rest.{IsAtRest, begun, IsOnlyMember};
+ghost use Rattle.oc_laws_rest.specs.Rounds.{Round, after_rounds, is_quiet};
+
+/// A new network in which one chain member is up comes to rest by itself in two rounds, and is at rest at the
+/// end of each later one: whatever nodes were started, in whatever order the nodes tick and the messages
+/// arrive, and however often a message arrives. Where that member is the source, one round is enough.
+///
+/// In a round each node that is up ticks once, at a second at which its check is due and before a lease could
+/// end; then each message of the round arrives, or its sender is told that its receiver is down. The member
+/// asks each earlier one first, and acts as root when it was told of all; every other node then becomes its
+/// child by its first ask, and asks no more. The nodes that are up stay so.
+pub fn new_networks_rest()
+    ensures rests { (h : Header) (xs : List ℕ) (m : ℕ) (q r : Round) (rs : List Round) → IsHeader h → IsOnlyMember (begun h xs) m → is_quiet (begun h xs) (q ∷ r ∷ rs) ≡ true
+        → IsAtRest (after_rounds (begun h xs) (q ∷ r ∷ rs)) m }
+    ensures source { (h : Header) (xs : List ℕ) (q : Round) (rs : List Round) → IsHeader h → IsOnlyMember (begun h xs) 1 → is_quiet (begun h xs) (q ∷ rs) ≡ true
+        → IsAtRest (after_rounds (begun h xs) (q ∷ rs)) 1 }
+    ensures asks { (h : Header) (xs : List ℕ) (m : ℕ) (q r : Round) (rs : List Round) (x : ℕ) → IsHeader h → IsOnlyMember (begun h xs) m → is_quiet (begun h xs) (q ∷ r ∷ rs) ≡ true
+        → IsUp (begun h xs) x → (x ≡ m → ⊥) → seq_of (after_rounds (begun h xs) (q ∷ r ∷ rs)) x ≡ 1 }
+    ensures up { (h : Header) (xs : List ℕ) (m : ℕ) (q r : Round) (rs : List Round) (x : ℕ) → IsHeader h → IsOnlyMember (begun h xs) m → is_quiet (begun h xs) (q ∷ r ∷ rs) ≡ true
+        → is_up (after_rounds (begun h xs) (q ∷ r ∷ rs)) x ≡ is_up (begun h xs) x }
+{}

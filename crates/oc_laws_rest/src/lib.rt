@@ -1,0 +1,17 @@
+//! The law that a network comes to rest by itself: nobody changes it any more, its nodes tick, and each message
+//! arrives or its sender is told that it failed.
+//!
+//! `specs/Rounds` says what a round of such a run is, `specs/Rest` what rest is. [`rounds_compute`] has worked
+//! examples of both, and of two runs that are none: one in which a failure is not told, and one in which the
+//! nodes take turns without a clock.
+//!
+//! Proved is the first part of the law: [`new_networks_rest`], for a new network in which one chain member is
+//! up. Not proved is it for any other world: with several chain members up, with nodes that have places, ranks
+//! or leases from before, with content, and with measures.
+#![tactic(auto)]
+
+mod examples;
+mod law;
+
+pub use examples::rounds_compute;
+pub use law::new_networks_rest;

@@ -1,0 +1,31 @@
+ghost use Rattle.std.specs.Prelude.{ℕ, List};
+ghost use Rattle.oc_folder.specs.Reading.{reading, IsReading};
+ghost use Rattle.oc_model.specs.declared.event.Event.{Event};
+ghost use Rattle.oc_laws_world.specs.Throughout.{Always, Throughout};
+ghost use Rattle.oc_laws_folders.specs.Folders.{AreSnapshots, LoseNothing, GoForward};
+
+/// Folders are snapshots: after any events, in any order, from any new world, and in each world on the way, what any
+/// node shows of any group is the folder as it was at the source after some batch, whole.
+///
+/// It is what the source's bytes up to the end of that batch are read as, and there nothing was under way.
+/// What the source itself shows is that folder or a later one. This is so of all that an index of the node's
+/// bytes comes through, not only once it has read them all.
+pub fn folders_are_snapshots()
+    ensures { Always AreSnapshots }
+{}
+
+/// Folders go forward: from any world to any later one, no node's folder goes back, through whatever starts, crashes
+/// and stops within a write lie between.
+///
+/// The later folder has at least as many batches and ends no earlier; where it has no more, it is the
+/// same. For no node ever loses a byte of a group. Later is what the node has read in full: an index that
+/// began anew may have come less far.
+pub fn folders_go_forward()
+    ensures bytes { Always (λ w. (later : List Event) → Throughout (LoseNothing w) w later) }
+    ensures folders { Always (λ w. (later : List Event) → Throughout (GoForward w) w later) }
+{}
+
+/// Each group has a reading, which is computed: an index that is fed the blocks that it wants comes to an end.
+pub fn groups_are_read()
+    ensures { (bytes : List ℕ) → IsReading bytes (reading bytes) }
+{}

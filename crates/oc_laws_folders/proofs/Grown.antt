@@ -1,5 +1,5 @@
 -- No node ever loses a byte.
-use Rattle.std.proofs.Common.{◌≡◌, ℕ, true, List, [], ◌∷◌, inl, inr, refl, sym, subst, ◌∙◌}
+use Rattle.std.proofs.Common.{◌≡◌, ℕ, true, Some, List, [], ◌∷◌, inl, inr, refl, sym, subst, ◌∙◌}
 use Rattle.std.specs.List.{AllByRecursion}
 use Rattle.oc_base.specs.declared.group.Group.{Group}
 use Rattle.oc_model.specs.declared.event.Act.{Act}
@@ -11,7 +11,7 @@ use Rattle.oc_model.specs.NextWorld.{stopped, next_world}
 use Rattle.oc_model.specs.Node.{Outcome}
 use Rattle.oc_model.specs.Numbers.{IsAmong}
 use Rattle.oc_model.specs.Step.{step}
-use Rattle.oc_model.specs.World.{World, Process, Arrival, node, process, process_in, with_process, after_act}
+use Rattle.oc_model.specs.World.{World, Process, Arrival, node, process_in, with_process, source_after, after_act}
 use Rattle.oc_model.proofs.Processes.{process_in-me, at_put, anew, again}
 use Rattle.oc_laws_world.specs.Throughout.{Throughout}
 use Rattle.oc_laws_world.proofs.Fair.{Fair}
@@ -21,7 +21,6 @@ use Rattle.oc_laws_world.proofs.Steps.{IsTrueInput, step_fair}
 use Rattle.oc_laws_world.proofs.Truth.{Grows, grows_itself, grows_then}
 use Rattle.oc_laws_world.proofs.Turns.{Sound, IsTrueIn, act_turn, event_turn}
 use Rattle.oc_laws_world.proofs.Walks.{HasCome}
-use Rattle.oc_model.specs.World.{source_after}
 
 -- each node has all bytes that it had in the first world
 abbrev pub HasGrown : World → World → Type 0

@@ -20,14 +20,14 @@ step_far bytes s h =
 read_far : (turns : ℕ) (bytes : List ℕ) (s : State) → has_next (read_on turns bytes s) (length bytes) ≡ true → s.at + turns * 512 ≤ (read_on turns bytes s).at
 unfolding read_on
 read_far zero bytes s h = let same : s.at + 0 * 512 ≤ s.at = omega arith in same
-read_far (suc turns) bytes s h = by (has_next s (length bytes)) refl
+read_far (suc turns) bytes s h = by (has_next s (length bytes)) (read_far turns bytes (step bytes s) h) refl
   where
-    by : (b : Bool) → has_next s (length bytes) ≡ b → s.at + suc turns * 512 ≤ (read_on turns bytes (step bytes s)).at
-    by true e =
+    by : (b : Bool) → (step bytes s).at + turns * 512 ≤ (read_on turns bytes (step bytes s)).at → has_next s (length bytes) ≡ b
+        → s.at + suc turns * 512 ≤ (read_on turns bytes (step bytes s)).at
+    by true on e =
         let first : s.at + 512 ≤ (step bytes s).at = step_far bytes s e in
-        let then : (step bytes s).at + turns * 512 ≤ (read_on turns bytes (step bytes s)).at = read_far turns bytes (step bytes s) h in
-        omega (arith, first, then)
-    by false e =
+        omega (arith, first, on)
+    by false on e =
         let here : read_on (suc turns) bytes s ≡ s = rests (suc turns) bytes s e in
         let none : has_next (read_on (suc turns) bytes s) (length bytes) ≡ false = ap (λ t. has_next t (length bytes)) here ∙ e in
         absurd (let no : true ≡ false = sym h ∙ none in cc)
@@ -37,7 +37,7 @@ too_many : (n : ℕ) → n / 512 * 512 + 512 ≤ n → ⊥
 too_many n h =
     let some : zero < 512 = omega arith in
     let more : suc (n / 512) * 512 ≤ n = omega (arith, h) in
-    let low : suc (n / 512) ≤ n / 512 = (le-div_iff_mul-le {512} {suc (n / 512)} {n} some).1 more in
+    let low : suc (n / 512) ≤ n / 512 = (le-div_iff_mul-le {k = 512} {x = suc (n / 512)} {y = n} some).1 more in
     omega (arith, low)
 
 pub reads : (bytes : List ℕ) → IsReading bytes (reading bytes)

@@ -1,9 +1,8 @@
 -- The bytes of a node are a beginning of the source's, and of its own later ones.
-use Rattle.std.proofs.Common.{◌≡◌, ℕ, Option, Some, None, List, [], ◌++◌, length, take, drop, refl, sym, ap, subst, ◌∙◌}
+use Rattle.std.proofs.Common.{◌≡◌, ℕ, Option, Some, None, List, [], ◌∷◌, length, drop, refl, sym, ap, subst}
 use Rattle.oc_base.specs.declared.group.Group.{Group}
 use Rattle.oc_base.specs.Groups.{group_of, or_empty, bytes_of}
-use Rattle.oc_folder.specs.declared.state.State.{State}
-use Rattle.oc_folder.specs.Reading.{Passes, IsReading}
+use Rattle.oc_folder.specs.Reading.{IsReading}
 use Rattle.oc_model.specs.declared.event.Event.{Event}
 use Rattle.oc_model.specs.Claims.{HoldPrefixes}
 use Rattle.oc_model.specs.World.{World, node}
@@ -12,12 +11,16 @@ use Rattle.oc_laws_world.proofs.Fronts.{IsFront, front_rest}
 use Rattle.oc_laws_world.proofs.Kept.{sound_prefixes}
 use Rattle.oc_laws_world.proofs.Truth.{Grows}
 use Rattle.oc_laws_world.proofs.Turns.{Sound}
-use Rattle.oc_laws_folders.specs.Folders.{bytes_at, source_bytes, IsSnapshot, IsNoOlder, AreSnapshots, LoseNothing, GoForward}
+use Rattle.oc_laws_folders.specs.Folders.{bytes_at, source_bytes, IsSnapshot, AreSnapshots, LoseNothing, GoForward}
 use Rattle.oc_laws_folders.proofs.Grown.{HasGrown, grown_throughout}
 use Rattle.oc_laws_folders.proofs.Later.{later, snapshot}
 
 bytes_are : (g : List ℕ) (ks : List Group) (o : Option Group) → group_of g ks ≡ o → bytes_of g ks ≡ (or_empty g o).bytes
 bytes_are g ks o h = ap (λ (p : Option Group). (or_empty g p).bytes) h
+
+nothing_front : (ys : List ℕ) → IsFront [] ys
+nothing_front [] = refl
+nothing_front (y ∷ ys) = refl
 
 -- a group of which another list has at least as much
 front_of : (g : List ℕ) (ks js : List Group) → ((k : Group) → group_of g ks ≡ Some k → (t : Group) × (group_of g js ≡ Some t) × IsFront k.bytes t.bytes)
@@ -25,7 +28,7 @@ front_of : (g : List ℕ) (ks js : List Group) → ((k : Group) → group_of g k
 front_of g ks js has = by (group_of g ks) refl
   where
     by : (o : Option Group) → group_of g ks ≡ o → IsFront (bytes_of g ks) (bytes_of g js)
-    by None e = subst (λ (xs : List ℕ). IsFront xs (bytes_of g js)) (sym (bytes_are g ks None e)) refl
+    by None e = subst (λ (xs : List ℕ). IsFront xs (bytes_of g js)) (sym (bytes_are g ks None e)) (nothing_front (bytes_of g js))
     by (Some k) e =
         let more = has k e in
         let there : IsFront k.bytes (bytes_of g js) = subst (λ (ys : List ℕ). IsFront k.bytes ys) (sym (bytes_are g js (Some more.0) more.1)) more.2 in

@@ -27,12 +27,12 @@ rest = Up 2 ∷ Do (At 1 (Publish group (drop 3000 two_archives))) ∷ Do (At 2 
 abbrev halfway : World
 halfway = world_after (new_world (header 2 1 (0 ∷ 0 ∷ []))) half
 
-abbrev whole : World
-whole = world_after halfway rest
+abbrev finished : World
+finished = world_after halfway rest
 
 abbrev shown_at : World → ℕ → List Entry
 shown_at w x = (reading (bytes_at w x group)).shown
 
 pub record CopyingInParts : Type 0 where
-  pub half : shown_at halfway 2 ≡ one_entry
-  pub whole : shown_at whole 2 ≡ two_entries
+  pub first : shown_at halfway 2 ≡ one_entry
+  pub both : shown_at finished 2 ≡ two_entries

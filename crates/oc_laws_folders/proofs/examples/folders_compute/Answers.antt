@@ -4,4 +4,4 @@ use Rattle.oc_laws_folders.proofs.examples.folders_compute.Goals as goal
 
 pub returns : goal.returns
 unfolding reading read_on
-returns c = record { half = refl; whole = refl }
+returns c = record { first = refl; both = refl }

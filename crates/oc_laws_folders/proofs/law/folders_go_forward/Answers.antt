@@ -1,6 +1,6 @@
 use Rattle.std.proofs.Common.{List}
 use Rattle.oc_model.specs.declared.event.Event.{Event}
-use Rattle.oc_model.specs.World.{World, new_world}
+use Rattle.oc_model.specs.World.{new_world}
 use Rattle.oc_laws_world.specs.Throughout.{Throughout}
 use Rattle.oc_laws_world.proofs.Kept.{throughout}
 use Rattle.oc_laws_world.proofs.Passing.{always}

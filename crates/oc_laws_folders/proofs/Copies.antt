@@ -9,11 +9,10 @@ use Rattle.oc_model.specs.World.{World, node}
 use Rattle.oc_laws_world.specs.Throughout.{Throughout}
 use Rattle.oc_laws_world.proofs.Fronts.{IsFront, front_rest}
 use Rattle.oc_laws_world.proofs.Kept.{sound_prefixes}
-use Rattle.oc_laws_world.proofs.Truth.{Grows}
 use Rattle.oc_laws_world.proofs.Turns.{Sound}
-use Rattle.oc_laws_folders.specs.Folders.{bytes_at, source_bytes, IsSnapshot, AreSnapshots, LoseNothing, GoForward}
+use Rattle.oc_laws_folders.specs.Folders.{bytes_at, source_bytes, IsSnapshot, AreSnapshots, LoseNothing, GoForward, KeepUp}
 use Rattle.oc_laws_folders.proofs.Grown.{HasGrown, grown_throughout}
-use Rattle.oc_laws_folders.proofs.Later.{later, snapshot}
+use Rattle.oc_laws_folders.proofs.Later.{later, snapshot, keeps_up}
 
 bytes_are : (g : List ℕ) (ks : List Group) (o : Option Group) → group_of g ks ≡ o → bytes_of g ks ≡ (or_empty g o).bytes
 bytes_are g ks o h = ap (λ (p : Option Group). (or_empty g p).bytes) h
@@ -57,6 +56,10 @@ pub snapshots : (w : World) → Sound w → AreSnapshots w
 snapshots w sound x g s p =
     let whole = front_rest (bytes_at w x g) (source_bytes w g) (source_front w (sound_prefixes w sound) x g) in
     subst (λ (bytes : List ℕ). IsSnapshot bytes s) (sym whole) (snapshot (bytes_at w x g) (drop (length (bytes_at w x g)) (source_bytes w g)) s p)
+
+pub nodes_keep_up : (w : World) → Sound w → KeepUp w
+nodes_keep_up w sound x y g s t p q within =
+    keeps_up (source_bytes w g) (bytes_at w y g) s t (source_front w (sound_prefixes w sound) y g) (snapshots w sound x g s p).batch q within
 
 pub bytes_stay : (w : World) → Sound w → (events : List Event) → Throughout (LoseNothing w) w events
 bytes_stay w sound events = grown_throughout w (LoseNothing w) (nothing_lost w) sound events

@@ -1,7 +1,6 @@
 -- No node ever loses a byte.
-use Rattle.std.proofs.Common.{◌≡◌, ℕ, true, Some, List, [], ◌∷◌, inl, inr, refl, sym, subst, ◌∙◌}
+use Rattle.std.proofs.Common.{◌≡◌, ℕ, true, Some, List, [], ◌∷◌, inl, inr, sym, subst, ◌∙◌}
 use Rattle.std.specs.List.{AllByRecursion}
-use Rattle.oc_base.specs.declared.group.Group.{Group}
 use Rattle.oc_model.specs.declared.event.Act.{Act}
 use Rattle.oc_model.specs.declared.event.Event.{Event}
 use Rattle.oc_model.specs.declared.input.Input.{Input}
@@ -12,7 +11,7 @@ use Rattle.oc_model.specs.Node.{Outcome}
 use Rattle.oc_model.specs.Numbers.{IsAmong}
 use Rattle.oc_model.specs.Step.{step}
 use Rattle.oc_model.specs.World.{World, Process, Arrival, node, process_in, with_process, source_after, after_act}
-use Rattle.oc_model.proofs.Processes.{process_in-me, at_put, anew, again}
+use Rattle.oc_model.proofs.Processes.{process_in-me, at_put, anew}
 use Rattle.oc_laws_world.specs.Throughout.{Throughout}
 use Rattle.oc_laws_world.proofs.Fair.{Fair}
 use Rattle.oc_laws_world.proofs.Lifts.{HasSent, IsTrueArrival, IsActLaw, act_lift, act_event}

@@ -1,10 +1,12 @@
 -- A reading that goes on is no older than it was.
-use Rattle.std.proofs.Common.{◌≡◌, ℕ, zero, suc, ◌+◌, ◌≤◌, List, ◌++◌, refl, sym, ap, ◌∙◌, subst, arith}
+use Rattle.std.proofs.Common.{◌≡◌, ℕ, zero, suc, ◌+◌, ◌≤◌, List, ◌++◌, length, take, drop, refl, sym, ap, ◌∙◌, subst, arith, take-append-drop, take-take}
 use Rattle.oc_folder.specs.declared.state.State.{State}
 use Rattle.oc_folder.specs.Reading.{start, step, read_on, Passes, IsReading}
+use Rattle.oc_folder.specs.Forward.{ShowsBatch}
 use Rattle.oc_folder.proofs.Courses.{read_sum, rests, passes_longer}
 use Rattle.oc_folder.proofs.Forward.{step_advances, end_within}
 use Rattle.oc_folder.proofs.Whole.{shows_batch}
+use Rattle.oc_laws_world.proofs.Fronts.{IsFront}
 use Rattle.oc_laws_folders.specs.Folders.{IsNoOlder, IsSnapshot}
 
 itself : (s : State) → IsNoOlder s s
@@ -46,7 +48,24 @@ later bytes more s t p q =
 
 -- and is a snapshot of the folder of more bytes
 pub snapshot : (bytes more : List ℕ) (s : State) → Passes bytes s → IsSnapshot (bytes ++ more) s
-snapshot bytes more s p = record {
-  batch = shows_batch (bytes ++ more) s (passes_longer bytes more s p);
-  passed = λ t q. later bytes more s t p q;
-}
+snapshot bytes more s p =
+    let batch = shows_batch (bytes ++ more) s (passes_longer bytes more s p) in
+    let through = passes_longer (take s.end (bytes ++ more)) (drop s.end (bytes ++ more)) batch.last batch.reading.passes in
+    record {
+      batch = batch;
+      came = subst (λ xs. Passes xs batch.last) (take-append-drop s.end (bytes ++ more)) through;
+      passed = λ t q. later bytes more s t p q;
+    }
+
+-- what a beginning of these bytes is read as, where the last batch that is shown has come whole, is no older
+pub keeps_up : (bytes xs : List ℕ) (s t : State) → IsFront xs bytes → ShowsBatch bytes s → IsReading xs t → s.end ≤ length xs → IsNoOlder s t
+keeps_up bytes xs s t front batch q within =
+    let same : take s.end bytes ≡ take s.end xs = sym (ap (take s.end) front ∙ take-take s.end (length xs) bytes within) in
+    let last : IsReading (take s.end xs) batch.last = subst (λ ys. IsReading ys batch.last) same batch.reading in
+    let whole : IsReading (take s.end xs ++ drop s.end xs) t = subst (λ ys. IsReading ys t) (sym (take-append-drop s.end xs)) q in
+    let on : IsNoOlder batch.last t = later (take s.end xs) (drop s.end xs) batch.last t last.passes whole in
+    record {
+      batches = omega (arith, on.batches, batch.batches);
+      end = omega (arith, on.end, batch.end);
+      same = λ h. let again = on.same (h ∙ batch.batches) in (again.0 ∙ sym batch.shown, again.1 ∙ sym batch.end);
+    }

@@ -6,8 +6,8 @@
 //! (`proofs/Grown`). So the readings of a node and of the source go through the same states, one further than the
 //! other, and a reading that goes on never goes back (`proofs/Later`).
 //!
-//! [`folders_are_snapshots`] and [`folders_go_forward`] have no premise, and hold after any events, in any order, and in
-//! each world on the way. [`groups_are_read`] says that each group has a reading, so that they speak of something.
+//! [`folders_are_snapshots`], [`folders_go_forward`] and [`clients_sent_on_go_forward`] have no premise, and hold after any
+//! events, in any order, and in each world on the way. [`groups_are_read`] says that each group has a reading, so that they speak of something.
 //! [`folders_compute`] has a worked run.
 #![tactic(auto)]
 
@@ -15,4 +15,6 @@ mod examples;
 mod law;
 
 pub use examples::folders_compute;
-pub use law::{folders_are_snapshots, folders_go_forward, groups_are_read};
+pub use law::{
+    clients_sent_on_go_forward, folders_are_snapshots, folders_go_forward, groups_are_read,
+};

@@ -7,9 +7,9 @@ ghost use Rattle.oc_laws_folders.specs.Folders.{AreSnapshots, LoseNothing, GoFor
 /// Folders are snapshots: after any events, in any order, from any new world, and in each world on the way, what any
 /// node shows of any group is the folder as it was at the source after some batch, whole.
 ///
-/// It is what the source's bytes up to the end of that batch are read as, and there nothing was under way.
-/// What the source itself shows is that folder or a later one. This is so of all that an index of the node's
-/// bytes comes through, not only once it has read them all.
+/// The reading of the source's bytes came through that folder at the end of the batch, where nothing was under way. What
+/// all of the source's bytes are read as is that folder or a later one. This is so of all that an index of the node's bytes
+/// comes through, not only once it has read them all.
 pub fn folders_are_snapshots()
     ensures { Always AreSnapshots }
 {}
@@ -17,9 +17,9 @@ pub fn folders_are_snapshots()
 /// Folders go forward: from any world to any later one no node's folder goes back, whatever starts, crashes and stops
 /// within a write lie between.
 ///
-/// No node ever loses a byte of a group. So what a node has read in full in the later world has at least as many batches
-/// as what an index of it had come to before, and ends no earlier; where it has no more, it is the same. An
-/// index that begins anew after a start comes through older folders until it has read all.
+/// No node ever loses a byte of a group. So what a node has read in full in the later world has at least as many batches as
+/// what an index of it had come to before, and ends no earlier; where it has no more, it is the same. An index that begins
+/// anew after a start comes through older folders until it has read all.
 pub fn folders_go_forward()
     ensures bytes { Always (λ w. (later : List Event) → Throughout (LoseNothing w) w later) }
     ensures folders { Always (λ w. (later : List Event) → Throughout (GoForward w) w later) }

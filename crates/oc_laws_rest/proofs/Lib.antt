@@ -6,3 +6,4 @@ pub mod Arrivals
 pub mod Ticks
 pub mod Rested
 pub mod News
+pub mod Peers

@@ -7,3 +7,4 @@ pub mod Ticks
 pub mod Rested
 pub mod News
 pub mod Peers
+pub mod Links

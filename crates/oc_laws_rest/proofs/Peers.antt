@@ -161,8 +161,8 @@ module _ (x : ℕ) (B : ℕ → Type 0) where
   tied_joins o p r xs asking h = (
     h.0,
     λ q peer. h.1 q (either (o.node.kept.seq == 0) (λ (d : Durable). is_peer d.mode q ≡ true → is_peer o.node.kept.mode q ≡ true) o.node.kept
-    (record o.node.kept { mode = modes.Joined p; rank = Some (beneath_of r); log = begun_with o.node.kept.table })
-    (λ e. e) (λ e. ap (λ (m : Mode). is_peer m q) asking ∙ e) peer),
+        (record o.node.kept { mode = modes.Joined p; rank = Some (beneath_of r); log = begun_with o.node.kept.table })
+        (λ e. e) (λ e. ap (λ (m : Mode). is_peer m q) asking ∙ e) peer),
   )
 
   tied_took_yes : (o : Plan) (p seq : ℕ) (r : Rank) (xs : List ℕ) → IsTied o → IsTied (took_yes o p seq r xs)

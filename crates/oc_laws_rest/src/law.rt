@@ -3,8 +3,8 @@ ghost use Rattle.oc_model.specs.Chains.{IsUp};
 ghost use Rattle.oc_model.specs.ClaimsTree.{seq_of};
 ghost use Rattle.oc_model.specs.Lawful.{IsHeader};
 ghost use Rattle.oc_model.specs.Node.{Header};
-ghost use Rattle.oc_model.specs.World.{is_up};
-ghost use Rattle.oc_laws_rest.specs.Rest.{IsAtRest, begun, IsOnlyMember};
+ghost use Rattle.oc_model.specs.World.{World, is_up};
+ghost use Rattle.oc_laws_rest.specs.Rest.{IsAtRest, begun, IsOnlyMember, PeersAreUp};
 ghost use Rattle.oc_laws_rest.specs.Rounds.{Round, after_rounds, is_quiet};
 
 /// A new network in which one chain member is up comes to rest by itself in two rounds, and is at rest at the
@@ -24,4 +24,12 @@ pub fn new_networks_rest()
         → IsUp (begun h xs) x → (x ≡ m → ⊥) → seq_of (after_rounds (begun h xs) (q ∷ r ∷ rs)) x ≡ 1 }
     ensures up { (h : Header) (xs : List ℕ) (m : ℕ) (q r : Round) (rs : List Round) (x : ℕ) → IsHeader h → IsOnlyMember (begun h xs) m → is_quiet (begun h xs) (q ∷ r ∷ rs) ≡ true
         → is_up (after_rounds (begun h xs) (q ∷ r ∷ rs)) x ≡ is_up (begun h xs) x }
+{}
+
+/// From the end of the first round on, whatever world it began in, every parent and every node that is asked is
+/// up: a node whose parent went down, or that asks a node that is down, learns so in the round and has left it at
+/// the end. The nodes that are up stay so, and no other comes up.
+pub fn failures_are_noticed()
+    ensures peers { (w : World) (r : Round) (rs : List Round) → is_quiet w (r ∷ rs) ≡ true → PeersAreUp (after_rounds w (r ∷ rs)) }
+    ensures up { (w : World) (r : Round) (rs : List Round) (x : ℕ) → is_quiet w (r ∷ rs) ≡ true → is_up (after_rounds w (r ∷ rs)) x ≡ is_up w x }
 {}

@@ -14,4 +14,4 @@ mod examples;
 mod law;
 
 pub use examples::rounds_compute;
-pub use law::new_networks_rest;
+pub use law::{failures_are_noticed, new_networks_rest};

@@ -1,13 +1,11 @@
 -- At the end of a round no node asks a node that is down, or is joined to one, whatever the world before it.
-use Rattle.std.proofs.Common.{◌≡◌, ℕ, zero, suc, ◌+◌, ◌-◌, ◌≤◌, ◌<◌, max, Bool, true, false, not, ◌&&◌, nat_le, nat_lt, if◌then◌else◌, Some, unwrap_or, List, [], ◌∷◌, ◌++◌, ◌⊎◌, inl, inr, length, map, refl, ap, sym, subst, ◌∙◌, ⊎_elim, arith, length-append, append_assoc, append-nil}
+use Rattle.std.proofs.Common.{◌≡◌, ℕ, suc, ◌+◌, ◌-◌, ◌≤◌, ◌<◌, Bool, true, false, not, ◌&&◌, nat_le, nat_lt, if◌then◌else◌, Some, unwrap_or, List, [], ◌∷◌, ◌++◌, ◌⊎◌, inl, inr, length, map, refl, ap, sym, subst, ◌∙◌, ⊎_elim, arith, length-append, append_assoc, append-nil}
 use Rattle.std.specs.List.{list_all}
 use Rattle.std.proofs.lemmas.Bool.{cases_eq, cases_Bool, and_parts, leb-true, ltb-true, not-true}
-use Rattle.oc_model.specs.declared.event.Act.{Act}
 use Rattle.oc_model.specs.declared.event.Act.TheVariants.{At, Deliver}
 use Rattle.oc_model.specs.declared.input.Input.{Input}
 use Rattle.oc_model.specs.declared.input.Input.TheVariants.{Tick, Unreachable, Delivered}
 use Rattle.oc_model.specs.declared.message.Message.{Message}
-use Rattle.oc_model.specs.declared.mode.Mode.{Mode}
 use Rattle.oc_model.specs.Checking.{is_peer}
 use Rattle.oc_model.specs.Node.{Node}
 use Rattle.oc_model.specs.Numbers.{IsAmong, has}
@@ -21,21 +19,21 @@ use Rattle.oc_model.proofs.Processes.{process_in-me}
 use Rattle.oc_laws_rest.specs.Rounds.{Turn, Round, after_turns, is_dial, arriving, arrived, after_arrivals, after_round, after_rounds, is_distinct, are_the_up, is_timely, are_sent, new_messages, is_round, are_later_rounds, is_quiet}
 use Rattle.oc_laws_rest.specs.Rest.{PeersAreUp}
 use Rattle.oc_laws_rest.proofs.Forms.{in_numbers}
-use Rattle.oc_laws_rest.proofs.Moves.{Is, Turned, turned, Waits, AreSent, waits_on, waits_more, at_next, at_some}
+use Rattle.oc_laws_rest.proofs.Moves.{Turned, turned, Waits, AreSent, waits_on, waits_more, at_next, at_some}
 use Rattle.oc_laws_rest.proofs.Peers.{IsDial, Dials, step_ticks, step_fails, step_receives}
 use Rattle.oc_laws_rest.proofs.Ticks.{has_one, has_none, due_then}
 
 -- One input
 
-me_of : (w : World) (x : ℕ) → (node w x).control.me ≡ x
+pub me_of : (w : World) (x : ℕ) → (node w x).control.me ≡ x
 me_of w x = process_in-me w.processes x
 
 -- what one input at a node that is up makes of a world
-takes : (w : World) (x : ℕ) (i : Input) → is_up w x ≡ true → Turned w x (step (node w x) i).node (step (node w x) i).sends (acted w (Some (record { at = x; input = i })))
+pub takes : (w : World) (x : ℕ) (i : Input) → is_up w x ≡ true → Turned w x (step (node w x) i).node (step (node w x) i).sends (acted w (Some (record { at = x; input = i })))
 takes w x i up = turned w x i (node w x) (step (node w x) i).node (step (node w x) i).sends (ap (λ (b : Bool). record { node = node w x; up = b }) up) ((step_leaves (node w x) i).me ∙ me_of w x) (record { node = refl; sends = refl })
 
 -- a node that is down takes nothing
-takes_none : (w : World) (x : ℕ) (i : Input) → is_up w x ≡ false → acted w (Some (record { at = x; input = i })) ≡ w
+pub takes_none : (w : World) (x : ℕ) (i : Input) → is_up w x ≡ false → acted w (Some (record { at = x; input = i })) ≡ w
 takes_none w x i down = ap (λ (b : Bool). if b then stepped w i (step (node w x) i) else w) down
 
 -- nobody goes down by an input, and nobody comes up
@@ -54,10 +52,10 @@ acted_ups w x i y = ⊎_elim
 -- One message
 
 -- it is told as failed, or delivered
-arrived_fails : (w : World) (k : ℕ) (s : Message) → message_at w.net k ≡ Some s → is_dial s.body && not (is_up w s.to) ≡ true → arrived w k ≡ acted w (Some (record { at = s.from; input = Unreachable s.to }))
+pub arrived_fails : (w : World) (k : ℕ) (s : Message) → message_at w.net k ≡ Some s → is_dial s.body && not (is_up w s.to) ≡ true → arrived w k ≡ acted w (Some (record { at = s.from; input = Unreachable s.to }))
 arrived_fails w k s found fails = ap (after_act w) (ap (arriving w k) found ∙ ap (λ (b : Bool). if b then At s.from (Unreachable s.to) else Deliver k) fails)
 
-arrived_comes : (w : World) (k : ℕ) (s : Message) → message_at w.net k ≡ Some s → is_dial s.body && not (is_up w s.to) ≡ false → arrived w k ≡ acted w (Some (record { at = s.to; input = Delivered s }))
+pub arrived_comes : (w : World) (k : ℕ) (s : Message) → message_at w.net k ≡ Some s → is_dial s.body && not (is_up w s.to) ≡ false → arrived w k ≡ acted w (Some (record { at = s.to; input = Delivered s }))
 arrived_comes w k s found comes = ap (after_act w) (ap (arriving w k) found ∙ ap (λ (b : Bool). if b then At s.from (Unreachable s.to) else Deliver k) comes) ∙ ap (λ o. acted w (delivery o)) found
 
 -- Messages of a step wait

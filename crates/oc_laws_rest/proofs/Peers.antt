@@ -29,12 +29,12 @@ use Rattle.oc_model.specs.Adopting.{is_acting, raises, raises_over, host, birth,
 use Rattle.oc_model.specs.Adoption.{precedes, precedes_any, rank_or_last, is_better, adoption_refusal}
 use Rattle.oc_model.specs.Asking.{lost_from, lost, send_ask, ask, act, descend, try_at, waits_awhile, try_first, next_try, set_tries, round, ask_before, is_asking, ancestors_by, joins, took_yes, refused, took_no, not_seen, not_reached, unreachable}
 use Rattle.oc_model.specs.ChangeLog.{begun_with, is_ahead}
-use Rattle.oc_model.specs.Checking.{counts_clients, checks_in, notes_time, reports, checks_as, sets_due, merges, merges_all, at_time, starts_leases, dies, ends_each, ends_leases, looks_at_each, looks_round, is_due, forgets_refusal, goes_on, tick_checks_as, tick_checks, checks_in_time, reports_news, checks_if_due, fetches_as, fetches, tick, acknowledges, life, checked_in, is_joined_to, takes_place, takes_rank_unless, same_ids, takes_ancestors, took_ack, is_peer, took_rejoin}
+use Rattle.oc_model.specs.Checking.{checks_in, notes_time, reports, sets_due, merges, merges_all, at_time, starts_leases, dies, ends_each, ends_leases, looks_at_each, looks_round, is_due, forgets_refusal, goes_on, tick_checks_as, tick_checks, checks_in_time, reports_news, checks_if_due, fetches_as, tick, acknowledges, life, checked_in, is_joined_to, takes_place, takes_rank_unless, same_ids, takes_ancestors, took_ack, is_peer, took_rejoin}
 use Rattle.oc_model.specs.Choice.{below, chosen, reviewed}
-use Rattle.oc_model.specs.Content.{unless, keeps, answers_fetch, sends_chunk, fetched, adds_seal, adds, grown_line, asks_on, keeps_chunk, chunk_to, took_chunk}
+use Rattle.oc_model.specs.Content.{unless, keeps, answers_fetch, adds_seal, adds, grown_line, asks_on, keeps_chunk, chunk_to, took_chunk}
 use Rattle.oc_model.specs.Leases.{renew, ended}
-use Rattle.oc_model.specs.Looking.{Stand, looked, goes_down, candidates, descends, place_in, is_place, wishes, leaves_for, goes_where, weighs, view, reviews_place, prefers, keeps_line, sees_as, sees}
-use Rattle.oc_model.specs.Node.{Control, Durable, Node}
+use Rattle.oc_model.specs.Looking.{Stand, goes_down, candidates, descends, place_in, is_place, wishes, leaves_for, goes_where, weighs, view, reviews_place, prefers, keeps_line, sees_as}
+use Rattle.oc_model.specs.Node.{Durable, Node}
 use Rattle.oc_model.specs.Numbers.{IsAmong, number_end, raise, capped, put_at, is_empty}
 use Rattle.oc_model.specs.Plan.{Plan, begun, write, send, answers, with_soft, with_leases, searching, ignored, is_member, rate_to}
 use Rattle.oc_model.specs.Shelves.{line_at, with_line, limit, next_behind}

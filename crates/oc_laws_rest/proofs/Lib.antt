@@ -8,3 +8,5 @@ pub mod Rested
 pub mod News
 pub mod Peers
 pub mod Links
+pub mod Upward
+pub mod Roots

@@ -32,6 +32,12 @@ pub record IsOnlyMember (w : World) (m : ℕ) : Type 0 where
   pub member : IsMember w m
   pub only : (x : ℕ) → IsUp w x → IsMember w x → x ≡ m
 
+-- m is up, and no chain member before it is
+pub record IsLeastMember (w : World) (m : ℕ) : Type 0 where
+  pub up : IsUp w m
+  pub member : IsMember w m
+  pub least : (x : ℕ) → IsUp w x → IsMember w x → m ≤ x
+
 -- no node that is up asks a node that is down, or is joined to one
 abbrev pub PeersAreUp : World → Type 0
 PeersAreUp w = (x p : ℕ) → IsUp w x → is_peer (mode_of w x) p ≡ true → IsUp w p

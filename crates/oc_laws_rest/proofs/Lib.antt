@@ -6,3 +6,7 @@ pub mod Arrivals
 pub mod Ticks
 pub mod Rested
 pub mod News
+pub mod Peers
+pub mod Links
+pub mod Upward
+pub mod Roots

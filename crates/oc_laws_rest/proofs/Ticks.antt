@@ -29,7 +29,7 @@ use Rattle.oc_laws_rest.proofs.Arrivals.{arrives}
 
 -- Lists
 
-has_one : (xs : List ℕ) (x : ℕ) → has xs x ≡ true → IsOneOf x xs
+pub has_one : (xs : List ℕ) (x : ℕ) → has xs x ≡ true → IsOneOf x xs
 has_one [] x e = absurd cc
 has_one (y ∷ ys) x e = ⊎_elim (λ a. inl (sym (eqb-true y x a))) (λ b. inr (has_one ys x b)) (or_cases (y == x) (has ys x) e)
 
@@ -41,11 +41,11 @@ one_has (y ∷ ys) x one = by_test (y == x) refl (λ later. one_has ys x later) 
   by_test false e rest (inl same) = let clash : true ≡ false = sym (eq-eqb y x (sym same)) ∙ e in absurd cc
   by_test false e rest (inr later) = rest later
 
-has_none : (xs : List ℕ) (x : ℕ) → has xs x ≡ false → IsOneOf x xs → ⊥
+pub has_none : (xs : List ℕ) (x : ℕ) → has xs x ≡ false → IsOneOf x xs → ⊥
 has_none xs x e one = let clash : true ≡ false = sym (one_has xs x one) ∙ e in absurd cc
 
 -- a check that is due at this second is due at the clock of the tick
-due_then : (due : Option ℕ) (clock c : ℕ) → nat_le (unwrap_or due clock) c ≡ true → is_due due (max clock c) ≡ true
+pub due_then : (due : Option ℕ) (clock c : ℕ) → nat_le (unwrap_or due clock) c ≡ true → is_due due (max clock c) ≡ true
 due_then None clock c e = refl
 due_then (Some d) clock c e = le-leb d (max clock c) (omega (arith, leb-true d c e))
 

@@ -1,7 +1,9 @@
 use Rattle.std.specs.Prelude.{◌≡◌, ℕ, true, false, [], ◌∷◌}
+use Rattle.oc_model.specs.declared.event.Event.TheVariants.{Crash}
 use Rattle.oc_model.specs.declared.mode.Mode.TheVariants.{Asking, Joined, Acting}
 use Rattle.oc_model.specs.ClaimsTree.{seq_of}
 use Rattle.oc_model.specs.ExampleRuns.{header}
+use Rattle.oc_model.specs.NextWorld.{next_world}
 use Rattle.oc_model.specs.Ready.{is_settled}
 use Rattle.oc_model.specs.World.{World, mode_of}
 use Rattle.oc_laws_rest.specs.Rounds.{Turn, Round, after_rounds, is_quiet}
@@ -59,6 +61,27 @@ pub record UntoldFailuresAreNone : Type 0 where
   pub not_quiet : is_quiet alone (untold 0 ∷ []) ≡ false
   pub asks : mode_of (after_rounds alone (untold 0 ∷ untold 20 ∷ untold 40 ∷ [])) 2 ≡ Asking 1
   pub not_settled : is_settled (after_rounds alone (untold 0 ∷ untold 20 ∷ untold 40 ∷ [])) ≡ false
+
+-- The source goes down while the second chain member is joined to it: its check-in fails, so it leaves the source, and acts as root.
+
+abbrev pair : World
+pair = begun (header 2 2 (0 ∷ 0 ∷ [])) (1 ∷ 2 ∷ [])
+
+abbrev meeting : Round
+meeting = record { turns = turn 1 0 ∷ turn 2 0 ∷ []; arrivals = 1 ∷ 2 ∷ [] }
+
+abbrev bereft : World
+bereft = next_world (after_rounds pair (meeting ∷ [])) (Crash 1)
+
+abbrev leaving : Round
+leaving = record { turns = turn 2 5 ∷ []; arrivals = 3 ∷ 4 ∷ [] }
+
+pub record ParentsAreLeft : Type 0 where
+  pub met : is_quiet pair (meeting ∷ []) ≡ true
+  pub joined : mode_of bereft 2 ≡ Joined 1
+  pub quiet : is_quiet bereft (leaving ∷ []) ≡ true
+  pub root : mode_of (after_rounds bereft (leaving ∷ [])) 2 ≡ Acting
+  pub settled : is_settled (after_rounds bereft (leaving ∷ [])) ≡ true
 
 -- Turns without a clock: the source ticks 40 seconds later, when each lease has ended, so the others have to ask anew; so it goes in
 -- each such round. Such turns are no round.

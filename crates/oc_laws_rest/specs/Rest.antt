@@ -1,13 +1,14 @@
-use Rattle.std.specs.Prelude.{◌≡◌, ℕ, ◌≤◌, List, map}
+use Rattle.std.specs.Prelude.{◌≡◌, ℕ, ◌≤◌, true, List, map}
 use Rattle.oc_model.specs.declared.event.Event.TheVariants.{Up}
 use Rattle.oc_model.specs.Chains.{IsUp, true_line}
+use Rattle.oc_model.specs.Checking.{is_peer}
 use Rattle.oc_model.specs.ClaimsTree.{table_of, IsTold}
 use Rattle.oc_model.specs.Heal.{IsMember}
 use Rattle.oc_model.specs.NextWorld.{world_after}
 use Rattle.oc_model.specs.Node.{Header}
 use Rattle.oc_model.specs.Ready.{IsReadyUnder, IsSettled}
 use Rattle.oc_model.specs.Table.{table_line}
-use Rattle.oc_model.specs.World.{World, new_world}
+use Rattle.oc_model.specs.World.{World, mode_of, new_world}
 
 -- Rest, and new networks.
 
@@ -30,3 +31,13 @@ pub record IsOnlyMember (w : World) (m : ℕ) : Type 0 where
   pub up : IsUp w m
   pub member : IsMember w m
   pub only : (x : ℕ) → IsUp w x → IsMember w x → x ≡ m
+
+-- m is up, and no chain member before it is
+pub record IsLeastMember (w : World) (m : ℕ) : Type 0 where
+  pub up : IsUp w m
+  pub member : IsMember w m
+  pub least : (x : ℕ) → IsUp w x → IsMember w x → m ≤ x
+
+-- no node that is up asks a node that is down, or is joined to one
+abbrev pub PeersAreUp : World → Type 0
+PeersAreUp w = (x p : ℕ) → IsUp w x → is_peer (mode_of w x) p ≡ true → IsUp w p

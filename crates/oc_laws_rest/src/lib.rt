@@ -5,13 +5,14 @@
 //! examples of both, and of two runs that are none: one in which a failure is not told, and one in which the
 //! nodes take turns without a clock.
 //!
-//! Proved is the first part of the law: [`new_networks_rest`], for a new network in which one chain member is
-//! up. Not proved is it for any other world: with several chain members up, with nodes that have places, ranks
-//! or leases from before, with content, and with measures.
+//! Proved whole is the law for a new network in which one chain member is up: [`new_networks_rest`]. Of its way
+//! for any other world, with several chain members up, with nodes that have places, ranks or leases from before,
+//! with content, and with measures, two parts are proved: [`failures_are_noticed`], which holds of any world,
+//! and [`least_members_become_roots`], which holds of every world that events lead to.
 #![tactic(auto)]
 
 mod examples;
 mod law;
 
 pub use examples::rounds_compute;
-pub use law::new_networks_rest;
+pub use law::{failures_are_noticed, least_members_become_roots, new_networks_rest};

@@ -10,5 +10,8 @@ returns-clause-told c = record { quiet = refl; root = refl; settled = refl }
 pub returns-clause-untold : goal.returns-clause-untold
 returns-clause-untold c = record { not_quiet = refl; asks = refl; not_settled = refl }
 
+pub returns-clause-left : goal.returns-clause-left
+returns-clause-left c = record { met = refl; joined = refl; quiet = refl; root = refl; settled = refl }
+
 pub returns-clause-clock : goal.returns-clause-clock
 returns-clause-clock c = record { not_quiet = refl; joined = refl; seq = refl; asks_anew = refl }

@@ -47,12 +47,12 @@ record Holds (base : List ℕ) (load : Load) (sealed : Bool) (source : SourceSta
   lost : AllByRecursion (IsOld base load) source.lost
   sealed_is : (source.group.sealed ≡ sealed) ⊎ ((load.seals ≡ true) × (source.group.sealed ≡ true))
 
--- nothing of a piece that has no bytes
+-- a piece that adds no length has no bytes
 no_longer : (base piece : List ℕ) → length base ≡ length (base ++ piece) → piece ≡ []
 no_longer base [] e = refl
 no_longer base (b ∷ piece) e = absurd (omega (arith, e, length-append base (b ∷ piece)))
 
--- a test that a source makes
+-- a POST that a source takes belongs at the end of the group
 may_be : (group : SourceGroup) (post : Post) → may_take group post ≡ true → post.at ≡ length group.content
 may_be group post may =
     let both = and_parts (post.at == length group.content && (post.load.seals || not group.sealed)) (group.held || not post.load.seals) may in
@@ -63,7 +63,7 @@ at_least : (base : List ℕ) (load : Load) (content : List ℕ) → (content ≡
 at_least base load content (inl e) = omega (arith, ap length e)
 at_least base load content (inr e) = omega (arith, ap length e, length-append base load.piece)
 
--- neither a test of sealing nor a load without a seal changes it
+-- a disjunction with a false fact is the other part
 or_false : (b c : Bool) → c ≡ false → (b || c) ≡ b
 or_false true c e = refl
 or_false false c e = e
@@ -79,7 +79,7 @@ content_taken base load content (inr e) same =
     let none = no_longer base load.piece (same ∙ ap length e) in
     rw (e, none) (simp (append-nil))
 
--- the seal after it
+-- the seal after a load that a source takes at a place
 sealed_taken : (load : Load) (before now : Bool) → (now ≡ before) ⊎ ((load.seals ≡ true) × (now ≡ true)) → (b : Bool) → load.seals ≡ b → ((now || load.seals) ≡ before) ⊎ ((load.seals ≡ true) × ((now || load.seals) ≡ true))
 sealed_taken load before now was true e = inr (e, or_true now load.seals e)
 sealed_taken load before now (inl same) false e = inl (or_false now load.seals e ∙ same)
@@ -109,7 +109,7 @@ takes_old base load sealed source post holds (inr same) may =
     let may_now : may_take source.group (post_of base load) ≡ true = subst (λ (p : Post). may_take source.group p ≡ true) same may in
     subst (λ (p : Post). Holds base load sealed (record source { group = taken p source.group })) (sym same) (takes_now base load sealed source holds may_now)
 
--- the group holds where a lost POST arrives
+-- the facts about the source while a load is sent hold after a lost POST arrives
 arrives_by : (base : List ℕ) (load : Load) (sealed : Bool) (source : SourceState) (post : Post) → Holds base load sealed source → IsOld base load post → (b : Bool) → may_take source.group post ≡ b → Holds base load sealed (record source { group = arrived post source.group })
 arrives_by base load sealed source post holds old true may =
     subst (λ (b : Bool). Holds base load sealed (record source { group = if b then taken post source.group else source.group })) (sym may) (takes_old base load sealed source post holds old may)
@@ -122,7 +122,7 @@ old_among base load [] post all among = absurd among
 old_among base load (first ∷ posts) post all (inl same) = subst (IsOld base load) (sym same) all.0
 old_among base load (first ∷ posts) post all (inr among) = old_among base load posts post all.1 among
 
--- the group holds where some lost POSTs arrive
+-- the facts about the source while a load is sent hold after some lost POSTs arrive
 all_arrive : (base : List ℕ) (load : Load) (sealed : Bool) (group : SourceGroup) (lost posts : List Post) → Holds base load sealed (record { group = group; lost = lost }) → AllByRecursion (λ post. IsAmong post lost) posts → Holds base load sealed (record { group = all_arrived posts group; lost = lost })
 all_arrive base load sealed group lost [] holds among = holds
 all_arrive base load sealed group lost (post ∷ posts) holds among =
@@ -166,7 +166,7 @@ arrive_fresh : (group : SourceGroup) (new : SourceState) → Arrive (fresh group
 arrive_fresh group new arrive =
     arrive.new_is ∙ ap (λ (posts : List Post). let s : SourceState = record { group = all_arrived posts group; lost = [] } in s) (nothing_among arrive.posts arrive.were_lost)
 
--- a question changes nothing
+-- a query changes nothing
 tells_same : (old new : SourceState) (answer : Result PutAnswer Failure) → Tells old answer new → new ≡ old
 tells_same old new (Ok Taken) tells = absurd tells
 tells_same old new (Ok (Length told)) tells = tells.1
@@ -187,7 +187,7 @@ after_failure : (On : Effort → Type 0) (effort : Effort) (failure : Failure) (
 after_failure On effort failure turns progress h =
     after_by (may_try failure effort.failures) On (record { doing = behind_failure effort.doing; failures = effort.failures + 1 }) (end_of_failure failure) turns progress h
 
--- a settled progress is told by the answer
+-- settled steps that are equal have the same progress
 same_progress : (p q : Progress) → Settled p ≡ Settled q → p ≡ q
 same_progress p q e = cc
 
@@ -241,11 +241,11 @@ told_there base load sealed source told at behind progress sound holds is_at is_
   closed = λ set. absurd (differs (same ∙ is_behind ∙ (omega (arith, ap length (sound set), is_at))));
 }
 
--- the length asked for differs from the length told
+-- numbers that fail the test of equality differ
 differ_by : (m n : ℕ) → (m == n) ≡ false → m ≢ n
 differ_by m n e same = absurd (let t : (m == n) ≡ true = eq-eqb m n same in let f : true ≡ false = sym t ∙ e in cc)
 
--- a conflict that settles it
+-- a conflict that settles the load
 conflict : (base : List ℕ) (load : Load) (sealed : Bool) (turns : List PutTurn) (at behind told : ℕ) (met new : SourceState) (progress : Progress) (On : Effort → Type 0) (b c : Bool) → (told == behind) ≡ c → IsSound load → (at ≡ length base) × (behind ≡ length base + length load.piece) → Holds base load sealed met → Onward On (if b && c then done told else Ended (ends.Length told)) turns (Settled progress) → told ≡ length met.group.content → told ≢ at → Through met turns new → IsTaken base load sealed new progress
 conflict base load sealed turns at behind told met new progress On true true e sound for holds onward truth differs through =
     let same : new ≡ met = subst (λ (ts : List PutTurn). Through met ts new) onward.0 through in
@@ -254,7 +254,7 @@ conflict base load sealed turns at behind told met new progress On true true e s
 conflict base load sealed turns at behind told met new progress On true false e sound for holds onward truth differs through = absurd (let e : Settled progress ≡ Ended (ends.Length told) = onward.1 in cc)
 conflict base load sealed turns at behind told met new progress On false c e sound for holds onward truth differs through = absurd (let e : Settled progress ≡ Ended (ends.Length told) = onward.1 in cc)
 
--- the knowledge of the turns after one
+-- the result of the turns after one, for every effort with this load
 abbrev Later : List ℕ → Load → Bool → List PutTurn → SourceState → Progress → Type 0
 Later base load sealed turns new progress =
     (doing : Doing) (failures : ℕ) (old : SourceState) → IsFor base load doing → Holds base load sealed old → LeadsTo load (record { doing = doing; failures = failures }) turns (Settled progress) → Through old turns new → IsTaken base load sealed new progress
@@ -283,7 +283,7 @@ posted base load sealed turns at behind tried failures met next new progress (Er
     } in
     later (Checking at behind) (failures + 1) next for (subst (Holds base load sealed) (sym takes) lost) (after_failure (λ further. LeadsTo load further turns (Settled progress)) (record { doing = Posting at behind tried; failures = failures }) failure turns progress onward) through
 
--- the length, told to a question after a failure
+-- the length, given in answer to a query after a failure
 told_by : (base : List ℕ) (load : Load) (sealed : Bool) (turns : List PutTurn) (at behind failures told : ℕ) (met new : SourceState) (progress : Progress) → Later base load sealed turns new progress → (b : Bool) → (told == at) ≡ b → (c : Bool) → (told == behind) ≡ c → IsSound load → (at ≡ length base) × (behind ≡ length base + length load.piece) → Holds base load sealed met → Onward (λ further. LeadsTo load further turns (Settled progress)) (if b then Again (record { doing = Posting at behind true; failures = failures }) else if c then done told else Ended (ends.Length told)) turns (Settled progress) → told ≡ length met.group.content → Through met turns new → IsTaken base load sealed new progress
 told_by base load sealed turns at behind failures told met new progress later true e c f sound for holds onward truth through =
     later (Posting at behind true) failures met for holds onward through
@@ -293,7 +293,7 @@ told_by base load sealed turns at behind failures told met new progress later fa
     subst (λ (s : SourceState). IsTaken base load sealed s progress) (sym same) (told_there base load sealed met told at behind progress sound holds for.0 for.1 truth (differ_by told at e) (eqb-true told behind f) is_told)
 told_by base load sealed turns at behind failures told met new progress later false e false f sound for holds onward truth through = absurd (let x : Settled progress ≡ Ended (ends.Length told) = onward.1 in cc)
 
--- an answer to a question after a failure
+-- an answer to a query after a failure
 checked : (base : List ℕ) (load : Load) (sealed : Bool) (turns : List PutTurn) (at behind failures : ℕ) (met next new : SourceState) (progress : Progress) (answer : Result PutAnswer Failure) → Later base load sealed turns new progress → IsSound load → (at ≡ length base) × (behind ≡ length base + length load.piece) → Holds base load sealed met → Onward (λ further. LeadsTo load further turns (Settled progress)) (next_of (record { doing = Checking at behind; failures = failures }) answer) turns (Settled progress) → Tells met answer next → Through met turns new → IsTaken base load sealed new progress
 checked base load sealed turns at behind failures met next new progress (Ok Taken) later sound for holds onward tells through = absurd tells
 checked base load sealed turns at behind failures met next new progress (Ok (Length told)) later sound for holds onward tells through =
@@ -355,7 +355,7 @@ behind_piece base piece sealed new progress is = record {
   sealed_is = seal_stays piece sealed new.group.sealed is.holds.sealed_is;
 }
 
--- the knowledge after some pieces
+-- the source and the progress after some pieces
 record IsThere (base : List ℕ) (sealed : Bool) (new : SourceState) (progress : Progress) : Type 0 where
   stands : Stands base sealed new
   length_is : progress.length ≡ length base

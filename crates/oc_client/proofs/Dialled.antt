@@ -26,7 +26,7 @@ made_at address text reply = record { address = address; connection = wrote text
 ended : (a b : Story) (made last : Dial) → b ≡ record (record (hung_up a) { outgoing = Some made }) { outgoing = Some last } → hung_up b ≡ record (hung_up a) { ended = dials a ++ last ∷ [] }
 ended a b made last e = ap hung_up e
 
--- the bytes read on a dial
+-- a dial on which the bytes of a reply were read
 read_on_dial : (address text reply given : List ℕ) (over : Bool) (last : Dial) → ReadsFront reply (made_at address text given).connection last.connection → Some last.address ≡ Some address → (over ≡ true → last.connection.left ≡ []) → IsWhole address text reply over last
 read_on_dial address text reply given over last gives at end = record {
   address_is = some_is last.address address at;
@@ -35,7 +35,7 @@ read_on_dial address text reply given over last gives at end = record {
   ends = end;
 }
 
--- a call on it failed
+-- a dial on which a call failed
 cut_dial : (address text reply given : List ℕ) (between : Option Connection) (last : Dial) → Hears reply (Some (made_at address text given).connection) between → Some last.connection ≡ option_map broken between → Some last.address ≡ Some address → IsCut address text last
 cut_dial address text reply given None last heard breaks at = absurd heard
 cut_dial address text reply given (Some between) last heard breaks at =
@@ -46,7 +46,7 @@ cut_dial address text reply given (Some between) last heard breaks at =
       written_front = subst (λ (x : List ℕ). IsFront x text) (sym written) (whole_front text);
     }
 
--- a dial that was there still is
+-- a dial does not vanish by a failed call
 still_there : (reply : List ℕ) (c : Connection) → HearsThenBreaks reply (Some c) None → ⊥
 still_there reply c (None, h, e) = h
 still_there reply c (Some between, h, e) = cc

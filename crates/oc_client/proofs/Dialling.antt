@@ -52,7 +52,7 @@ all_dial manner state (turn ∷ through) content reached last rest end new (some
 
 -- The replies of the dials
 
--- the last dial tells the last talk
+-- the last dial tells the last connection
 pub record IsSplit (talks : List Talk) (talk : Talk) (made : List Dial) : Type 0 where
   pub front : List Dial
   pub last : Dial
@@ -69,7 +69,7 @@ told_split (t ∷ talks) talk (d ∷ made) told =
     let more = told_split talks talk made told.1 in
     record { front = d ∷ more.front; last = more.last; split = ap (λ (ds : List Dial). d ∷ ds) more.split; told = (told.0, more.told); last_told = more.last_told }
 
--- a turn that dials adds one talk
+-- a turn that dials adds one connection
 all_behind : (talks : Talks) (turn : Turn) (at : Option (List ℕ)) (address : List ℕ) → at ≡ Some address → (talks.ended ++ ended_by at talks.last) ++ option_to_list (last_by at turn talks.last) ≡ all_of talks ++ begun address turn ∷ []
 all_behind talks turn at address e = let P : Option (List ℕ) → Type 0 = λ o. (talks.ended ++ ended_by o talks.last) ++ option_to_list (last_by o turn talks.last) ≡ all_of talks ++ begun address turn ∷ [] in subst P (sym e) refl
 
@@ -95,7 +95,7 @@ fronts_behind talks (turn ∷ turns) made all told =
       fronts = (record { left = one.last.connection.left; split = ap (λ (r : List ℕ). r ++ one.last.connection.left) one.last_told.read; end = one.last_told.over }, more.fronts);
     }
 
--- no dials tell no talks
+-- only an empty list of dials tells no connections
 none_told : (made : List Dial) → AreTold [] made → made ≡ []
 none_told [] told = refl
 none_told (d ∷ made) told = absurd told

@@ -28,7 +28,7 @@ use Rattle.url.specs.Parts.{Parts}
 makes_none : (s : Story) → Makes [] s s
 makes_none s = record { made = []; told = tt; dials_are = sym (append-nil (dials s)); hung = inl refl }
 
--- nothing happened, and this ended it
+-- nothing was sent, whichever end a download without a request has
 unsent : {K : Type 0} (takes breaks : K → List ℕ → K → Type 0) (address : List ℕ) (k : K) (end : GetEnd) → IsUnasked address end → takes k [] k → Sent takes breaks k [] k end
 unsent takes breaks address k ends.BadUrl why sent = sent
 unsent takes breaks address k ends.Memory why sent = sent
@@ -48,7 +48,7 @@ unasked_talked takes breaks nothing wish_for said address times o k end why = re
   so = inl (why, refl, refl);
 }
 
--- a fault of the address ended it
+-- a fault of the address ended the download
 pub unasked_so : (address : List ℕ) (fault : UrlFault) (end : GetEnd) → end ≡ end_of_url fault → ((let r : Result Parts UrlFault = Err fault in r ≡ Err urls.Bad) → IsBadAddress address) → IsUnasked address end
 unasked_so address urls.Bad end e bad = subst (λ (x : GetEnd). IsUnasked address x) (sym e) (bad refl)
 unasked_so address urls.Memory end e bad = subst (λ (x : GetEnd). IsUnasked address x) (sym e) tt

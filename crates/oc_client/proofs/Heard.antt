@@ -16,7 +16,7 @@ use Rattle.oc_http.specs.declared.fault.HttpFault.{HttpFault}
 use Rattle.oc_http.specs.declared.fault.HttpFault.TheVariants as faults
 use Rattle.oc_http.specs.declared.reply.ReplyHead.{ReplyHead}
 
--- nothing came, and nothing went
+-- the empty list of bytes leads from each state to itself
 abbrev Rests : {S : Type 0} → (S → List ℕ → S → Type 0) → Type 0
 Rests {S} gives = (s : S) → gives s [] s
 

@@ -35,7 +35,7 @@ pub grew_then : {E : Type 0} (takes fails : E → List ℕ → E → Type 0) →
 grew_then takes fails laws a b c x y n m first second f s =
     grows_then takes fails laws.none laws.both laws.last a b c x y (subst (λ (k : ℕ). Grows takes fails a k b) first f) (subst (λ (k : ℕ). Grows takes fails b k c) second s)
 
--- a piece more
+-- one piece more
 pub grew_piece : {E : Type 0} (takes fails : E → List ℕ → E → Type 0) → Laws takes fails → (a b c : ProgressLines E) (pieces : List (List ℕ)) (piece : List ℕ) (count : ℕ) → count ≡ length piece → Grows takes fails a (length (joined pieces)) b → Grows takes fails b count c → Grows takes fails a (length (joined (pieces ++ piece ∷ []))) c
 grew_piece takes fails laws a b c pieces piece count is f s =
     subst (λ (x : List ℕ). Grows takes fails a (length x) c) (sym (joined_more pieces piece)) (grew_then takes fails laws a b c (joined pieces) piece (length (joined pieces)) count refl is f s)

@@ -29,7 +29,7 @@ says_more reply left text head behind split says = record {
   split = split ∙ ap (λ (r : List ℕ). r ++ left) says.split ∙ append_assoc says.bytes behind left;
 }
 
--- the knowledge of the end if a head is refused
+-- a head that is refused by one fact about the end is refused by a fact that follows from it
 refused_so : (bytes : List ℕ) (D E : Type 0) (fault : HttpFault) → (D → E) → RefusesReplyHead bytes D fault → RefusesReplyHead bytes E fault
 refused_so bytes D E faults.Ended so p = (p.0, p.1, so p.2)
 refused_so bytes D E faults.Source so p = p

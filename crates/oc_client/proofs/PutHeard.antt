@@ -58,7 +58,7 @@ by_answer gives fails ended asks reply over a c (Err failures.Unavailable) of ca
 by_answer gives fails ended asks reply over a c (Err failures.Link) of came is_over replies = absurd of
 by_answer gives fails ended asks reply over a c (Err failures.Memory) of came is_over replies = absurd of
 
--- Replies to a question
+-- Replies to a query
 
 pub heard_head : {S : Type 0} (gives fails : S → List ℕ → S → Type 0) (ended : S → Type 0) (head : ReplyHead) (bytes : List ℕ) (a c : S) (answer : Result PutAnswer Failure) → gives a bytes c → SaysReplyHead bytes head → answer ≡ answer_to_ask head → Hears gives fails ended (λ r o. Answers true r o answer) a c answer
 heard_head gives fails ended head bytes a c answer came says is =
@@ -120,7 +120,7 @@ reply_over : {Done : Type 0} (bytes : List ℕ) → RefusesReply bytes Done faul
 reply_over bytes (inl refused) = inl (refused.0, refused.1, refl)
 reply_over bytes (inr (head, body, split, stops)) = inr (head, body, split, record { head = stops.head; says = stops.says; stops = content_over _ (body_length stops.head) body stops.stops })
 
--- the end of the source does not matter for any other fault
+-- a fault other than the end of the source, for which that end does not matter
 abbrev IsOther : HttpFault → Type 0
 IsOther faults.Ended = ⊥
 IsOther fault = ⊤

@@ -34,7 +34,7 @@ redirection_of state reply url head behind says sends = record {
   leads = sends.points.leads;
 }
 
--- a conversation that ends so
+-- a conversation that ends with `Redirects`
 redirects_only : (wish : Wish) (state : ClientState) (through : List Turn) (content : List ℕ) (reached : ClientState) (last : Option Turn) (rest : List ℕ) → Leads wish state through content reached → EndsAt wish reached last rest ends.Redirects → EndInRedirection state.redirections state.target (through ++ option_to_list last)
 redirects_only wish state [] content reached None rest leads ends = absurd ends
 redirects_only wish state [] content reached (Some turn) rest leads (some, inr cut) = let wrong = cut.2 in cc
@@ -109,7 +109,7 @@ one_redirection one asked reply u v p q =
 not_served : OneAnswer → (asked : Parts) (reply : List ℕ) (url : Parts) → IsRedirection asked reply url → IsServed reply → ⊥
 not_served one asked reply url p q = not_both q.head.status q.status (one_status one reply q.head p.head _ _ q.says p.says ∙ p.status)
 
--- a conversation that came to one
+-- a conversation that came to a third redirection
 redirects_always : OneAnswer → (wish : Wish) (state : ClientState) (through : List Turn) (content : List ℕ) (reached : ClientState) (last : Option Turn) (rest : List ℕ) (end : GetEnd) → Leads wish state through content reached → EndsAt wish reached last rest end → EndInRedirection state.redirections state.target (through ++ option_to_list last) → IsRedirected end
 redirects_always one wish state [] content reached None rest end leads ends third = absurd third
 redirects_always one wish state [] content reached (Some turn) rest end leads ends (inl served) = absurd served.1

@@ -1,4 +1,4 @@
--- A load that is sent, by where its turns lead.
+-- A load that is sent, by the step to which its turns lead.
 use Rattle.std.proofs.Common.{◌≡◌, ℕ, ◌+◌, ◌<◌, ◌≤◌, Bool, true, false, ◌&&◌, ◌==◌, if◌then◌else◌, inl, inr, Option, Result, Ok, Err, List, [], ◌∷◌, length, refl, sym, ap, ◌∙◌, append-nil}
 use Rattle.std.specs.Prelude.{⊤}
 use Rattle.std.proofs.lemmas.Bool.{eqb-true}

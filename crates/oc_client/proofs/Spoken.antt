@@ -70,13 +70,13 @@ said_cut bytes a b p =
     let speaks : Speaks (asking None front) a b = record { carries = cut_carries front a.outgoing b.outgoing p.outgoing.3 p.address; rest = p.rest } in
     (asking None front, record { address = tt; written = (p.outgoing.1, p.outgoing.2) }, record { between = b; speaks = speaks; same = refl })
 
--- the same of a link that may not tell it
+-- the same of a link that may not tell its story
 pub told_cut : (at : Option (List ℕ)) (request : List ℕ) (R : Story → Story → Type 0) → IsCutAddress at at → ((a b : Story) → R a b → (turn : Turn) × IsCut at request turn × SpeaksLast turn a b) → (a b : Option Story) → Told R a b → (turn : Turn) × IsCut at request turn × Told (SpeaksLast turn) a b
 told_cut at request R whole cut a None p = (asking at request, record { address = whole; written = front_whole request }, tt)
 told_cut at request R whole cut None (Some b) p = absurd p
 told_cut at request R whole cut (Some a) (Some b) p = cut a b p
 
--- A reply after it
+-- A reply after a request
 
 -- a turn with a reply
 abbrev pub heard : Option (List ℕ) → List ℕ → List ℕ → Bool → Turn

@@ -1,4 +1,4 @@
--- A conversation so far, and how it goes on and ends.
+-- A conversation so far, its further turns and its end.
 use Rattle.std.proofs.Common.{◌≡◌, ℕ, ◌+◌, ◌-◌, ◌<◌, Bool, true, false, Option, Some, None, List, [], ◌∷◌, ◌++◌, option_map, option_to_list, refl, sym, ap, ◌∙◌, subst, inl, inr, arith}
 use Rattle.std.proofs.lemmas.List.{append-nil, append_assoc}
 use Rattle.oc_client.specs.Conversations.{GoesOn, Leads, EndsIn, EndsAt, Converses, wanted_after}
@@ -133,7 +133,7 @@ talked_through takes breaks wish first state a b p q none has = record {
   };
 }
 
--- once the link is hung up
+-- The link after its outgoing connection is ended
 
 told_hung : (turns : List Turn) (a b c : Option Story) → c ≡ option_map hung_up b → Told (MakesOnceHung turns) a b → Told (Makes turns) a c
 told_hung turns a None c e p = subst (λ (o : Option Story). Told (Makes turns) a o) (sym e) tt

@@ -20,7 +20,7 @@ use Rattle.oc_client.specs.declared.put_end.PutEnd.{PutEnd}
 use Rattle.oc_client.specs.declared.put_end.PutEnd.TheVariants as ends
 use Rattle.oc_client.specs.declared.load.Load.{Load}
 
--- the next request is a question
+-- whether the next request is a query for the length
 abbrev pub asks : Doing → Bool
 asks Finding = true
 asks (Posting at behind tried) = false
@@ -32,7 +32,7 @@ behind_of Finding = 0
 behind_of (Posting at behind tried) = behind
 behind_of (Checking at behind) = behind
 
--- the next request, of a client that sends this
+-- the next request, for a client that sends this load
 abbrev pub request_of : Load → Doing → PutRequest
 request_of load Finding = ask
 request_of load (Posting at behind tried) = publish at load
@@ -51,23 +51,24 @@ end_of_failure failures.Reply = ends.Reply
 end_of_failure failures.Unavailable = ends.Refused 503
 end_of_failure failures.Memory = ends.Memory
 
--- a failure may be followed by another try
+-- whether another try is made after a failure, given the number of failures before it
 abbrev pub may_try : Failure → ℕ → Bool
 may_try failures.Memory count = false
 may_try failure count = nat_lt count (MAX_FAILURES - 1)
 
--- a failure: the fifth ends the publishing, and so does lack of memory
+-- the step after a failure: the fifth since a load was last taken ends the publishing, and so does
+-- lack of memory
 abbrev pub tried_again : Effort → Failure → Next
 tried_again effort failure =
     if may_try failure effort.failures
     then Again (record { doing = behind_failure effort.doing; failures = effort.failures + 1 })
     else Ended (end_of_failure failure)
 
--- a goal is reached, with a group of this length
+-- the goal is reached, with a group of this length
 abbrev pub done : ℕ → Next
 done length = Settled (record { length = length; failures = 0 })
 
--- the group is told to be this long
+-- the step after an answer that gives this length of the group
 abbrev pub weighed_doing : Doing → ℕ → ℕ → Next
 weighed_doing Finding failures length = Settled (record { length = length; failures = failures })
 weighed_doing (Posting at behind tried) failures length =
@@ -92,7 +93,7 @@ pub record IsTurnOf (load : Load) (effort : Effort) (turn : PutTurn) : Type 0 wh
   pub request : turn.request ≡ request_of load effort.doing
   pub answers : Answers (asks effort.doing) turn.reply turn.over turn.answer
 
--- an answer leads to an effort from which it goes on, or to where it stops
+-- a further effort has the property, or the result is settled or ended and no turns follow
 abbrev pub Onward : (Effort → Type 0) → Next → List PutTurn → Next → Type 0
 Onward On (Again further) turns next = On further
 Onward On (Settled progress) turns next = (turns ≡ []) × (next ≡ Settled progress)

@@ -6,13 +6,13 @@ use Rattle.oc_client.specs.declared.end.GetEnd.TheVariants.{BadUrl, Reply, Link,
 use Rattle.oc_http.specs.declared.fault.HttpFault.{HttpFault}
 use Rattle.oc_http.specs.declared.fault.HttpFault.TheVariants as faults
 
--- a fault in the head of a reply
+-- the end that a fault in the head of a reply brings
 abbrev pub end_of_http : HttpFault → GetEnd
 end_of_http faults.Source = Link
 end_of_http faults.Memory = Memory
 end_of_http fault = Reply
 
--- an address that leads to no URL
+-- the end that an address without a URL brings
 abbrev pub end_of_url : UrlFault → GetEnd
 end_of_url urls.Bad = BadUrl
 end_of_url urls.Memory = Memory

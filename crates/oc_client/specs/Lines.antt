@@ -1,4 +1,4 @@
--- Lines that tell how far a client came.
+-- Lines that report the progress of a client.
 use Rattle.std.specs.Prelude.{◌≡◌, ℕ, ◌+◌, ◌*◌, ◌-◌, ◌/◌, zero, suc, Bool, true, false, List, [], ◌++◌, codes, decimal}
 use Rattle.oc_client.specs.declared.progress_lines.TheConstants.{PROGRESS_STEP}
 use Rattle.oc_link.specs.Calls.{IsFront}

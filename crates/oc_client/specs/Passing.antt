@@ -60,7 +60,7 @@ StopsBody framing body over Sink = ⊤
 StopsBody framing body over Memory = ⊤
 StopsBody framing body over end = ⊥
 
--- a body began, a prefix of its content was taken, and then this ended it
+-- a body began, a prefix of its content was taken, and then the passing stopped with this end
 pub record StopsPassing {S K : Type 0} (gives fails : S → List ℕ → S → Type 0) (ended : S → Type 0) (takes breaks : K → List ℕ → K → Type 0) (framing : ReplyFraming) (old new : S) (before after : K) (end : GetEnd) : Type 0 where
   pub body : List ℕ
   pub content : List ℕ

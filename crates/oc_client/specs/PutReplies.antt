@@ -16,7 +16,8 @@ abbrev pub as_length : Option ℕ → Result PutAnswer Failure
 as_length None = Err failures.Reply
 as_length (Some length) = Ok (Length length)
 
--- another status: 503 says that it can be tried again, and any other refuses
+-- the answer in a reply of another status: 503 says that the request can be tried again, and any
+-- other status refuses
 abbrev pub as_status : ℕ → Result PutAnswer Failure
 as_status status = if status == 503 then Err failures.Unavailable else Ok (Refused status)
 
@@ -45,13 +46,14 @@ failure_of faults.Source = failures.Link
 failure_of faults.Memory = failures.Memory
 failure_of fault = failures.Reply
 
--- the bytes are the head of a reply to a question, which answers this
+-- the bytes are the head of a reply to a query, which gives this answer
 pub record IsAnswered (reply : List ℕ) (answer : Result PutAnswer Failure) : Type 0 where
   pub head : ReplyHead
   pub says : SaysReplyHead reply head
   pub answer_is : answer ≡ answer_to_ask head
 
--- the bytes are a whole reply to a load, which answers this; over says that the connection ended after them
+-- the bytes are a whole reply to a load, which gives this answer; over says that the connection
+-- ended after them
 pub record IsWholeAnswer (reply : List ℕ) (over : Bool) (answer : Result PutAnswer Failure) : Type 0 where
   pub head : List ℕ
   pub body : List ℕ
@@ -60,7 +62,7 @@ pub record IsWholeAnswer (reply : List ℕ) (over : Bool) (answer : Result PutAn
   pub split : reply ≡ head ++ body
   pub answer_is : answer ≡ answer_to_publish said
 
--- the bytes are a reply that answers this
+-- the bytes are a reply that gives this answer
 abbrev pub Replies : Bool → List ℕ → Bool → Result PutAnswer Failure → Type 0
 Replies true reply over answer = IsAnswered reply answer
 Replies false reply over answer = IsWholeAnswer reply over answer

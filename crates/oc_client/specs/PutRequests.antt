@@ -37,7 +37,7 @@ from_lines host token = codes "Host: " ++ host ++ codes "\r\n" ++ authorization_
 abbrev pub place_query : Bool → ℕ → Option (List ℕ) → List ℕ
 place_query seals at area = seal_part seals ++ codes "at=" ++ decimal at ++ area_text area
 
--- a question about a path, for an area
+-- a query for the length of the group at a path, for an area
 abbrev pub ask_lines : List ℕ → Option (List ℕ) → List ℕ → Option (List ℕ) → List ℕ
 ask_lines path area host token =
     codes "HEAD " ++ path ++ codes "?here" ++ area_text area ++ codes " HTTP/1.1\r\n" ++ from_lines host token ++ codes "Connection: close\r\n\r\n"

@@ -17,27 +17,27 @@ abbrev pub first_value : List ℕ → List (List ℕ) → Option (List ℕ)
 first_value name [] = None
 first_value name (part ∷ more) = option_or (behind name part) (first_value name more)
 
--- a start that a value spells, of at most 2^40
+-- the start that a value spells, if the value is a number within the limit
 abbrev pub start_spelled : Result ℕ Why → Option ℕ
 start_spelled (Ok start) = Some start
 start_spelled (Err why) = None
 
--- the start that a part says
+-- the start that a part gives
 abbrev pub start_said : Option (List ℕ) → Option ℕ
 start_said None = None
 start_said (Some value) = start_spelled (number_in 0 MAX_START value)
 
--- the first start that some part says
+-- the first start that some part gives
 abbrev pub first_start : List (List ℕ) → Option ℕ
 first_start [] = None
 first_start (part ∷ more) = option_or (start_said (behind (codes "start=") part)) (first_start more)
 
--- the start of a URL, and 0 where it says none
+-- the start of a URL, and 0 where the query gives none
 abbrev pub start_of : Option (List ℕ) → ℕ
 start_of None = 0
 start_of (Some query) = unwrap_or (first_start (parts query)) 0
 
--- a part that gives knowledge of a group: `known`, or its length
+-- whether a part gives knowledge of a group: it is `known`, or begins with `of=`
 abbrev pub is_knowledge : List ℕ → Bool
 is_knowledge part = bytes_eq part (codes "known") || is_some (behind (codes "of=") part)
 

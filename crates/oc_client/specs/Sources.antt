@@ -53,7 +53,7 @@ abbrev pub IsAmong : Post → List Post → Type 0
 IsAmong post [] = ⊥
 IsAmong post (first ∷ posts) = (post ≡ first) ⊎ IsAmong post posts
 
--- some of those arrive, in some order
+-- some of the lost POSTs arrive, in some order
 pub record Arrive (old new : SourceState) : Type 0 where
   pub posts : List Post
   pub were_lost : AllByRecursion (λ post. IsAmong post old.lost) posts

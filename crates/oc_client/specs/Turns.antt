@@ -40,7 +40,7 @@ abbrev pub ended_by : Option (List ℕ) → Option Talk → List Talk
 ended_by None last = []
 ended_by (Some address) last = option_to_list last
 
--- the last connection after a turn, which dialled to here
+-- the last connection after a turn, given the address that the turn dialled, if any
 abbrev pub last_by : Option (List ℕ) → Turn → Option Talk → Option Talk
 last_by None turn last = option_map (went_on turn) last
 last_by (Some address) turn last = Some (begun address turn)
@@ -68,14 +68,14 @@ all_of talks = talks.ended ++ option_to_list talks.last
 abbrev pub talks_of : List Turn → List Talk
 talks_of turns = all_of (after_turns no_talks turns)
 
--- a dial of a link tells this
+-- a dial of a link tells this connection
 pub record IsTold (talk : Talk) (dial : Dial) : Type 0 where
   pub address : dial.address ≡ talk.address
   pub written : dial.connection.written ≡ talk.written
   pub read : dial.connection.read ≡ talk.read
   pub over : talk.over ≡ true → dial.connection.left ≡ []
 
--- dials tell these, one by one
+-- dials tell these connections, one by one
 abbrev pub AreTold : List Talk → List Dial → Type 0
 AreTold [] [] = Unit {0}
 AreTold [] (dial ∷ dials) = ⊥
@@ -91,7 +91,7 @@ pub record Makes (turns : List Turn) (old new : Story) : Type 0 where
 
 -- The effect of one turn on a link
 
--- the outgoing connection goes on with a turn, which dialled to here
+-- the outgoing connection goes on with a turn, given the address that the turn dialled, if any
 abbrev pub Carries : Turn → Option (List ℕ) → Option Dial → Option Dial → Type 0
 Carries turn (Some address) old (Some new) = IsTold (begun address turn) new
 Carries turn (Some address) old None = ⊥

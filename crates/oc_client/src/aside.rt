@@ -1,7 +1,7 @@
 use crate::progress_lines::ProgressLines;
 
-/// The side effects of a publishing: pauses after failures, and lines on how many bytes of the
-/// input are in the group.
+/// The side effects of a publishing: pauses after failures, and lines that give the number of bytes
+/// of the input in the group.
 #[derive(Drop)]
 pub struct Aside<P, E> {
     pub pause: P,

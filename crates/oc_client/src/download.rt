@@ -31,13 +31,13 @@ use url::Url;
 /// The greatest number of redirections that a download follows.
 pub const MAX_REDIRECTIONS: u8 = 2;
 
-/// Downloads the content of a URL onto a sink, in pieces of at most 64 KiB as they come (RFC 9110, section
-/// 9.3.1). The address is an `http` URL with a host, without a user and a password. Each Location of a 302
-/// is followed, at most `MAX_REDIRECTIONS` of them. Where the manner has a byte to begin from, the first request has
-/// it as `start=` before the query of the URL; a Location says its own. Where the manner has a token, each request
-/// shows it: to the host of the URL, and to each host that a Location names. A chunked reply ends it with `Reply`.
-/// With an end other than `Done` a prefix of the content was written, and nothing where no 200 came. Each connection
-/// is ended.
+/// Downloads the content of a URL onto a sink, in pieces of at most 64 KiB as they come (RFC 9110, section 9.3.1).
+/// The address is an `http` URL with a host, without a user and a password. Each Location of a 302 is followed, at
+/// most `MAX_REDIRECTIONS` of them. Where the manner has a byte to begin from, the first request has it as
+/// `start=` before the query of the URL; a Location says its own. Where the manner has a token, each request shows
+/// it: to the host of the URL, and to each host that a Location names. A chunked reply ends the download with
+/// `Reply`. With an end other than `Done` a prefix of the content was written, and nothing where no 200 came. Each
+/// connection is ended.
 pub fn get<L: Dialler, K: Sink>(
     alloc: Global,
     address: &str,
@@ -49,7 +49,8 @@ pub fn get<L: Dialler, K: Sink>(
         (L.story link.old) (L.story link.new) sink.old sink.new result }
     ensures bad { IsBadAddress address.now → IsUnasked address.now result }
 
-    // After a third 302 with a good Location, and nowhere else, it ends with `Redirects`.
+    // The end is `Redirects` only after a third 302 with a good Location, and always then, unless a
+    // call on the link or memory failed.
     ensures redirects { IsTalked K.takes K.fails (λ turns written end. StopsAtThird address.now turns end)
         (L.story link.old) (L.story link.new) sink.old sink.new result }
 
@@ -87,7 +88,8 @@ pub fn follow<L: Dialler, K: Sink>(
         (L.story link.old) (L.story link.new) sink.old sink.new result }
     ensures bad { IsBadAddress address.now → IsUnasked address.now result }
 
-    // After a third 302 with a good Location, and nowhere else, it ends with `Redirects`.
+    // The end is `Redirects` only after a third 302 with a good Location, and always then, unless a
+    // call on the link or memory failed.
     ensures redirects { IsTalked K.takes K.fails (λ turns written end. StopsAtThird address.now turns end)
         (L.story link.old) (L.story link.new) sink.old sink.new result }
 

@@ -6,7 +6,7 @@ ghost use Rattle.oc_client.specs.Efforts.{asks, behind_of, next_of, tried_again,
 use crate::answer::{Failure, PutAnswer};
 use crate::put_end::PutEnd;
 
-/// The number of consecutive failures that end a publishing.
+/// The number of failures that end a publishing, counted since a load was last taken.
 pub(crate) const MAX_FAILURES: u8 = 5;
 
 /// The purpose of the next request.
@@ -64,7 +64,7 @@ impl Doing {
 #[derive(Clone, Copy)]
 pub(crate) struct Effort {
     pub(crate) doing: Doing,
-    /// The number of requests without an answer since the last success.
+    /// The number of requests without an answer since a load was last taken.
     pub(crate) failures: u8,
 }
 
@@ -73,11 +73,11 @@ pub(crate) struct Effort {
 pub(crate) struct Progress {
     /// The length of the group, in bytes.
     pub(crate) length: u64,
-    /// The number of requests without an answer since the last success.
+    /// The number of requests without an answer since a load was last taken.
     pub(crate) failures: u8,
 }
 
-/// The result of an answer.
+/// The step that an answer leads to.
 #[derive(Clone, Copy)]
 pub(crate) enum Next {
     /// Another request is needed.

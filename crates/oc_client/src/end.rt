@@ -18,7 +18,8 @@ pub enum GetEnd {
     Refused(u16),
     /// The reply redirects, and no more redirections are followed.
     Redirects,
-    /// The reply is not valid or broke off, or its Location is no URL that can be asked.
+    /// The reply is not valid, broke off or has a content that is not accepted, or its Location is
+    /// no URL that can be asked.
     Reply,
     /// A call on the link failed.
     Link,

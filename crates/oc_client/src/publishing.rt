@@ -33,9 +33,9 @@ use std::alloc::Global;
 /// asked for first, and the input is not read before that. The input is sent in pieces of
 /// [`PUT_PIECE_BYTES`](crate::PUT_PIECE_BYTES) and one of the rest; in live mode the bytes of each
 /// read are sent before the next read. After a failure it pauses and tries again, up to the fifth
-/// failure in a row; a reply with status 503 counts as a failure. The lines report the bytes of the
-/// input that are in the group as they grow: never more than came of the input, at any end. Each
-/// connection is ended.
+/// one since a piece was last taken; a reply with status 503 counts as a failure. The lines report
+/// the bytes of the input that are in the group as they grow: never more than came of the input, at
+/// any end. Each connection is ended.
 pub fn put<L: Dialler, S: Source, P: Pause, E: Sink>(
     alloc: Global,
     to: &Destination<'_>,

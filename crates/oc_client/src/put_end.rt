@@ -15,7 +15,8 @@ pub enum PutEnd {
     /// The status of a reply that neither takes bytes nor gives the length of the group; or 503 at
     /// the last try.
     Refused(u16),
-    /// The length of the group in bytes, which does not fit the position of the next piece.
+    /// The length of the group in bytes, which does not fit the position of the next piece, or
+    /// exceeds the greatest length of a group.
     Length(u64),
     /// The input is shorter than the group.
     Short,

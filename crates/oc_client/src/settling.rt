@@ -74,7 +74,7 @@ pub(crate) fn send<L: Dialler, P: Pause>(
     settle(job, load, effort, room, link, pause)
 }
 
-/// Makes requests until one reaches the goal, with a wait after each failure.
+/// Makes requests until one reaches the goal, with a pause between a failure and the next request.
 fn settle<L: Dialler, P: Pause>(
     job: &Job<'_>,
     load: &Load,

@@ -1,4 +1,4 @@
--- The line that `toml` tells of a text that it refuses makes no difference to a status.
+-- The line that `toml` names for a text that it refuses makes no difference to a status.
 use Rattle.std.proofs.Common.{◌≡◌, ℕ, List, Result, ap}
 use Rattle.oc_config.specs.Reading.{settings_of}
 use Rattle.oc_config.specs.Settings.{Settings}

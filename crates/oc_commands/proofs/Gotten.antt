@@ -51,7 +51,7 @@ module _ {K L : Type 0} (takes fails : K → List ℕ → K → Type 0) (count :
   abbrev link : OnLink
   link = at_link story faults old new
 
-  -- the same of any number of replies
+  -- a download with any number of replies
   got : (times : Option ℕ) → d.times ≡ times → IsTalked takes fails (Downloads (wish_for times (manner_of d token)) d.start d.address (replies_for times)) (story old) (story new) before after end
       → CompletesOnce link times (manner_of d token) d.address end → Downloaded link (at_sink takes fails count before after) d token end
   got times is t complete = record {

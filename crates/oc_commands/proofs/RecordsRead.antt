@@ -27,7 +27,7 @@ module _ {S : Type 0} (gives fails : S → List ℕ → S → Type 0) (ended : S
   ends_at whole (faults.Limit Published) read = (bytes, (came, whole), read)
   ends_at whole faults.Memory read = (bytes, came)
 
--- nothing is written where there are no records
+-- the effect of an end without records to merge, where nothing was written
 pub happened_early : (input : Input) (output : Output) (end : RecordsEnd) → EndsEarly input end → output.written [] → HappenedAtMerge input output end
 happened_early input output (Merged end) early written = absurd early
 happened_early input output (Text line cause) early written = (early, written)

@@ -77,14 +77,14 @@ rules_are_other (lists.Config (configs.Fault faults.Memory)) is = absurd (omega 
 rules_are_other lists.Sink is = absurd (omega (arith, is))
 rules_are_other lists.Memory is = absurd (omega (arith, is))
 
--- no cause that a file was not loaded has status 2
+-- no cause of a failed load has status 2
 cause_is_other : (cause : FileError) → number_of (status_of_cause cause) ≡ 2 → ⊥
 cause_is_other causes.Disk is = absurd (omega (arith, is))
 cause_is_other causes.NotJournal is = absurd (omega (arith, is))
 cause_is_other (causes.BadFrame number) is = absurd (omega (arith, is))
 cause_is_other causes.Memory is = absurd (omega (arith, is))
 
--- `check`
+-- no status of `check` is 2
 check_is_other : (end : CheckEnd) → number_of (status_of_check end) ≡ 2 → ⊥
 check_is_other checks.Done is = absurd (omega (arith, is))
 check_is_other (checks.Load error) is = cause_is_other (cause_of error) is
@@ -95,7 +95,7 @@ configured_is_other (configured.Config end) is = rules_are_other (lists.Config e
 configured_is_other configured.Stranger is = absurd (omega (arith, is))
 configured_is_other (configured.Checked end) is = check_is_other end is
 
--- `get`
+-- no status of `get` is 2
 get_is_other : (end : GetEnd) → number_of (status_of_get end) ≡ 2 → ⊥
 get_is_other gets.Done is = absurd (omega (arith, is))
 get_is_other gets.BadUrl is = absurd (omega (arith, is))
@@ -106,14 +106,14 @@ get_is_other gets.Link is = absurd (omega (arith, is))
 get_is_other gets.Sink is = absurd (omega (arith, is))
 get_is_other gets.Memory is = absurd (omega (arith, is))
 
--- no cause that a client has no token has status 2
+-- no reason why a client has no token has status 2
 token_is_other : (end : TokenEnd) → number_of (status_of_token end) ≡ 2 → ⊥
 token_is_other tokens.Source is = absurd (omega (arith, is))
 token_is_other tokens.Long is = absurd (omega (arith, is))
 token_is_other tokens.Fault is = absurd (omega (arith, is))
 token_is_other tokens.Memory is = absurd (omega (arith, is))
 
--- `put`
+-- no status of `put` is 2
 put_is_other : (end : PutEnd) → number_of (status_of_put end) ≡ 2 → ⊥
 put_is_other puts.Done is = absurd (omega (arith, is))
 put_is_other puts.BadUrl is = absurd (omega (arith, is))

@@ -68,7 +68,7 @@ use Rattle.oc_service.specs.declared.running.NodeEnd.TheVariants as nodes
 use Rattle.oc_deeds.specs.declared.ends.TurnEnd.{TurnEnd}
 use Rattle.oc_deeds.specs.declared.ends.TurnEnd.TheVariants as turns
 
--- all that the first says of an input the second says too
+-- statements of one input that hold of another
 pub record TellsInput (i j : Input) : Type 0 where
   pub says : (scale : Scale) (r : Result Script ScheduleFault) → i.says scale r → j.says scale r
   pub passes : (scale : Scale) (what : What) → i.passes scale what → j.passes scale what
@@ -108,7 +108,7 @@ module _ {D N K J : Type 0} (view : D → DiskView) (story : N → Option (List 
         untouched = λ same. same;
       }))
 
--- unless the node was run
+-- a statement that holds unless the node was run leads to another such statement
 unless_told : (a b : Type 0) → (a → b) → (end : ServiceEnd) → UnlessRan end a → UnlessRan end b
 unless_told a b tells (services.Config end) h = tells h
 unless_told a b tells services.Stranger h = tells h

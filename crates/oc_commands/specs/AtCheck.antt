@@ -18,7 +18,8 @@ sizes_of m = record { nodes = m.nodes; chain = m.chain; chunk = USUAL_CHUNK_BYTE
 abbrev pub sizes_in : Settings → Sizes
 sizes_in s = record { nodes = length s.addresses; chain = s.chain; chunk = s.chunk }
 
--- the text of the files, which was written, or a part of it before the output failed; or the refusal of the files, and nothing was written
+-- the text of the files, which was written, or a prefix of that text before the output failed; or
+-- the refusal of the files, and nothing was written
 abbrev pub WritesCheck : OnFiles → Output → Sizes → ℕ → CheckEnd → Type 0
 WritesCheck files output n id Done = (text : List ℕ) × files.show (header_without_areas n) id text × output.written text
 WritesCheck files output n id Sink = (text : List ℕ) × files.show (header_without_areas n) id text × SomeFront text output.cut_off

@@ -25,7 +25,7 @@ use Rattle.oc_commands.specs.declared.serving.ServiceEnd.TheVariants.{Config, St
 abbrev pub HasAddress : List (Option (List ℕ)) → ℕ → Type 0
 HasAddress addresses id = IsNode (length addresses) id × (is_some (slice_index_or addresses (id - 1) None) ≡ true)
 
--- the configuration has such a node
+-- the configuration has a node of this id, with an address
 abbrev pub HasNode : Settings → Service → Type 0
 HasNode s v = HasAddress s.addresses v.id
 
@@ -39,7 +39,7 @@ log_of Brief = logs.Brief
 abbrev pub task_of : Service → Task
 task_of v = record { me = v.id; turns = v.turns; probes = v.probes; log = log_of v.log }
 
--- no node of the configuration has this id, or the node ran
+-- no node of the configuration has this id and an address, or the node ran
 abbrev pub RunsService : OnNode → Output → Settings → Service → ServiceEnd → Type 0
 RunsService node output s v Stranger = (HasNode s v → ⊥) × output.written []
 RunsService node output s v (Ran end) = HasNode s v × NodeEnds (node.run s (task_of v)) output.written output.cut_off (setting_of s (task_of v)) end
@@ -67,8 +67,8 @@ IsPlacedOf addresses id None = HasAddress addresses id → ⊥
 
 -- The status that has to come
 
--- The status is 3 for a configuration without a node of this id. Otherwise, over the files of a
--- node, it is 0, or 5 if a file is full.
+-- The status is 3 for a configuration without a node that has this id and an address. Otherwise,
+-- over the files of a node, it is 0, or 5 if a file is full.
 abbrev pub IsStatusOver : {D : Type 0} → (D → DiskView) → Disks D → Settings → Service → ℕ → Type 0
 IsStatusOver view d s v status =
     ((HasNode s v → ⊥) × (status ≡ 3)) ⊎ (HasNode s v × (HoldFiles view (length s.addresses) d → (status ≡ 0) ⊎ (status ≡ 5)))

@@ -25,12 +25,12 @@ place_of Resume = places.Resume
 abbrev pub plan_of : Upload → Publication
 plan_of u = record { place = place_of u.onto; seal = u.seals; live = u.live }
 
--- these bytes came of the input, which ended if `over`; if the end blames the input a call on it
--- failed then
+-- these bytes came of the input, and with `true` the input ended after them
 abbrev pub CameSo : Input → List ℕ → Bool → Type 0
 CameSo input bytes true = input.whole bytes
 CameSo input bytes false = input.gave bytes
 
+-- the same, and if the end blames the input, a call on the input failed then
 abbrev pub Came : Input → List ℕ → Bool → PutEnd → Type 0
 Came input bytes over ends.Input = input.broke bytes
 Came input bytes over end = CameSo input bytes over

@@ -20,7 +20,7 @@ abbrev pub scale_of : Bool → Scale
 scale_of true = Large
 scale_of false = Usual
 
--- the effect on a schedule of this scale, if the summary or the report was asked for
+-- the effect of this end for a schedule of this scale, with the summary or with the report
 abbrev pub HappenedAtReplay : Input → Output → OnStage → Scale → Bool → ReplayEnd → Type 0
 HappenedAtReplay input output stage scale summary Done = (s : Script) × input.says scale (Ok s) × IsSchedule scale s × output.written (output_text summary s) × stage.played s s.events × HeadlineHolds s
 HappenedAtReplay input output stage scale summary (Text line why) = input.says scale (Err (faults.Line line why)) × output.written [] × stage.unplayed

@@ -15,7 +15,8 @@ first_of (line ∷ lines) = line
 abbrev pub first_line : List ℕ → List ℕ
 first_line bytes = first_of (slice_split (λ b. b == 10) bytes)
 
--- printed bytes of ASCII, and no space
+-- whether a line is a token: at least one byte, at most `MAX_TOKEN_BYTES`, all of them printable
+-- ASCII bytes and no space
 abbrev pub is_token : List ℕ → Bool
 is_token line = not (length line == 0) && nat_le (length line) MAX_TOKEN_BYTES && list_all is_token_byte line
 

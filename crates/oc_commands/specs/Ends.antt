@@ -158,7 +158,7 @@ status_of (Got end) = status_of_get end
 status_of (Published end) = status_of_put end
 status_of (Served end) = status_of_service end
 
--- a client has no token
+-- whether the run ended because a client has no token
 abbrev pub lacks_token : End → Bool
 lacks_token (NoToken end) = true
 lacks_token end = false

@@ -190,7 +190,8 @@ line_of_check checks.Done = []
 line_of_check (checks.Load error) = line_of_load error
 line_of_check checks.Sink = output_failed
 
--- the id is the value to blame where no node of the configuration has it
+-- the value to blame is the id, where no node of the configuration has it, or for `node` no node
+-- with an address
 abbrev pub stranger_line : List ℕ
 stranger_line = line (codes "overcast: config: value ") (key_text Id) [] []
 

@@ -44,7 +44,7 @@ use Rattle.url.specs.Parts.{Parts}
 pub record Input : Type 1 where
   -- the whole input came, with this meaning as a schedule of this scale
   pub says : Scale → Result Script ScheduleFault → Type 0
-  -- the input passes this limit on one
+  -- the input exceeds this limit of a schedule of this scale
   pub passes : Scale → What → Type 0
   -- the whole input came: these bytes
   pub whole : List ℕ → Type 0
@@ -85,7 +85,7 @@ pub record OnStage : Type 1 where
 
 -- the three files of a node
 pub record OnFiles : Type 1 where
-  -- the node of this id, among the nodes of this header, as they recover it, is shown by this text
+  -- the node of this id, among the nodes of this header, as the files recover it, is shown by this text
   pub show : Header → ℕ → List ℕ → Type 0
   -- no node was loaded from the files among this number of nodes, for this reason
   pub are_refused : ℕ → KeepLoad → Type 0

@@ -26,7 +26,7 @@ use Rattle.oc_commands.specs.Outside.{Outside}
 use Rattle.oc_commands.specs.declared.ending.End.{End}
 use Rattle.oc_commands.specs.declared.ending.End.TheVariants.{Helped, HelpFailed, Versioned, VersionFailed, Misused, NoMemory, Replayed, Generated, Merged, Listed, Checked, CheckedConfigured, NoToken, Got, Published, Served}
 
--- the text was taken, or a prefix of it and then a call failed
+-- the text was taken, or a prefix of the text and then a call failed
 abbrev pub IsWrittenOrCut : {E : Type 0} → (E → List ℕ → E → Type 0) → (E → List ℕ → E → Type 0) → (E → ℕ) → E → E → List ℕ → Type 0
 IsWrittenOrCut takes fails count old new text = takes old text new ⊎ (SomeFront text (λ front. fails old front new) × Rose (count old) (count new))
 

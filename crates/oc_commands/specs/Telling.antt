@@ -1,4 +1,4 @@
--- The lines that tell on the error output how far a client came.
+-- The progress lines of a client on the error output.
 use Rattle.std.specs.Prelude.{◌≡◌, ℕ, Bool, if◌then◌else◌, List, [], ◌++◌}
 use Rattle.oc_client.specs.Lines.{lines_between, progress_line}
 use Rattle.oc_io.specs.Counts.{Rises}

@@ -372,7 +372,7 @@ pub(crate) fn line_of_configured<'a>(
     }
 }
 
-/// The line for an id that no node of the configuration has.
+/// The line for an id that no node of the configuration has, or for `node` no node with an address.
 fn stranger_line<'a>() -> ErrorLine<'a>
     ensures { text_of result ≡ stranger_line }
 {

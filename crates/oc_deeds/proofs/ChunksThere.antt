@@ -104,7 +104,7 @@ served_there group Once sealed last start count ks h = range_there group start c
 served_there group Follow true last start count ks h = range_there group start count false ks (λ (is : false ≡ true). absurd (false≢true is))
 served_there group Follow false last start count ks h = range_there group start count true ks (λ is. h)
 
--- the bytes of a client whose start is past the end of its group, of which it is given none
+-- the bytes that a client is given are there, where its start may be past the end of its group
 past_or_served : (group : List ℕ) (start count : ℕ) (manner : Manner) (sealed last past : Bool) (h : Holding) (ks : List Group) → ServesShown sealed (answers.Serve count) (length (bytes_of group ks)) start
     → IsGivable (content_at group (if past then whole_for manner (past_reply h.held) else served manner sealed last start count).content) ks
 past_or_served group start count manner sealed last true h ks serves = tt

@@ -22,7 +22,7 @@ use Rattle.oc_deeds.specs.declared.work.Transfer.{Transfer}
 use Rattle.oc_deeds.specs.declared.work.Work.{Work}
 use Rattle.oc_deeds.specs.declared.work.Work.TheVariants as works
 
--- the content that is under way, if it is one
+-- the content that a work has under way, if it has one
 abbrev pub content_under : Work → Option UnderWay
 content_under (works.Content p) = Some p.content
 content_under (works.Aside p) = Some p.content
@@ -68,7 +68,7 @@ holds_grown Whole ws old now later g w grows h = h
 holds_grown Broken ws old now later g w grows h = h
 holds_grown Gone ws old now later g w grows h = h
 
--- the same where nothing was given and nothing is to be answered
+-- a connection to which nothing was given is as before, though groups may have grown
 pub holds_still : (phase : Phase) (ws : List Work) (old now later : List Group) (g w : List ℕ) → Grows old now → Holds phase ws old later g w → Holds phase ws now later (g ++ []) (w ++ [])
 holds_still phase ws old now later g w grows h =
     subst (λ (x : List ℕ). Holds phase ws now later x (w ++ [])) (sym (append-nil g))

@@ -24,7 +24,7 @@ use Rattle.oc_deeds.specs.declared.work.Work.TheVariants as works
 -- Lists
 
 module _ {X : Type 0} (P : X → Type 0) where
-  -- the first ones
+  -- the first elements of a list
   all_take : (n : ℕ) (xs : List X) → AllByRecursion P xs → AllByRecursion P (take n xs)
   all_take zero xs all = tt
   all_take (suc n) [] all = tt
@@ -36,7 +36,7 @@ module _ {X : Type 0} (P : X → Type 0) where
   all_drop (suc n) [] all = tt
   all_drop (suc n) (x ∷ xs) all = all_drop n xs all.1
 
-  -- all but one
+  -- all elements but one
   pub all_remove : (place : ℕ) (xs : List X) → AllByRecursion P xs → AllByRecursion P (remove xs place)
   all_remove place xs all = all_append P (take place xs) (drop (suc place) xs) (all_take place xs all) (all_drop (suc place) xs all)
 

@@ -16,20 +16,20 @@ next_some : (place : ℕ) (m : Message) (s : Setting) (a : Running) → next_to_
     → dials_next s a ≡ Dials place m (free_number a.dials) ∷ []
 next_some place m s a may there = ap (λ (o : Option ℕ). dials_at o s a) may ∙ ap (λ (o : Option Message). dials_it place o s a) there
 
--- nothing, where no message may be dialled
+-- no deed is done, where no message may be dialled
 pub sends_none : (n : ℕ) (s : Setting) (a : Running) → next_to_dial a.outbox a.dials ≡ None → sends n s a ≡ []
 unfolding sends
 sends_none zero s a none = refl
 sends_none (suc n) s a none =
     ap (λ (ds : List Deed). ds ++ sends n s (after_all ds a)) (ap (λ (o : Option ℕ). dials_at o s a) none) ∙ sends_none n s a none
 
--- the oldest that may be, and then the others
+-- the oldest message that may be dialled, and then the others
 pub sends_some : (n place : ℕ) (m : Message) (s : Setting) (a : Running) → next_to_dial a.outbox a.dials ≡ Some place → slice_get a.outbox place ≡ Some m
     → sends (suc n) s a ≡ Dials place m (free_number a.dials) ∷ sends n s (after (Dials place m (free_number a.dials)) a)
 unfolding sends
 sends_some n place m s a may there = ap (λ (ds : List Deed). ds ++ sends n s (after_all ds a)) (next_some place m s a may there)
 
--- nothing more, where no more are to be
+-- no deed is done, where no more messages are to be dialled
 pub sends_zero : (s : Setting) (a : Running) → sends 0 s a ≡ []
 unfolding sends
 sends_zero s a = refl
@@ -38,7 +38,7 @@ sends_zero s a = refl
 abbrev pub AreWhole : ℕ → List Deed → Setting → Running → Type 0
 AreWhole left deeds s a = deeds ++ sends left s (after_all deeds a) ≡ sends MAX_DIALS s a
 
--- one more
+-- one message more is dialled
 pub whole_one : (left rest place : ℕ) (m : Message) (deeds : List Deed) (s : Setting) (a b : Running) → left ≡ suc rest → b ≡ after_all deeds a
     → next_to_dial b.outbox b.dials ≡ Some place → slice_get b.outbox place ≡ Some m → AreWhole left deeds s a
     → AreWhole rest (deeds ++ Dials place m (free_number b.dials) ∷ []) s a
@@ -51,13 +51,13 @@ whole_one left rest place m deeds s a b is here may there whole =
     ∙ ap (λ (r : Running). deeds ++ sends left s r) here
     ∙ whole
 
--- no more may be
+-- the deeds so far are all, where no more messages may be dialled
 pub whole_last : (left : ℕ) (deeds : List Deed) (s : Setting) (a b : Running) → b ≡ after_all deeds a → next_to_dial b.outbox b.dials ≡ None
     → AreWhole left deeds s a → deeds ≡ sends MAX_DIALS s a
 whole_last left deeds s a b here none whole =
     sym (append-nil deeds) ∙ ap (λ (ds : List Deed). deeds ++ ds) (sym (sends_none left s b none)) ∙ ap (λ (r : Running). deeds ++ sends left s r) here ∙ whole
 
--- no more are to be
+-- the deeds so far are all, where no more messages are to be dialled
 pub whole_all : (deeds : List Deed) (s : Setting) (a : Running) → AreWhole 0 deeds s a → deeds ≡ sends MAX_DIALS s a
 whole_all deeds s a whole = sym (append-nil deeds) ∙ ap (λ (ds : List Deed). deeds ++ ds) (sym (sends_zero s (after_all deeds a))) ∙ whole
 
@@ -73,7 +73,7 @@ dialled_there : (place number : ℕ) (m : Message) (s : Setting) (b : Running) �
 dialled_there place number m s b is there =
     ap (λ (o : Option Message). dialled place number o s b) there ∙ ap (λ (n : ℕ). Dials place m n ∷ []) is
 
--- the oldest that may be, and then the others
+-- the oldest message that may be dialled, and then the others
 pub sends_part : (left rest place number : ℕ) (s : Setting) (b : Running) → left ≡ suc rest → number ≡ free_number b.dials → next_to_dial b.outbox b.dials ≡ Some place → place < length b.outbox
     → sends left s b ≡ in_turn (dials_as place number) (sends rest) s b
 sends_part left rest place number s b is free may within =

@@ -314,7 +314,7 @@ IsReadyFor (comes.Request c count v) made ws = IsSettled made ws × (phase_on c 
 IsReadyFor (comes.Gone c loss) made ws = IsLeft c made ws
 IsReadyFor came made ws = IsSettled made ws
 
--- deeds that touch no connection, made of few
+-- the deeds for the reply to a probe touch no connection
 no_fault : (s : Setting) (made : List Call) (peer : ℕ) (probing : Option Probing) (fault : Option ProbeFault) (median : ℕ) (a : Running) → IsSettled made a.works → IsOrderly s made (measures probing peer fault median s a) a
 no_fault s made peer None None median a settled = orderly_none s made a settled
 no_fault s made peer (Some probing) None median a settled = all_quiet s made _ a (tt, (tt, tt)) settled

@@ -66,7 +66,7 @@ module _ (nodes : ℕ) where
 
 -- Measures
 
--- the rate with a median
+-- a median that was found is the median of the rates
 pub median_of : (o : Option Probing) (peer rate m : ℕ) → IsMedianIn o peer rate (Some m) → IsMedianOf o peer rate m
 median_of None peer rate m is = tt
 median_of (Some p) peer rate m is = is
@@ -75,7 +75,7 @@ pub median_part : (o : Option Probing) (peer rate m : ℕ) (s : Setting) (a : Ru
 median_part None peer rate m s a is = absurd cc
 median_part (Some p) peer rate m s a is = refl
 
--- the rate without a median
+-- no median is asked for where rates are not measured
 pub no_median : (o : Option Probing) (peer rate : ℕ) → IsMedianIn o peer rate None → IsMedianOf o peer rate 0
 no_median None peer rate is = tt
 no_median (Some p) peer rate is = absurd is

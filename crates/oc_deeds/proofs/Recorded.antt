@@ -1,4 +1,4 @@
--- Turns of a node that writes a record: the line of each input is written before it is taken, and nothing else is written of it.
+-- Turns of a node that writes a record: the line of each input is written before the input is taken, and no other line tells of the input.
 use Rattle.std.proofs.Common.{◌≡◌, ◌⊎◌, ℕ, zero, suc, Bool, true, false, Option, None, Some, List, [], ◌∷◌, ◌++◌, slice_get, refl, sym, ap, ap₂, subst, ◌∙◌}
 use Rattle.std.specs.Prelude.{◌==◌, if◌then◌else◌, is_some, is_none, codes}
 use Rattle.std.proofs.lemmas.List.{append-nil, append_assoc}
@@ -107,7 +107,7 @@ text_append : (me : ℕ) (xs ys : List RecordLine) → record_text me (xs ++ ys)
 text_append me [] ys = refl
 text_append me (x ∷ xs) ys = ap (λ (t : List ℕ). record_line_text me x ++ t) (text_append me xs ys) ∙ sym (append_assoc (record_line_text me x) (record_text me xs) (record_text me ys))
 
--- the lines of a deed that has nothing to do with inputs
+-- the text of a deed that has nothing to do with inputs is that of its lines in a record
 abbrev IsSame : Setting → Deed → Type 0
 IsSame s d = line s d ≡ record_text s.me (record_lines_of d)
 

@@ -91,7 +91,7 @@ fits_if false x st ws same fits = fits
 none_on : (c d : ℕ) (made : List Call) (ws : List Work) → (d == c) ≡ true → phase_on d made ≡ Awaiting → IsSettled made ws → works_on c ws ≡ []
 none_on c d made ws own may settled = subst (λ (x : Phase). Fits x (works_on c ws)) (phase_here c d made Awaiting own may) (settled c)
 
--- all but one
+-- no other work is on the connection of a work that is taken out
 none_left : (c d : ℕ) (made : List Call) (ws : List Work) → (d == c) ≡ true → IsSettled made ws → works_on c (without_work d ws) ≡ []
 none_left c d made ws own settled = taken_out c d ws own ∙ one_at_most (phase_on c made) (works_on c ws) (settled c)
 

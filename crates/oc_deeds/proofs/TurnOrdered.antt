@@ -43,7 +43,7 @@ short (x ∷ y ∷ []) behind more d e is few =
     ([], ap (λ (z : Deed). z ∷ e ∷ []) first ∙ ap (λ (z : Deed). x ∷ z ∷ []) second)
 short (x ∷ y ∷ z ∷ xs) behind more d e is few = absurd (omega (arith, few))
 
--- nothing else was done where a turn only asked for news
+-- no other deed was done where a turn only asked for news
 pub asked_only : (due : Option ℕ) (s : Setting) (made : List Call) (pace : Pace) (probing : Option Probing) (t : Observation) (a : Running) (deeds behind : List Deed) → due ≡ None
     → Reads t.before ∷ takes_at due pace probing t s a ≡ deeds ++ behind → length deeds < 3 → IsOrdered s made deeds a
 asked_only (Some place) s made pace probing t a deeds behind none is few = let no : Some place ≡ None = none in absurd (cc no)

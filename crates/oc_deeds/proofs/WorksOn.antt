@@ -32,7 +32,7 @@ less_next n m =
       | inr most ↦ le-ltb (1 + n) (suc m) (omega (arith, most)) ∙ sym (le-ltb n m most)
     ]
 
--- the place of the first one that passes: the head, or after it
+-- the place of the first work that passes: the head of the list, or after the head
 position_first : (q : Work → Bool) (w : Work) (ws : List Work) → q w ≡ true → position q (w ∷ ws) ≡ Some 0
 position_first q w ws is =
     let at : position_or_len q (w ∷ ws) ≡ 0 = ap (λ (b : Bool). cond (not b) (1 + position_or_len q ws) 0) is in
@@ -78,15 +78,15 @@ other_dropped c d (w ∷ ws) apart = by_test (other_dropped c d ws apart) (is_on
         sym (ap (λ (b : Bool). cond b (w ∷ works_on c ws) (works_on c ws)) not_on)
     by_test behind false is = ap (λ (x : List Work). cond (is_on c w) (w ∷ x) x) behind
 
--- the first one of a connection is taken out
+-- the first work of this connection is taken out
 pub own_without : (c : ℕ) (ws : List Work) → works_on c (without_work c ws) ≡ drop 1 (works_on c ws)
 own_without c ws = ap (works_on c) (removed (is_on c) ws) ∙ own_dropped c ws
 
--- one of another connection is taken out
+-- the first work of another connection is taken out
 pub other_without : (c d : ℕ) (ws : List Work) → (d == c) ≡ false → works_on c (without_work d ws) ≡ works_on c ws
 other_without c d ws apart = ap (works_on c) (removed (is_on d) ws) ∙ other_dropped c d ws apart
 
--- one more
+-- one work more of this connection
 pub own_pushed : (c : ℕ) (ws : List Work) (w : Work) → (connection_of w == c) ≡ true → works_on c (ws ++ w ∷ []) ≡ works_on c ws ++ w ∷ []
 own_pushed c ws w is = filter-append (is_on c) ws (w ∷ []) ∙ ap (λ (b : Bool). works_on c ws ++ cond b (w ∷ []) []) is
 

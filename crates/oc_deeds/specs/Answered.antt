@@ -19,7 +19,7 @@ back_of before (Accepts i) a = back_to (sender_of i) (step a.node i).sends
 back_of before (Says text) a = before
 back_of before d a = None
 
--- the deed answers a request by this, and by the node's holding then
+-- a deed that answers a request, by this answer, this message back and the node as it is then
 abbrev pub IsAnsweredBy : Answer → Option Message → Setting → Deed → Running → Type 0
 IsAnsweredBy answer back s (Replies r response now) a = response ≡ response_now r answer back s a
 IsAnsweredBy answer back s d a = Unit {0}

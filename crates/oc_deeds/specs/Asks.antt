@@ -68,7 +68,7 @@ answer_now (Some i) n = (step n i).answer
 abbrev pub waiting : ℕ → Request → ℕ → Waiting
 waiting c request now = record { connection = c; request = record request { input = None }; since = now }
 
--- a client that follows a group, and has all of it
+-- whether a request is to wait: one of a client that follows a group and has all of its bytes
 abbrev pub has_to_wait : Request → Node → Bool
 has_to_wait request n = is_to_wait request.asked.operation request.asked.hint (answer_now request.input n) (holding_for request.asked.operation n.groups)
 
@@ -78,7 +78,7 @@ answers_or_waits c request now s a =
     if has_to_wait request a.node then Waits (waiting c request now) ∷ []
     else responds (pending c request (is_some request.input) false) request.input now s a
 
--- one whose condition is not met is refused, and its input is not taken
+-- a request whose condition is not met is refused, and its input is not taken
 abbrev pub refuses_or : Option Refusal → ℕ → Request → ℕ → Part
 refuses_or (Some refusal) c request now = one (Refuses c request.count refusal)
 refuses_or None c request now = answers_or_waits c request now

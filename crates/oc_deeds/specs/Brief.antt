@@ -55,7 +55,7 @@ at_stake n i = []
 abbrev pub has_lease : Control → ℕ → Bool
 has_lease n x = is_some (leased_by n.kept.table n.me x)
 
--- a line where this child has no lease now
+-- the line of a child that has no lease now
 abbrev pub lost_line : Control → Child → List ℕ
 lost_line n c = if has_lease n c.id then [] else codes "lost " ++ decimal c.id ++ codes "\n"
 
@@ -88,7 +88,7 @@ moved_line before n = if is_still before n.kept.mode then [] else place_line n
 abbrev pub brief_lines : Control → Control → Answer → Input → List ℕ
 brief_lines before n answer i = asked_line (told_input before.me i) answer ++ lost_lines n (at_stake before i) ++ moved_line before.kept.mode n
 
--- the lines of an input, besides the line that it has where each has one
+-- the lines of an input, besides the one that it has where each input has one
 abbrev pub told_of : Log → Node → Input → List ℕ
 told_of logs.Inputs n i = []
 told_of logs.Record n i = []

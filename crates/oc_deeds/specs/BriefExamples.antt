@@ -18,7 +18,7 @@ new me = new_node (record { nodes = 3; chain = 1; chunk = 4096; areas = 0 ∷ 0 
 abbrev root : Node
 root = (step (new 1) (inputs.Tick 0)).node
 
--- x is a child of node 1 by its first ask
+-- the certificate of a child x of node 1, by its first ask
 abbrev child : ℕ → Cert
 child x = record { subject = x; seq = 1; parent = 1; dead = false; number = 0; clients = 0 }
 

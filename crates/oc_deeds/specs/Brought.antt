@@ -51,7 +51,7 @@ abbrev pub message_to : ℕ → Result Message WireFault → Option Message
 message_to me (Ok message) = if message.to == me then Some message else None
 message_to me (Err fault) = None
 
--- a message that came, or else that the peer is not reached
+-- a message that came, or else the input that the peer is not reached
 abbrev pub delivered_or : ℕ → Option Message → Input
 delivered_or peer (Some message) = Delivered message
 delivered_or peer None = Unreachable peer
@@ -64,7 +64,7 @@ brings_message keys reply = (reply.status == 200) && is_authentic keys reply.mac
 abbrev pub message_in : ℕ → ℕ → Option Keyring → Reply → Option Message
 message_in me nodes keys reply = if brings_message keys reply then message_to me (decoded nodes reply.body) else None
 
--- The input that results from a response: of such a one, the message that it is; of 204, none; and of any other that the peer is not reached.
+-- The input that results from a response: of one that brings a message, this message; of 204, none; and of any other, that the peer is not reached.
 abbrev pub input_of_reply : ℕ → ℕ → Option Keyring → ℕ → Reply → Option Input
 input_of_reply me nodes keys peer reply = if reply.status == 204 then None else Some (delivered_or peer (message_in me nodes keys reply))
 
@@ -87,7 +87,7 @@ abbrev pub fault_of : Result Reply HttpFault → Option ProbeFault
 fault_of (Ok reply) = if is_answer reply then None else Some faults.Reply
 fault_of (Err fault) = Some (fault_of_http fault)
 
--- The news of a dial that was made for this, of which this was read.
+-- The news of a dial with this errand, whose reply was read with this result.
 abbrev pub comes_back : ℕ → ℕ → Option Keyring → Errand → Result Reply HttpFault → Came
 comes_back me nodes keys (errands.Message to fetch) reading = comes.Reply (input_of me nodes keys to reading) (is_taken keys reading)
 comes_back me nodes keys (errands.Probe peer since) reading = comes.Probed peer since (fault_of reading)

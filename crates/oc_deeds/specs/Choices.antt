@@ -40,7 +40,7 @@ abbrev pub is_over : Operation → ℕ → List Shelf → ℕ → Bool
 is_over (asks.Client group area start manner) since lines now = is_due (follower group start since) (holding group lines) now
 is_over other since lines now = true
 
--- a content laid aside that does not wait any more, and a client that is to be answered
+-- whether a work is due by itself: a content laid aside that does not wait any more, or a client that is to be answered
 abbrev pub is_work_due : List Shelf → ℕ → Work → Bool
 is_work_due lines now (works.Content p) = false
 is_work_due lines now (works.Aside p) = not (is_waiting (prospect_of p lines now))

@@ -74,7 +74,7 @@ pub data Deed : Type 0 where
   Tells : ℕ → Deed
   -- an input was taken, and its line was written, where each has one after its frame; its messages go to the outbox
   Takes : Input → Deed
-  -- the same for the input of a request: a message back to its sender is the reply
+  -- the input of a request was taken in the same way; a message back to its sender is the reply
   Accepts : Input → Deed
   -- lines that are written before an input or after it, or none
   Says : List ℕ → Deed
@@ -133,7 +133,7 @@ line s d = []
 abbrev pub piece : Transfer → List Group → List ℕ
 piece p groups = piece_text p.content (piece_of p.content groups)
 
--- the content after it, if anything is left
+-- the transfer after this many bytes more of its content, if anything is left
 abbrev pub transfer_after : Transfer → ℕ → ℕ → Option Transfer
 transfer_after p now count = option_map (λ (u : UnderWay). record p { content = u; since = now }) (rest_after p.content count)
 
@@ -156,7 +156,7 @@ abbrev pub content_in : Operation → Option GroupRange → Option UnderWay
 content_in (asks.Client group area start manner) range = content_at group range
 content_in asked range = None
 
--- how it is given, from its beginning on
+-- the transfer of a response's content, from its beginning on
 abbrev pub transfer_for : Pending → Response → ℕ → Option Transfer
 transfer_for r response now = option_map (λ (u : UnderWay). record {
   connection = r.connection;
@@ -190,7 +190,7 @@ abbrev pub back_to : Option ℕ → List Message → Option Message
 back_to None sends = None
 back_to (Some sender) sends = reply_to sends sender
 
--- all that is sent to others
+-- the messages that go to others than this sender
 abbrev pub others_than : Option ℕ → List Message → List Message
 others_than None sends = sends
 others_than (Some sender) sends = others sends sender
@@ -230,12 +230,12 @@ after d a = a
 
 -- The calls of a deed
 
--- the connection ends after a whole reply, or its next request is awaited; where a line was written, one says that the reply was not sent
+-- the end of a whole reply, by which the connection ends or its next request is awaited; where the link watches, it tells if the reply was not sent
 abbrev pub finish : ℕ → Bool → Bool → Option Transfer → List Call
 finish c keeps watched None = acts.Finish c (record { keeps = keeps; watched = watched }) ∷ []
 finish c keeps watched (Some left) = []
 
--- a refusal ends the connection; where it has no text it is broken off
+-- a refusal, which ends the connection; a connection whose refusal has no text is broken off
 abbrev pub refuses : ℕ → ℕ → Option (List ℕ) → List Call
 refuses c count None = acts.BreakOff c ∷ []
 refuses c count (Some text) = acts.Take c count ∷ acts.Give c text ∷ finish c false false None

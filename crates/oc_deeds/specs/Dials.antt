@@ -17,7 +17,7 @@ index_of dial ds = position (λ d. d.dial == dial) ds
 abbrev pub errand_of : ℕ → List Dialling → Option Errand
 errand_of dial ds = option_map (λ (d : Dialling). d.errand) (element_at ds (index_of dial ds))
 
--- all else
+-- the dials without the one of this number
 abbrev pub without_dial : ℕ → List Dialling → List Dialling
 without_dial dial ds = without_at ds (index_of dial ds)
 

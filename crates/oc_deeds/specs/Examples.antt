@@ -39,7 +39,7 @@ started outbox = record { node = new_node (record { nodes = 2; chain = 1; chunk 
 abbrev came : ℕ → LinkEvent
 came c = events.Request (record { connection = c; number = 1; permitted = false; coming = Open })
 
--- a request that is to be answered, whose line was written
+-- a request with an input, which is to be answered
 abbrev pending : ℕ → ℕ → Operation → Pending
 pending c count operation = record { connection = c; count = count; asked = record { operation = operation; hint = Plain }; last = false; told = true; waited = false }
 

@@ -16,7 +16,7 @@ use Rattle.oc_deeds.specs.Asks.{answer_now}
 use Rattle.oc_deeds.specs.declared.came.Came.{Came}
 use Rattle.oc_deeds.specs.declared.came.Came.TheVariants as comes
 
--- a group grew or was sealed by a request, which was so answered by 200
+-- a publish or a seal that was answered by 200
 abbrev pub hurries : Operation → Answer → Bool
 hurries (asks.Publish group at) answer = publish_status answer == 200
 hurries (asks.Seal group at) answer = seal_status answer == 200
@@ -37,7 +37,7 @@ abbrev pub verdict_hurries : Verdict → Node → Bool
 verdict_hurries (verdicts.Ask request) n = request_hurries request.asked.operation request.input n
 verdict_hurries verdict n = false
 
--- whether news hurries the tick: a verdict on a request, or a message that was answered by 200
+-- whether news hurries the tick: a verdict on a request, or the reply of 200 to a message, with its MAC where the network has keys
 abbrev pub came_hurries : Came → Node → Bool
 came_hurries (comes.Request c count verdict) n = verdict_hurries verdict n
 came_hurries (comes.Reply input taken) n = taken

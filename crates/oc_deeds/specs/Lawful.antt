@@ -33,7 +33,7 @@ abbrev pub IsLawfulWork : ℕ → ℕ → Work → Type 0
 IsLawfulWork nodes me (works.Waits w) = IsLawfulWaiting nodes me w
 IsLawfulWork nodes me work = Unit {0}
 
--- the node that was dialled is one
+-- an errand to one of `nodes` nodes
 abbrev pub IsLawfulErrand : ℕ → Errand → Type 0
 IsLawfulErrand nodes (errands.Message to fetch) = IsNode nodes to
 IsLawfulErrand nodes (errands.Probe peer since) = IsNode nodes peer

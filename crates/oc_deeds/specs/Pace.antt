@@ -3,7 +3,7 @@ use Rattle.std.specs.Prelude.{ℕ, ◌+◌, ◌-◌, ◌*◌, ◌%◌, min, max,
 use Rattle.oc_deeds.specs.declared.pace.Pace.{Pace}
 use Rattle.oc_deeds.specs.declared.pace.TheConstants.{LEAST_INTERVAL, MOST_INTERVAL}
 
--- the greatest interval of a node; of one that probes it is another one by its id, so that probes of nodes that started together fall out of step
+-- the greatest interval of a node; a node that probes has another one by its id, so that the probes of nodes that started together fall out of step
 abbrev pub most_interval : Bool → ℕ → ℕ
 most_interval probes me = if probes then MOST_INTERVAL + 7 * (me % 64) else MOST_INTERVAL
 

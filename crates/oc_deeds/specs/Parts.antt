@@ -1,4 +1,4 @@
--- Parts of a turn: the deeds that a running node does then.
+-- Parts of a turn, each with the deeds that a running node does for it.
 use Rattle.std.specs.Prelude.{List, [], ◌∷◌, ◌++◌}
 use Rattle.oc_deeds.specs.Deeds.{Deed, Running, Setting, after_all}
 
@@ -17,6 +17,6 @@ infixl 10 ◌>>◌
 abbrev pub ◌>>◌ : Part → Part → Part
 (p >> q) s a = p s a ++ q s (after_all (p s a) a)
 
--- the same, for clauses
+-- one part and then another, by a name that clauses can use
 abbrev pub in_turn : Part → Part → Part
 in_turn p q = p >> q

@@ -1,4 +1,4 @@
--- The lines of a record: the inputs of the deeds, in their order, and notes on refused requests and unsent replies between them.
+-- The lines of a record: the inputs of the deeds, in their order, and between them notes on refused requests, unsent replies and probes that failed.
 use Rattle.std.specs.Prelude.{◌≡◌, ℕ, Bool, true, false, Option, None, Some, List, [], ◌∷◌, ◌++◌, codes}
 use Rattle.oc_base.specs.Groups.{shelf}
 use Rattle.oc_model.specs.declared.input.Input.{Input}

@@ -43,7 +43,7 @@ abbrev pub IsGivable : Option UnderWay → List Group → Type 0
 IsGivable None groups = Unit {0}
 IsGivable (Some u) groups = u.chunked ≡ true → IsThere u groups
 
--- the content is under way, and nothing else on its connection
+-- a content that is under way, with nothing else on its connection
 pub record HasContent (p : Transfer) (made : List Call) (ws : List Work) : Type 0 where
   pub phase : phase_on p.connection made ≡ Answering
   pub works : (works_on p.connection ws ≡ works.Content p ∷ []) ⊎ (works_on p.connection ws ≡ works.Aside p ∷ [])
@@ -87,7 +87,7 @@ replied_all c (d ∷ ds) groups = replied c d groups ++ replied_all c ds groups
 
 -- Replies to clients
 
--- the content that a client is given by such a node for this answer of its step
+-- the content that a client is given by a node with these groups, for this answer of its step
 abbrev pub client_content : Operation → Hint → Bool → Answer → List Group → List (Option (List ℕ)) → Option UnderWay
 client_content operation hint last answer groups addresses =
     content_in operation (response_for (record { operation = operation; hint = hint }) last answer None (holding_for operation groups) addresses None []).content

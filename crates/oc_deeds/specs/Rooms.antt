@@ -39,7 +39,7 @@ takes_room c now s a = room_for (transfer_of (work_on c a.works)) now s a
 
 -- Connections that are over
 
--- a line was written for the request, whose reply may have been given whole; not for a client that waits
+-- whether the request had an input, where its reply may have been given whole; a client that waits has no reply to miss
 abbrev pub is_told : Option Work → Bool
 is_told None = true
 is_told (Some (works.Content p)) = p.told

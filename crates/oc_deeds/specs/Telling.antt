@@ -23,7 +23,7 @@ takes_ahead i s a = Says (told_ahead s.log s.me i) ∷ Takes i ∷ []
 abbrev pub takes_told : Input → Part
 takes_told i s a = Takes i ∷ Says (told_of s.log a.node i) ∷ []
 
--- the same for the input of a request
+-- the part that takes the input of a request, and writes the lines after it
 abbrev pub accepts_told : Input → Part
 accepts_told i s a = Accepts i ∷ Says (told_of s.log a.node i) ∷ []
 
@@ -31,7 +31,7 @@ accepts_told i s a = Accepts i ∷ Says (told_of s.log a.node i) ∷ []
 abbrev pub takes_in : Input → Part
 takes_in i = says_ahead i >> takes_told i
 
--- the same for the input of a request
+-- the part that takes the input of a request, and writes the lines before it and after it
 abbrev pub accepts_in : Input → Part
 accepts_in i = says_ahead i >> accepts_told i
 

@@ -35,7 +35,7 @@ example = record { me = 1; addresses = Some (codes "a:1") ∷ Some (codes "b:2")
 abbrev started : List Work → Running
 started ws = record { node = new_node (record { nodes = 2; chain = 1; chunk = 4096; areas = 0 ∷ 0 ∷ [] }) 1; outbox = []; works = ws; dials = [] }
 
--- the same with a group of three bytes
+-- node 1 with a group of three bytes, and with this under way
 abbrev held : List Work → Running
 held ws = after_all (Accepts (inputs.Publish (codes "/a") (codes "abc")) ∷ []) (started ws)
 
@@ -65,7 +65,7 @@ follows = record { count = 40; asked = record { operation = asks.Client (codes "
 abbrev ticked_once : Pace
 ticked_once = record { last = Some 0; interval = 100; most = 1000; whole = false; second = None }
 
--- the same node, which writes a record; its tick at 0 was of second 7
+-- node 1 as it writes a record; its tick at 0 was of second 7
 abbrev recording : Setting
 recording = record example { log = Record }
 

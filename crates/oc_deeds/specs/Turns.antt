@@ -39,12 +39,12 @@ use Rattle.oc_deeds.specs.declared.work.Work.{Work}
 
 -- News
 
--- the news of a dial, where it was made for this; a reply to no dial is no news
+-- the news of a dial with this errand; a reply to no dial is no news
 abbrev pub MeansBack : NodeTerms → List ℕ → Option Errand → Coming → Came → Type 0
 MeansBack t lent (Some errand) coming came = (reading : Result Reply HttpFault) × IsReading lent coming reading × HadMemory reading × (came ≡ comes_back t.me t.nodes t.keys errand reading)
 MeansBack t lent None coming came = came ≡ comes.Nothing
 
--- The news of an event that lends these bytes, to a node that reads requests by these terms, where the dial whose reply it is was made for this.
+-- The news of an event that lends these bytes, to a node that reads requests by these terms, where the dial whose reply the event is has this errand.
 abbrev pub Means : NodeTerms → List ℕ → Option Errand → LinkEvent → Came → Type 0
 Means t lent errand (events.Request a) came = (v : Verdict) × IsVerdict t a lent v × (came ≡ comes.Request a.connection (length lent) v)
 Means t lent errand (events.Room c) came = came ≡ comes.Room c
@@ -54,13 +54,13 @@ Means t lent errand events.Quiet came = came ≡ comes.Nothing
 
 -- The news of the link and the clock in a turn. News that a turn does not ask for may be anything.
 pub record Observation : Type 0 where
-  -- the time when it begins
+  -- the time when the turn begins
   pub before : ℕ
   -- the event, its bytes, and its meaning
   pub event : LinkEvent
   pub bytes : List ℕ
   pub came : Came
-  -- the time after that
+  -- the time after the event
   pub now : ℕ
   -- the median of the rates of the peer that was probed
   pub median : ℕ
@@ -87,7 +87,7 @@ notes_fault peer fault s a = Notes (probe_note peer fault) ∷ []
 abbrev pub takes_measure : ℕ → ℕ → Part
 takes_measure peer rate s a = takes_ahead (inputs.Measured peer rate (reading_of a.node.control.kept.measures peer).hops) s a
 
--- the median of a peer is taken, if it is measured at all
+-- the median of a peer's rates is taken, if rates are measured at all
 abbrev pub takes_median : Option Probing → ℕ → ℕ → Part
 takes_median None peer median = nothing
 takes_median (Some probing) peer median = takes_measure peer (min median MAX_RATE)

@@ -12,7 +12,7 @@ use Rattle.oc_deeds.specs.declared.work.Pending.{Pending}
 use Rattle.oc_deeds.specs.declared.work.Work.{Work}
 use Rattle.oc_deeds.specs.declared.work.Work.TheVariants as works
 
--- the connection on which it is under way
+-- the connection on which a work is under way
 abbrev pub connection_of : Work → ℕ
 connection_of (works.Content p) = p.connection
 connection_of (works.Aside p) = p.connection
@@ -26,7 +26,7 @@ index_on c ws = position (λ w. connection_of w == c) ws
 abbrev pub work_on : ℕ → List Work → Option Work
 work_on c ws = element_at ws (index_on c ws)
 
--- all else
+-- the works without the one on the connection c
 abbrev pub without_work : ℕ → List Work → List Work
 without_work c ws = without_at ws (index_on c ws)
 
@@ -37,7 +37,7 @@ abbrev pub client_input : Operation → Hint → Option Input
 client_input (asks.Client group area start manner) hint = input_for hint (Some (inputs.Client area start group))
 client_input other hint = None
 
--- a request is to be answered on a connection: whether a line is written for it, and whether it was taken before
+-- a request that is to be answered on a connection: whether a line tells if its reply cannot be sent, and whether it was taken before
 abbrev pub pending : ℕ → Request → Bool → Bool → Pending
 pending c request told waited = record {
   connection = c;

@@ -50,7 +50,7 @@ pub fn holding_in(operation: &Operation, shelf: &[Shelf]) -> Holding
     }
 }
 
-/// Whether the next tick is to come soon after this answer: the operation added to a group, or closed it.
+/// Whether the next tick is to come soon after this answer: a publish or a seal was answered by 200.
 pub fn hurries(operation: &Operation, answer: Answer) -> bool
     ensures { result ≡ hurries operation.now answer }
 {

@@ -18,7 +18,7 @@ use std::alloc::Global;
 pub struct Before {
     /// The text of the input itself, without its answer.
     told: Vec<u8>,
-    /// The children that it may lose.
+    /// The children that the node may lose by the input.
     leased: Vec<Child>,
     /// The place of the node in the tree.
     mode: Mode,
@@ -136,7 +136,7 @@ fn put_told_after(
     put_moved(out, before.mode, node)
 }
 
-/// Puts the line of an input of which this is told, with its answer.
+/// Puts the line of an input with this text, and with its answer.
 fn put_asked(out: &mut Vec<u8>, told: &[u8], answer: Answer) -> Result<(), Memory>
     ensures { OnOk result (out.new.items ≡ out.old.items ++ asked_line told.now answer) }
 {
@@ -191,7 +191,7 @@ fn has_lease(node: &Node, peer: NodeId) -> bool
 
 // The place of the node
 
-/// Puts where the node is in the tree, where its mode is not this one any more.
+/// Puts the place of the node in the tree, where its mode is not this one any more.
 fn put_moved(out: &mut Vec<u8>, before: Mode, node: &Node) -> Result<(), Memory>
     ensures { OnOk result (out.new.items ≡ out.old.items ++ moved_line before node.now.control) }
 {
@@ -213,7 +213,7 @@ fn is_still(before: Mode, now: Mode) -> bool
     }
 }
 
-/// Puts where a node is in the tree. `Memory` where it runs out.
+/// Puts the place of a node in the tree. `Memory` where it runs out.
 pub fn put_place(out: &mut Vec<u8>, node: &Node) -> Result<(), Memory>
     ensures { OnOk result (out.new.items ≡ out.old.items ++ place_line node.now.control) }
 {

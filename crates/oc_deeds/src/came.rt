@@ -19,7 +19,8 @@ pub enum Came {
     Room(ConnectionId),
     /// A connection is over before its reply was sent whole.
     Gone(ConnectionId, Loss),
-    /// The reply to a message, with the input that results from it. `taken` where its status is 200.
+    /// The reply to a message, with the input that results from it. `taken` where its status is 200,
+    /// and it has its MAC where the network has keys.
     Reply {
         input: Option<Input>,
         taken: bool,
@@ -30,14 +31,14 @@ pub enum Came {
         since: u64,
         fault: Option<ProbeFault>,
     },
-    /// Nothing.
+    /// No news.
     Nothing,
 }
 
 impl Came {
     ghost use Rattle.oc_deeds.specs.Served.{is_something};
 
-    /// Whether it is something to be served.
+    /// Whether the news is something to be served.
     pub fn is_something(&self) -> bool
         ensures { result ≡ is_something self.now }
     {

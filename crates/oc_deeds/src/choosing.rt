@@ -14,10 +14,10 @@ use oc_model::Message;
 use oc_routes::{FOLLOW_MILLIS, Follower, Holding, IDLE_MILLIS, Operation, Prospect, millis_left};
 use std::collections::VecDeque;
 
-/// The number of dials that may be under way.
+/// The greatest number of dials under way.
 pub const MAX_DIALS: usize = 32;
 
-/// The number of them that may be others than those that ask for content.
+/// The greatest number of dials under way besides those that ask for content.
 pub const MAX_OTHER_DIALS: usize = 16;
 
 /// The index of the oldest work that is due by itself at this time, in milliseconds.
@@ -126,7 +126,7 @@ fn asks_content(dialling: &Dialling) -> bool
     }
 }
 
-/// Whether a dial of this kind is under way to the receiver of a message.
+/// Whether a dial to the receiver of a message, and of its kind, is under way.
 fn is_held_up(message: &Message, dials: &[Dialling]) -> bool
     ensures { result ≡ is_held_up dials.now message.now }
 {

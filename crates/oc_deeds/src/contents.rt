@@ -101,7 +101,7 @@ pub fn piece_text(alloc: Global, content: &UnderWay, bytes: Vec<u8>) -> Result<V
     Ok(with_end(text, last))
 }
 
-/// A text of chunks, which ends with the last chunk; without it where the piece is not the last.
+/// A text of chunks as it is sent: the last chunk is cut off, unless the piece is the last.
 fn with_end(mut text: Vec<u8>, last: bool) -> Vec<u8>
     ensures { (bytes : List ℕ) → text.items ≡ chunked_text bytes → result.items ≡ pieces true bytes ++ ending true last }
 {

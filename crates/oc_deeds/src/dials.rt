@@ -41,7 +41,7 @@ impl Model for Dials {
 impl Dials {
     ghost use Rattle.oc_deeds.specs.Dials.{dialling, errand_of, without_dial};
 
-    /// No dial is under way.
+    /// An empty list of dials.
     pub fn new(alloc: Global) -> Dials
         ensures { result ≡ [] }
     {
@@ -50,7 +50,7 @@ impl Dials {
         }
     }
 
-    /// Another dial is under way. Where memory runs out, all is as before.
+    /// Adds a dial that began. Where memory runs out, all is as before.
     pub fn begin(&mut self, dial: DialId, errand: Errand) -> Result<(), Memory>
         ensures begun { OnOk result (self.new ≡ self.old ++ dialling dial errand ∷ []) }
         ensures fails { OnErr result (self.new ≡ self.old) }

@@ -49,7 +49,7 @@ pub trait Doer {
     /// A part of a turn was done.
     ghost does: { Part → Self → Self → Type 0 };
 
-    /// A front of a part was done, and then it ended so.
+    /// A front of a part was done, and then the part ended with this end.
     ghost stops: { TurnEnd → Part → Self → Self → Type 0 };
 
     // The state of the node
@@ -65,7 +65,7 @@ pub trait Doer {
     fn shelf(&self) -> &[Shelf]
         ensures { honest self.now → result.now ≡ shelf (running self.now).node.groups };
 
-    /// The messages that it has still to send.
+    /// The messages that the node has still to send.
     fn outbox(&self) -> &Outbox
         ensures { result.now ≡ (running self.now).outbox };
 

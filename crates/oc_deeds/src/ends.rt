@@ -8,7 +8,7 @@ use oc_base::Memory;
 pub enum TurnEnd {
     /// All turns were made.
     Served,
-    /// The link failed to say whether a connection waited.
+    /// The link could not listen, or could not be asked for its next event.
     Link,
     /// A disk failed. The files recover the node before the input that was under way or after it.
     Disk,

@@ -9,7 +9,7 @@ use std::alloc::Global;
 use std::collections::VecDeque;
 use std::marker::Model;
 
-/// The number of messages that are kept.
+/// The greatest number of messages that are kept.
 pub const MAX_OUTBOX: usize = 1_024;
 
 /// The messages that are to be sent, oldest first. Its room is taken once.
@@ -51,7 +51,7 @@ impl Outbox {
     }
 
     /// Keeps another message: one that asks a node for content in the place of an older one, which is lost, and any
-    /// other after all. The oldest is lost where there are more than `MAX_OUTBOX`. It takes no memory.
+    /// other after all. The oldest is lost where there are more than `MAX_OUTBOX`. Takes no memory.
     pub fn put(&mut self, message: Message)
         ensures { self.new ≡ with_message self.old message }
     {
@@ -121,11 +121,11 @@ pub fn is_fetch(body: &Body) -> bool
     matches!(body, Body::Fetch { .. })
 }
 
-/// Keeps further messages, in their order. It takes no memory.
+/// Keeps further messages, in their order. Takes no memory.
 pub fn put_all(outbox: &mut Outbox, mut messages: Vec<Message>)
     ensures { outbox.new ≡ with_messages outbox.old messages.items }
 {
-    // The first is taken off the end.
+    // `pop` takes from the end, and the first message is to be taken first.
     messages.reverse();
     while let Some(message) = messages.pop() {
         outbox.put(message);

@@ -6,7 +6,7 @@ use oc_base::NodeId;
 
 /// The least time between two ticks, in milliseconds.
 pub const LEAST_INTERVAL: u64 = 100;
-/// The greatest, where a node does not probe its peers.
+/// The greatest interval of a node that does not probe its peers, in milliseconds.
 pub const MOST_INTERVAL: u64 = 1_000;
 
 /// The times at which a tick is due: at first, and when the interval has passed since the last one. Each tick doubles
@@ -25,9 +25,8 @@ pub struct Pace {
     pub second: Option<u64>,
 }
 
-/// The greatest interval of a node, in milliseconds. That of a node that probes its peers is another one by
-/// its id, so that the probes of nodes that started together fall out of step: each would make the other's
-/// measure too low.
+/// The greatest interval of a node, in milliseconds. A node that probes its peers has another one by its id, so
+/// that the probes of nodes that started together fall out of step: each would make the other's measure too low.
 pub fn most_interval(probes: bool, me: NodeId) -> u64
     ensures { result ≡ most_interval probes me }
 {
@@ -41,7 +40,7 @@ pub fn most_interval(probes: bool, me: NodeId) -> u64
 impl Pace {
     ghost use Rattle.oc_deeds.specs.Pace.{first_pace, wait_until, tick_wait, has_passed, looked, hurried};
 
-    /// No tick yet. The greatest interval is in milliseconds.
+    /// A pace without a tick yet. The greatest interval is in milliseconds.
     pub fn new(whole: bool, most: u64) -> Pace
         ensures { result ≡ first_pace whole most }
     {
@@ -85,7 +84,7 @@ impl Pace {
         }
     }
 
-    /// The interval had passed at this time, and the clock told these seconds: a tick was taken, if they have passed.
+    /// Notes that the interval had passed at this time, and that a tick was taken, if the clock has passed its second.
     pub fn look(&mut self, now: u64, seconds: u64)
         ensures { self.new ≡ looked now seconds self.old }
     {
@@ -96,7 +95,7 @@ impl Pace {
         }
     }
 
-    /// The next tick is due as soon as it may be.
+    /// Makes the next tick due as soon as it may be.
     pub fn hurry(&mut self)
         ensures { self.new ≡ hurried self.old }
     {
@@ -104,7 +103,7 @@ impl Pace {
     }
 }
 
-/// The pace, with the next tick due as soon as it may be where that is so.
+/// The pace; where news `hurries` it, with the next tick due as soon as it may be.
 pub fn quickened(mut pace: Pace, hurries: bool) -> Pace
     ensures { result ≡ quickened hurries pace }
 {

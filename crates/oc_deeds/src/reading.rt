@@ -30,7 +30,7 @@ pub struct Hearer<'a> {
     pub keys: Option<&'a Keyring>,
 }
 
-/// The news of a dial that was made for this: these bytes, with this end. `Memory` where it runs out.
+/// The news of a dial with this errand: these bytes came, with this end. `Memory` where it runs out.
 pub fn comes_back(
     alloc: Global,
     heads: &mut HeadReader,
@@ -117,7 +117,7 @@ fn input_of_reply(
     Ok(Some(delivered_or(peer, message)))
 }
 
-/// A message that came, or else that the peer is not reached.
+/// A message that came, or else the input that the peer is not reached.
 fn delivered_or(peer: NodeId, message: Option<Message>) -> Input
     ensures { result ≡ delivered_or peer message }
 {

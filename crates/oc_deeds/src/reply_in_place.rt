@@ -17,7 +17,7 @@ pub struct ReplyInPlace<'a> {
     pub body: &'a [u8],
 }
 
-/// The response that these bytes are, which end so.
+/// The response in these bytes, which end in this way.
 pub fn read_in_place<'a>(
     heads: &mut HeadReader,
     bytes: &'a [u8],

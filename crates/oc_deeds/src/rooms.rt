@@ -31,8 +31,8 @@ fn work_on(works: &[Work], connection: ConnectionId) -> Option<&Work>
     }
 }
 
-/// Whether a line was written for the request of a connection that is over: also for one whose reply was given
-/// whole, since only such a connection is told of.
+/// Whether the request of a connection that is over had an input, so that a line says if its reply was not sent. Where no
+/// work is left on the connection it had one: only then the link was asked to watch such a connection.
 pub fn is_told(works: &[Work], connection: ConnectionId) -> bool
     ensures { result ≡ is_told (work_on connection works.now) }
 {
@@ -43,7 +43,7 @@ pub fn is_told(works: &[Work], connection: ConnectionId) -> bool
     }
 }
 
-/// Whether a line tells of this loss, where one was written for the request or not.
+/// Whether a line tells of this loss; `told` says that the request had an input.
 pub fn tells(loss: Loss, told: bool) -> bool
     ensures { result ≡ (is_failure loss && told) }
 {

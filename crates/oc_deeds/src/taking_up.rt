@@ -97,7 +97,7 @@ pub fn probes_it<W: Doer>(doer: &mut W, peer: NodeId) -> Result<(), TurnEnd>
     doer.probes(peer, dial, now)
 }
 
-/// Asks the clock, and takes a tick, if the clock has passed the second that it has to. It answers the clock's seconds.
+/// Asks the clock, and takes a tick, if the clock has passed the second that it has to. Gives the clock's seconds.
 pub fn ticked<W: Doer>(doer: &mut W, pace: &Pace) -> Result<u64, TurnEnd>
     requires { W.serving doer.old }
     ensures did { IfOk result (λ seconds. W.does (ticked pace.now.second seconds) doer.old doer.new) }

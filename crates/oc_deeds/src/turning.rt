@@ -1,4 +1,4 @@
-//! The deeds of a turn for news or due work, and then: a tick, and messages that are dialled.
+//! The deeds of a turn for news or due work, and after them a tick and messages that are dialled.
 
 ghost use Rattle.std.specs.Prelude.{◌≡◌, ℕ, IfErr, IfOk, IfSome, OnOk, option_map, slice_get};
 ghost use Rattle.oc_base.specs.Lawful.{IsNode};
@@ -20,7 +20,7 @@ use crate::taking_up::{notes_fault, probes_it, takes_brought, takes_measure, tak
 use oc_base::{MAX_RATE, NodeId};
 use oc_probe::{ProbeFault, Probing, rate_of};
 
-/// Takes up the work at an index, which is due by itself. Then it takes a tick, where one is due, and dials messages.
+/// Takes up the work at an index, which is due by itself; then takes a tick, where one is due, and dials messages.
 pub fn takes_due<W: Doer>(
     doer: &mut W,
     pace: &mut Pace,
@@ -38,7 +38,7 @@ pub fn takes_due<W: Doer>(
     ticks_and_sends(doer, pace, before)
 }
 
-/// Deals with news. Then it takes a tick, where one is due, and dials messages.
+/// Deals with news; then takes a tick, where one is due, and dials messages.
 pub fn deals<W: Doer>(
     doer: &mut W,
     pace: &mut Pace,

@@ -11,11 +11,11 @@ pub struct Transfer {
     pub connection: ConnectionId,
     /// The group and the place of the bytes that are still to be given.
     pub content: UnderWay,
-    /// Whether the connection's next request is awaited after it.
+    /// Whether the connection's next request is awaited after the content.
     pub keeps: bool,
-    /// Whether a line was written for its request, so that a line says where it can't be sent.
+    /// Whether the request had an input, so that a line says if the reply cannot be sent.
     pub told: bool,
-    /// The time when it began or was given its last piece, in milliseconds.
+    /// The time when the content began or was given its last piece, in milliseconds.
     pub since: u64,
 }
 
@@ -28,13 +28,14 @@ pub struct Pending {
     pub asked: Asked,
     /// Whether the request is the last of its connection whatever it asks.
     pub last: bool,
-    /// A line was written for it.
+    /// Whether the request has an input, so that a line says if the reply cannot be sent.
     pub told: bool,
     /// Whether the request has waited, and was taken before.
     pub waited: bool,
 }
 
-/// A request of a client that follows a group and has all of its bytes. Its input is not kept: it is made when it is taken.
+/// A request of a client that follows a group and has all of its bytes. The input of the request is not kept, but made when
+/// it is taken.
 #[derive(Debug, Drop)]
 pub struct Waiting {
     pub connection: ConnectionId,
@@ -43,8 +44,8 @@ pub struct Waiting {
     pub since: u64,
 }
 
-/// A request is to be answered on a connection. `told` says that a line is written for it, and `waited` that it was taken
-/// before.
+/// The request on a connection, as one that is to be answered. `told` says that a line tells if its reply cannot be sent,
+/// and `waited` that it was taken before.
 pub fn pending_of(connection: ConnectionId, request: &Request, told: bool, waited: bool) -> Pending
     ensures { result ≡ pending connection request.now told waited }
 {
@@ -96,7 +97,7 @@ pub enum Work {
 impl Work {
     ghost use Rattle.oc_deeds.specs.Works.{connection_of};
 
-    /// The connection on which it is under way.
+    /// The connection on which the work is under way.
     pub fn connection(&self) -> ConnectionId
         ensures { result ≡ connection_of self.now }
     {

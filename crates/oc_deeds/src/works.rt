@@ -25,7 +25,7 @@ impl Model for Works {
 impl Works {
     ghost use Rattle.oc_deeds.specs.Works.{work_on, without_work};
 
-    /// Nothing is under way.
+    /// An empty list of works.
     pub fn new(alloc: Global) -> Works
         ensures { result ≡ [] }
     {

@@ -110,7 +110,7 @@ with_one net old new h m index at is put =
           let apart : q ≢ h = eqb-false q h e in
           subst (IsFirstWith net (old.count + 1) q) (sym (put.others q apart)) (wider net old.count q h m (least_with old q) at is apart (each net old index q))
 
--- no message more leaves the index
+-- the index is one of the net if no message was added to it
 pub with_none : (net : List Message) (old new : NumbersView) → IsIndex net old → IsSame old new → IsIndex net new
 with_none net old new index same =
     index_of net new (omega (arith, index.few, same.count))

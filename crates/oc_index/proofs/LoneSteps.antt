@@ -33,7 +33,7 @@ header nodes chain chunk areas = record { nodes = nodes; chain = chain; chunk = 
 same_copied : (h : Header) (nodes chain chunk : ℕ) (areas given own : List ℕ) → record { nodes = nodes; chain = chain; chunk = chunk; areas = own } ≡ h → given ≡ own → areas ≡ given → header nodes chain chunk areas ≡ h
 same_copied h nodes chain chunk areas given own view from is = ap (λ (list : List ℕ). header nodes chain chunk list) (is ∙ from) ∙ view
 
--- a copy of the areas is of the same header
+-- the header with a copy of the areas is a header
 pub header_copied : (h : Header) (nodes chain chunk : ℕ) (areas given own : List ℕ) → record { nodes = nodes; chain = chain; chunk = chunk; areas = own } ≡ h → given ≡ own → areas ≡ given → IsHeader h
     → IsHeader (record { nodes = nodes; chain = chain; chunk = chunk; areas = areas })
 header_copied h nodes chain chunk areas given own view from is fair = subst IsHeader (sym (same_copied h nodes chain chunk areas given own view from is)) fair
@@ -114,7 +114,7 @@ me_again n nodes me a b reached = subst (λ (x : ℕ). IsNode x me) (sym a) (sub
 pub new_kept : (h : Header) (x : ℕ) (new : Control) → new ≡ new_control h x → new.kept ≡ new_durable new.nodes
 new_kept h x new is = subst (λ (c : Control). c.kept ≡ new_durable c.nodes) (sym is) refl
 
--- the records of a node are those of one among as many
+-- the records of a node are lawful for a node among as many
 pub records_again : (n : Control) (h : Header) (x : ℕ) (new : Control) (list : List Record) → new ≡ new_control h x → h.nodes ≡ n.nodes → n.kept.log.length ≤ MAX_BASE_ACKED → (IsCount 1 → n.kept.log.length ≤ MAX_BASE_ACKED → AreRecords n.nodes list)
     → AreRecords new.nodes list
 records_again n h x new list is same short lawful =

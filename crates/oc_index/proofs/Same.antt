@@ -30,7 +30,7 @@ same_message nodes found m few lawful this same =
     let spells : Spells nodes (spelling found) m = subst (λ (bytes : List ℕ). Spells nodes bytes m) (sym same) (is_its_spelling nodes m few this) in
     one_spelling nodes (spelling found) found m (omega (arith, few)) (is_its_spelling nodes found few lawful) spells
 
--- the message of a number is another where the two have one spelling
+-- the message of a number is this one exactly if the two have one spelling
 pub same_spelled : (w : World) (n k : ℕ) (found m : Message) (other spelled : List ℕ) → ids w ≡ range_with_len 1 n → n ≤ MAX_NODES → IsMessage (length (ids w)) found → IsMessage (length (ids w)) m
     → Some found ≡ message_at w.net k → other ≡ spelling found → spelled ≡ spelling m → IsTrue (bytes_eq other spelled) ↔ (message_at w.net k ≡ Some m)
 same_spelled w n k found m other spelled is few lawful this at shows spells = (
@@ -42,7 +42,7 @@ same_spelled w n k found m other spelled is few lawful this at shows spells = (
 
 -- The search for a number
 
--- none before a number and not this one
+-- no message before the next number is equal, if none before this number is and this one is not
 pub none_before_next : (net : List Message) (m : Message) (k : ℕ) (same : Bool) → IsNoneBefore net m k → IsTrue same ↔ (message_at net k ≡ Some m) → same ≡ false → IsNoneBefore net m (k + 1)
 none_before_next net m k same before decides other = λ j within here. by_place j here within (nat_lt j k) refl where
   by_place : (j : ℕ) → message_at net j ≡ Some m → j < k + 1 → (b : Bool) → nat_lt j k ≡ b → ⊥
@@ -63,6 +63,6 @@ found_first net m k same before decides found =
 pub found_none : (net : List Message) (m : Message) (k : ℕ) → IsNoneBefore net m k → length net + 1 ≤ k → IsNumberOf net m None
 found_none net m k before all = λ j here. let within = number_within net j m here in before j (omega (arith, all, within.1)) here
 
--- no message of one hash is none of the message that has it
+-- no message before a number is equal to this one, if none there has its hash
 pub none_of_hash : (net : List Message) (m : Message) (h from : ℕ) (spelled : List ℕ) → IsFirstFrom net h from → h ≡ hash spelled → spelled ≡ spelling m → IsNoneBefore net m from
 none_of_hash net m h from spelled first is spells = λ k within here. first k m within here (sym (is ∙ ap hash spells))

@@ -6,7 +6,7 @@ use Rattle.oc_model.specs.World.{message_at}
 use Rattle.oc_wire.specs.Spelling.{spelling}
 use Rattle.oc_index.specs.declared.hash.TheConstants.{FACTOR}
 
--- a hash and one byte more
+-- the hash with one byte more
 abbrev pub with_byte : ℕ → ℕ → ℕ
 with_byte h b = ((h * FACTOR) % 2 ^ 64 + b) % 2 ^ 64
 
@@ -18,7 +18,7 @@ hash bytes = fold with_byte 0 bytes
 abbrev pub hash_of : Message → ℕ
 hash_of m = hash (spelling m)
 
--- hashes and the least number of a message with each, and how many messages were indexed
+-- hashes and the least number of a message with each, and the number of messages indexed
 pub record NumbersView : Type 0 where
   pub entries : List (ℕ × ℕ)
   pub count : ℕ

@@ -17,8 +17,8 @@ use oc_replay::put_digest;
 use std::alloc::Global;
 use std::marker::Model;
 
-/// One node alone, with its groups in memory instead of files: a start keeps the durable part of
-/// it, as its files would. Contracts see a node of the model.
+/// One node alone, with its groups in memory instead of files: a start keeps the node's durable
+/// part, as its files would. Contracts see a node of the model.
 #[derive(Drop)]
 pub struct LoneNode {
     alloc: Global,

@@ -24,11 +24,11 @@ IsTorn-crashed at n byte (Synced ∷ past) d e torn = torn
 IsTorn-crashed at n byte (Wrote p over k ∷ past) d e torn =
     IsTorn-crashed at n byte past (blotted p k byte d) (blotted p k byte e) (IsTorn-blotted at n p k byte d e torn)
 
--- past the end of both there is nothing
+-- nothing is past the end of both
 past_the_end : (n : ℕ) (a b : List ℕ) → length a ≤ n → length b ≤ n → drop n a ≡ drop n b
 past_the_end n a b short_a short_b = drop_all n a short_a ∙ sym (drop_all n b short_b)
 
--- the write in the record, and its range blotted
+-- the bytes with a blot over the range of a write are the bytes before that write, torn
 IsTorn-undone : (at n byte : ℕ) (over bytes : List ℕ) → IsWritten at over n bytes → IsTorn at n (undone (Wrote at over n) bytes) (blotted at n byte bytes)
 IsTorn-undone at n byte over bytes w =
     let within : at ≤ length bytes = omega (arith, w.within) in
@@ -55,7 +55,7 @@ crashed-image byte (Wrote at over n ∷ past) bytes fits =
     let before = undone (Wrote at over n) bytes in
     inr (crashed byte past before, crashed-image byte past before fits.1, IsTorn-crashed at n byte past before (blotted at n byte bytes) (IsTorn-undone at n byte over bytes fits.0))
 
--- with a stop or none
+-- the bytes after a crash, with a stop or none, are one of the images
 pub crash_by-image : (stop : Option Stop) (past : List Call) (bytes : List ℕ) → Fits bytes past → MayLeave bytes past (crash_by stop past bytes)
 crash_by-image None past bytes fits = may_leave_seen bytes past
 crash_by-image (Some stop) past bytes fits = crashed-image stop.image past bytes fits

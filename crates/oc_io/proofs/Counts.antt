@@ -1,4 +1,4 @@
--- How counts of faults go over several calls.
+-- Counts of faults over several calls.
 use Rattle.std.proofs.Common.{ℕ, inl, inr, arith}
 use Rattle.oc_io.specs.Faults.{NoFall, Rose}
 

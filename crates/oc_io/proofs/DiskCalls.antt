@@ -17,7 +17,7 @@ elapses-more d e call more back = record {
   keeps = λ t c earlier left. subst (λ past. HadLeft e.bytes past t c) (sym more) (inr (earlier, subst (λ bytes. HadLeft bytes d.past t c) (sym back) left));
 }
 
--- undoing a write
+-- a write that is undone gives the bytes before it
 pub undone-overwritten : (bytes : List ℕ) (at : ℕ) (new : List ℕ) → at ≤ length bytes → undone (Wrote at (take (length new) (drop at bytes)) (length new)) (overwritten bytes at new) ≡ bytes
 undone-overwritten bytes at new within =
     let front = take at bytes in
@@ -34,7 +34,7 @@ undone-overwritten bytes at new within =
     ∙ ap (λ (l : List ℕ). front ++ l) rest
     ∙ take-append-drop at bytes
 
--- how long the bytes are after a write
+-- the length of the bytes after a write
 pub length-overwritten : (bytes : List ℕ) (at : ℕ) (new : List ℕ) → at ≤ length bytes → length (overwritten bytes at new) ≡ max (length bytes) (at + length new)
 length-overwritten bytes at new within =
     omega (arith, length-append (take at bytes ++ new) (drop (at + length new) bytes), length-append (take at bytes) new, length-take-le at bytes within, length-drop (at + length new) bytes)
@@ -66,7 +66,7 @@ Fits-overwritten bytes past at new within fits =
     ends : (n size at over long : ℕ) → at ≤ size → long ≡ max size (at + n) → over ≡ min n (size - at) → (over ≡ n) ⊎ (at + n ≡ long)
     ends n size at over long within is_long is_over = grind arith
 
--- the moment after a write, of which the disk after is known
+-- time passes by a write, given the disk after it
 pub wrote-time : (d e : MemDiskView) (at : ℕ) (new : List ℕ) → at ≤ length d.bytes → e ≡ wrote d at new → Elapses (view_of d) (view_of e)
 wrote-time d e at new within is =
     let call = Wrote at (take (length new) (drop at d.bytes)) (length new) in

@@ -1,9 +1,9 @@
--- How runs of calls of a disk go on.
+-- Runs of calls of a disk, one call after another.
 use Rattle.std.proofs.Common.{inl, inr, ⊎_elim, ℕ, ◌+◌, ◌≤◌, IsTrue, Bool, List, refl, sym, ◌∙◌, subst, arith}
 use Rattle.oc_io.specs.DiskView.{DiskView, Elapses, GoesOn, StaysAsItWas, Takes, CannotFail, Fails, LeavesOnly, IsConsistent}
 use Rattle.oc_io.proofs.Counts.{Rose-after}
 
--- before the first call
+-- a run before its first call
 pub LeavesOnly-start : (v : DiskView) (P : List ℕ → Type 0) → IsConsistent v → ((c : List ℕ) → v.may_leave c → P c) → LeavesOnly v v P
 LeavesOnly-start v P law here = record {
   later = omega arith;

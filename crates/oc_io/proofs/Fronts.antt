@@ -9,7 +9,7 @@ rest-is done bytes =
     let rest = drop done bytes in
     subst (λ k. take k rest ≡ rest) (length-drop done bytes) (take-length rest)
 
--- how long that is
+-- the length of those bytes
 pub length-rest : (done : ℕ) (bytes : List ℕ) → length (take (length bytes - done) (drop done bytes)) ≡ length bytes - done
 length-rest done bytes = ap length (rest-is done bytes) ∙ length-drop done bytes
 

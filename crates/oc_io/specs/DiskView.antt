@@ -38,7 +38,7 @@ Only bytes images = (c : List ℕ) → images c → c ≡ bytes
 abbrev pub IsSafe : DiskView → Type 0
 IsSafe v = Only v.seen v.may_leave
 
--- new is old with these bytes at this offset
+-- the new bytes are the old ones with these bytes at this offset
 abbrev pub Holds : List ℕ → ℕ → List ℕ → List ℕ → Type 0
 Holds old at bytes new = new ≡ take at old ++ bytes ++ drop (at + length bytes) old
 

@@ -1,4 +1,4 @@
--- A disk in memory: its bytes, the record of its calls, the spare room, and which calls fail.
+-- A disk in memory: its bytes, the record of its calls, the spare room, and the calls that fail.
 use Rattle.std.specs.Prelude.{◌≡◌, ℕ, ◌+◌, ◌-◌, ◌<◌, true, List, [], ◌∷◌, ◌++◌, length, take, drop, max, min, Option, None, Some, refl}
 use Rattle.std.proofs.Common.{inl, inr, arith}
 use Rattle.oc_io.specs.declared.disk.TheConstants.{MAX_RELIABLE_BYTES}

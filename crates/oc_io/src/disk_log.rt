@@ -18,7 +18,7 @@ pub enum LoggedCall {
 }
 
 /// The successful calls on a disk in memory, with the bytes that each replaced. One pool keeps these bytes,
-/// so that a call takes no memory beyond what `reserve` has taken.
+/// so that a call takes no memory besides that of `reserve`.
 ///
 /// A contract sees the calls, newest first, and the numbers of further bytes and calls for which there is room.
 #[derive(Debug, Drop)]

@@ -1,3 +1,4 @@
-/// The failure of a call on an outside object, as a file. The object's count of faults rose, or is the greatest `u64`.
+/// The failure of a call on an outside object, such as a file. The object's count of faults rose,
+/// or is the greatest `u64`.
 #[derive(Clone, Copy, Debug, PartialEq, Eq)]
 pub struct Failed;

@@ -8,7 +8,7 @@ use std::alloc::{AllocError, Global};
 /// The greatest number of bytes that one call of `read` asks for.
 const PIECE: usize = 65_536;
 
-/// Reads a source up to its end. It stops with `TooMany` as soon as more than `most` bytes have
+/// Reads a source up to its end, and stops with `TooMany` as soon as more than `most` bytes have
 /// come.
 pub fn read_all<S: Source>(alloc: Global, source: &mut S, most: usize) -> Result<Vec<u8>, ReadFault>
     // All bytes up to the end.

@@ -4,7 +4,7 @@ ghost use Rattle.oc_io.specs.declared.read_fault.ReadFault.TheVariants.{Failed a
 use crate::fault::Failed;
 use std::alloc::{AllocError, AllocFailed};
 
-/// Why a source could not be read to its end.
+/// The reason why a source could not be read to its end.
 #[derive(Clone, Copy, Debug, PartialEq, Eq)]
 pub enum ReadFault {
     /// A call on the source failed.

@@ -85,7 +85,7 @@ bytes_clear (b ∷ bs) h = digits_clear (b ∷ bs) h
 name_byte_clear : (b : ℕ) → is_name_byte b ≡ true → (b == 35) ≡ false
 name_byte_clear b h = grind (arith, nat_tests)
 
--- all pass, where the first that fails is past the end
+-- all elements pass, where the first that fails is past the end
 all_pass : (p : ℕ → Bool) (xs : List ℕ) → length xs ≤ position_or_len (λ x. not (p x)) xs → list_all p xs ≡ true
 all_pass p [] h = refl
 all_pass p (x ∷ xs) h = elim (cases_Bool (p x)) [
@@ -95,7 +95,7 @@ all_pass p (x ∷ xs) h = elim (cases_Bool (p x)) [
   | inr is ↦ let short : position_or_len (λ x. not (p x)) (x ∷ xs) ≡ 0 = rw is refl in absurd (omega (arith, h, short))
 ]
 
--- each place is before the first, where there is none
+-- the place of the first that passes is past the end, where none passes
 none_first : (p : ℕ → Bool) (xs : List ℕ) → position p xs ≡ None → length xs ≤ position_or_len p xs
 none_first p xs none = elim (cases_lt (position_or_len p xs) (length xs)) [
   | inl less ↦ let e = rw (lt-ltb _ _ less) at none in cc e
@@ -122,7 +122,7 @@ name_passes bytes name = all_pass is_name_byte bytes (none_first (λ b. not (is_
 pub name_clear : (bytes : List ℕ) → IsGroupName bytes → IsClear bytes
 name_clear bytes name = clear_from is_name_byte name_byte_clear bytes (name_passes bytes name)
 
--- a name is short, and each of its bytes is one
+-- a name is short, and each of its bytes is a byte
 pub name_short : (bytes : List ℕ) → IsGroupName bytes → length bytes ≤ MAX_NAME_BYTES
 name_short bytes name = elim (cases_Bool (nat_lt (length bytes) MIN_NAME_BYTES || nat_lt MAX_NAME_BYTES (length bytes))) [
   | inl bad ↦ let e = rw bad at name in absurd (cc e)

@@ -55,7 +55,7 @@ module _ {x k : ℕ} where
   looser : (m : ℕ) (o : Plan) → k ≤ m → Few x k o → Few x m o
   looser m o within f = record { sent = omega (arith, f.sent, within); me = f.me }
 
-  -- the one that a test chooses
+  -- the plan that a test chooses
   either : (b : Bool) (o p : Plan) → Few x k o → Few x k p → Few x k (if b then o else p)
   either true o p f g = f
   either false o p f g = g
@@ -456,7 +456,7 @@ filled_length : (w : Option Want) (ks : List Group) (ms : List Message) → leng
 filled_length None ks ms = refl
 filled_length (Some w) ks ms = map_length _ ms
 
--- no more than its own number and three
+-- a step sends no more messages than the node's number and three
 pub sends_few : (n : Node) (i : Input) → length (step n i).sends ≤ n.control.me + 3
 sends_few n i =
     let o : Plan = plan n.control (shelf n.groups) i in

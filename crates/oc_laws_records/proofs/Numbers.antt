@@ -47,7 +47,7 @@ number_back least most field n small h =
 pub decimal_some : (n : ℕ) → n < 2 ^ 64 → 0 < length (decimal n)
 decimal_some = decimal_nonempty
 
--- an id of a node has four digits
+-- an id of a node has at most four digits
 pub node_short : (n : ℕ) → n ≤ 1024 → length (decimal n) ≤ 4
 node_short n few = length-decimal-le 4 n (omega arith) (omega (arith, few)) (omega (arith, few))
 

@@ -114,7 +114,7 @@ run_parts run rest =
     regrouped (35 ∷ 10 ∷ line_text (header_words h.nodes h.chain h.chunk)) (areas_text 1 h.areas) (up_line (number_of run))
     (has_line (number_of run) run.node.control.kept (shelf run.node.groups)) (record_text (number_of run) run.lines) run.cut rest
 
--- The end of all
+-- The end of the whole text
 
 abbrev is_empty : List ℕ → Bool
 is_empty [] = true
@@ -243,7 +243,7 @@ module _ (ended : Bool) (h : Header) (is : IsHeader h) where
   behind_head i b areas place told cut run rest j front got =
       record { at = got.at; more = got.more; leads = leads_then ended i j got.at _ _ _ _ _ _ front got.leads; own = got.own; published = got.published }
 
-  -- the same from the mark on with which it begins
+  -- the reading of a run from the mark on with which it begins
   run_read : (i : ℕ) (b : Bool) (areas : List ℕ) (place : Place) (told : List ToldLine) (cut : List ℕ) (run : Run) (rest : List ℕ) → IsBetween place → IsCut cut → IsRun h run → Fits i (cut ++ 35 ∷ behind_mark h run rest) → Follows ended rest
       → published_in told + sum_by published_by (told_by_run run) ≤ MAX_RECORD_PUBLISHED → BodyRead run i (reading (header_before b h) b areas place told) told (cut ++ 35 ∷ behind_mark h run rest) rest
   run_read i b areas place told cut run rest between cut_is of_run fits follows limit =
@@ -304,7 +304,7 @@ module _ (ended : Bool) (h : Header) (is : IsHeader h) where
 
 -- The reading of all runs
 
--- no byte at all is no mark
+-- an empty text does not begin with the mark
 no_mark : slice_index [] 0 ≢ 35
 no_mark e = let z : 0 ≡ 35 = e in absurd (omega (arith, z))
 

@@ -42,8 +42,8 @@ abbrev pub IsOwnLine : ℕ → Line → Type 0
 IsOwnLine nodes l = IsNode nodes l.node × IsOwn nodes l.node l.entry
 
 module _ (price : ℕ → ℕ) where
-  -- the greatest cost of an entry of x: a start and a crash before it, a message by its number; one
-  -- to another node is never taken
+  -- the greatest cost of an entry of x: of a start with a crash before it, or of a message by its number; a message to
+  -- another node is never taken
   abbrev pub entry_cost : ℕ → Entry → ℕ
   entry_cost x Starts = words_cost price (event_words (Up x)) + price crash_bytes
   entry_cost x (Takes (Delivered m)) = if m.to == x then price deliver_bytes else 0

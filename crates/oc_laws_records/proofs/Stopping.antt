@@ -25,7 +25,7 @@ use Rattle.oc_laws_records.specs.Lawful.{IsCut, IsLine, IsOneLine, IsRun, IsTake
 use Rattle.oc_laws_records.specs.Runs.{Run, number_of, run_text}
 use Rattle.oc_laws_records.specs.Written.{IsStopped, head_of}
 
--- a number is none by a test
+-- a number that a test tells from 10 is not 10
 other_10 : (n : ℕ) → (n == 10) ≡ false → n ≢ 10
 other_10 n apart e = let same : true ≡ false = sym (eq-eqb n 10 e) ∙ apart in absurd (cc same)
 

@@ -39,7 +39,7 @@ use Rattle.oc_laws_records.proofs.Written.{inputs_append, next_inputs}
 module _ (nodes me : ℕ) where
   -- Inputs
 
-  -- one within its ranges, of a kind that records have
+  -- an input within its ranges, of a kind that records have, can be told by a line of a run
   taken_within : (i : Input) → IsWithin nodes me i → IsOfRecord i → IsTaken nodes me i
   taken_within (inputs.Tick t) within kind = (refl, kind, tt)
   taken_within inputs.CheckNow within kind = absurd kind

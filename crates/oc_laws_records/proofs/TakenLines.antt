@@ -35,7 +35,7 @@ without_here l ls x same = ap (λ b. if b then ls else l ∷ without x ls) same
 without_later : (l : Line) (ls : List Line) (x : ℕ) → (l.node == x) ≡ false → without x (l ∷ ls) ≡ l ∷ without x ls
 without_later l ls x other = ap (λ b. if b then ls else l ∷ without x ls) other
 
--- an entry that is first of x, and the rest
+-- an entry that is the first of x, and the rest
 record Left (f : Line → ℕ) (x : ℕ) (e : Entry) (rest : List Entry) (ls : List Line) : Type 0 where
   sum : sum_by f ls ≡ f (line x e) + sum_by f (without x ls)
   own : entries_of x (without x ls) ≡ rest

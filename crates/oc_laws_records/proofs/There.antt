@@ -133,7 +133,7 @@ picked_map f (false ∷ bs) [] = refl
 picked_map f (true ∷ bs) (x ∷ xs) = ap (λ ys. f x ∷ ys) (picked_map f bs xs)
 picked_map f (false ∷ bs) (x ∷ xs) = picked_map f bs xs
 
--- the spelling of each message is read as it
+-- the spelling of each message is read as this message
 abbrev pub AreReadBack : ℕ → Type 0
 AreReadBack nodes = (m : Message) → IsMessage nodes m → decoded nodes (spelling m) ≡ Ok m
 

@@ -33,7 +33,7 @@ filter_total p (w ∷ ws) = by_test (p w) (filter_total p ws) where
   by_test true h = omega (arith, h)
   by_test false h = omega (arith, h)
 
--- the words of a line are no longer than it
+-- the words of a line are no longer than the line with its end
 pub words_total : (line : List ℕ) → total (words line) ≤ suc (length line)
 words_total line =
     omega (arith, filter_total (λ word. not (length word == 0)) (slice_split (λ b. b == 32) line), parts_total (λ b. b == 32) line)
@@ -47,7 +47,7 @@ deliver_bytes = 21
 
 -- Lines
 
--- whether more lines come
+-- whether no more lines come
 abbrev pub is_last : List (List ℕ) → Bool
 is_last [] = true
 is_last (line ∷ rest) = false

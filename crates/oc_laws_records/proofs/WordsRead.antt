@@ -1,4 +1,4 @@
--- The meaning of words, printed, is as long as they are.
+-- The meaning of words, printed, is no longer than the words.
 use Rattle.std.proofs.Common.{◌≡◌, ℕ, ◌+◌, ◌*◌, ◌<◌, ◌≤◌, ◌^◌, Bool, true, false, cond, ◌==◌, nat_lt, min, Option, Some, None, Result, Ok, Err, List, [], ◌∷◌, length, take, drop, inl, inr, refl, ap, sym, subst, ◌∙◌, arith, codes, decimal}
 use Rattle.std.specs.Int.{from_be_bytes, w32}
 use Rattle.std.specs.Str.{bytes_eq}
@@ -112,7 +112,7 @@ bytes_length field bytes h = elim (cases_Bool (bytes_eq field (codes "-"))) [
 
 -- Acts
 
--- the words of the act are this long, and its content is bytes; the act is no message
+-- the words of the act have this many bytes, and its content is bytes; the act is no message
 abbrev pub IsPrintedIn : ℕ → Act → Type 0
 IsPrintedIn n (At x (Delivered m)) = ⊥
 IsPrintedIn n act = (total (act_words act) ≡ n) × PublishesBytes act
@@ -267,7 +267,7 @@ named_total name (word ∷ field ∷ rest) r h =
     let long = same_length word name is.0 in
     subst (λ (s : List ℕ × List (List ℕ)). total (word ∷ field ∷ rest) ≡ 2 + length name + length s.0 + total s.1) same (omega (arith, long))
 
--- the number of a chunk is left out where it is the usual one
+-- the number of bytes of a chunk is left out where it is the usual one
 chunk_total : (words : List (List ℕ)) (b : ℕ) → chunk_in words ≡ Ok b → total (chunk_words b) ≤ total words
 chunk_total [] b h =
     let usual : USUAL_CHUNK_BYTES ≡ b = cc h in
@@ -280,7 +280,7 @@ chunk_total (name ∷ fields) b h =
       by_test field true long alone same = omega arith
       by_test field false long alone same = omega (arith, long, alone, same)
 
--- the words of a header that is read are as long as it, and those of each header are longer than a crash
+-- a header that is read is printed in no more bytes than its words have, and these are at least as many as those of a crash
 pub header_total : (words : List (List ℕ)) (h : Header) → header_in words ≡ Ok h → (total (header_words h.nodes h.chain h.chunk) ≤ total words) × (crash_bytes ≤ total words)
 header_total words h is =
     steps (with_fault causes.Header (opening_in words)) _ _ is λ sizes is_sizes end.

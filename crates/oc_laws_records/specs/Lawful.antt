@@ -19,7 +19,7 @@ use Rattle.oc_deeds.specs.Recorded.{RecordLine, Taken, Noted}
 use Rattle.oc_wire.specs.Spelling.{spelling}
 use Rattle.oc_laws_records.specs.Runs.{Run, network_of, number_of, runs_text, told_by_run}
 
--- a text that no byte within ends as a line
+-- a text without a line's end
 abbrev pub IsOneLine : List ℕ → Type 0
 IsOneLine text = AllByRecursion (λ b. b ≢ byte "\n") text
 
@@ -28,7 +28,7 @@ abbrev pub IsTaken : ℕ → ℕ → Input → Type 0
 IsTaken nodes me (Delivered message) = IsInput nodes me (Delivered message) × IsBytes (spelling message)
 IsTaken nodes me i = (is_recorded (input_word i) ≡ true) × IsGiven nodes me i × PublishesBytes (At me i)
 
--- a note, as text
+-- the text of a note: `! WHY`, in one line
 abbrev pub IsNote : List ℕ → Type 0
 IsNote text = (why : List ℕ) × (text ≡ note_line why) × IsOneLine why
 

@@ -29,8 +29,8 @@ pub record IsLawfulRunOf (h : Header) (s : Setting) (n : Node) (deeds : List Dee
 abbrev pub with_next : Run → Option Input → Run
 with_next run next = record run { lines = run.lines ++ line_of_next next }
 
--- The same of deeds that were cut: of a lawful run, which tells the inputs that they took, and perhaps of the line of one more input, which the
--- first deed after takes. With that line too it is lawful where that input is.
+-- A lawful run whose text was written by deeds that were cut; it tells the inputs that they took. The line of one more input may have been written
+-- after the run, of the input that the next deed takes; the run with this line is lawful where that input is.
 pub record IsCutRunOf (h : Header) (s : Setting) (n : Node) (deeds behind : List Deed) : Type 0 where
   pub run : Run
   pub next : Option Input

@@ -26,7 +26,7 @@ use oc_laws_world::{merging_takes_the_most, missed_inputs_are_found, records_are
 use oc_wire::spellings_are_read;
 
 /// The record of a node, once the node has done a deed, is the text of a run of the node: the inputs of
-/// the run are those that the node took, and perhaps the next one.
+/// the run are those that the node took, and perhaps the input that it takes next.
 pub fn records_are_runs()
     ensures { (s : Setting) (n : Node) (d : Deed) (ds behind : List Deed) → s.me ≡ n.control.me → s.log ≡ RecordLog
         → IsRecordOf s n (d ∷ ds) behind → IsRunOf s n (d ∷ ds) behind }

@@ -101,7 +101,7 @@ written_view given past (Some progress) strings room more old full there same =
     rw (connections_of-grown past given strings more (omega (arith, full)), at-grown strings (length past) more full) refl in
     now ∙ ap (λ (v : ConnectionsView). record v { current = option_map (wrote more) v.current; room = v.room - length more }) same
 
--- the last string grows, and there are as many
+-- the number of strings is the same after the last one grew
 pub length-grown : (strings : List (List ℕ)) (more : List ℕ) → length (grown strings more) ≡ length strings
 length-grown [] more = refl
 length-grown (w ∷ []) more = refl

@@ -93,7 +93,7 @@ pub record Keeps (connections : ConnectionsView) (strings : List (List ℕ)) (st
   pub fewer : string_room - 1 ≡ length (drop 1 connections.waiting)
   pub none : 0 < refused → length (drop 1 connections.waiting) + 1 ≡ 0
 
--- after another dial there are as many addresses as connections
+-- the numbers of addresses and of connections are equal after another dial, too
 pub begin_keeps : (connections : ConnectionsView) (strings : List (List ℕ)) (string_room refused : ℕ) (address bytes : List ℕ) → length strings ≡ length connections.past + length (option_to_list connections.current) → string_room ≡ length connections.waiting → 0 < length connections.waiting → (0 < refused → length connections.waiting + length (option_to_list connections.current) ≡ 0) → Keeps connections strings string_room refused address bytes
 begin_keeps connections strings string_room refused address bytes full as_many some none = record {
   full = length-grown (strings ++ [] ∷ []) address ∙ omega (arith, length-append strings ([] ∷ []), length-append connections.past (option_to_list connections.current), full);
@@ -130,7 +130,7 @@ get-front [] ys k within = absurd (omega (arith, within))
 get-front (x ∷ xs) ys zero within = refl
 get-front (x ∷ xs) ys (suc k) within = get-front xs ys k (omega (arith, within))
 
--- an element of the second
+-- an element of the second list
 get-behind : (xs ys : List Dial) (k j : ℕ) → k ≡ length xs + j → slice_get (xs ++ ys) k ≡ slice_get ys j
 get-behind [] ys k j is = ap (slice_get ys) (omega (arith, is))
 get-behind (x ∷ xs) ys zero j is = absurd (omega (arith, is))
@@ -149,7 +149,7 @@ written-at (c ∷ cs) [] k full = absurd (omega (arith, full))
 written-at (c ∷ cs) (a ∷ strings) zero full = refl
 written-at (c ∷ cs) (a ∷ strings) (suc k) full = written-at cs strings k (omega (arith, full))
 
--- there are as many dials as connections
+-- the numbers of dials and of connections are equal
 length-dials_of : (cs : List Connection) (strings : List (List ℕ)) → length strings ≡ length cs → length (dials_of cs strings) ≡ length strings
 length-dials_of [] [] full = refl
 length-dials_of [] (a ∷ strings) full = absurd (omega (arith, full))
@@ -177,7 +177,7 @@ pub written-first : (old : DialsView) (cs : List Connection) (strings : List (Li
 written-first old cs strings refused k p within =
     rw (p.all, get-front (dials_of cs strings) (replicate refused nowhere) k (omega (arith, p.many, within))) (written-at cs strings k p.full)
 
--- on one that was refused
+-- the bytes written on a dial that was refused
 pub written-refused : (old : DialsView) (cs : List Connection) (strings : List (List ℕ)) (refused k : ℕ) → Placed old cs strings refused → length strings ≤ k → k - length strings < refused → Some [] ≡ option_map (λ (d : Dial). d.connection.written) (slice_get (all_dials old) k)
 written-refused old cs strings refused k p past within =
     rw (p.all, get-behind (dials_of cs strings) (replicate refused nowhere) k (k - length strings) (omega (arith, p.many, past)), get-nowhere refused (k - length strings) within) refl

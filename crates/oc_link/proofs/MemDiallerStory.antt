@@ -9,7 +9,7 @@ use Rattle.oc_link.specs.MemDiallerView.{MemDiallerView, CountsFaults, told, aft
 use Rattle.oc_link.specs.Story.{Connection, Dial, Story, broken, through}
 use Rattle.oc_link.specs.ConnectionsView.{at}
 
--- from a story that is told to one that is told
+-- a change of a story that is told only if it was told before
 told_if : (R : Story → Story → Type 0) (b c : Bool) (s t : Story) → (c ≡ true → b ≡ true) → (c ≡ true → R s t) → Told R (if b then Some s else None) (if c then Some t else None)
 told_if R b false s t before step = tt
 told_if R true true s t before step = step refl
@@ -27,7 +27,7 @@ tells_same : (R : Story → Story → Type 0) (v w x : MemDiallerView) → w ≡
 tells_same R v w x is same step =
     rw is (tells R v x (omega (arith, same)) (λ _. step))
 
--- the connection of a dial, and its address
+-- the connection of a dial after a change of the connection
 through-connection : (f : Connection → Connection) (o : Option Dial) → connection_of (option_map (through f) o) ≡ option_map f (connection_of o)
 through-connection f None = refl
 through-connection f (Some d) = refl

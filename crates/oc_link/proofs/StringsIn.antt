@@ -5,31 +5,31 @@ use Rattle.std.specs.List.{slice_get}
 use Rattle.std.proofs.lemmas.List.{drop-append-le, drop-take, take_all, take-append-le, take_rest}
 use Rattle.oc_link.specs.ByteStrings.{ByteStringsView, strings_in, grown, AreStarts}
 
--- a further place, at the end
+-- a further offset, at the end
 pub AreStarts-push : (n : ℕ) (starts : List ℕ) → AreStarts n starts → AreStarts n (starts ++ n ∷ [])
 AreStarts-push n [] h = omega arith
 AreStarts-push n (a ∷ []) h = (h, omega arith)
 AreStarts-push n (a ∷ b ∷ starts) h = (h.0, AreStarts-push n (b ∷ starts) h.1)
 
--- in a longer buffer
+-- the same offsets in a longer buffer
 pub AreStarts-more : (n m : ℕ) (starts : List ℕ) → n ≤ m → AreStarts n starts → AreStarts m starts
 AreStarts-more n m [] more h = tt
 AreStarts-more n m (a ∷ []) more h = omega (arith, more, h)
 AreStarts-more n m (a ∷ b ∷ starts) more h = (h.0, AreStarts-more n m (b ∷ starts) more h.1)
 
--- the first place is within the buffer
+-- the first offset is within the buffer
 first_within : (n b : ℕ) (starts : List ℕ) → AreStarts n (b ∷ starts) → b ≤ n
 first_within n b [] h = h
 first_within n b (c ∷ starts) h = omega (arith, h.0, first_within n c starts h.1)
 
--- the later starts
+-- the offsets of the later strings
 pub AreStarts-drop : (n k : ℕ) (starts : List ℕ) → AreStarts n starts → AreStarts n (drop k starts)
 AreStarts-drop n zero starts h = h
 AreStarts-drop n (suc k) [] h = tt
 AreStarts-drop n (suc k) (a ∷ []) h = AreStarts-drop n k [] tt
 AreStarts-drop n (suc k) (a ∷ b ∷ starts) h = AreStarts-drop n k (b ∷ starts) h.1
 
--- nothing is after all
+-- nothing is left after all bytes
 drop_all : (xs : List ℕ) → drop (length xs) xs ≡ []
 drop_all [] = refl
 drop_all (x ∷ xs) = drop_all xs
@@ -40,12 +40,12 @@ strings_in-push bytes [] h = ap (λ (x : List ℕ). x ∷ []) (drop_all bytes)
 strings_in-push bytes (a ∷ []) h = rw (take_all (length bytes) bytes (omega arith), drop_all bytes) refl
 strings_in-push bytes (a ∷ b ∷ starts) h = ap (λ (strings : List (List ℕ)). drop a (take b bytes) ∷ strings) (strings_in-push bytes (b ∷ starts) h.1)
 
--- growing leaves a first string of several
+-- the growth of the last of several strings leaves the first one
 grown-cons : (string : List ℕ) (strings : List (List ℕ)) (more : List ℕ) → 0 < length strings → grown (string ∷ strings) more ≡ string ∷ grown strings more
 grown-cons string [] more some = absurd (omega (arith, some))
 grown-cons string (next ∷ strings) more some = refl
 
--- there are as many strings as starts
+-- the numbers of strings and of offsets are equal
 pub length-strings_in : (bytes starts : List ℕ) → length (strings_in bytes starts) ≡ length starts
 length-strings_in bytes [] = refl
 length-strings_in bytes (a ∷ []) = refl
@@ -62,7 +62,7 @@ strings_in-append bytes more (a ∷ b ∷ starts) h =
     ∙ ap (λ (strings : List (List ℕ)). drop a (take b bytes) ∷ strings) (strings_in-append bytes more (b ∷ starts) h.1)
     ∙ sym (grown-cons (drop a (take b bytes)) (strings_in bytes (b ∷ starts)) more some)
 
--- without starts there is no string
+-- a buffer without offsets has no string
 nothing_at : (bytes : List ℕ) (k : ℕ) → slice_get (strings_in bytes (drop k [])) 0 ≡ None
 nothing_at bytes zero = refl
 nothing_at bytes (suc k) = refl
@@ -101,7 +101,7 @@ part a b xs h = ap (λ (n : ℕ). drop a (take n xs)) (sum a b h) ∙ drop-take 
 abbrev view_at : List ℕ → List ℕ → ℕ → ℕ → ByteStringsView
 view_at bytes starts room string_room = record { strings = strings_in bytes starts; room = room; string_room = string_room }
 
--- the view after a string more begins
+-- the view after another string begins
 pub begun : (bytes starts next : List ℕ) (room string_room : ℕ) (old : ByteStringsView) → AreStarts (length bytes) starts → next ≡ starts ++ length bytes ∷ [] → view_at bytes starts room string_room ≡ old → view_at bytes next room (string_room - 1) ≡ record old { strings = old.strings ++ [] ∷ []; string_room = old.string_room - 1 }
 begun bytes starts next room string_room old h is view =
     let same : strings_in bytes next ≡ strings_in bytes starts ++ [] ∷ [] = ap (strings_in bytes) is ∙ strings_in-push bytes starts h in
@@ -115,7 +115,7 @@ extended bytes next more starts room string_room old h is view =
     ap (λ (strings : List (List ℕ)). record { strings = strings; room = room - length more; string_room = string_room }) same
     ∙ ap (λ (v : ByteStringsView). record v { strings = grown v.strings more; room = v.room - length more }) view
 
--- the places from one on
+-- the offsets from one on
 pub starts_at : (b bytes s starts : List ℕ) (k : ℕ) → b ≡ bytes → s ≡ starts → AreStarts (length bytes) starts → AreStarts (length b) (take (length s - k) (drop k s))
 starts_at b bytes s starts k b_is s_is h =
     rw (b_is, s_is, take_rest starts k) (AreStarts-drop (length bytes) k starts h)

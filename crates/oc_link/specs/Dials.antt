@@ -6,7 +6,7 @@ use Rattle.oc_link.specs.declared.call.Call.TheVariants as acts
 use Rattle.oc_link.specs.declared.event.Coming.{Coming}
 use Rattle.oc_link.specs.declared.event.LinkEvent.TheVariants as events
 
--- the reply on a dial, and how the bytes ended
+-- the reply on a dial, and the end of its bytes
 pub record Reply : Type 0 where
   pub bytes : List ℕ
   pub coming : Coming

@@ -19,7 +19,7 @@ untouched = record { phase = phases.Awaiting; number = 1; fed = false; watched =
 abbrev pub after_request : Standing → Standing
 after_request s = record s { watched = false }
 
--- the state after an event that there is room: no bytes were given since
+-- the state after an event that tells of room: no bytes were given since
 abbrev pub after_room : Standing → Standing
 after_room s = record s { fed = false }
 

@@ -14,8 +14,8 @@ pub(crate) struct ConnectionProgress {
     pub(crate) failed: bool,
 }
 
-/// Connections in memory, in order: those that wait, those that ended, and at most one current one. It
-/// keeps the bytes that are written on each.
+/// Connections in memory, in order: those that wait, those that ended, and at most one current one.
+/// The bytes that are written on each are kept.
 #[derive(Debug, Drop)]
 pub(crate) struct Connections {
     /// The bytes that each connection gives, oldest first.

@@ -54,7 +54,7 @@ impl Coming {
     }
 }
 
-/// Why a connection ended before its reply was sent in full.
+/// The reason why a connection ended before its reply was sent in full.
 #[derive(Clone, Copy, Debug)]
 pub enum Loss {
     /// A call failed, or the connection made no progress for its time.

@@ -276,7 +276,7 @@ impl Link for MemLink {
         ensures story { NextGives result self.new.lends self.old.story self.new.story }
         ensures counts { Counted result wait self.old.counts self.new.counts }
 
-        // It plays the next step of the script, if there is one.
+        // The next step of the script is played, if there is one.
         ensures plays { PlaysAs result (slice_get self.old.script 0) self.old.story self.new.story }
         ensures rest { self.new.script ≡ drop 1 self.old.script }
         ensures time { self.new.time ≡ time_after result (slice_get self.old.script 0) wait self.old.time }

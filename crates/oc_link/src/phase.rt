@@ -7,15 +7,15 @@ use crate::ids::ConnectionId;
 /// The phase of a connection: waiting for a request, answering one, or over.
 #[derive(Clone, Copy, Debug)]
 pub enum Phase {
-    /// Its next request is awaited.
+    /// The next request is awaited.
     Awaiting,
-    /// Its request was taken, and the reply is not whole.
+    /// The request was taken, and the reply is not whole.
     Answering,
-    /// Its last reply is given in full, and it ends once all bytes are sent.
+    /// The last reply is given in full, and the connection ends once all bytes are sent.
     Whole,
-    /// It ended before its reply was sent in full.
+    /// The connection ended before its reply was sent in full.
     Gone,
-    /// It was closed at once.
+    /// The connection was closed at once.
     Broken,
 }
 
@@ -25,9 +25,10 @@ pub struct Standing {
     pub phase: Phase,
     /// The number of the request that is awaited or answered, counted from 1.
     pub number: u64,
-    /// Whether it was given bytes since its request was awaited or taken, or since it had room.
+    /// Whether the connection was given bytes since its request was awaited or taken, or since
+    /// there was room.
     pub fed: bool,
-    /// Whether an event tells if its bytes can't be sent.
+    /// Whether an event tells if the connection's bytes can't be sent.
     pub watched: bool,
 }
 

@@ -5,7 +5,7 @@ use oc_base::Bytes;
 /// The part of a script that one `next` of a link in memory plays.
 #[derive(Debug, Drop)]
 pub struct Step {
-    /// The milliseconds that pass before it.
+    /// The milliseconds that pass before the event.
     pub after: u64,
     pub happening: Happening,
 }

@@ -25,14 +25,14 @@ not_reached_is modes.Acting o p = refl
 pub unreachable_is : (o : Plan) (p : ℕ) → unreachable o p ≡ (if is_joined_to o.node.kept.mode p then round (lost o) (Some p) else if is_asking o.node.kept.mode p then next_try (lost o) else not_seen o.node.soft.search o p)
 unreachable_is o p = not_reached_is o.node.kept.mode o p
 
--- the parent that a moved node left: its parent, if it has one and a wish
+-- the parent that a moved node with a wish left: its present parent, or else the one noted before
 pub left_with_wish : (m : Mode) (g : ℕ) (left : Option ℕ) → left_in_move m (Some g) left ≡ option_or (parent_of m) left
 left_with_wish modes.Idle g left = refl
 left_with_wish (modes.Asking q) g left = refl
 left_with_wish (modes.Joined q) g left = refl
 left_with_wish modes.Acting g left = refl
 
--- without a wish nothing is noted
+-- nothing is noted at a node without a wish
 pub left_without : (m : Mode) (left : Option ℕ) → left_in_move m None left ≡ left
 left_without modes.Idle left = refl
 left_without (modes.Asking q) left = refl

@@ -13,7 +13,7 @@ candidates_cons n c cs = by_test (not (c.id == n.me)) refl where
   by_test true e = rw e
   by_test false e = rw e
 
--- after the candidate of a child was added, the rest still completes the whole
+-- the rest still completes the whole after the candidate of a child was added
 pub candidates_go_on : (n : Control) (cs : List Child) (i : ℕ) (c : Child) (before after whole : List Candidate) → i < length cs → c ≡ get_or cs i c → after ≡ before ++ candidates n (c ∷ []) → before ++ candidates n (drop i cs) ≡ whole → after ++ candidates n (drop (i + 1) cs) ≡ whole
 candidates_go_on n cs i c before after whole within e put so =
     let here : candidates n (drop i cs) ≡ candidates n (c ∷ []) ++ candidates n (drop (i + 1) cs) = ap (candidates n) (drop_at cs i c within e) ∙ candidates_cons n c (drop (i + 1) cs) in

@@ -149,14 +149,14 @@ ended_past n now x = filter (λ z. nat_lt x z) (ended_at n now)
 ended_nodes : (n : Control) (now : ℕ) → IsReached n → AreNodes n.nodes (ended_at n now)
 ended_nodes n now reached = all_filter (IsNode n.nodes) (λ x. is_over (at n.leases x None) now) (leased_children n.kept.table n.me) (children_nodes n.nodes n.kept.table n.me reached.lawful.kept.table)
 
--- at the beginning all are left
+-- all ended children are left at the beginning
 pub ends_begin : (n : Control) (o : Plan) (now : ℕ) → IsReached n → o.node.kept.table ≡ n.kept.table → o.node.me ≡ n.me → o.node.soft.clock ≡ now → o.node.leases ≡ start_all n.kept.table n.me n.leases now → ends_each (ended_past n now 0) o ≡ ends_leases o
 ends_begin n o now reached table me clock leases =
     let all : ended_past n now 0 ≡ ended_at n now = filter_zero n.nodes (ended_at n now) (ended_nodes n now reached) in
     let same : ended_at n now ≡ ended o.node.kept.table o.node.me o.node.leases o.node.soft.clock = rw (table, me, clock, leases) (sym (ended_started n.kept.table n.me n.leases now)) in
     ap (λ (xs : List ℕ). ends_each xs o) (all ∙ same)
 
--- past the next one the rest is left
+-- the children past the next one are left after it
 pub ends_go_on : (n : Control) (now after child : ℕ) (o q whole : Plan) → IsReached n → next_ended n.kept.table n.me n.leases after now ≡ Some child → q ≡ dies (newest o.node.kept.table child) o → ends_each (ended_past n now after) o ≡ whole → ends_each (ended_past n now child) q ≡ whole
 ends_go_on n now after child o q whole reached next made so =
     let first : ended_past n now after ≡ child ∷ ended_past n now child = next_first (ended_at n now) after child (up_ended n.kept.table n.me n.leases now reached.sound.kept.table) next in
@@ -167,7 +167,7 @@ ends_fewer n now after child reached next =
     let first : ended_past n now after ≡ child ∷ ended_past n now child = next_first (ended_at n now) after child (up_ended n.kept.table n.me n.leases now reached.sound.kept.table) next in
     rw first (omega arith)
 
--- with none left it is done
+-- the loop is done where none is left
 pub ends_over : (n : Control) (now after : ℕ) (o whole : Plan) → next_ended n.kept.table n.me n.leases after now ≡ None → ends_each (ended_past n now after) o ≡ whole → o ≡ whole
 ends_over n now after o whole none so =
     let over : ended_past n now after ≡ [] = next_none (ended_at n now) after none in

@@ -27,7 +27,7 @@ looks_go_on other (suc (suc k)) o q whole past e so =
     ∙ sym (looks_cons (λ x. nat_lt other x) (suc k) (below (suc k)) o)
     ∙ so
 
--- none is left
+-- no earlier member is left
 pub looks_end : (other n : ℕ) (o whole : Plan) → n ≤ 1 → looks_at_each (filter (λ x. nat_lt other x) (below n)) o ≡ whole → o ≡ whole
 looks_end other zero o whole over so = so
 looks_end other (suc zero) o whole over so = so

@@ -40,11 +40,11 @@ reached_made me nodes chain chunk areas kept v tries leases rates counts header 
     let made : IsReached (control_of me nodes chain chunk areas (new_durable nodes) (soft_of new_volatile []) (replicate nodes None) (replicate nodes 0) (replicate nodes 0)) = reached_new (record { nodes = nodes; chain = chain; chunk = chunk; areas = areas }) me header here in
     rw (k, s, t, l, r, c) made
 
--- the durable state of such a node is within its ranges
+-- the durable state of a reached node is within its ranges
 pub reached_kept : (n : Control) → IsReached n → IsKept n.nodes n.kept
 reached_kept n reached = record { few = reached.header.few; sound = reached.sound.kept; lawful = reached.lawful.kept }
 
--- with something else durable that may be
+-- a reached node with another durable state within its ranges
 pub reached_with : (n : Control) (d : Durable) → IsReached n → IsKept n.nodes d → IsReached (record n { kept = d })
 reached_with n d reached kept = record {
   header = reached.header;
@@ -53,7 +53,7 @@ reached_with n d reached kept = record {
   lawful = record { few = reached.lawful.few; among = reached.lawful.among; me = reached.lawful.me; chain = reached.lawful.chain; chunk = reached.lawful.chunk; kept = kept.lawful; soft = reached.lawful.soft; rates = reached.lawful.rates };
 }
 
--- after a step
+-- the node after a step
 pub reached_step : (n : Control) (lines : List Shelf) (i : Input) (p : PlanView) → IsReached n → IsShelf lines → IsInput n.nodes n.me i → n.kept.log.length ≤ MAX_LOG_LENGTH → planned n p ≡ plan n lines i → IsReached (control_after n p)
 reached_step n lines i p reached shelf fair short made =
     let same : control_after n p ≡ (plan n lines i).node = ap (λ (o : Plan). o.node) made in
@@ -94,11 +94,11 @@ frame_fits n lines i p reached fair input made =
     let same : p.records ≡ (plan n lines i).records = ap (λ (o : Plan). o.records) made in
     subst (λ (rs : List Record). FitsFrame rs) (ap (λ (ls : List Shelf). (plan n ls i).records) (shelf_again lines) ∙ sym same) fits
 
--- the plan writes records or keeps content, never both, as the step
+-- the plan writes records or keeps content, never both, as the step does
 pub one_file : (n : Control) (lines : List Shelf) (i : Input) (p : PlanView) → planned n p ≡ plan n lines i → (p.keeps ≡ None) ⊎ (p.records ≡ [])
 one_file n lines i p made = subst (λ (o : Plan). (o.keeps ≡ None) ⊎ (o.records ≡ [])) (sym made) (writes n lines i).one
 
--- the durable parts after it are those that its records give
+-- the durable parts after the plan are those that its records give
 pub plan_folds : (n : Control) (lines : List Shelf) (i : Input) (p : PlanView) → planned n p ≡ plan n lines i → (plan n lines i).node.kept ≡ folded n.kept p.records
 plan_folds n lines i p made = sym (ap (λ (o : Plan). o.node.kept) made)
 

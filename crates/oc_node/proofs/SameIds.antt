@@ -1,4 +1,4 @@
--- Lists of ids that are one.
+-- Lists of ids that are equal.
 use Rattle.std.proofs.Common.{◌≡◌, ℕ, Bool, ◌&&◌, ◌==◌, List, [], ◌∷◌, refl, ap}
 use Rattle.std.specs.Cmp.Lexicographic.{pointwise}
 use Rattle.oc_model.specs.Checking.{same_ids}

@@ -12,13 +12,13 @@ use Rattle.oc_step.specs.Since.{AreTold}
 abbrev mk : Control → Plan → StepView
 mk n o = record { base = n; plan = o }
 
--- a step with this base and this step
+-- a step with this base and this plan
 pub both : (d e : StepView) (o : Plan) → d.base ≡ e.base → d.plan ≡ o → d ≡ goes e o
 both d e o base step =
     let one : mk d.base d.plan ≡ mk e.base d.plan = ap (λ (n : Control). mk n d.plan) base in
     one ∙ ap (λ (p : Plan). mk e.base p) step
 
--- At the beginning
+-- The beginning of a step
 
 pub begun_told : (n : Control) (o : Plan) → o ≡ begun n → AreTold o.records
 begun_told n o e = rw e tt
@@ -29,7 +29,7 @@ begun_table n o e = rw e
 pub begun_log : (n : Control) (o : Plan) → o ≡ begun n → o.node.kept.log ≡ n.kept.log
 begun_log n o e = rw e
 
--- In the end
+-- The end of a step
 
 -- a step that went on is of the same node
 pub base_after : (n : Control) (d e : StepView) (o : Plan) → d.base ≡ n → e ≡ goes d o → e.base ≡ n

@@ -14,7 +14,7 @@ use oc_state::modes::is_peer;
 use oc_state::ranks::{ancestors_by, better_rank, rank_or_last};
 use oc_step::Step;
 
-// Rule 13, check-ins: how a parent acknowledges a check-in, and how a child takes the acknowledgement.
+// Rule 13, check-ins: the acknowledgement of a check-in at the parent, and its effect at the child.
 
 fn merge_all(step: &mut Step, certs: &[Cert]) -> Result<(), Memory>
     ensures { OnOk result (step.new ≡ goes step.old (merges_all certs.now step.old.plan)) }

@@ -9,8 +9,8 @@ use oc_state::modes::{is_asking, is_descending, parent_of};
 use oc_state::ranks::{ancestors_by, next_epoch, precedes_any, rank_or_last};
 use oc_step::Step;
 
-// How a node gets a parent or becomes a root: rules 1 to 4 (ask, next try, round, become acting), 8 (take a
-// yes), 9 (take a no), 10 (unreachable) and 11 (relocate).
+// The ways in which a node gets a parent or becomes a root: rules 1 to 4 (ask, next try, round,
+// become acting), 8 (take a yes), 9 (take a no), 10 (unreachable) and 11 (relocate).
 
 /// The time in seconds after which a node that nobody accepts asks all again.
 const WAITING_TIME: u64 = 4;

@@ -19,7 +19,7 @@ use oc_state::ranks::rank_or_last;
 use oc_state::{ListUpdate, Volatile};
 use oc_step::Step;
 
-// How leases are kept up and changes are told: rules 5 (check now) and 6 (tick).
+// The upkeep of leases and the reports of changes: rules 5 (check now) and 6 (tick).
 
 /// The greatest time from one check to the next, in seconds: well before a lease of 30 seconds ends.
 const CHECK_TIME: u64 = 20;

@@ -11,7 +11,7 @@ use oc_model::{Answer, Body, Mode, Want};
 use oc_state::shelves::{limit, line_at, line_of, next_behind, with_line};
 use oc_step::Step;
 
-// Rule 14, content: how a node gets bytes, and how they spread.
+// Rule 14, content: the ways in which a node gets bytes and passes them on.
 
 // Publish and seal
 

@@ -17,7 +17,7 @@ use oc_state::Volatile;
 use oc_state::modes::{in_tree, is_descending, is_idle, is_reviewing, parent_of, prefers};
 use oc_step::Step;
 
-// Rule 12, look: how a node finds a good place.
+// Rule 12, look: the search for a good place.
 
 /// The rate to a node, in bytes per second; 0 for no node, and for one that was not measured.
 fn rate_to_some(step: &Step, peer: Option<NodeId>) -> u64
@@ -50,7 +50,7 @@ pub fn looked(step: &mut Step, from: NodeId) -> Result<(), Memory>
     )
 }
 
-/// The candidate for a told child, with this node's own reading of it.
+/// The candidate for a told child, with this node's own reading of that child.
 fn candidate(step: &Step, child: &Child) -> Candidate
     requires { AreTold step.now.plan.records }
     ensures { result ≡ candidate step.now.plan.node child.now }

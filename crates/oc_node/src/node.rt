@@ -303,7 +303,7 @@ impl Node {
         self.position().number
     }
 
-    /// The clients in the node's own count.
+    /// The number of clients in the node's own count.
     pub fn clients(&self) -> u64
         ensures { result ≡ self.now.control.kept.clients }
     {

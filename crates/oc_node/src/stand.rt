@@ -6,9 +6,9 @@ use std::marker::Model;
 pub struct Stand<'a> {
     pub in_tree: bool,
     pub parent: Option<NodeId>,
-    /// Its rate to its parent, in bytes per second.
+    /// The node's rate to its parent, in bytes per second.
     pub rate: u64,
-    /// Its leased children, ascending.
+    /// The node's leased children, ascending.
     pub children: &'a [Child],
 }
 

@@ -8,7 +8,7 @@ use Rattle.oc_place.proofs.Causes.{at_or_behind}
 use Rattle.oc_place.proofs.Once.{is_past}
 use Rattle.oc_place.specs.Asked.{IsOnce, MayBeAsked, IsNotLeftOut}
 
--- a test of two that fails, fails for both
+-- a disjunction that is false has two false parts
 neither : (a b : Bool) → (a || b) ≡ false → (a ≡ false) × (b ≡ false)
 neither true b h = absurd cc
 neither false b h = (refl, h)
@@ -93,12 +93,12 @@ append_among (y ∷ xs) ys x (inl (inl same)) = inl same
 append_among (y ∷ xs) ys x (inl (inr h)) = inr (append_among xs ys x (inl h))
 append_among (y ∷ xs) ys x (inr h) = inr (append_among xs ys x (inr h))
 
--- the test finds who is not left out
+-- a node that passes the test is not left out
 pub free_out : (me x : ℕ) (without : Option ℕ) → has (me ∷ option_to_list without) x ≡ false → IsNotLeftOut me without x
 free_out me x None h = (λ e. grind (arith, nat_tests), λ e. absurd cc)
 free_out me x (Some q) h = (λ e. grind (arith, nat_tests), λ e. (let same : q ≡ x = cc in grind (arith, nat_tests)))
 
--- a node that is not left out passes the test
+-- the test passes for each node that is not left out
 pub out_free : (me x : ℕ) (without : Option ℕ) → IsNotLeftOut me without x → has (me ∷ option_to_list without) x ≡ false
 out_free me x None h = let other = h.0 in grind (arith, nat_tests)
 out_free me x (Some q) h = let other = h.0 in let not_q : q ≢ x = λ e. h.1 (ap (λ (n : ℕ). Some n) e) in grind (arith, nat_tests)

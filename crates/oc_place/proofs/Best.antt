@@ -43,13 +43,13 @@ one_more None c rest = refl
 one_more (Some b) c None = refl
 one_more (Some b) c (Some d) = ap (λ (x : Candidate). Some x) (nearest_of_three b c d)
 
--- a suitable one is taken
+-- a suitable candidate is taken
 pub taken : (direct : ℕ) (best : Option Candidate) (x : Candidate) (xs : List Candidate) → is_suitable direct x ≡ true → with_rest (Some (nearer_yet best x)) (nearest (filter (is_suitable direct) xs)) ≡ with_rest best (nearest (filter (is_suitable direct) (x ∷ xs)))
 taken direct best x xs h =
     one_more best x (nearest (filter (is_suitable direct) xs))
     ∙ ap (λ (cs : List Candidate). with_rest best (nearest cs)) (sym (filter_taken (is_suitable direct) x xs h))
 
--- any other is left
+-- any other candidate is left
 pub left : (direct : ℕ) (best : Option Candidate) (x : Candidate) (xs : List Candidate) → is_suitable direct x ≡ false → with_rest best (nearest (filter (is_suitable direct) xs)) ≡ with_rest best (nearest (filter (is_suitable direct) (x ∷ xs)))
 left direct best x xs h = ap (λ (cs : List Candidate). with_rest best (nearest cs)) (sym (filter_left (is_suitable direct) x xs h))
 

@@ -32,32 +32,32 @@ place_before h x r n false why rest at met unmet behind = record {
   none = λ e other le cause. elim (at_or_behind n (place_of other) le) [ inl same ↦ unmet refl other same cause | inr past ↦ behind.none e other past cause ];
 }
 
--- at the first place comes that the asker is the host
+-- the cause at the first place: the asker is the host
 at_own : (h : Host) (x : ℕ) (r : Option Rank) (why : Refusal) → place_of why ≡ 0 → HasCause h x r why → x ≡ h.me
 at_own h x r Own at cause = cause
 at_own h x r _ at cause = absurd (omega arith)
 
--- at the second, that the host is not in the tree
+-- the cause at the second place: the host is not in the tree
 at_not_joined : (h : Host) (x : ℕ) (r : Option Rank) (why : Refusal) → place_of why ≡ 1 → HasCause h x r why → h.in_tree ≡ false
 at_not_joined h x r NotJoined at cause = cause
 at_not_joined h x r _ at cause = absurd (omega arith)
 
--- at the third, that the asker is an ancestor
+-- the cause at the third place: the asker is an ancestor
 at_ancestor : (h : Host) (x : ℕ) (r : Option Rank) (why : Refusal) → place_of why ≡ 2 → HasCause h x r why → IsAmong x h.ancestors
 at_ancestor h x r Ancestor at cause = cause
 at_ancestor h x r _ at cause = absurd (omega arith)
 
--- at the fourth, that the host is too deep
+-- the cause at the fourth place: the host is too deep
 at_depth : (h : Host) (x : ℕ) (r : Option Rank) (why : Refusal) → place_of why ≡ 3 → HasCause h x r why → MAX_DEPTH ≤ h.rank.depth
 at_depth h x r Depth at cause = cause
 at_depth h x r _ at cause = absurd (omega arith)
 
--- at the fifth, that a member of the chain is beneath the host
+-- the cause at the fifth place: a member of the chain is beneath the host
 at_chain : (h : Host) (x : ℕ) (r : Option Rank) (why : Refusal) → place_of why ≡ 4 → HasCause h x r why → (k : ℕ) × BelongsBeneath h x k
 at_chain h x r (Chain k) at cause = (k, cause)
 at_chain h x r _ at cause = absurd (omega arith)
 
--- after the other refusals: the host's rank does not precede the asker's
+-- the cause at the last place: the host's rank does not precede the asker's
 at_rank : (h : Host) (x : ℕ) (r : Option Rank) (why : Refusal) → 5 ≤ place_of why → HasCause h x r why → (why ≡ TooLow) × IsNotBefore h.rank r
 at_rank h x r TooLow at cause = (refl, cause)
 at_rank h x r _ at cause = absurd (omega arith)

@@ -39,7 +39,7 @@ pub filtered_among : (p : Candidate → Bool) (cs : List Candidate) (d : Candida
 filtered_among p [] d t h = h
 filtered_among p (c ∷ cs) d t h = filtered_step p c cs d t (p c) refl (filtered_among p cs d t) h
 
--- where there is no nearest there is none
+-- a list without a nearest candidate has no candidates
 pub nearest_none : (cs : List Candidate) (d : Candidate) → nearest cs ≡ None → ¬ IsAmong d cs
 nearest_none [] d e = λ h. h
 nearest_none (c ∷ cs) d e = absurd cc
@@ -105,6 +105,6 @@ none_of : (o : Option Candidate) → option_map (λ c. c.id) o ≡ None → o �
 none_of None h = refl
 none_of (Some c) h = absurd cc
 
--- where none is chosen none is suitable
+-- no candidate is suitable if none is chosen
 pub none_is_suitable : (direct : ℕ) (cs : List Candidate) → chosen direct cs ≡ None → (c : Candidate) → IsAmong c cs → ¬ IsSuitable direct c
 none_is_suitable direct cs h c among s = nearest_none (filter (is_suitable direct) cs) c (none_of (nearest (filter (is_suitable direct) cs)) h) (filtered_among (is_suitable direct) cs c (suitable_test direct c s) among)

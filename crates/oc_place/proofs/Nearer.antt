@@ -17,7 +17,7 @@ no_nearer_passes d c b x y = grind (arith, nat_tests)
 pub not_nearer_itself : (c : Candidate) → is_nearer c c ≡ false
 not_nearer_itself c = grind (arith, nat_tests)
 
--- of two candidates at most one is nearer
+-- at most one of two candidates is nearer
 pub nearer_one_way : (c d : Candidate) → is_nearer c d ≡ true → is_nearer d c ≡ false
 nearer_one_way c d h = grind (arith, nat_tests)
 

@@ -1,4 +1,4 @@
--- A list in which each occurs once, as it grows.
+-- A list in which each id occurs once, as it grows.
 use Rattle.std.proofs.Common.{◌≡◌, ℕ, zero, suc, ◌+◌, ◌-◌, ◌<◌, ◌≤◌, Bool, true, false, ◌==◌, ◌||◌, nat_le, if◌then◌else◌, List, [], ◌∷◌, ◌++◌, reverse, length, get_or, drop, refl, ap, sym, ◌∙◌, append_assoc, append-nil, arith, add-one}
 use Rattle.std.proofs.Math.Seq.{drop-cons}
 use Rattle.std.proofs.lemmas.List.{reverse-append}
@@ -8,14 +8,14 @@ use Rattle.oc_model.specs.Choice.{each_once, below}
 use Rattle.oc_model.specs.Numbers.{has}
 use Rattle.oc_place.specs.Once.{put_new, with_once}
 
--- one of two in either order
+-- a disjunction in either order
 or_either : (a b : Bool) → (a || b) ≡ (b || a)
 or_either true true = refl
 or_either true false = refl
 or_either false true = refl
 or_either false false = refl
 
--- one of three, however they are grouped
+-- a disjunction of three parts, however they are grouped
 or_group : (a b c : Bool) → ((a || b) || c) ≡ (a || (b || c))
 or_group true b c = refl
 or_group false b c = refl
@@ -25,7 +25,7 @@ pub has_append : (xs ys : List ℕ) (x : ℕ) → has (xs ++ ys) x ≡ (has xs x
 has_append [] ys x = refl
 has_append (y ∷ xs) ys x = ap (λ (b : Bool). y == x || b) (has_append xs ys x) ∙ sym (or_group (y == x) (has xs x) (has ys x))
 
--- a list turned round has the same
+-- a reversed list has the same ids
 pub has_reverse : (xs : List ℕ) (x : ℕ) → has (reverse xs) x ≡ has xs x
 has_reverse [] x = refl
 has_reverse (y ∷ xs) x =
@@ -39,7 +39,7 @@ has_reverse (y ∷ xs) x =
 pub has_seen : (out list : List ℕ) (x : ℕ) → has (reverse list ++ out) x ≡ (has out x || has list x)
 has_seen out list x = has_append (reverse list) out x ∙ ap (λ (b : Bool). b || has out x) (has_reverse list x) ∙ or_either (has list x) (has out x)
 
--- after one that was put it counts as seen
+-- an id that was put counts as seen
 seen_more : (out list : List ℕ) (x : ℕ) → reverse (list ++ x ∷ []) ++ out ≡ x ∷ (reverse list ++ out)
 seen_more out list x = ap (λ (ys : List ℕ). ys ++ out) (reverse-append list (x ∷ []))
 
@@ -48,13 +48,13 @@ once_by : (out list xs : List ℕ) (x : ℕ) (b : Bool) → (has out x || has li
 once_by out list xs x true e = refl
 once_by out list xs x false e = append_assoc list (x ∷ []) (each_once (reverse (list ++ x ∷ []) ++ out) xs) ∙ ap (λ (seen : List ℕ). list ++ x ∷ each_once seen xs) (seen_more out list x)
 
--- after one id was put, the rest completes the whole list
+-- the rest completes the whole list after one id was put
 pub once_more : (out list xs : List ℕ) (x : ℕ) → with_once out (put_new out list x) xs ≡ with_once out list (x ∷ xs)
 once_more out list xs x =
     once_by out list xs x (has out x || has list x) refl
     ∙ ap (λ (b : Bool). list ++ (if b then each_once (reverse list ++ out) xs else x ∷ each_once (x ∷ (reverse list ++ out)) xs)) (sym (has_seen out list x))
 
--- with nothing after it the list stays
+-- a list to which nothing is added stays
 pub once_none : (out list : List ℕ) → with_once out list [] ≡ list
 once_none out list = append-nil list
 
@@ -100,7 +100,7 @@ step_earlier out list new (suc (suc k)) whole past e so_far =
     ∙ once_more out list (below (suc k)) (suc k)
     ∙ so_far
 
--- below the first none is left
+-- no id is below the first
 pub below_first : (n : ℕ) → n ≤ 1 → below n ≡ []
 below_first zero h = refl
 below_first (suc zero) h = refl

@@ -27,7 +27,7 @@ HasCause h x r refusals.Depth = MAX_DEPTH ≤ h.rank.depth
 HasCause h x r (refusals.Chain k) = BelongsBeneath h x k
 HasCause h x r refusals.Rank = IsNotBefore h.rank r
 
--- the position of a refusal in the order in which they are tested
+-- the position of a refusal in the order of the tests
 abbrev pub place_of : Refusal → ℕ
 place_of refusals.Own = 0
 place_of refusals.NotJoined = 1

@@ -7,7 +7,7 @@ use oc_base::{MAX_DEPTH, NodeId, Rank, Refusal};
 
 /// Whether the host may become the parent of the asker, which has this rank or none: Ok, or the first
 /// refusal with a cause, in the order of [`Refusal`] (rule 7, answer an ask). The rank prevents cycles even
-/// if the list of ancestors is out of date. It takes no memory.
+/// if the list of ancestors is out of date. Takes no memory.
 pub fn may_adopt(host: &Host, asker: NodeId, rank: Option<Rank>) -> Result<(), Refusal>
     ensures adopted { OnOk result (adoption_refusal host.now asker rank ≡ None) }
     ensures refused { IfErr result (λ why. adoption_refusal host.now asker rank ≡ Some why) }

@@ -1,8 +1,8 @@
 use oc_base::{NodeId, Rank};
 use std::marker::Model;
 
-/// The facts about a node that is asked to be the parent on which its answer depends. Contracts see the model's
-/// record of the same name.
+/// The facts about a node that is asked to be the parent, as far as its answer depends on them.
+/// Contracts see the model's record of the same name.
 #[derive(Debug, Drop)]
 pub struct Host<'a> {
     pub id: NodeId,
@@ -13,7 +13,7 @@ pub struct Host<'a> {
     pub ancestors: &'a [NodeId],
     /// The length of the chain: its members are the nodes from 1 to this one.
     pub chain: u32,
-    /// The least of its leased children that is a chain member and not the asker.
+    /// The least of the node's leased children that is a chain member and not the asker.
     pub chain_child: Option<NodeId>,
 }
 

@@ -5,7 +5,7 @@
 //! its grandparent and its siblings, as in Overcast (Jannotti et al., OSDI 2000, section 4.2). The exact margin of
 //! ten per cent and the choice by hops and then by id are our own. Rates are in bytes per second, 0 for one not
 //! measured. [`choose`] is `chosen` and [`review`] is `reviewed` of the model, for all rates.
-//! [`the_nearest_suitable_is_chosen`] says what a chosen candidate is: suitable, and no suitable one has fewer hops,
+//! [`the_nearest_suitable_is_chosen`] says that a chosen candidate is suitable, and that no suitable one has fewer hops,
 //! or as many and a smaller id.
 //!
 //! Parent links make no cycle, since a parent's rank precedes its child's and a rank never gets worse. [`may_adopt`]

@@ -43,7 +43,7 @@ counted_on : (a n b : ℕ) → Rises a n b → min b (2 ^ 64 - 1) ≡ min (min a
 counted_on a n b (inl e) = omega (arith, e)
 counted_on a n b (inr h) = omega (arith, h.0, h.1)
 
--- one more is more than none
+-- a count that was raised by one is above 0
 one_counted : (a b : ℕ) → b ≡ min (a + 1) (2 ^ 64 - 1) → 0 < b
 one_counted a b is = omega (arith, is)
 
@@ -51,7 +51,7 @@ count_begins : (a n b : ℕ) → a ≡ 0 → Rises a n b → min b (2 ^ 64 - 1) 
 count_begins a n b began (inl e) = omega (arith, began, e)
 count_begins a n b began (inr h) = omega (arith, began, h.0, h.1)
 
--- a count that rose means that a call failed
+-- a count that rose is above 0
 failed_since : (a b : ℕ) → Rose a b → 0 < b
 failed_since a b (inl more) = omega (arith, more)
 failed_since a b (inr last) = omega (arith, last)

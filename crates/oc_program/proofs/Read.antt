@@ -1,4 +1,4 @@
--- The places that the words name are those that the request which was read from them names.
+-- The places that the words name are those of the request that was read from them.
 use Rattle.std.proofs.Common.{◌≡◌, Option, Some, None, Result, Ok, Err, inl, inr, subst}
 use Rattle.std.specs.Prelude.{ok_or}
 use Rattle.oc_words.specs.Paths.{file_of, folder_of, node_of, token_file_of}

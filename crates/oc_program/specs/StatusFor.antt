@@ -36,7 +36,7 @@ module _ {S K E T D L N P : Type 0} (gives : S → List ℕ → S → Type 0) (e
   abbrev pub LinkHeld : Type 0
   LinkHeld = Rose (counts old.link).listening (counts new.link).listening → ⊥
 
-  -- One download that is made once, without a token: if its URL was served whole, it is done.
+  -- A single download without a token is done if its URL was served whole.
   abbrev pub StatusForGet : List ℕ → Option ℕ → Option ℕ → Option (List ℕ) → ℕ → Type 0
   StatusForGet address start None None status = IsServed address start (dials old.dialler) (dials new.dialler) → DialsHeld → OutputHeld → IsDoneOrMemory status
   StatusForGet address start times file status = Unit {0}

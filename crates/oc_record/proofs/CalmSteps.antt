@@ -75,7 +75,7 @@ calm_asked o x seq r calm =
     (calm_answers_ask (adoption_refusal (host (raises o (raise (rank_or_last r).epoch)).node x) x r) (raises o (raise (rank_or_last r).epoch)) x seq (calm_raises o (raise (rank_or_last r).epoch) calm))
     (calm_answers_ask (adoption_refusal (host o.node x) x r) o x seq calm)
 
--- Yes, no, and whom a node does not reach
+-- Yes, no, and a node that is not reached
 
 calm_joins : (o : Plan) (p : ℕ) (r : Rank) (xs : List ℕ) → Calm o → Calm (joins o p r xs)
 calm_joins o p r xs calm =
@@ -91,7 +91,7 @@ calm_took_yes : (o : Plan) (p seq : ℕ) (r : Rank) (xs : List ℕ) → Calm o �
 calm_took_yes o p seq r xs calm =
     either (is_asking o.node.kept.mode p && seq == o.node.kept.seq && nat_lt r.depth MAX_DEPTH && precedes_any r o.node.kept.rank) Calm (joins o p r xs) (ignored o) (calm_joins o p r xs calm) calm
 
--- a node that was asked by is_asking does not act, and has lost its ask
+-- the mode after a loss is idle
 lost_idle_from : (m : Mode) (o : Plan) → o.node.kept.mode ≡ m → (lost_from m o).node.kept.mode ≡ modes.Idle
 lost_idle_from modes.Idle o is = is
 lost_idle_from (modes.Asking p) o is = refl
@@ -136,7 +136,7 @@ calm_took_no : (o : Plan) (p seq : ℕ) (why : Refusal) → Calm o → Calm (too
 calm_took_no o p seq why calm =
     either (is_asking o.node.kept.mode p && seq == o.node.kept.seq) Calm (refused (heard o) why) (ignored o) (calm_refused (heard o) why (lost_not_acting o) (calm_heard o calm)) calm
 
--- a root is not on its way down
+-- a calm node stays calm where a peer is not seen
 calm_not_seen : (s : Option Search) (o : Plan) (p : ℕ) → s ≡ o.node.soft.search → Calm o → Calm (not_seen s o p)
 calm_not_seen (Some (Descend q)) o p is calm =
     either (q == p) Calm (next_try (searching o None)) (ignored o)
@@ -291,7 +291,7 @@ calm_took_rejoin o p seq calm = either (is_peer o.node.kept.mode p && seq == o.n
 
 -- Look
 
--- a node on a descent is no chain member and no root
+-- a node that is no chain member and no root stays calm where a descent goes down
 calm_goes_down : (k : Option ℕ) (o : Plan) (p : ℕ) → (is_member o.node ≡ true → ⊥) → (o.node.kept.mode ≡ modes.Acting → ⊥) → Calm o → Calm (goes_down k o p)
 calm_goes_down None o p out other calm = calm_ask o p calm
 calm_goes_down (Some k) o p out other calm = calm_descend o k out other calm

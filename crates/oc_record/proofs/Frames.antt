@@ -46,7 +46,7 @@ use Rattle.oc_laws_step.proofs.Steps.{writes, goes_pulled}
 abbrev grown_of : List ℕ → List Group → ℕ → List ℕ → Bool → Group
 grown_of g ks at bytes closes = grown (group_or_empty g ks) at bytes closes
 
--- there is something new: the group, a byte or the seal
+-- a part is new: the group, a byte or the seal
 abbrev IsNew : List ℕ → List Group → ℕ → List ℕ → Bool → Type 0
 IsNew g ks at bytes closes =
     (group_of g ks ≡ None) ⊎ ((length (group_or_empty g ks).bytes < length (grown_of g ks at bytes closes).bytes) ⊎ (((group_or_empty g ks).sealed ≡ false) × (closes ≡ true)))
@@ -258,7 +258,7 @@ left_other d e (inr gone) is = gone.2 (ap (λ f. f.mode) is)
 abbrev Unchanged : Node → Input → Type 0
 Unchanged n i = ((step n i).node.control.kept ≡ n.control.kept) × ((step n i).node.groups ≡ n.groups)
 
--- where nothing was written, nothing durable changed
+-- nothing durable changed if nothing was written
 none_written : (n : Node) (i : Input) → writes_frame n i ≡ false → Unchanged n i
 none_written n i none = by_parts (plan n.control (shelf n.groups) i).records (plan n.control (shelf n.groups) i).keeps refl refl where
   by_parts : (rs : List Record) (at : Option ℕ) → (plan n.control (shelf n.groups) i).records ≡ rs → (plan n.control (shelf n.groups) i).keeps ≡ at → Unchanged n i
@@ -266,7 +266,7 @@ none_written n i none = by_parts (plan n.control (shelf n.groups) i).records (pl
   by_parts [] (Some at) is keeps = let some : true ≡ false = sym (rw (is, keeps)) ∙ none in absurd cc
   by_parts (r ∷ rs) at is keeps = let some : true ≡ false = sym (rw is) ∙ none in absurd cc
 
--- a lawful input's, at a sound and calm node
+-- the change by a lawful input at a sound and calm node
 moved_at : (n : Node) (i : Input) → IsSound n.control → SeeksNoPlace n.control → ((p rate hops : ℕ) → i ≡ inputs.Measured p rate hops → IsNode n.control.nodes p)
     → Moved (Unit {0}) n.control.kept (plan n.control (shelf n.groups) i)
 moved_at n i sound calm fair =

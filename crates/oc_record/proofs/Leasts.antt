@@ -42,7 +42,7 @@ are_shortest [] rs = true
 are_shortest (row ∷ rows) [] = false
 are_shortest (row ∷ rows) (r ∷ rs) = is_shortest row r && are_shortest rows rs
 
--- then the row has the least length of its kind
+-- a row with such a record has the least length of its kind
 has_least : (row : CodeRow) (r : Record) → is_shortest row r ≡ true → HasLeast row
 has_least row r is_so =
     let both = and_parts (code_of r == row.code) (length (fields_bytes r) == row.least && least_of row.code == row.least) is_so in

@@ -18,7 +18,7 @@ behind bytes at text next t =
     let rest : drop next bytes ≡ t.there.0 = ap (λ (k : ℕ). drop k bytes) t.moved ∙ sym (drop-drop (length text) at bytes) ∙ ap (drop (length text)) t.there.1 ∙ drop_at text t.there.0 (length text) refl in
     t.there.1 ∙ ap (λ (x : List ℕ). text ++ x) (sym rest)
 
--- nothing is left
+-- no bytes are left past the end
 pub none_left : (bytes : List ℕ) (at : ℕ) → length bytes ≤ at → drop at bytes ≡ []
 none_left bytes at le = nil_from_length (drop at bytes) (omega (arith, le, length-drop at bytes))
 

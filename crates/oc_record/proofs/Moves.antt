@@ -20,7 +20,8 @@ use Rattle.oc_laws_step.proofs.Tables.{merge_takes, merge_keeps}
 abbrev pub Left : Durable → Durable → Type 0
 Left d e = (d.seq < e.seq) ⊎ ((e.seq ≡ d.seq) × ((e.mode ≡ modes.Idle) ⊎ (e.mode ≡ modes.Acting)) × (e.mode ≡ d.mode → ⊥))
 
--- both are the same, these certificates were taken, and if Q then some part is another
+-- the ask number and the mode are the same, these certificates were taken, and if Q holds some part
+-- is another
 pub record Stays (Q : Type 0) (d e : Durable) (taken : List Cert) : Type 0 where
   pub seq : e.seq ≡ d.seq
   pub mode : e.mode ≡ d.mode
@@ -37,7 +38,7 @@ pub data Moved (Q : Type 0) (d : Durable) (o : Plan) : Type 0 where
 
 -- Certificates
 
--- one more that is news
+-- one more certificate that is news
 taken_more : (t u : List Cert) (cs : List Cert) (c : Cert) → AreTaken t cs u → is_news u c ≡ true → AreTaken t (cs ++ c ∷ []) (merge u c)
 taken_more t u [] c same news = (subst (λ v. is_news v c ≡ true) same news, ap (λ v. merge v c) same)
 taken_more t u (b ∷ cs) c all news = (all.0, taken_more (merge t b) u cs c all.1 news)
@@ -87,7 +88,7 @@ keeps_itself d e is = record {
   log = λ p joined. ap (λ f. f.log) is ∙ tail_none d.log;
 }
 
--- the log takes it while the node is joined
+-- the log takes a certificate while the node is joined
 noted_joined : (m : Mode) (p : ℕ) (l : Log) (c : Cert) → m ≡ modes.Joined p → noted m l c ≡ note l c
 noted_joined m p l c is = rw is
 
@@ -140,9 +141,9 @@ fresh_part Q d o r seq mode table log other (newer taken keeps apart) =
       changed = λ q back. newer_other d.table o.node.kept.table apart (sym table ∙ ap (λ e. e.table) back);
     })
 
--- How a node comes by a parent
+-- The ways in which a node gets a parent
 
--- the parent or the ask may be given up besides
+-- a fresh step, or one that gave up the parent or the ask
 pub data Begins (d : Durable) (o : Plan) : Type 0 where
   fresh : Fresh d o → Begins d o
   fallen : o.node.kept.seq ≡ d.seq → o.node.kept.mode ≡ modes.Idle → (d.mode ≡ modes.Idle → ⊥) → Begins d o

@@ -89,7 +89,7 @@ calm_ask o p calm =
 calm_act : (o : Plan) → NoDescent o.node.soft.search → SeeksNoPlace o.node → SeeksNoPlace (act o).node
 calm_act o none calm = record { line = calm.line; member = calm.member; acting = λ e. none }
 
--- no member
+-- a fact whose negation holds does not hold
 outside : (b : Bool) → not b ≡ true → b ≡ true → ⊥
 outside true h e = absurd (cc h)
 outside false h e = absurd (cc e)

@@ -159,7 +159,7 @@ module _ (Q : Type 0) (n : Control) (sound : Q → (p : ℕ) → n.kept.mode ≡
   moved_answers_ask None o x seq here born = moved_adopts o x seq here born
   moved_answers_ask (Some why) o x seq here born = along o (send o x (bodies.No seq why)) refl refl here
 
-  -- with what was said of the rank first
+  -- the answer to an ask, after the epoch was raised if need be
   abbrev Answers : ℕ → ℕ → Option Rank → Plan → Type 0
   Answers x seq r o = M (asked_at o x seq r)
 

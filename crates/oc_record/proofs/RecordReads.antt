@@ -29,7 +29,7 @@ field_given : {A : Type 0} (read : Reading A) (x : A) (next : ℕ) → of_field 
 field_given (Ok y) x next e = cc
 field_given (Err fault) x next e = absurd cc
 
--- of a kind with this code
+-- a record of a kind with this code
 by_code : (nodes code k : ℕ) (bytes : List ℕ) (read : ℕ → Reading Record) (at : ℕ) (r : Record) (next : ℕ) → Taken nodes k bytes read → IsBytes bytes → (code == k) ≡ true → of_field (read at) ≡ Ok (r, next) → IsTaken nodes code bytes at r next
 by_code nodes code k bytes read at r next taken fits is e = subst (λ (n : ℕ). IsTaken nodes n bytes at r next) (sym (eqb-true code k is)) (taken fits at r next (field_given (read at) r next e))
 

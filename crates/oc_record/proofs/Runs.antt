@@ -23,7 +23,7 @@ pub record IsUnderWay (nodes : ℕ) (bytes : List ℕ) (front : List Record) (at
   pub whole : with_front front (records_at nodes (length bytes - length front) bytes at) ≡ decoded nodes bytes
   pub fewer : length front ≤ at
 
--- one more in front
+-- one more record in front
 regroup : (front : List Record) (r : Record) (read : Result (List Record) RecordFault) → with_front front (read >>= λ rest. Ok (r ∷ rest)) ≡ with_front (front ++ r ∷ []) read
 regroup front r (Ok rest) = ap (λ (rs : List Record). Ok rs) (simp append_assoc)
 regroup front r (Err fault) = refl

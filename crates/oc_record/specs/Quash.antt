@@ -14,7 +14,8 @@ AreTaken t (c ∷ cs) u = (is_news t c ≡ true) × AreTaken (merge t c) cs u
 abbrev pub with_tail : Log → List Cert → Log
 with_tail l cs = record { length = l.length + length cs; acked = l.acked; waiting = l.waiting ++ cs }
 
--- the log took these certificates at its end, or none while a part of it was acknowledged, and is otherwise unchanged
+-- the log took these certificates at its end, or none while a part of the log was acknowledged, and
+-- is otherwise unchanged
 abbrev pub LogTakes : Log → List Cert → Log → Type 0
 LogTakes l cs k = (k ≡ with_tail l cs) ⊎ ((cs ≡ []) × ((upto : ℕ) × (k ≡ ack l upto)))
 

@@ -7,7 +7,7 @@ use std::alloc::{AllocError, AllocFailed};
 use std::error::Error;
 use std::fmt;
 
-/// Why bytes are not a list of control records: the first fault from the left.
+/// The reason why bytes are not a list of control records: the first fault from the left.
 #[derive(Clone, Copy, Debug, PartialEq, Eq)]
 pub enum RecordFault {
     /// No kind has this code.

@@ -7,7 +7,7 @@
 //!
 //! The contracts that the crates above use: `decode` gives a list exactly if the bytes are its spelling,
 //! and otherwise the first fault; `encode` writes that spelling; no two lists have the same spelling. All
-//! of it rests on the fact that no two kinds have the same code.
+//! this rests on the fact that no two kinds have the same code.
 //!
 //! Laws about the records of one step: they rest on the definitions of `oc_model` and on the bytes here.
 //!

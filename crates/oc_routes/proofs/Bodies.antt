@@ -42,7 +42,7 @@ of_seal : (group : List ℕ) (at : Option ℕ) (empty : Bool) → IsOfBody (asks
 of_seal group at true = tt
 of_seal group at false = tt
 
--- each route gives such an input, and refuses a body so
+-- each route gives such an input, and refuses a body only for such a cause
 pub of_body : (nodes me : ℕ) (operation : Operation) (body : List ℕ) → IsOfBody operation (input_asked nodes me operation body)
 of_body nodes me asks.Message body = of_delivered me (decoded nodes body)
 of_body nodes me (asks.Seal group at) body = of_seal group at (length body == 0)

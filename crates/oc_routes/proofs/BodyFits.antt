@@ -36,6 +36,6 @@ parts_fit method target minor fields head =
 body_fits : (bytes : List ℕ) (head : Head) → SaysRequest bytes head → head.length ≤ MAX_BODY_BYTES
 body_fits bytes head says = parts_fit says.head.method says.head.target says.head.minor (named says.head.fields) head says.answer_is
 
--- the same of a head that was read
+-- a head that was read tells a body within the limit
 pub says_fits : {S : Type 0} (left : S → List ℕ) (old new : S) (head : Head) → ((bytes : List ℕ) × (left old ≡ bytes ++ left new) × SaysRequest bytes head) → head.length ≤ MAX_BODY_BYTES
 says_fits left old new head read = body_fits (read.0) head (read.2)

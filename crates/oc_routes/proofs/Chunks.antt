@@ -5,7 +5,7 @@ use Rattle.std.proofs.lemmas.Bool.{eq-eqb, ne_eqb}
 use Rattle.std.proofs.lemmas.Bool.Decides.{eqb_tells}
 use Rattle.oc_chunked.specs.Texts.{chunk_written, chunks_written}
 
--- more chunks than are needed are no more
+-- a bound on the number of chunks makes no difference where it is great enough
 enough : (m n : ℕ) (bytes : List ℕ) → length bytes ≤ m → length bytes ≤ n → chunks_written m bytes ≡ chunks_written n bytes
 unfolding chunks_written
 enough zero zero bytes a b = refl
@@ -27,7 +27,7 @@ some_written m bytes some few =
     rw (ne_eqb (length bytes) 0 (λ (e : length bytes ≡ 0). omega arith))
     (ap (λ (rest : List ℕ). chunk_written (take 4096 bytes) ++ rest) (enough m (length (drop 4096 bytes)) (drop 4096 bytes) (omega (arith, length-drop 4096 bytes)) (omega arith)))
 
--- the first chunk, and those after it
+-- the chunks of some bytes are the first chunk, and those after it
 first_chunk : (bytes : List ℕ) → 0 < length bytes → chunks bytes ≡ chunk_written (take 4096 bytes) ++ chunks (drop 4096 bytes)
 first_chunk bytes some =
     enough (length bytes) (suc (length bytes)) bytes (omega arith) (omega arith)

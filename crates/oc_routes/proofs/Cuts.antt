@@ -115,7 +115,7 @@ verdict_more t c number permitted coming bytes rest more (Err (Length missing)) 
 verdict_more t c number permitted coming bytes rest more (Err BodyLong) v same is decided = is ∙ ap (λ (x : List ℕ). refuse (begins_with_head x) refusals.BodyLong) same
 verdict_more t c number permitted coming bytes rest more (Err Memory) v same is decided = is
 
--- a part of a request is to wait
+-- bytes with another verdict than to wait are no mere part of a request
 not_ended : (t : NodeTerms) (c number : ℕ) (permitted : Bool) (bytes rest : List ℕ) (answer : Result Head HttpFault) (v : Verdict)
     → v ≡ verdict_for t (arrival c number permitted comings.Open) bytes rest answer → (v ≡ Wait → ⊥) → answer ≡ Err Ended → ⊥
 not_ended t c number permitted bytes rest answer v is decided ended =

@@ -171,7 +171,7 @@ routed_refused t ring a came head rest (Ok said) has spared e =
     request : Request
     request = record { count = came - length rest + head.length; asked = said; input = None; last = is_last head a.number }
 
--- a body that is read as a message came with its MAC under one of the keys, also where it is none
+-- a body that is read as a message came with its MAC under one of the keys, also where it is no message
 pub read_mac : (t : NodeTerms) (a : Arrival) (ring : Keyring) (bytes : List ℕ) (head_alone : Bool) → t.keys ≡ Some ring → IsVerdict t a bytes (refuse head_alone refusals.Message) → HaveMac ring bytes
 read_mac t a ring bytes head_alone has x = by_answer x.answer x.answers (ap why_of x.verdict)
   where

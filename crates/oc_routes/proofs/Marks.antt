@@ -14,7 +14,7 @@ marked_none [] xs h = refl
 marked_none (None ∷ rows) xs h = marked_none rows xs h
 marked_none (Some k ∷ rows) xs h = absurd (cc h)
 
--- the whole is unchanged with a row put at the end, and the rest after it
+-- all rows are still found with one row put at the end, and the rest after it
 pub marked_go_on : (rows : List (Option Cert)) (i : ℕ) (row : Option Cert) (xs ys : List ℕ) (listed : Bool) (before after whole : List Row) → i < length rows → row ≡ get_or rows i row → listed ≡ is_first row xs → ys ≡ after_row listed xs → after ≡ before ++ row_of row listed → before ++ marked (drop i rows) xs ≡ whole → after ++ marked (drop (i + 1) rows) ys ≡ whole
 marked_go_on rows i row xs ys listed before after whole within e first rest put so =
     let here : marked (drop i rows) xs ≡ row_of row listed ++ marked (drop (i + 1) rows) ys = ap (λ (rs : List (Option Cert)). marked rs xs) (rows_at rows i row within e) ∙ rw (rest, first) refl in

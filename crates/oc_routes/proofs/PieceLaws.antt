@@ -99,7 +99,7 @@ within count at bytes more fits =
           ∙ take-append-le count (drop at bytes) more (omega (arith, length-drop at bytes, fits))
     ]
 
--- a group that grew has the same bytes as far as it went
+-- a group that grew has the same bytes up to its old length
 part_grown : (g : List ℕ) (at count : ℕ) (old new : List Group) (more : List ℕ) → count ≤ length (bytes_of g old) - at → bytes_of g new ≡ bytes_of g old ++ more → part_of g at count new ≡ part_of g at count old
 part_grown g at count old new more fits grown = ap (λ (x : List ℕ). take count (drop at x)) grown ∙ within count at (bytes_of g old) more fits
 

@@ -28,7 +28,7 @@ no_backslash b h = grind (arith, nat_tests)
 plain_byte : (b : ℕ) → is_name_byte b ≡ true → is_plain b ≡ true
 plain_byte b h = both _ _ (both _ _ (both _ _ (above_space b h) (below_end b h)) (no_quote b h)) (no_backslash b h)
 
--- all pass, where the first that fails is past the end
+-- all elements pass, where the first that fails is past the end
 all_pass : (p : ℕ → Bool) (xs : List ℕ) → length xs ≤ position_or_len (λ x. not (p x)) xs → list_all p xs ≡ true
 all_pass p [] h = refl
 all_pass p (x ∷ xs) h = elim (cases_Bool (p x)) [
@@ -45,7 +45,7 @@ all_weaker p q weaker (x ∷ xs) h =
     let parts = and_parts (p x) (list_all p xs) h in
     ap (λ b. b && list_all q xs) (weaker x parts.0) ∙ all_weaker p q weaker xs parts.1
 
--- each place is before the first, where there is none
+-- the place of the first that passes is past the end, where none passes
 none_first : (p : ℕ → Bool) (xs : List ℕ) → position p xs ≡ None → length xs ≤ position_or_len p xs
 none_first p xs none = elim (cases_lt (position_or_len p xs) (length xs)) [
   | inl less ↦ let e = rw (lt-ltb _ _ less) at none in cc e

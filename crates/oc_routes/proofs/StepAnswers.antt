@@ -20,7 +20,7 @@ chosen : (P : Answer → Type 0) (b : Bool) (p q : Plan) → P p.answer → P q.
 chosen P true p q h k = h
 chosen P false p q h k = k
 
--- the same of refusals
+-- one refusal more, by an answer of a publish, leaves an answer of a publish
 refused : (b : Bool) (a : Answer) (o : Option Answer) (p q : Plan) → IsPublishAnswer a → IsPublishAnswer (unless o p q).answer
     → IsPublishAnswer (unless (if b then Some a else o) p q).answer
 refused true a o p q h k = h

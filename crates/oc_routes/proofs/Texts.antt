@@ -21,7 +21,7 @@ last_put r a b c so_far x so put = on_ok_weaker r (λ (h : c ≡ b ++ x). then_p
 pub last_field : {T E : Type 0} (r : Result T E) (a b c so_far key x : List ℕ) → b ≡ a ++ so_far → OnOk r (c ≡ b ++ key ++ x) → OnOk r (c ≡ a ++ (so_far ++ key ++ x))
 last_field r a b c so_far key x so put = on_ok_weaker r (λ (h : c ≡ b ++ key ++ x). then_field a b c so_far key x so h) put
 
--- the whole is unchanged with the text of a line put at the end, and the rest after it
+-- all lines are still put with the text of one line put at the end, and the rest after it
 pub lines_go_on : (text : Shelf → List ℕ) (lines : List Shelf) (i : ℕ) (line : Shelf) (before after whole : List ℕ) → i < length lines → line ≡ get_or lines i line → after ≡ before ++ text line → before ++ flat_map text (drop i lines) ≡ whole → after ++ flat_map text (drop (i + 1) lines) ≡ whole
 lines_go_on text lines i line before after whole within e put so =
     let here : flat_map text (drop i lines) ≡ text line ++ flat_map text (drop (i + 1) lines) = at_drop_more (flat_map text) lines i line within ∙ ap (λ (x : Shelf). text x ++ flat_map text (drop (i + 1) lines)) (sym e) in

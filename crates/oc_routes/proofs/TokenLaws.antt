@@ -19,14 +19,14 @@ alike_then : {A : Type 0} (r : Result A Refused) (f g : A → Result Operation R
 alike_then (Ok x) f g h = h x
 alike_then (Err why) f g h = inl refl
 
--- two verdicts let the same pass, or one of them denies it
+-- two decisions of the rules give the same operation, or one of them denies the request
 alike_by : (rules : List Rule) (action : Action) (name : List ℕ) (area : ℕ) (p q : Bool) (v w : Decision) (operation : Operation)
     → AreAlike (permitted_by rules action name area p v >>= (λ allowed. Ok operation)) (permitted_by rules action name area q w >>= (λ allowed. Ok operation))
 alike_by rules action name area p q Allowed Allowed operation = inl refl
 alike_by rules action name area p q Allowed (Denied rule) operation = inr (inr tt)
 alike_by rules action name area p q (Denied rule) w operation = inr (inl tt)
 
--- the decision, whatever the rules speak of
+-- two decisions are alike, whatever name the rules have for the resource
 alike_permitted : (rules : List Rule) (action : Action) (name : Option (List ℕ)) (area : ℕ) (p q : Bool) (x y : Option (List ℕ)) (operation : Operation)
     → AreAlike (permitted_as rules action name area p x >>= (λ allowed. Ok operation)) (permitted_as rules action name area q y >>= (λ allowed. Ok operation))
 alike_permitted rules action None area p q x y operation = inl refl

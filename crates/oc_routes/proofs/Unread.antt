@@ -37,7 +37,7 @@ unread_verdict left old new t a fault v stopped some is =
     let both = stopped_answers left old new fault stopped some in
     record { answer = Err fault; rest = left new; answers = both.0; decided = both.1; verdict = is }
 
--- the bytes ended before
+-- the verdict where the bytes ended before a whole head
 pub ended_verdict : {S M : Type 0} (left : S → List ℕ) (old new : S) (t : NodeTerms) (a : Arrival) (fault : HttpFault) (bytes : List ℕ) (none : Bool) (r : Result Verdict M) → Stopped left old new fault → fault_met fault ≡ None
     → bytes ≡ left old → none ≡ is_none bytes → IfOk r (λ (v : Verdict). v ≡ unfinished a.coming none) → IfOk r (IsVerdict t a bytes)
 ended_verdict left old new t a fault bytes none (Ok v) stopped met from is_it is =

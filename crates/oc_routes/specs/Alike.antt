@@ -5,7 +5,7 @@ use Rattle.oc_routes.specs.declared.refused.Refused.{Refused}
 use Rattle.oc_routes.specs.declared.refused.Refused.TheVariants.{Denied}
 use Rattle.oc_routes.specs.declared.routes.Operation.{Operation}
 
--- a rule denies it
+-- a result by which a rule denies the request
 abbrev pub IsDenied : Result Operation Refused → Type 0
 IsDenied (Err (Denied rule needs_token)) = Unit {0}
 IsDenied said = ⊥

@@ -8,16 +8,16 @@ use Rattle.oc_routes.specs.declared.refused.Refused.TheVariants.{At}
 use Rattle.oc_routes.specs.declared.verdict.Refusal.{Refusal}
 use Rattle.oc_routes.specs.Waits.{holding}
 
--- the group has another length than the one that is said, where one is
+-- the refusal for a group of another length than a request says, where it says one
 abbrev pub unmet_by : ℕ → Option ℕ → Option Refusal
 unmet_by held None = None
 unmet_by held (Some at) = if held == at then None else Some (refusing (At held))
 
--- the source alone looks at it, and a group that it does not have has no bytes
+-- the refusal at the source, which alone looks at the length; a group that the source does not have has no bytes
 abbrev pub unmet_at : ℕ → List ℕ → Option ℕ → List Shelf → Option Refusal
 unmet_at me group at lines = if me == 1 then unmet_by (holding group lines).held at else None
 
--- The refusal of the node `me` with this shelf for the condition of an operation: its group has another length, this one.
+-- The refusal of the node `me` with this shelf for the condition of an operation: its group has another length, which the refusal tells.
 abbrev pub unmet : Operation → ℕ → List Shelf → Option Refusal
 unmet (asks.Publish group at) me lines = unmet_at me group at lines
 unmet (asks.Seal group at) me lines = unmet_at me group at lines

@@ -3,10 +3,10 @@ use Rattle.std.specs.Prelude.{ℕ, Bool, not, ◌&&◌, ◌||◌, ◌==◌, nat_
 use Rattle.oc_http.specs.declared.head.Head.{Head}
 use Rattle.oc_routes.specs.declared.connections.TheConstants.{MAX_REQUESTS}
 
--- the client closes the connection after it, or it is the last that the connection may have; requests are counted from 1
+-- a request after which the client closes the connection, or the last that the connection may have; requests are counted from 1
 abbrev pub is_last : Head → ℕ → Bool
 is_last head number = head.closes || nat_le MAX_REQUESTS number
 
--- the client waits, and there is a body
+-- a client that waits for the permission, with a body to send
 abbrev pub awaits_continue : Head → Bool
 awaits_continue head = head.expects && not (head.length == 0)

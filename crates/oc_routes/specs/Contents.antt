@@ -33,12 +33,12 @@ IsThere u groups = u.end - u.at ≤ length (bytes_of u.group groups) - u.at
 abbrev pub owed_of : UnderWay → List Group → List ℕ
 owed_of u groups = coded u.chunked (part_of u.group u.at (u.end - u.at) groups)
 
--- the same of a content that may have been given whole
+-- the text that is still to be given of a content that may have been given whole
 abbrev pub owed : Option UnderWay → List Group → List ℕ
 owed None groups = []
 owed (Some u) groups = owed_of u groups
 
--- the next piece of its bytes
+-- the next piece of a content, as plain bytes
 abbrev pub piece_of : UnderWay → List Group → List ℕ
 piece_of u groups = part_of u.group u.at (min PIECE_BYTES (u.end - u.at)) groups
 

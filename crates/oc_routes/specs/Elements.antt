@@ -6,7 +6,7 @@ abbrev pub element_at : {X : Type 0} → List X → Option ℕ → Option X
 element_at xs None = None
 element_at xs (Some index) = slice_get xs index
 
--- all but that
+-- all elements but the one at this index
 abbrev pub without_at : {X : Type 0} → List X → Option ℕ → List X
 without_at xs None = xs
 without_at xs (Some index) = remove xs index

@@ -54,16 +54,16 @@ under_rules method path query wanted = asked (head method path query) rules ≡ 
 abbrev pub closed : List Rule
 closed = record { allow = false; action = None; prefix = codes "/"; area = None; token = None } ∷ []
 
--- a rule: paths within a prefix are allowed to who shows a token
+-- a rule: paths within a prefix are allowed to those who show a token
 abbrev with_token : List ℕ → Rule
 with_token prefix = record { allow = true; action = None; prefix = prefix; area = None; token = Some (codes "secret") }
 
--- the operation where all is allowed to who shows a token, and to nobody else; an Authorization field is there
+-- the operation where all is allowed to those who show a token, and to nobody else; an Authorization field is there
 abbrev under_token : Option (List ℕ) → Method → List ℕ → Result Operation Refused
 under_token shown method path =
     asked (record (head method path []) { has_authorization = true; authorization = shown }) (with_token (codes "/") ∷ closed)
 
--- the operation without such a field, where this is allowed to who shows a token, and all else to nobody
+-- the operation without such a field, where the paths within a prefix are allowed to those who show a token, and all else to nobody
 abbrev without_token : List ℕ → Method → List ℕ → Result Operation Refused
 without_token prefix method path = asked (head method path []) (with_token prefix ∷ closed)
 

@@ -29,7 +29,7 @@ abbrev pub is_chunked : Manner → Bool → Bool
 is_chunked Follow sealed = not sealed
 is_chunked manner sealed = false
 
--- the end of the content
+-- the framing of a content: in chunks, or by its length
 abbrev pub framing_for : Bool → ℕ → Framing
 framing_for true count = framings.Chunked
 framing_for false count = framings.Length count
@@ -42,20 +42,20 @@ served manner sealed last start count = record {
   connection = connection_for manner last;
 }
 
--- the start is past the end of a group that is sealed here; at its end it is not
+-- a start past the end of a group that is sealed here; the end itself is not past it
 abbrev pub is_past : ℕ → Holding → Bool
 is_past start h = h.sealed && nat_lt h.held start
 
--- the length of that group is told
+-- the reply to a client with such a start, which tells the length of the group
 abbrev pub past_reply : ℕ → Reply
 past_reply length = record (telling 416 (past_line length)) { content_range = Some length }
 
--- `count` bytes, or that
+-- `count` bytes of a group, or the reply to a start past its end
 abbrev pub served_or_past : Manner → Bool → Bool → ℕ → ℕ → Holding → Response
 served_or_past manner sealed last start count h =
     if is_past start h then whole_for manner (past_reply h.held) else served manner sealed last start count
 
--- a client is sent to a node
+-- the redirection of a client to this URL
 abbrev pub redirection : List ℕ → Reply
 redirection location = record (bare 302) { location = Some location }
 
@@ -74,7 +74,7 @@ abbrev pub sent_response : List ℕ → ℕ → Manner → List ℕ → List ℕ
 sent_response group start manner told address last h =
     if length address == 0 then here_response start manner last h else whole (redirection (location_of address group start told manner))
 
--- the reply to a client of such a node, which is shown `Redirect`, `Serve` or `NoGroup`, of a group that it is shown as sealed or not
+-- the reply to a client that is shown `Redirect`, `Serve` or `NoGroup`, and the group as sealed or not
 abbrev pub client_response : List ℕ → ℕ → Manner → List ℕ → Answer → Bool → Bool → Holding → List (Option (List ℕ)) → Response
 client_response group start manner told (answers.Redirect node) sealed last h addresses = sent_response group start manner told (address_of addresses node) last h
 client_response group start manner told answer sealed last h addresses = given_response start manner answer sealed last h
@@ -82,7 +82,7 @@ client_response group start manner told answer sealed last h addresses = given_r
 abbrev pub shown_response : List ℕ → ℕ → Manner → List ℕ → Shown → Bool → Holding → List (Option (List ℕ)) → Response
 shown_response group start manner told s last h addresses = client_response group start manner told s.answer s.sealed last h addresses
 
--- the reply to a client that tells this, for this answer of the step
+-- the reply to a client with this hint, for this answer of the step
 abbrev pub group_response : List ℕ → ℕ → Manner → Hint → Bool → Answer → Holding → List (Option (List ℕ)) → Response
 group_response group start manner hint last answer h addresses =
     shown_response group start manner (told_text hint h) (shown hint answer h start) last h addresses

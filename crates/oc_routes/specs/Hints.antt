@@ -16,7 +16,7 @@ use Rattle.oc_routes.specs.declared.hint.Asked.{Asked}
 use Rattle.oc_routes.specs.declared.hint.Hint.{Hint}
 use Rattle.oc_routes.specs.declared.hint.Hint.TheVariants.{Plain, Here, Of, Known}
 
--- `here` counts before both, and `of=` before `known`
+-- the hint of these parts: `here` counts before both others, and `of=` before `known`
 abbrev pub hint_of : Bool → Bool → Option ℕ → Hint
 hint_of true known of = Here
 hint_of false known (Some length) = Of length

@@ -7,7 +7,7 @@ use Rattle.oc_routes.specs.declared.json.TheConstants.{LAST_EXACT}
 abbrev pub quoted : List ℕ → List ℕ
 quoted text = codes "\"" ++ text ++ codes "\""
 
--- a number, which is a text where it is past those that every reader of JSON takes exactly
+-- a number; one past those that every reader of JSON takes exactly is put in quotes
 unfoldable pub number_text : ℕ → List ℕ
 number_text n = if nat_le n LAST_EXACT then decimal n else quoted (decimal n)
 

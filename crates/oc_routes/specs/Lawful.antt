@@ -12,7 +12,7 @@ abbrev pub IsResource : Resource → Type 0
 IsResource (Group group) = IsGroupName group
 IsResource resource = Unit {0}
 
--- the group is one, and start and area are within their ranges
+-- an operation whose group has the name of one, and whose start and area are within their ranges
 abbrev pub IsAsked : Operation → Type 0
 IsAsked (operations.Publish group at) = IsGroupName group
 IsAsked (operations.Seal group at) = IsGroupName group

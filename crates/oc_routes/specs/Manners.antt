@@ -12,7 +12,7 @@ abbrev pub manner_of : Method → ℕ → Bool → Manner
 manner_of methods.Get minor follow = if follow && minor == 1 then Follow else Once
 manner_of method minor follow = HeadAlone
 
--- the content, except for a HEAD
+-- the content that is sent in this manner: none for a HEAD
 abbrev pub content_for : {A : Type 0} → Manner → A → Option A
 content_for HeadAlone content = None
 content_for manner content = Some content

@@ -63,7 +63,7 @@ group_gauges shelf =
     heading (codes "overcast_group_bytes") (codes "Bytes held of a group.") ++ held_samples shelf
     ++ heading (codes "overcast_group_sealed") (codes "Whether a group is sealed.") ++ sealed_samples shelf
 
--- the whole, of a node with this shelf whose outbox has this many messages
+-- the whole report of a node with this shelf whose outbox has this many messages
 abbrev pub metrics_text : Control → List Shelf → ℕ → List ℕ
 metrics_text n shelf messages =
     place_gauges n.kept.mode ++ count_gauges (counted n) ++ group_gauges shelf

@@ -18,7 +18,7 @@ copies count b = replicate count b
 abbrev pub probe_content : List ℕ
 probe_content = copies PROBE_BYTES (byte "x")
 
--- the same, except for a HEAD
+-- the body of the reply to a probe: this content, and none for a HEAD
 abbrev pub probe_body : Manner → List ℕ
 probe_body HeadAlone = []
 probe_body manner = probe_content

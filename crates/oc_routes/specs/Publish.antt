@@ -21,7 +21,7 @@ publish_status answers.Ok = 200
 publish_status answers.TooLong = 413
 publish_status refusal = 403
 
--- the reply to a publish, where the source has this address, and this is the group
+-- the reply to a publish of this group, where the source has this address
 abbrev pub publish_response : Answer → List ℕ → List ℕ → Response
 publish_response answer source group =
     if publish_status answer == 200 then status_alone 200 else told (publish_status answer) (publish_line answer source group)

@@ -15,7 +15,7 @@ use Rattle.oc_routes.specs.declared.refused.Refused.TheVariants as refusals
 abbrev pub value_in : List ℕ → List ℕ → Option (List ℕ)
 value_in name part = if bytes_eq (take (length name) part) name then Some (drop (length name) part) else None
 
--- the first such value
+-- the value of the first part that begins with a name and its `=`
 abbrev pub first_value : List ℕ → List (List ℕ) → Option (List ℕ)
 first_value name [] = None
 first_value name (part ∷ more) = option_or (value_in name part) (first_value name more)
@@ -29,7 +29,7 @@ abbrev pub number_or_nought : ℕ → Option (List ℕ) → Result ℕ Refused
 number_or_nought most None = Ok 0
 number_or_nought most (Some value) = with_fault refusals.Query (number_in 0 most value)
 
--- the same, where there is a value
+-- the number that a value spells, up to the most, where there is a value
 abbrev pub number_told : ℕ → Option (List ℕ) → Result (Option ℕ) Refused
 number_told most None = Ok None
 number_told most (Some value) = with_fault refusals.Query (number_in 0 most value) >>= (λ number. Ok (Some number))

@@ -46,7 +46,7 @@ denied_line rule false = codes "access rule " ++ decimal rule ++ codes " denies 
 abbrev pub bytes_text : ℕ → List ℕ
 bytes_text count = if count == 1 then codes "1 byte" else decimal count ++ codes " bytes"
 
--- a group of this length can be appended to there
+-- the line for a condition that is not met: a group of this length can be appended to at this length
 abbrev pub at_line : ℕ → List ℕ
 at_line length = codes "the group has " ++ bytes_text length ++ codes ": at=" ++ decimal length ++ codes " appends\n"
 

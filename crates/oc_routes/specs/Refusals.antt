@@ -10,7 +10,7 @@ use Rattle.oc_routes.specs.declared.refused.Refused.{Refused}
 use Rattle.oc_routes.specs.declared.refused.Refused.TheVariants.{Source, Ended, Head, HeadLong, Fields, Host, Coding, Length, BodyLong, Method, Path, Query, Denied, Mac, Message, Body, At}
 use Rattle.oc_routes.specs.declared.verdict.Refusal.{Refusal}
 
--- a fault of a head or a body refuses its request by the same name; running out of memory doesn't
+-- a fault of a head or a body refuses its request by the same name; only where memory ran out no request is refused
 abbrev pub fault_of_http : HttpFault → RouteFault
 fault_of_http http.Source = faults.Refused Source
 fault_of_http http.Ended = faults.Refused Ended
@@ -61,7 +61,7 @@ refusal status refused = record (telling status (refused_line refused)) { rule =
 abbrev pub refusal_text : Refusal → Option (List ℕ)
 refusal_text r = option_map (λ status. reply_text r.head_alone (refusal status r.why)) (status_of r.why)
 
--- one to whose client nothing is said, or that is no HEAD
+-- the refusal of a request that is no HEAD, or whose client is told nothing
 abbrev pub refusing : Refused → Refusal
 refusing why = record { why = why; head_alone = false }
 

@@ -243,7 +243,7 @@ rejoin = record { from = 1; to = 2; body = bodies.Rejoin 7 }
 abbrev answered_with : Operation → Answer → Option Message → Response → Type 0
 answered_with operation answer back wanted = response_for (asks_with operation hints.Plain) false answer back holds_none addresses None [] ≡ wanted
 
--- the answer to a client that tells this
+-- the answer to a client with this hint
 abbrev shows : Operation → Hint → Bool → Answer → Holding → Response
 shows operation hint last answer h = response_for (asks_with operation hint) last answer None h addresses None []
 

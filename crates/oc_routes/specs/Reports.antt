@@ -24,13 +24,13 @@ content_type_of reports.Status = types.Json
 content_type_of reports.Metrics = types.Metrics
 content_type_of reports.Page = types.Html
 
--- a node with this shelf, whose outbox has this many messages
+-- the text of a report of a node with this shelf, whose outbox has this many messages
 abbrev pub report_text : Report → Control → List Shelf → ℕ → List ℕ
 report_text reports.Status n shelf messages = status_text n shelf
 report_text reports.Metrics n shelf messages = metrics_text n shelf messages
 report_text reports.Page n shelf messages = page_text
 
--- The text of the report that is asked for; without one no text.
+-- The text of the report that an operation asks for; empty where it asks for none.
 abbrev pub report_of : Operation → Control → List Shelf → ℕ → List ℕ
 report_of (asks.Report report manner) n shelf messages = report_text report n shelf messages
 report_of other n shelf messages = []

@@ -18,7 +18,7 @@ whole reply = record { text = response_text reply; content = None; connection = 
 abbrev pub status_alone : ℕ → Response
 status_alone status = whole (bare status)
 
--- the same to one who asks so: to a HEAD without its body
+-- the manner of a HEAD, which gets the head of a reply alone
 abbrev pub is_head_alone : Manner → Bool
 is_head_alone HeadAlone = true
 is_head_alone manner = false

@@ -99,7 +99,7 @@ resource_or None path = if is_own path then Err refusals.Path else group_in path
 abbrev pub resource_in : Action → List ℕ → Result Resource Refused
 resource_in action path = resource_or (resource_at action path) path
 
--- the resource of a path as it was asked for, which is none where an escape is broken
+-- the resource of the path that was asked for; refused where an escape is broken
 abbrev pub resource_named : Action → Option (List ℕ) → Result Resource Refused
 resource_named action None = Err refusals.Path
 resource_named action (Some path) = resource_in action path
@@ -122,11 +122,11 @@ name_of resource = None
 abbrev pub would_allow : Action → List ℕ → ℕ → Rule → Bool
 would_allow action name area rule = rule.allow && rule_matches (record rule { token = None }) action (Some name) area None
 
--- one of the rules before the one of this number would
+-- one of the rules before the one of this number would allow the action with its token
 abbrev pub needs_token : List Rule → Action → List ℕ → ℕ → ℕ → Bool
 needs_token rules action name area number = list_any (would_allow action name area) (take (number - 1) rules)
 
--- the decision of the rules; who has shown nothing that could be a token is told whether one would do
+-- the decision of the rules; a client that has shown nothing that could be a token is told whether one would do
 abbrev pub permitted_by : List Rule → Action → List ℕ → ℕ → Bool → Decision → Result (Unit {0}) Refused
 permitted_by rules action name area bare Allowed = Ok tt
 permitted_by rules action name area bare (Denied rule) = Err (refusals.Denied rule (bare && needs_token rules action name area rule))

@@ -29,7 +29,7 @@ seal_status answers.Ignored = 200
 seal_status answers.NoGroup = 404
 seal_status refusal = 403
 
--- the reply to a seal, where the source has this address, and this is the group
+-- the reply to a seal of this group, where the source has this address
 abbrev pub seal_response : Answer → List ℕ → List ℕ → Response
 seal_response answer source group =
     if seal_status answer == 200 then status_alone 200 else told (seal_status answer) (seal_line answer source group)

@@ -17,7 +17,7 @@ shown_as answer sealed = record { answer = answer; sealed = sealed }
 abbrev pub here_answer : Holding → ℕ → Answer
 here_answer h start = if h.there then answers.Serve (h.held - start) else answers.NoGroup
 
--- a group that is not sealed here goes up to the end that is told, as one that is sealed
+-- the answer where the client tells the length: a group that is not sealed here is given up to this length, as one that is sealed
 abbrev pub of_shown : ℕ → Answer → Bool → ℕ → Shown
 of_shown length answer true start = shown_as answer true
 of_shown length (answers.Serve count) false start = shown_as (answers.Serve (length - start)) true

@@ -77,7 +77,7 @@ own_text cert =
 abbrev pub row_text : Row → List ℕ
 row_text row = cert_text row.cert ++ own_text row.cert ++ codes ",\"listed\":" ++ flag_text row.listed ++ codes "}"
 
--- a leased child: the second at which its lease ends, where one is set, and the rate that it told last
+-- a leased child: the second at which its lease ends, where one is set, and the last rate that the child told
 abbrev pub child_text : Leased → List ℕ
 child_text leased =
     codes "{\"node\":" ++ number_text leased.child.id
@@ -92,7 +92,7 @@ list_text name text xs = codes ",\"" ++ name ++ codes "\":" ++ array_text text x
 unfoldable pub state_text : Control → List ℕ
 state_text n = network_text n ++ place_text n ++ counts_text n
 
--- the whole, with these rows of the node's table and these leased children: its state, the nodes above it, its groups, these
+-- the whole object, with these rows of the node's table and these leased children: its state, the nodes above it, its groups, these
 abbrev pub object_text : Control → List Shelf → List Row → List Leased → List ℕ
 object_text n shelf rows leased =
     codes "{" ++ state_text n
@@ -102,6 +102,6 @@ object_text n shelf rows leased =
     ++ list_text (codes "children") child_text leased
     ++ codes "}\n"
 
--- the whole, of a node with this shelf
+-- the whole report of a node with this shelf
 abbrev pub status_text : Control → List Shelf → List ℕ
 status_text n shelf = object_text n shelf (rows_of n.kept.table n.me) (leased_of n)

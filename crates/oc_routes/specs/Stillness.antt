@@ -4,7 +4,7 @@ use Rattle.oc_routes.specs.declared.holding.Holding.{Holding}
 use Rattle.oc_routes.specs.declared.waiting.Follower.{Follower}
 use Rattle.oc_routes.specs.declared.waiting.TheConstants.{FOLLOW_MILLIS}
 
--- the group has not grown past this byte, and was not sealed
+-- a group that has not grown past this byte, and was not sealed
 pub record HasNothingNew (at : ℕ) (h : Holding) : Type 0 where
   pub held : h.held ≤ at
   pub unsealed : h.sealed ≡ false

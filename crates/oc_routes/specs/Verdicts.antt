@@ -57,8 +57,8 @@ abbrev pub refused_for : Bool → RouteFault → Verdict
 refused_for head_alone (faults.Refused why) = refuse head_alone why
 refused_for head_alone faults.Memory = Wait
 
--- The bytes so far are a part of a request, none where there are none. One that ended without a byte is left without a word; a link tells of one
--- that ran out of its time without a byte the same, or nothing.
+-- The verdict on a request of which the bytes so far are a part, `none` where none came. A connection that ended without a byte is left without a
+-- word. Of a connection whose time ran out without a byte a link tells the same, or nothing.
 abbrev pub unfinished : Coming → Bool → Verdict
 unfinished Open none = Wait
 unfinished Ended none = if none then Leave else refuse false refusals.Ended
@@ -122,7 +122,7 @@ abbrev pub verdict_for : NodeTerms → Arrival → List ℕ → List ℕ → Res
 verdict_for t a bytes rest (Ok head) = after_head t a (length bytes) head rest
 verdict_for t a bytes rest (Err fault) = unread a.coming (is_none bytes) (begins_with_head (taken bytes rest)) (fault_met fault)
 
--- The verdict on these bytes: the answer to a source that gives these bytes and then ends, where its end is what it is here.
+-- The verdict on these bytes: the answer to a source that gives these bytes and then ends, where its end is that on the connection.
 pub record IsVerdict (t : NodeTerms) (a : Arrival) (bytes : List ℕ) (v : Verdict) : Type 0 where
   pub answer : Result Head HttpFault
   pub rest : List ℕ

@@ -28,7 +28,8 @@ holding group lines = holding_of (find (λ line. bytes_eq line.group group) line
 
 -- A content under way
 
--- The group is sealed before the end of the content, or has a byte to give, or has not grown for this many milliseconds.
+-- The prospect of a content of which nothing was given for `idle` milliseconds: its group is sealed before the end of the content, or has a byte to
+-- give, or has not grown in time, or may still grow.
 abbrev pub prospect : UnderWay → Holding → ℕ → Prospect
 prospect u h idle =
     if h.sealed && nat_lt h.held u.end then Breaks
@@ -57,6 +58,6 @@ is_due f h now = nat_lt f.start h.held || h.sealed || nat_le FOLLOW_MILLIS (now 
 
 -- Times
 
--- the number of these milliseconds that are left
+-- the part of `most` milliseconds from `since` on that is left at `now`
 abbrev pub left_of : ℕ → ℕ → ℕ → ℕ
 left_of most since now = most - (now - since)

@@ -1,10 +1,10 @@
 use crate::holding::Holding;
 use oc_model::{Answer, Message};
 
-/// The parts for the reply to a request that a node has after the step of its input.
+/// The parts of the reply to a request that a node has after the step of its input.
 #[derive(Clone, Copy, Debug)]
 pub struct Answered<'a> {
-    /// The answer of the step; of a request without an input it is not looked at.
+    /// The answer of the step; not read where a request has no input.
     pub answer: Answer,
     /// The message that goes back to the sender of a message.
     pub back: Option<&'a Message>,

@@ -12,7 +12,7 @@ use oc_base::{GroupName, NodeId, Shelf};
 const SOURCE: NodeId = NodeId(1);
 
 /// The refusal of the node `me` with this shelf for the condition of an operation: at the source the group has
-/// another length than the request says, and the refusal has this length. It is asked before the input is taken.
+/// another length than the request says, and the refusal has this length. The node checks this before it takes the input.
 pub fn unmet(operation: &Operation, me: NodeId, shelf: &[Shelf]) -> Option<Refusal>
     ensures { result ≡ unmet operation.now me shelf.now }
 {
@@ -23,7 +23,7 @@ pub fn unmet(operation: &Operation, me: NodeId, shelf: &[Shelf]) -> Option<Refus
     }
 }
 
-/// The same of a group, with the length that is said, if one is.
+/// The refusal for the condition of a group, with the length that a request says, if it says one.
 fn unmet_at(me: NodeId, group: &GroupName, at: Option<u64>, shelf: &[Shelf]) -> Option<Refusal>
     ensures { result ≡ unmet_at me group.now at shelf.now }
 {
@@ -33,7 +33,7 @@ fn unmet_at(me: NodeId, group: &GroupName, at: Option<u64>, shelf: &[Shelf]) -> 
     unmet_by(Holding::in_shelf(shelf, group).held, at)
 }
 
-/// The same of a group of this length.
+/// The refusal for the condition of a group of this length.
 fn unmet_by(held: u64, at: Option<u64>) -> Option<Refusal>
     ensures { result ≡ unmet_by held at }
 {

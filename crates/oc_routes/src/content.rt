@@ -4,7 +4,7 @@ ghost use Rattle.oc_routes.specs.Contents.{begun, rest_after, is_last};
 use crate::GroupRange;
 use oc_base::GroupName;
 
-/// The number of bytes of a content that are given at a time: 64 whole chunks.
+/// The greatest number of bytes of a content that are given at a time: 64 whole chunks.
 pub const PIECE_BYTES: usize = 262_144;
 
 /// The content of a group that is under way: a place in the group.
@@ -13,7 +13,7 @@ pub struct UnderWay {
     pub group: GroupName,
     /// The offset of the next byte in the group.
     pub at: u64,
-    /// The offset at which it ends.
+    /// The offset in the group at which the content ends.
     pub end: u64,
     /// Whether the content is given as chunks (RFC 9112, section 7.1).
     pub chunked: bool,

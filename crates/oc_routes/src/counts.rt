@@ -12,19 +12,19 @@ use oc_node::Node;
 /// The counts of a node for its metrics.
 #[derive(Clone, Copy)]
 pub(crate) struct Counts {
-    /// Nodes listed beneath it.
+    /// The number of nodes listed beneath the node.
     pub(crate) listed: u64,
-    /// Rows of its table.
+    /// The number of rows of the node's table.
     pub(crate) rows: u64,
-    /// The leased children of the node.
+    /// The number of leased children of the node.
     pub(crate) children: u64,
-    /// The clients in its own count.
+    /// The number of clients in the node's own count.
     pub(crate) clients: u64,
-    /// The certificates that its parent has not acknowledged.
+    /// The number of certificates that its parent has not acknowledged.
     pub(crate) waiting: u64,
 }
 
-/// Counts them; the rows are those of the node's table.
+/// The counts of a node; the rows are those of its table.
 pub(crate) fn counted(node: &Node, rows: &[Row]) -> Counts
     requires { rows.now ≡ rows_of node.now.control.kept.table node.now.control.me }
     ensures { result ≡ counted node.now.control }

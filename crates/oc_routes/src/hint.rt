@@ -16,9 +16,9 @@ use oc_policy::Rule;
 /// The hint of a client that asks for a group: its knowledge of the group.
 #[derive(Clone, Copy, Debug, PartialEq, Eq)]
 pub enum Hint {
-    /// Nothing.
+    /// No knowledge.
     Plain,
-    /// The node that it asks is to answer itself.
+    /// The node that is asked is to answer itself.
     Here,
     /// The group is sealed with this many bytes.
     Of(u64),

@@ -34,7 +34,7 @@ impl Holding {
     }
 }
 
-/// The line of a group.
+/// The line of a group in a shelf.
 fn line_in(shelf: &[Shelf], group: &GroupName) -> Option<Shelf>
     ensures { result ≡ find (λ line. bytes_eq line.group group.now) shelf.now }
 {

@@ -5,10 +5,10 @@ ghost use Rattle.oc_routes.specs.Json.{flag_text, number_text, or_null, quoted};
 
 use oc_base::{Memory, put, put_number, put_with_number};
 
-/// The greatest number that every reader of JSON takes exactly, 2^53: it is one of 64 bits with a point.
+/// The greatest number that every reader of JSON takes exactly, 2^53: many keep numbers in floating point.
 pub(crate) const LAST_EXACT: u64 = 9_007_199_254_740_992;
 
-/// Puts a text, and after it a number, which is a text itself where it is past `LAST_EXACT`.
+/// Puts a key, and after it a number; one past `LAST_EXACT` is put in quotes.
 pub(crate) fn put_field(out: &mut Vec<u8>, key: &str, number: u64) -> Result<(), Memory>
     ensures { OnOk result (out.new.items ≡ out.old.items ++ key.now ++ number_text number) }
 {
@@ -16,7 +16,7 @@ pub(crate) fn put_field(out: &mut Vec<u8>, key: &str, number: u64) -> Result<(),
     put_exact(out, number)
 }
 
-/// Puts a number, which is a text where it is past `LAST_EXACT`.
+/// Puts a number; one past `LAST_EXACT` is put in quotes.
 #[tactic(auto, unfolding(crate::specs::Json::number_text))]
 pub(crate) fn put_exact(out: &mut Vec<u8>, number: u64) -> Result<(), Memory>
     ensures { OnOk result (out.new.items ≡ out.old.items ++ number_text number) }
@@ -47,7 +47,7 @@ pub(crate) fn put_quoted(out: &mut Vec<u8>, text: &[u8]) -> Result<(), Memory>
     put(out, b"\"")
 }
 
-/// Puts a text, and after it `true` or `false`.
+/// Puts a key, and after it `true` or `false`.
 pub(crate) fn put_flag(out: &mut Vec<u8>, key: &str, is_set: bool) -> Result<(), Memory>
     ensures { OnOk result (out.new.items ≡ out.old.items ++ key.now ++ flag_text is_set) }
 {

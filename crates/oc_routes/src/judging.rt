@@ -18,8 +18,8 @@ use oc_link::{Arrival, Coming};
 use oc_model::Input;
 use std::alloc::Global;
 
-/// The verdict on a connection for the bytes of its request that came so far. For a request it is the one
-/// on the same bytes in one piece, however they are cut.
+/// The verdict on a connection for the bytes of its request that came so far. The cuts between these bytes make no
+/// difference: the verdict is that on the same bytes in one piece.
 pub fn judge(
     alloc: Global,
     heads: &mut HeadReader,

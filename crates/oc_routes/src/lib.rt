@@ -1,6 +1,6 @@
 //! Requests and replies of a running node, and its reports: the request in the bytes of a connection, the input
-//! that results, and the answer, piece by piece. No link, disk or clock is in it: functions over
-//! values.
+//! that results, and the answer, piece by piece. All of this is functions over values, without a link, a disk or a
+//! clock.
 //!
 //! A request goes through the node as one value, and its answer too: its bytes give a [`Verdict`], which for a
 //! whole one is a [`Request`] with its operation ([`Asked`]), and for a refused one a [`Refusal`]; after the step of its
@@ -20,10 +20,10 @@
 //! [`split_reply`] takes the reply out of the messages of a step. [`steps_answer_by_the_table`] says that
 //! a step gives the input of a request one of the answers to which the table has a reply.
 //!
-//! [`judge`] gives the verdict on a connection for the bytes of a request that came so far: to wait, to permit
-//! its body, to refuse it, or to answer it. `specs/Verdicts` has the definition: the answer to a source that gives
-//! these bytes and then ends, by the definitions of `oc_http` and of the routes, where its end is that
-//! on the connection. [`a_request_has_one_verdict`] says that there is one, however the bytes are cut.
+//! [`judge`] gives the verdict on a connection for the bytes of a request that came so far: to wait, to leave the
+//! connection, to permit the body, to refuse the request, or to answer it. `specs/Verdicts` has the definition: the
+//! answer to a source that gives these bytes and then ends, by the definitions of `oc_http` and of the routes, where its
+//! end is that on the connection. [`a_request_has_one_verdict`] says that there is one, however the bytes are cut.
 //!
 //! A path is looked up as `oc_http` decoded it, byte by byte, and a Location has it in escapes
 //! ([`a_location_names_its_group`]).
@@ -41,7 +41,7 @@
 //! The reports of a node ([`report_of`]), for those who look after it, are `/-/status` as JSON, `/-/metrics` in the text
 //! format of Prometheus, and the page `/-/` that draws the first; each has a second name, with `!`. [`status`] is
 //! `status_text` of the node's control state and its shelf, and [`metrics`] is `metrics_text` of these and of the number of
-//! messages in the outbox. The two definitions (`specs/Status`, `specs/Metrics`) are the formats: who reads them needs
+//! messages in the outbox. The two definitions (`specs/Status`, `specs/Metrics`) are the formats: their readers need
 //! nothing else. No byte of a group's name has to be escaped in either ([`names_are_plain`]), and the worked examples
 //! compute ([`examples_are_told`]). [`page`] is a text of this crate and nothing more: no contract speaks of its drawing.
 //!

@@ -15,7 +15,7 @@ pub enum Manner {
 }
 
 impl Manner {
-    /// The content that is sent when it is asked for so: none for a HEAD.
+    /// The content that is sent in this manner: none for a HEAD.
     pub(crate) fn content_for<T: Copy>(self, content: T) -> Option<T>
         ensures { result ≡ content_for self content }
     {

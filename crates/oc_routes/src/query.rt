@@ -13,7 +13,7 @@ use oc_base::{MAX_AREA, MAX_GROUP_BYTES, MAX_START, cut};
 pub(crate) struct Query {
     /// The byte from which a group is asked for.
     pub(crate) start: u64,
-    /// The area that the client says.
+    /// The area that the client gives.
     pub(crate) area: u8,
     /// Whether there is a part `follow`.
     pub(crate) follow: bool,

@@ -44,7 +44,7 @@ pub(crate) fn refusing(why: Refused) -> Refusal
     }
 }
 
-/// The status of the reply, where there is one.
+/// The status of the reply to a refused request, where there is a reply.
 fn status_of(refused: Refused) -> Option<u16>
     ensures status { result ≡ status_of refused }
     ensures phrase { IfSome result HasPhrase }

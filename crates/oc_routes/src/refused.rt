@@ -32,11 +32,11 @@ pub enum Refused {
     Path,
     /// A start or an area of the query is no number, or out of range.
     Query,
-    /// An access rule denies it.
+    /// An access rule denies the request.
     Denied {
         /// The number of the rule, counted from 1.
         rule: u32,
-        /// Whether it has no Authorization field, and an earlier rule would allow it with its token.
+        /// Whether the request has no Authorization field, and an earlier rule would allow it with its token.
         needs_token: bool,
     },
     /// The head of a message has not just one MAC, or it is not that of the body under the key of the network.

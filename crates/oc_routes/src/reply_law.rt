@@ -30,16 +30,16 @@ ghost use Rattle.oc_routes.specs.declared.refused.Refused.TheVariants.{At, Messa
 ghost use Rattle.oc_routes.specs.declared.response.GroupRange.{GroupRange};
 ghost use Rattle.oc_routes.specs.declared.routes.Operation.TheVariants.{Message as MessageAsked};
 
-/// The same bytes of a request get the same verdict, however they are cut: there is one verdict, and one on bytes
-/// after which more may come, and which is not to wait, is that on any more bytes too, however these end.
+/// The same bytes of a request get the same verdict, however they are cut. Bytes have one verdict, and any verdict but
+/// to wait on bytes after which more may come is the verdict on these and more bytes too, however they end.
 pub fn a_request_has_one_verdict()
     ensures one { (t : NodeTerms) (a : Arrival) (bytes : List ℕ) (v w : Verdict) → IsVerdict t a bytes v → IsVerdict t a bytes w → v ≡ w }
     ensures cut { (t : NodeTerms) (c number : ℕ) (permitted : Bool) (coming : Coming) (bytes more : List ℕ) (v : Verdict)
         → IsVerdict t (arrival c number permitted Open) bytes v → v ≢ Wait → IsVerdict t (arrival c number permitted coming) (bytes ++ more) v }
 {}
 
-/// A condition that is met says the length of the group, where a group that is not there has no bytes; and the refusal of
-/// one that is not met says this length.
+/// A condition that is met says the length of the group, where a group that is not there has no bytes; the refusal for a
+/// condition that is not met says the length of the group, which is another one.
 pub fn a_condition_says_the_length()
     ensures met { (group : List ℕ) (at : ℕ) (groups : List Group) → unmet_at 1 group (Some at) (shelf groups) ≡ None → length (bytes_of group groups) ≡ at }
     ensures unmet { (group : List ℕ) (at other : ℕ) (groups : List Group) → unmet_at 1 group (Some at) (shelf groups) ≡ Some (refusing (At other))
@@ -80,7 +80,7 @@ pub fn pieces_follow_one_another()
 
 /// A content under way waits exactly where its group has nothing new for it, is open, and its time has not passed,
 /// and goes on where the group has all of it. A client that the node would answer itself is let wait only where its
-/// group has nothing new for it and is open, and is due exactly where that ends, or its time has passed.
+/// group has nothing new for it and is open, and is due exactly where this is over, or its time has passed.
 pub fn who_waits_has_nothing_new()
     ensures waits { (u : UnderWay) (h : Holding) (idle : ℕ) → u.at < u.end
         → (prospect u h idle ≡ Waits) ↔ (HasNothingNew u.at h × (idle < IDLE_MILLIS)) }

@@ -27,7 +27,7 @@ pub enum Report {
 }
 
 impl Report {
-    /// The type of its text.
+    /// The type of the report's text.
     pub(crate) fn content_type(self) -> ContentType
         ensures { result ≡ content_type_of self }
     {
@@ -39,7 +39,7 @@ impl Report {
     }
 }
 
-/// The report of a node that is asked for; without one no text.
+/// The text of the report that an operation asks for; empty where it asks for none.
 pub fn report_of(alloc: Global, operation: &Operation, seen: &Seen<'_>) -> Result<Vec<u8>, Memory>
     ensures { IfOk result (λ text. text.items ≡ report_of operation.now seen.now.node.now.control seen.now.shelf.now seen.now.messages) }
 {

@@ -6,7 +6,7 @@ use oc_http::Persistence;
 pub struct Response {
     /// The text to write first: the head, and the body where it is not the content of a group.
     pub text: Text,
-    /// The content that is written after it, where there is one.
+    /// The content that is written after the text, where there is one.
     pub content: Option<GroupRange>,
     /// The fate of the connection after the reply.
     pub connection: Persistence,

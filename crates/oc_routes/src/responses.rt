@@ -23,7 +23,7 @@ pub(crate) fn whole(alloc: Global, reply: &Reply) -> Result<Response, Memory>
     })
 }
 
-/// The same to one who asks so: to a HEAD without its body.
+/// A whole reply, which ends the connection; to a HEAD without its body.
 pub(crate) fn whole_for(alloc: Global, manner: Manner, reply: &Reply) -> Result<Response, Memory>
     requires { HasPhrase reply.now.status }
     ensures { IfOk result (λ response. response ≡ whole_for manner reply.now) }

@@ -137,7 +137,7 @@ pub(crate) fn action_of(method: Method) -> Result<Action, Refused>
     }
 }
 
-/// The resource of a path, as it was asked for; none where an escape is broken.
+/// The resource of the path that was asked for; refused where an escape is broken.
 fn resource_named(action: Action, path: &Option<Text>) -> Result<Resource, Refused>
     ensures said { result ≡ resource_named action path.now }
     ensures lawful { IfOk result IsResource }
@@ -205,7 +205,8 @@ fn is_conditional(action: Action, resource: &Resource) -> bool
     matches!((action, resource), (Action::Post, Resource::Group(_)))
 }
 
-/// Refuses a request that the rules deny, where it shows this; `bare` says that it has no Authorization field.
+/// Refuses a request that the rules deny. `shown` is the text in its only Authorization field, and `bare` says that the
+/// request has no such field.
 fn permit(
     rules: &[Rule],
     action: Action,
@@ -267,7 +268,7 @@ fn needs_token(rules: &[Rule], action: Action, name: &GroupName, area: u8, numbe
         .any(|rule| would_allow(action, name, area, rule))
 }
 
-/// Whether a rule that allows would match this with its token.
+/// Whether a rule allows, and would match this action if its token was shown.
 fn would_allow(action: Action, name: &GroupName, area: u8, rule: &Rule) -> bool
     ensures { result ≡ would_allow action name.now area rule.now }
 {

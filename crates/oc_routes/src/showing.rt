@@ -139,7 +139,8 @@ fn here_answer(holding: Holding, start: u64) -> Answer
     }
 }
 
-/// A group that is not sealed here goes up to the end that is told.
+/// The answer to a client that tells the length of the group: a group that is not sealed here is given up to this
+/// length, as one that is sealed.
 fn of_shown(length: u64, answer: Answer, sealed: bool, start: u64) -> Shown
     ensures { result ≡ of_shown length answer sealed start }
 {
@@ -213,7 +214,7 @@ fn put_start(url: &mut Vec<u8>, start: u64) -> Result<(), Memory>
     put(url, b"&")
 }
 
-/// Puts that the client follows the group, where it does.
+/// Puts the part `follow`, where the client follows the group.
 fn put_follow(url: &mut Vec<u8>, manner: Manner) -> Result<(), Memory>
     ensures { OnOk result (url.new.items ≡ url.old.items ++ follow_text manner) }
 {

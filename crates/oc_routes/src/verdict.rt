@@ -22,13 +22,13 @@ pub struct Request {
     /// The number of its bytes.
     pub count: u64,
     pub asked: Asked,
-    /// The input that results from it, if any.
+    /// The input that results from the request, if any.
     pub input: Option<Input>,
     /// Whether the request is the last of its connection whatever it asks.
     pub last: bool,
 }
 
-/// A request that becomes none, since it is refused; [`crate::refusal_reply`] has its reply.
+/// The refusal of a request; [`crate::refusal_reply`] has its reply.
 #[derive(Clone, Copy, Debug, PartialEq, Eq)]
 pub struct Refusal {
     pub why: Refused,

@@ -31,7 +31,7 @@ pub enum Prospect {
 #[derive(Clone, Copy, Debug, PartialEq, Eq)]
 pub struct Follower {
     pub group: GroupName,
-    /// The byte from which it asks.
+    /// The byte from which the client asks.
     pub start: u64,
     /// The time at which the request came, in milliseconds.
     pub since: u64,
@@ -95,7 +95,7 @@ fn gives_nothing(hint: Hint, answer: Answer, holding: Holding, start: u64) -> bo
     }
 }
 
-/// The number of these milliseconds that are left, which began at `since`.
+/// The part of `most` milliseconds from `since` on that is left at `now`.
 pub fn millis_left(most: u64, since: u64, now: u64) -> u64
     ensures { result ≡ left_of most since now }
 {

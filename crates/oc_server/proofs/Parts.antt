@@ -41,7 +41,7 @@ module _ {D L K : Type 0} (view : D → DiskView) (takes fails : K → List ℕ 
       ap (λ (s : Setting). q s (running b)) (setting_stays view takes fails faults story counts a b does.did.same does.did.config does.did.log)
       ∙ ap (λ (r : Running). q (setting a) r) (behind_part p a b does honest)
 
-  -- one part after another, which was decided by the facts there
+  -- one part after another, where the second was decided by the facts at its beginning
   pub does_after : (takes_then : (a b c : K) (x y : List ℕ) → takes a x b → takes b y c → takes a (x ++ y) c) (p q r : Part) (a b c : Server D L K)
       → Does view takes faults story counts p a b → (IsHonest view a.kept → r (setting b) (running b) ≡ q (setting b) (running b))
       → Does view takes faults story counts r b c → Does view takes faults story counts (p >> q) a c
@@ -101,7 +101,7 @@ module _ {D L K : Type 0} (view : D → DiskView) (takes fails : K → List ℕ 
       (cuts_behind (p (setting a) (running a)) (q (setting a) (after_all (p (setting a) (running a)) (running a))) stops.deeds stops.under
       (subst (λ (ds : List Deed). Cuts ds stops.deeds stops.under) (same honest ∙ deeds_behind p q a b does honest) (stops.cut (does_honest p a b does honest))))
 
-  -- a part that stops in the second of two, which was decided by the facts there
+  -- a part that stops in the second of two parts, where the second was decided by the facts at its beginning
   pub stops_after : (takes_then : (a b c : K) (x y : List ℕ) → takes a x b → takes b y c → takes a (x ++ y) c) (end : TurnEnd) (p q r : Part) (a b c : Server D L K)
       → Does view takes faults story counts p a b → (IsHonest view a.kept → r (setting b) (running b) ≡ q (setting b) (running b))
       → Stops view takes fails faults story counts end r b c → Stops view takes fails faults story counts end (p >> q) a c
@@ -112,7 +112,7 @@ module _ {D L K : Type 0} (view : D → DiskView) (takes fails : K → List ℕ 
     cut = λ honest. cut_after end p q r a b c does same stops honest;
   }
 
-  -- the same after one deed, which is the first
+  -- a part that stops after its first deed, in the rest of the part
   pub one_then : (takes_then : (a b c : K) (x y : List ℕ) → takes a x b → takes b y c → takes a (x ++ y) c) (end : TurnEnd) (d : Deed) (p q r : Part) (a b c : Server D L K)
       → Did view takes faults story counts (d ∷ []) a b → (IsHonest view a.kept → p (setting a) (running a) ≡ (one d >> q) (setting a) (running a)) → (IsHonest view a.kept → r (setting b) (running b) ≡ q (setting b) (running b))
       → (stops : Stops view takes fails faults story counts end r b c) → (whole : Stops view takes fails faults story counts end p a c) × (whole.deeds ≡ d ∷ stops.deeds)
@@ -134,7 +134,7 @@ module _ {D L K : Type 0} (view : D → DiskView) (takes fails : K → List ℕ 
       → Stops view takes fails faults story counts end (p >> q) a c
   stops_behind takes_then end p q a b c does stops = stops_after takes_then end p q q a b c does (λ honest. refl) stops
 
-  -- a part ended so where another with the same deeds did
+  -- a part ends partway through where another with the same deeds does
   pub stops_as : (end : TurnEnd) (p q : Part) (a c : Server D L K) → (IsHonest view a.kept → q (setting a) (running a) ≡ p (setting a) (running a))
       → Stops view takes fails faults story counts end p a c → Stops view takes fails faults story counts end q a c
   stops_as end p q a c same stops = record {

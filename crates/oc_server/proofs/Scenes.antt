@@ -128,7 +128,7 @@ module _ {D L K : Type 0} (view : D → DiskView) (takes fails : K → List ℕ 
   pub did_no_fall : (ds : List Deed) (a b : Server D L K) → Did view takes faults story counts ds a b → IsHonest view a.kept → NoFall a.kept.store.generation b.kept.store.generation
   did_no_fall ds a b did honest = keeps_no_fall view (inputs_of ds) a.kept b.kept did.keeps honest
 
-  -- files that were renewed stay so
+  -- files that were renewed stay renewed
   pub still_renewed : (ds es : List Deed) (a b c : Server D L K) → Did view takes faults story counts ds a b → Did view takes faults story counts es b c
       → Renews view a.kept b.kept → Renews view a.kept c.kept
   still_renewed ds es a b c did more renews honest ripe = omega (arith, renews honest ripe, did_no_fall es b c more (still_honest ds a b did honest))

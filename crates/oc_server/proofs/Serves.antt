@@ -22,7 +22,7 @@ module _ {D L K : Type 0} (view : D → DiskView) (takes fails : K → List ℕ 
       further zero x same = (served, c, subst (λ (y : Turns D L K). Turned view takes faults story counts served y c) same last, refl)
       further (suc k) x (other, at, turned, rest) = (other, at, turned, further k at rest)
 
-  -- fewer than most, and then one that ended so
+  -- the end of turns of which one ended partway through
   pub serve_ends : (most : ℕ) (end : TurnEnd) (a c : Turns D L K) → ServesUpTo view takes fails faults story counts most end a c → ServeEnds view takes fails faults story counts most end a c
   serve_ends most ends.Served a c up = absurd up.stops.stops.breaks.2.cause
   serve_ends most ends.Link a c up = up

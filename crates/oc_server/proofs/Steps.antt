@@ -101,7 +101,7 @@ module _ {D L K : Type 0} (view : D → DiskView) (takes fails : K → List ℕ 
       ∙ ap (λ (x : List Work). record { node = node_of old.kept; outbox = old.outbox; works = x; dials = old.dials }) (is honest)
       ∙ sym behind) made
 
-  -- none, and the files were looked at
+  -- no deed, while the files were looked at
   pub did_look : (takes_nothing : (k : K) → takes k [] k) (old new : Server D L K) → new.config ≡ old.config → new.log ≡ old.log → new.sink ≡ old.sink → new.link ≡ old.link
       → new.outbox ≡ old.outbox → new.works ≡ old.works → new.dials ≡ old.dials → (IsLawful old → IsLawful new)
       → LooksOnly view old.kept new.kept → Did view takes faults story counts [] old new
@@ -202,7 +202,7 @@ module _ {D L K : Type 0} (view : D → DiskView) (takes fails : K → List ℕ 
   line_breaks ends.Full text old new kept told counted stops survives = absurd stops
 
 module _ {D L K : Type 0} (view : D → DiskView) (takes fails : K → List ℕ → K → Type 0) (faults : K → ℕ) (story : L → Option (List Call)) (counts : L → LinkCounts) where
-  -- the same of a line that is another text
+  -- the output failed in a line of no input, where the line is given as an equal text
   pub line_breaks_as : (end : TurnEnd) (text other : List ℕ) (old new : Server D L K) → text ≡ other → new.kept ≡ old.kept → story new.link ≡ story old.link → counts new.link ≡ counts old.link
       → LineStops fails faults end text old.sink new.sink → (IsHonest view old.kept → NodeSurvives view old.kept (node_of old.kept)) → NoteBreaks view takes fails faults story counts end other old new
   line_breaks_as end text other old new same kept told counted stops survives =

@@ -171,7 +171,7 @@ module _ {D L K : Type 0} (view : D → DiskView) (takes fails : K → List ℕ 
   keep_breaks takes_nothing ends.Link i old new sink told counted stops = absurd stops.cause
   keep_breaks takes_nothing ends.Sink i old new sink told counted stops = absurd stops.cause
 
-  -- memory ran out before it was taken
+  -- memory ran out before an input was taken
   pub memory_before : (takes_nothing : (k : K) → takes k [] k) (i : Input) (old : Server D L K) → (IsHonest view old.kept → NodeSurvives view old.kept (node_of old.kept))
       → Breaks view takes fails faults story counts ends.Memory (Taking i) old old
   memory_before takes_nothing i old survives =
@@ -202,7 +202,7 @@ module _ {D L K : Type 0} (view : D → DiskView) (takes fails : K → List ℕ 
   write_breaks ends.Full i outcome old new told counted kept stops = absurd stops
 
 module _ {D L K : Type 0} (view : D → DiskView) (takes fails : K → List ℕ → K → Type 0) (faults : K → ℕ) (story : L → Option (List Call)) (counts : L → LinkCounts) where
-  -- the same of a line that is another text
+  -- the output failed in the line of an input, where the line is given as an equal text
   pub write_breaks_as : (end : TurnEnd) (i : Input) (outcome : OutcomeView) (old new : Server D L K) (text : List ℕ) → text ≡ taken_line old.log old.kept.node.control.me i → story new.link ≡ story old.link → counts new.link ≡ counts old.link
       → KeepsOne view i outcome old.kept new.kept → LineStops fails faults end text old.sink new.sink
       → Breaks view takes fails faults story counts end (Taking i) old new

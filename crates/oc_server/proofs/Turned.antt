@@ -79,7 +79,7 @@ module _ {D : Type 0} (view : D → DiskView) (law : Law view) (old new : KeptVi
     cause = fails.rose;
   }
 
-  -- the same of a call that read
+  -- a look that ended in a read which closed the files
   pub read_stops : old.closed ≡ false → StaysTheSame view old new → Closes view old new → LookStops view ends.Disk old new
   read_stops is_open same closes = record {
     goes_on = same.goes_on;
@@ -88,13 +88,13 @@ module _ {D : Type 0} (view : D → DiskView) (law : Law view) (old new : KeptVi
     cause = closes.rose;
   }
 
-  -- the same of a call that failed, if not since the node was closed before
+  -- a look that ended in a call which failed, at a node that was open before
   pub failed_stops : old.closed ≡ false → StaysTheSame view old new → (IsTrue old.closed × (new ≡ old)) ⊎ Closes view old new → LookStops view ends.Disk old new
   failed_stops is_open same (inl (closed, none)) =
       let yes : old.closed ≡ true = closed in let no = is_open in absurd cc
   failed_stops is_open same (inr closes) = read_stops is_open same closes
 
-  -- the same of an input that was not made ready
+  -- a look that ended where an input was not made ready
   pub ready_stops : (error : ReadyError) (i : Input) → old.closed ≡ false → StaysTheSame view old new → (error ≡ readies.Closed → IsTrue old.closed) → FailsToReady view error i old new
       → (new.closed ≡ false → IsHonest view new → NodeSurvives view new (node_of new))
       → LookStops view (end_of_ready error) old new

@@ -85,7 +85,7 @@ pub record Dealt {D L K : Type 0} (view : D → DiskView) (takes : K → List �
   pub pace : IsHonest view old.server.kept → new.pace ≡ paced (quickened (came_hurries came (node_of old.server.kept)) old.pace) now seconds
   pub probing : new.probing ≡ probed came now old.server.dials old.probing
 
--- A front of that was done, and then it ended so.
+-- A front of the deeds for the news was done, and then the turn ended with this end.
 pub record DealStops {D L K : Type 0} (view : D → DiskView) (takes fails : K → List ℕ → K → Type 0) (faults : K → ℕ) (story : L → Option (List Call)) (counts : L → LinkCounts) (end : TurnEnd) (came : Came) (now : ℕ) (old new : Turns D L K) : Type 0 where
   pub median : ℕ
   pub started : ℕ
@@ -317,7 +317,7 @@ module _ {D L K : Type 0} (view : D → DiskView) (takes fails : K → List ℕ 
         read = λ honest. inr (subst (λ (o : Option ℕ). MayRead story o old new.server (told_due seconds)) (sym (is honest)) tt);
       }
 
-    -- none was due
+    -- no work was due
     module _ (is : IsHonest view old.server.kept → due_in old.server before ≡ None) where
       -- the news that was read is that of the link in this turn
       read_then : (t : Observation) (more : List Call) → t.before ≡ before → IsHonest view old.server.kept → AddsAll more (story b.link) (story new.server.link)

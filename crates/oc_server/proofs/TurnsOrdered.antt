@@ -167,7 +167,7 @@ module _ {D L K : Type 0} (view : D → DiskView) (takes fails : K → List ℕ 
         ]
       ]
 
-  -- Turns of which the last may have ended so
+  -- Turns of which the last may have ended partway through
 
   all_served : (n : ℕ) (old new : Turns D L K) (made later : List Call) → IsHonest view old.server.kept → story old.server.link ≡ Some made → story new.server.link ≡ Some later → old.server.works ≡ [] → IsSettled made old.server.works
       → (serves : Serves view takes faults story counts n old new) → AreServed (setting old.server) made later (deeds_of view takes faults story counts n old new serves) (running old.server)

@@ -18,7 +18,7 @@ pub record Does {D L K : Type 0} (view : D → DiskView) (takes : K → List ℕ
   pub did : Did view takes faults story counts deeds old new
   pub are : IsHonest view old.kept → deeds ≡ part (setting old) (running old)
 
--- A front of the part was done, and then it ended so.
+-- A front of the part was done, and then the part ended with this end.
 pub record Stops {D L K : Type 0} (view : D → DiskView) (takes fails : K → List ℕ → K → Type 0) (faults : K → ℕ) (story : L → Option (List Call)) (counts : L → LinkCounts) (end : TurnEnd) (part : Part) (old new : Server D L K) : Type 0 where
   pub deeds : List Deed
   pub under : Under

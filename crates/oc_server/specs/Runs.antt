@@ -58,7 +58,7 @@ pub record IsRead {D L K : Type 0} (old : Turns D L K) (asked now : Option (List
   pub means : Means (reads_by old.server) lent (errand_in t.event old.server.dials) t.event t.came
   pub measured : IsMeasured old.probing t.came t.now t.median
 
--- the clock was read first
+-- the story of the link with a reading of the clock after it
 abbrev pub after_reading : ℕ → Option (List Call) → Option (List Call)
 after_reading before story = option_map (λ calls. calls ++ acts.Millis before ∷ []) story
 
@@ -111,7 +111,7 @@ Serves {D} {L} {K} view takes faults story counts zero old new = new ≡ old
 Serves {D} {L} {K} view takes faults story counts (suc n) old new = (served : Bool) × (at : Turns D L K)
     × Turned view takes faults story counts served old at × Serves view takes faults story counts n at new
 
--- fewer turns than `most`, and then one that ended so partway through
+-- fewer turns than `most`, and then one that ended partway through, with this end
 pub record ServesUpTo {D L K : Type 0} (view : D → DiskView) (takes fails : K → List ℕ → K → Type 0) (faults : K → ℕ) (story : L → Option (List Call)) (counts : L → LinkCounts) (most : ℕ) (end : TurnEnd) (old new : Turns D L K) : Type 0 where
   pub done : ℕ
   pub few : done < most

@@ -128,7 +128,7 @@ HasCause view faults ends.Link under old new sink after before behind = Rose bef
 HasCause view faults ends.Memory under old new sink after before behind = Unit {0}
 HasCause view faults ends.Served under old new sink after before behind = ⊥
 
--- A file is full for the input that was under way exactly where it ended so, and then nothing was done, and no disk failed.
+-- A file is full for the input that was under way exactly where this is the end, and then nothing was done, and no disk failed.
 abbrev pub MeetsFull : {D : Type 0} → (D → DiskView) → TurnEnd → Under → KeptView D → KeptView D → Type 0
 MeetsFull view ends.Full (Taking i) old new = IsFullAt old i × DoesNothing view old new
 MeetsFull view ends.Full under old new = ⊥
@@ -136,7 +136,7 @@ MeetsFull view ends.Disk (Taking i) old new = ¬ IsFullAt old i
 MeetsFull view ends.Sink (Taking i) old new = ¬ IsFullAt old i
 MeetsFull view end under old new = Unit {0}
 
--- the link was asked in vain where it ended so, and else nothing happened there
+-- a failure of the link is counted where the link was asked in vain, and none at any other end
 abbrev pub CountsAt : TurnEnd → LinkCounts → LinkCounts → Type 0
 CountsAt ends.Link old new = CountsFailure old new
 CountsAt end old new = new ≡ old

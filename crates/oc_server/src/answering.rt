@@ -108,7 +108,7 @@ pub(crate) fn has_to_wait<D: Disk>(kept: &mut Kept<D>, request: &Request) -> Res
     ))
 }
 
-/// The answer that an input would have now. Nothing of the node changes.
+/// The answer that the input of a request would have now, and `Ok` without an input. Nothing of the node changes.
 fn answer_now<D: Disk>(kept: &mut Kept<D>, input: Option<Input>) -> Result<Answer, TurnEnd>
     requires open { kept.old.closed ≡ false }
     requires input { IfSome input (IsInput kept.old.node.control.nodes kept.old.node.control.me) }
@@ -122,7 +122,7 @@ fn answer_now<D: Disk>(kept: &mut Kept<D>, input: Option<Input>) -> Result<Answe
     }
 }
 
-/// The answer that an input would have now. Nothing of the node changes.
+/// The answer of the step that this input would take now. Nothing of the node changes.
 fn answer_to<D: Disk>(kept: &mut Kept<D>, input: Input) -> Result<Answer, TurnEnd>
     requires open { kept.old.closed ≡ false }
     requires input { IsInput kept.old.node.control.nodes kept.old.node.control.me input }

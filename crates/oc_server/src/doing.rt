@@ -154,7 +154,7 @@ impl<D: Disk, L: Link, K: Sink> Doer for Server<D, L, K> {
         let reply = refusal_reply(self.alloc, refusal)?;
         let mut line = Vec::new(self.alloc);
         put_refusal_line(&mut line, refusal.why)?;
-        // The line is written before the reply is given.
+        // The line comes first, so that no client is refused without a line.
         write_line(&mut self.sink, &line)?;
         refuse(&mut self.link, connection, count, reply);
         Ok(())

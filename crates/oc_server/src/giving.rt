@@ -33,7 +33,7 @@ pub(crate) fn take_request<L: Link>(link: &mut L, request: &Pending)
     }
 }
 
-/// Tells the link that a reply is whole, where nothing of it is left.
+/// Tells the link that a reply is whole, where nothing is left of its content.
 pub(crate) fn finish<L: Link>(
     link: &mut L,
     connection: ConnectionId,

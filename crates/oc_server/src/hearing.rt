@@ -25,7 +25,7 @@ use oc_routes::{Terms, judge};
 use std::alloc::Global;
 
 impl<D: Disk, L: Link, K: Sink> Server<D, L, K> {
-    /// The news of the event that the link told last. It is to be asked before any other call of the link.
+    /// The news of the event that the link told last; to be asked for before any other call of the link.
     pub fn understands(&mut self, happened: Heard) -> Result<Came, TurnEnd>
         requires serving { IsServing self.old }
         requires errand { IfSome happened.errand (IsLawfulErrand self.old.kept.node.control.nodes) }
@@ -55,7 +55,7 @@ impl<D: Disk, L: Link, K: Sink> Server<D, L, K> {
         }
     }
 
-    /// The verdict on a request that came so far.
+    /// The verdict on the bytes of a request that came so far.
     fn hears(&mut self, arrival: Arrival) -> Result<Came, Memory>
         requires { length self.old.config.rules ≤ MAX_RULES }
         ensures means { IfOk result (Means (reads_by self.old) (L.lends self.old.link) None (events.Request arrival)) }
@@ -72,7 +72,7 @@ impl<D: Disk, L: Link, K: Sink> Server<D, L, K> {
         )
     }
 
-    /// The news of a dial that was made for this; none where there is none.
+    /// The news of a dial with this errand; `Nothing` where there was no errand.
     fn hears_back(&mut self, errand: Option<Errand>, coming: Coming) -> Result<Came, Memory>
         requires { IfSome errand (IsLawfulErrand self.old.kept.node.control.nodes) }
         ensures means { IfOk result (MeansBack (reads_by self.old) (L.lends self.old.link) errand coming) }
@@ -94,7 +94,7 @@ impl<D: Disk, L: Link, K: Sink> Server<D, L, K> {
     }
 }
 
-/// The verdict of a node with this configuration on a request that came so far.
+/// The verdict of a node with this configuration on the bytes of a request that came so far.
 fn judged<D: Disk>(
     alloc: Global,
     kept: &Kept<D>,

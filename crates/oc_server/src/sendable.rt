@@ -7,8 +7,8 @@ ghost use Rattle.oc_deeds.specs.Sending.{AreSendable, can_send, has_text};
 use oc_keep::Outcome;
 use oc_model::{Body, Message};
 
-/// An outcome whose messages can all be sent. Those of a step can, and it stays as it is. One with a
-/// message that cannot, as disks that do not keep the disk model may bring about, loses its messages.
+/// This outcome, where all of its messages can be sent, as those of a step can. One with a message that cannot be sent,
+/// as disks that do not keep the disk model may bring about, loses all of its messages.
 pub(crate) fn sendable(nodes: u32, mut outcome: Outcome) -> Outcome
     ensures sendable { AreSendable nodes result.sends }
     ensures whole { AreSendable nodes outcome.sends → result ≡ outcome }

@@ -15,13 +15,13 @@ pub struct Turns<D: Disk, L: Link, K: Sink> {
     pub server: Server<D, L, K>,
     /// The times of its ticks.
     pub pace: Pace,
-    /// The state for probes, if it probes.
+    /// The state for probes, if the node probes.
     pub probing: Option<Probing>,
 }
 
 impl<D: Disk, L: Link, K: Sink> Turns<D, L, K> {
-    /// Turns one after another, this many, or without an end where no number is given; or those up to one that ends
-    /// partway through, and then that end.
+    /// Makes turns one after another, this many, or 2^64 - 1 where no number is given; or those up to one that ends partway
+    /// through. Gives the end.
     pub fn serve(&mut self, turns: Option<u64>) -> TurnEnd
         requires { IsReady self.old }
         ensures { ServeEnds D.view K.takes K.fails K.faults L.story L.counts (unwrap_or turns u64.MAX) result self.old self.new }
@@ -36,7 +36,7 @@ impl<D: Disk, L: Link, K: Sink> Turns<D, L, K> {
         TurnEnd::Served
     }
 
-    /// One turn. It answers whether something was served.
+    /// Makes one turn. Gives whether something was served.
     pub fn turn(&mut self) -> Result<bool, TurnEnd>
         requires { IsReady self.old }
 
@@ -58,7 +58,7 @@ impl<D: Disk, L: Link, K: Sink> Turns<D, L, K> {
         }
     }
 
-    /// Takes one thing that happened at the link. It answers whether something was served.
+    /// Takes one thing that happened at the link. Gives whether something was served.
     fn takes_next(&mut self, before: u64) -> Result<bool, TurnEnd>
         requires { IsReady self.old }
         ensures ready { OnOk result (IsReady self.new) }

@@ -71,7 +71,7 @@ alike_turn pace probing t a b bytes other d count more v w x y s r first second 
     (alike_at (due_index r.works (shelf r.node.groups) t.before) pace probing t a b bytes other d count more v s r)))
 
 module _ (one : (t : NodeTerms) (a : Arrival) (bytes : List ℕ) (v w : Verdict) → IsVerdict t a bytes v → IsVerdict t a bytes w → v ≡ w) where
-  -- the same bytes
+  -- the same bytes of a request, told with other new bytes
   pub same_alike : (n : NodeTerms) (pace : Pace) (probing : Option Probing) (t : Observation) (s : Setting) (r : Running) (a : Arrival) (lent bytes other : List ℕ) (e f : Option Errand) (x y : Came)
       → Means n lent e (Request a) x → Means n lent f (Request a) y → AreAlike s (turn pace probing (told_request t a bytes x) s r) (turn pace probing (told_request t a other y) s r) r
   same_alike n pace probing t s r a lent bytes other e f x y first second =

@@ -408,7 +408,7 @@ front_of (x ∷ xs) ys (g ∷ gs) (suc k) is few =
     let more = front_of xs ys gs k others (omega (arith, few)) in
     (more.0, ap (λ (y : Deed). y ∷ take k gs) first ∙ ap (λ (zs : List Deed). x ∷ zs) (more.1))
 
--- the first of some deeds, no more than these and a few more, are a front of these and the few
+-- a list of deeds no longer than some deeds and `k` more is a front of these deeds and the next `k`
 pub front_of_few : (xs ys ds es : List Deed) (k : ℕ) → ds ++ es ≡ xs ++ ys → length xs ≤ length ds + k → (rest : List Deed) × (ds ++ take k es ≡ xs ++ rest)
 front_of_few [] ys ds es k is few = (ds ++ take k es, refl)
 front_of_few (x ∷ xs) ys [] es k is few = front_of (x ∷ xs) ys es k is (omega (arith, few))

@@ -12,7 +12,7 @@ use Rattle.oc_routes.specs.declared.refused.Refused.{Refused}
 use Rattle.oc_routes.specs.declared.refused.Refused.TheVariants as refusals
 use Rattle.oc_routes.specs.declared.routes.Operation.{Operation}
 
--- another refusal
+-- any refusal but that of a call that failed
 abbrev pub IsOther : Refused → Type 0
 IsOther refusals.Source = ⊥
 IsOther why = Unit {0}

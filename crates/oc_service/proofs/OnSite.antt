@@ -420,7 +420,7 @@ abbrev pub EndsAs : {D L K : Type 0} → (D → DiskView) → (K → List ℕ �
 EndsAs view takes fails faults story counts s task d end e l m k j =
     NodeEnds (at_run view story counts takes fails s task d e l m k j) (λ text. takes k text j) (λ text. fails k text j × Rose (faults k) (faults j)) (setting_of s task) (Turned end)
 
--- the same for the objects given to the node and given back
+-- this end for the objects given to the node and given back
 pub told_of : {D L K : Type 0} (view : D → DiskView) (takes fails : K → List ℕ → K → Type 0) (faults : K → ℕ) (story : L → Option (List Call)) (counts : L → LinkCounts)
     (takes_nothing : (k : K) → takes k [] k) (takes_then : (a b c : K) (x y : List ℕ) → takes a x b → takes b y c → takes a (x ++ y) c)
     (takes_fails : (a b c : K) (x y : List ℕ) → takes a x b → fails b y c → fails a (x ++ y) c)

@@ -20,7 +20,7 @@ all_peers me nodes id (None ∷ places) some within = all_peers me nodes (id + 1
 all_peers me nodes id (Some x ∷ places) some within =
     one_more me nodes id (id == me) (peers_from me (id + 1) places) some (omega (arith, within)) (all_peers me nodes (id + 1) places (omega (arith, some)) (omega (arith, within)))
 
--- the peers of a list are those of the list that is read from it
+-- the peers of a list are those of the same list with other addresses
 same_peers : {A B : Type 0} (f : A → B) (me id : ℕ) (places : List (Option A)) → peers_from me id (map (option_map f) places) ≡ peers_from me id places
 same_peers f me id [] = refl
 same_peers f me id (None ∷ places) = same_peers f me (id + 1) places

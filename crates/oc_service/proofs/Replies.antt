@@ -98,13 +98,13 @@ module _ (s : Setting) (own : List Deed) (a : Running) (quiet : AllQuiet own) (n
       (subst (λ (r : Running). IsOrdered s (made ++ calls_of s own a) ds r) is
       (subst (λ (cs : List Call). IsOrdered s cs ds b) calls served.ordered)))
 
-  -- nothing is under way after them
+  -- nothing is under way after deeds that touch no connection
   still_settled : (made mid : List Call) → IsSettled made [] → mid ≡ made ++ calls_of s own a → (after_all own a).works ≡ [] → IsSettled mid []
   still_settled made mid settled calls left =
       subst (λ (cs : List Call). IsSettled cs []) (sym calls)
       (subst (λ (x : List Work). IsSettled (made ++ calls_of s own a) x) left (all_quiet s made own a quiet (settled_with made a.works none settled)).settled)
 
-  -- told of the stories before, between and after
+  -- replies served by deeds that come after these are served by all of them, by the stories before, between and after
   pub serves_behind : (ds : List Deed) (b : Running) (x y z : Option (List Call)) → (after_all own a).works ≡ [] → b ≡ after_all own a → AddsAll (calls_of s own a) x y → Follows y z
       → ((made later : List Call) → y ≡ Some made → z ≡ Some later → IsSettled made [] → AreServed s made later ds b) → ServesFrom s (own ++ ds) a x z
   serves_behind ds b x y None left is adds follows served = tt
@@ -122,7 +122,7 @@ module _ (s : Setting) (own : List Deed) (a : Running) (quiet : AllQuiet own) (n
       in_order s x z ds a none settled adds
       (ordered_front s x ds behind a (subst (λ (es : List Deed). IsOrdered s x es a) front (all_quiet s x own a quiet (settled_with x a.works none settled)).ordered))
 
--- told of the calls until then
+-- replies that were served from some calls on were served from the calls until then on
 pub serves_until : (s : Setting) (ds : List Deed) (a : Running) (x z : Option (List Call)) → ServesFrom s ds a x z → ServesFrom s ds a (until x z) z
 serves_until s ds a x None serves = tt
 serves_until s ds a None (Some z) serves = absurd serves

@@ -103,7 +103,7 @@ module _ {D L K : Type 0} (view : D → DiskView) (takes fails : K → List ℕ 
       (made later : List Call) → IsHonest view at.kept → story at.link ≡ Some made → z ≡ Some later → at.works ≡ [] → IsSettled made at.works → AreServed (setting at) made later ds (running at)
 
   module _ (at : Server D L K) (did : Did view takes faults story counts own listening at) where
-    -- the turns begin with this
+    -- the state with which the turns begin
     abbrev first : Turns D L K
     first = record old { server = at }
 
@@ -130,7 +130,7 @@ module _ {D L K : Type 0} (view : D → DiskView) (takes fails : K → List ℕ 
         subst (λ (r : Running). AddsAll (calls_of s own r) (story listening.link) (story at.link)) listening_running
         (subst (λ (x : Setting). AddsAll (calls_of x own (running listening)) (story listening.link) (story at.link)) listening_setting (did.done (honest_listening honest)).calls)
 
-    -- replies served by the deeds since then are so by all deeds since the node listens
+    -- replies served by the deeds since then are served by all deeds since the node listens
     serves_all : (ds all : List Deed) (z : Option (List Call)) → own ++ ds ≡ all → (IsHonest view old.server.kept → Follows (story at.link) z) → IsServedSince at ds z
         → IsHonest view old.server.kept → old.server.works ≡ [] → ServesFrom s all (running old.server) (story listening.link) z
     serves_all ds all z is follows served honest none =
@@ -147,7 +147,7 @@ module _ {D L K : Type 0} (view : D → DiskView) (takes fails : K → List ℕ 
         until_then (calls_of (setting listening) own (running listening)) (story listening.link) (story at.link) all (did.done (honest_listening honest)).calls follows
         ∙ none_more (calls_of (setting listening) own (running listening)) (own_calls (setting listening) s old.server.config.measures (running listening)) (until (story listening.link) all)
 
-    -- no turn was made, or some
+    -- any number of turns was made
     module _ (n : ℕ) (last : Turns D L K) (turns : Made view takes fails faults story counts takes_nothing takes_then n first last) where
       abbrev all_deeds : List Deed
       all_deeds = own ++ turns.deeds
@@ -293,7 +293,7 @@ module _ {D L K : Type 0} (view : D → DiskView) (takes fails : K → List ℕ 
 
   -- The run ended before its first turn
 
-  -- some news for that turn
+  -- a quiet observation, for the turn that did not begin
   abbrev no_told : Observation
   no_told = record { before = 0; event = events.Quiet; bytes = []; came = comes.Nothing; now = 0; median = 0; started = 0; seconds = 0 }
 

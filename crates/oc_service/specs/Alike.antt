@@ -7,7 +7,7 @@ use Rattle.oc_deeds.specs.Deeds.{Deed, Running, Setting, after_all, calls_of, li
 use Rattle.oc_deeds.specs.Turns.{Observation}
 use Rattle.oc_deeds.specs.declared.came.Came.{Came}
 
--- a turn is told a request, by which these bytes came new, and which means this
+-- the observation of a turn that is told a request, with these new bytes and this meaning
 abbrev pub told_request : Observation → Arrival → List ℕ → Came → Observation
 told_request t a bytes came = record t { event = Request a; bytes = bytes; came = came }
 

@@ -35,11 +35,11 @@ ticked = record { last = Some 0; interval = 100; most = 1000; whole = false; sec
 abbrev quiet : Observation
 quiet = record { before = 0; event = events.Quiet; bytes = []; came = comes.Nothing; now = 5; median = 0; started = 5; seconds = 7 }
 
--- the bytes of a request of connection 8 end so
+-- the event that tells of a request on connection 8, whose bytes end in this way
 abbrev request : Coming → LinkEvent
 request coming = events.Request (arrival 8 1 false coming)
 
--- A turn that is told such a request, by which these bytes came new, and of which this many are held, and which refuses it.
+-- The deeds of a turn that is told such a request, with these new bytes and this number of bytes held, and that refuses the request.
 abbrev refuses : Coming → List ℕ → ℕ → Refused → List Deed
 refuses coming bytes count why = turn ticked None (told_request quiet (arrival 8 1 false coming) bytes (comes.Request 8 count (verdicts.Refuse (refusing why)))) example idle
 

@@ -146,7 +146,7 @@ CountsUntil end deeds old new = (at : LinkCounts) × CountsAll deeds old at × C
 pub record StoppedOn {D L K : Type 0} (view : D → DiskView) (story : L → Option (List Call)) (counts : L → LinkCounts) (takes fails : K → List ℕ → K → Type 0) (c : Settings) (task : Task) (end : TurnEnd) (deeds : List Deed) (under : Under) (old new : Disks D) (link after : L) (sink written : K) : Type 0 where
   pub told : List Observation
   pub last : Observation
-  -- fewer turns than it was asked for come before the last one, or it ended before the first
+  -- fewer turns than were asked for come before the last one, or the run ended before the first
   pub few : (length told < task.turns) ⊎ (AreHonest view old → Cuts (begins (setting_of c task) c.measures (first_node view (header_of_settings c) task.me old)) deeds under)
   pub cut : AreHonest view old
       → Cuts (node_deeds (setting_of c task) c.measures told (machine_on view c task old) ++ turn_deeds (setting_of c task) last (machine_after (setting_of c task) c.measures told (machine_on view c task old))) deeds under
@@ -210,7 +210,7 @@ module _ (run : OnRun) (written cut_off : List ℕ → Type 0) (s : Setting) whe
   abbrev pub Stops : TurnEnd → Type 0
   Stops end = (deeds : List Deed) × (under : Under) × Writes written cut_off s end deeds under × run.stopped end deeds under
 
-  -- The end of a node's run with this setting: it was not loaded, or made all its turns, or ended
+  -- The end of a node's run with this setting: the node was not loaded, or made all its turns, or its run ended
   -- early.
   abbrev pub NodeEnds : NodeEnd → Type 0
   NodeEnds (Load error) = run.refused error × written []

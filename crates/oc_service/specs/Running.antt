@@ -61,7 +61,7 @@ pub record Halts {D L K : Type 0} (view : D → DiskView) (takes fails : K → L
   pub last : Observation
   pub deeds : List Deed
   pub under : Under
-  -- fewer turns than `most` come before the last one, or it ended before the first
+  -- fewer turns than `most` come before the last one, or the run ended before the first
   pub few : (length told < most) ⊎ (IsHonest view old.server.kept → Cuts (begins (setting old.server) old.server.config.measures (node_of old.server.kept)) deeds under)
   pub breaks : BreaksAfter view takes fails faults story counts end deeds under listening new.server
   pub cut : IsHonest view old.server.kept

@@ -1,5 +1,5 @@
 -- A node's deeds on one page: a machine whose steps are turns, given the reports of the link and
--- the clock in each. `turn` of oc_server gives the deeds of a turn, and `after`, `line` and `calls`
+-- the clock in each. `turn` of oc_deeds gives the deeds of a turn, and `after`, `line` and `calls`
 -- of a deed give the node after it, its line and its calls.
 use Rattle.std.specs.Prelude.{ℕ, Bool, ◌==◌, if◌then◌else◌, Option, List, [], ◌∷◌, ◌++◌}
 use Rattle.oc_base.specs.Groups.{shelf}

@@ -26,7 +26,7 @@ MayHear terms calls (Some place) t m = Unit {0}
 abbrev pub calls_after : Setting → Observation → Machine → Option (List Call) → Option (List Call)
 calls_after s t m calls = option_map (λ (cs : List Call). cs ++ calls_of s (turn_deeds s t m) m.running) calls
 
--- the same for each of the turns
+-- the events of turns one after another are those reported by the link, each after the calls of the turns before it
 abbrev pub AreHeard : Setting → NodeTerms → Option (List Call) → List Observation → Machine → Type 0
 AreHeard s terms calls [] m = Unit {0}
 AreHeard s terms calls (t ∷ ts) m = MayHear terms calls (due_at t m) t m × AreHeard s terms (calls_after s t m calls) ts (after_turn s t m)
@@ -36,7 +36,7 @@ abbrev pub all_calls_after : Setting → List Observation → Machine → Option
 all_calls_after s [] m calls = calls
 all_calls_after s (t ∷ ts) m calls = all_calls_after s ts (after_turn s t m) (calls_after s t m calls)
 
--- the calls that were made until then, if the link tells them to the end
+-- the calls that were made until a moment, if the link tells them to the end
 abbrev pub until : Option (List Call) → Option (List Call) → Option (List Call)
 until (Some calls) (Some all) = Some calls
 until calls all = None

@@ -25,8 +25,8 @@ ghost use Rattle.oc_service.specs.Failures.{AreBorneOut, RiseForLines};
 
 use oc_routes::a_request_has_one_verdict;
 
-/// Lines `! source` and `! write` that follow from the link's reports are written only if its count
-/// of reads, or of writes, rose with the last event.
+/// Lines `! source` and `! write` that follow from the link's reports are written only if the count of requests that could
+/// not be read, or of replies that could not be sent, rose with the last event.
 pub fn lines_of_failures_raise_counts()
     ensures counts { (deeds : List Deed) (old new : LinkCounts) → AreBorneOut Quiet deeds → CountsAll deeds old new → RiseForLines old old deeds new }
     ensures examples { AreTold }
@@ -45,7 +45,7 @@ pub fn the_same_bytes_are_answered_alike()
         → Means n lent e (Request a) x → Means n lent f (Request a) y
         → AreAlike s (turn pace probing (told_request t a bytes x) s r) (turn pace probing (told_request t a other y) s r) r }
 
-    // An answer before all bytes have come is the same as with all.
+    // An answer before all bytes have come is the same as the answer to all of them.
     ensures early { (n : NodeTerms) (pace : Pace) (probing : Option Probing) (t : Observation) (s : Setting) (r : Running) (c number : ℕ) (permitted : Bool) (coming : Coming) (lent more bytes other : List ℕ) (e f : Option Errand) (x y : Came)
         → Means n lent e (Request (arrival c number permitted Open)) x → x ≢ comes.Request c (length lent) Wait → Means n (lent ++ more) f (Request (arrival c number permitted coming)) y
         → AreAlike s (turn pace probing (told_request t (arrival c number permitted Open) bytes x) s r) (turn pace probing (told_request t (arrival c number permitted coming) other y) s r) r }

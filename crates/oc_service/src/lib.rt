@@ -1,8 +1,8 @@
 //! A node from its files to the end of its turns.
 //!
 //! [`run_node`] is the call for the layer above. It loads the node of a configuration from its
-//! three files, has its link listen, takes the measures, and turns: a number of times, or without
-//! an end. Its [`Site`] is given by the caller and given back.
+//! three files, has its link listen, takes the measures, and makes the number of turns of its task.
+//! Its [`Site`] is given by the caller and given back.
 //!
 //! `specs/WhatNodeDoes` defines the deeds of a node on one page: a machine whose steps are turns,
 //! given the reports of the link and the clock in each. The contract of [`run_node`] is that
@@ -14,8 +14,8 @@
 //! at each prefix of the deeds every crash at any moment left the node of the inputs so far, or
 //! with one more (`specs/AtAnyMoment`).
 //!
-//! [`lines_of_failures_raise_counts`] says the second by the counts of the link, and
-//! [`the_same_bytes_are_answered_alike`] that it makes no difference how a request was cut on its way.
+//! [`lines_of_failures_raise_counts`] says the part about failures by the counts of the link, and
+//! [`the_same_bytes_are_answered_alike`] that the cuts between the bytes of a request make no difference.
 #![tactic(auto)]
 
 mod law;

@@ -70,8 +70,8 @@ pub fn run_node<D: Disk, L: Link, K: Sink>(
 
     // The deeds of the node: with all its turns made, exactly those of the machine. If the run
     // ended early: a prefix of these, and the reason. If the node was not loaded: the file with the
-    // fault. And the bytes given to its connections, the files after every crash and the bytes
-    // written, at every moment.
+    // fault. In each case: the bytes given to its connections, and at every moment the files after
+    // every crash and the bytes written.
     ensures ends { NodeEnds
         (at_run D.view L.story L.counts K.takes K.fails config task (disks_in site.files) (disks_in result.site.files) site.link result.site.link site.sink result.site.sink)
         (λ text. K.takes site.sink text result.site.sink)

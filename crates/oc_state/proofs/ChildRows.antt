@@ -65,13 +65,13 @@ chain_none (Some k ∷ rows) nodes z y chain x fit past = by_test (chain_none ro
 
 -- The steps of the loop over the rows
 
--- without a child in this row, the result of the rest is the result of all rows
+-- the result of the rest is that of all rows, if this row gives no child
 pub chain_goes_on : (rows : List (Option Cert)) (i : ℕ) (row : Option Cert) (y chain x : ℕ) (whole : Option ℕ) → i < length rows → row ≡ get_or rows i row → other_child_of_row y x row ≡ None → chain_among (drop i rows) y chain x ≡ whole → chain_among (drop (i + 1) rows) y chain x ≡ whole
 chain_goes_on rows i row y chain x whole within e none so =
     let here : chain_among (drop i rows) y chain x ≡ chain_among (drop (i + 1) rows) y chain x = ap (λ (rs : List (Option Cert)). chain_among rs y chain x) (rows_at rows i row within e) ∙ chain_past row (drop (i + 1) rows) y chain x none in
     sym here ∙ so
 
--- with a child in this row that is in the chain, that child is the result of all rows
+-- a child that this row gives and that is in the chain is the result of all rows
 pub chain_found : (rows : List (Option Cert)) (i : ℕ) (row : Option Cert) (y chain x : ℕ) (whole found : Option ℕ) → i < length rows → row ≡ get_or rows i row → AreRowsFrom (length rows) (i + 1) (drop i rows) → i < chain → found ≡ other_child_of_row y x row → (k : ℕ) → found ≡ Some k → chain_among (drop i rows) y chain x ≡ whole → found ≡ whole
 chain_found rows i row y chain x whole found within e fit member is k some so =
     let fit' : AreRowsFrom (length rows) (i + 1) (row ∷ drop (i + 1) rows) = subst (λ (rs : List (Option Cert)). AreRowsFrom (length rows) (i + 1) rs) (rows_at rows i row within e) fit in
@@ -80,7 +80,7 @@ chain_found rows i row y chain x whole found within e fit member is k some so =
     let here : chain_among (drop i rows) y chain x ≡ Some k = ap (λ (rs : List (Option Cert)). chain_among rs y chain x) (rows_at rows i row within e) ∙ chain_here row (drop (i + 1) rows) y chain x k has (omega (arith, own)) in
     some ∙ sym here ∙ so
 
--- past the chain the rest gives none
+-- the rows past the chain give none
 pub chain_ends : (rows : List (Option Cert)) (used n i : ℕ) (blank : Option Cert) (y chain x : ℕ) → AreRowsFrom (length rows) (i + 1) (drop i rows) → drop used rows ≡ replicate n blank → blank ≡ None → min used chain ≤ i → chain_among (drop i rows) y chain x ≡ None
 chain_ends rows used n i blank y chain x fit rest none past = by_order (cases_lt i used) where
   by_order : (i < used) ⊎ (used ≤ i) → chain_among (drop i rows) y chain x ≡ None
@@ -97,7 +97,7 @@ told_cons y rates (Some k) rows = by_test (is_lease_of y k) refl where
   by_test true h = rw h
   by_test false h = rw h
 
--- after the child of a row was added, the rest still completes the whole
+-- the rest still completes the whole after the child of a row was added
 pub told_go_on : (y : ℕ) (rates : List ℕ) (rows : List (Option Cert)) (i : ℕ) (row : Option Cert) (before after whole : List Child) → i < length rows → row ≡ get_or rows i row → after ≡ before ++ told_of_row y rates row → before ++ told_children (entries_of (drop i rows)) y rates ≡ whole → after ++ told_children (entries_of (drop (i + 1) rows)) y rates ≡ whole
 told_go_on y rates rows i row before after whole within e put so =
     let here : told_children (entries_of (drop i rows)) y rates ≡ told_of_row y rates row ++ told_children (entries_of (drop (i + 1) rows)) y rates = ap (λ (rs : List (Option Cert)). told_children (entries_of rs) y rates) (rows_at rows i row within e) ∙ told_cons y rates row (drop (i + 1) rows) in

@@ -66,7 +66,7 @@ pub kept_all : (nodes : ℕ) (d : Durable) (rs : List Record) → AllByRecursion
 kept_all nodes d [] ok kept = kept
 kept_all nodes d (r ∷ rs) ok kept = kept_all nodes (fold_one d r) rs ok.1 (kept_one nodes d r ok.0 kept)
 
--- a new node's is
+-- the durable state of a new node is within its ranges
 pub kept_new : (nodes : ℕ) → nodes ≤ MAX_NODES → IsKept nodes (new_durable nodes)
 kept_new nodes few = record { few = few; sound = sound_new nodes; lawful = lawful_new_durable nodes nodes }
 
@@ -82,7 +82,7 @@ rows_few nodes d kept = let few : 0 + length d.table ≤ nodes = few_rows nodes 
 
 -- Memory for rows
 
--- where more room was made for certificates, the table still has memory for all rows
+-- the table still has memory for all rows after more room was made for certificates
 pub rows_more : (room rows memory more : ℕ) → (0 < room → rows ≤ memory) → memory ≤ more → 0 < room → rows ≤ more
 rows_more room rows memory more was grows some = let before : rows ≤ memory = was some in omega arith
 
@@ -135,7 +135,8 @@ brought_end rs i count over so =
     let none : brought_by (drop i rs) ≡ 0 = ap brought_by (drop_of_length-le rs over) in
     omega (arith, so, none)
 
--- the log after a record that brings this number: so many more wait, or the whole table of this number of rows, or a new base
+-- the log after a record that brings this number of certificates: at most that number more wait, or
+-- at most this number of rows; and it is at most that much longer, or no longer than a base may be
 record Follows (rows more : ℕ) (was now : Log) : Type 0 where
   waiting : (length now.waiting ≤ length was.waiting + more) ⊎ (length now.waiting ≤ rows)
   length : (now.length ≤ was.length + more) ⊎ (now.length ≤ MAX_BASE_ACKED)
@@ -180,7 +181,7 @@ follows_one nodes d (records.Snapshot g) ok kept = follows_empty (length d.table
 follows_one nodes d (records.Entry c) ok kept = follows_noted (length d.table) d.mode d.log c
 follows_one nodes d (records.Info number clients) ok kept = follows_same (length d.table) 0 d.log
 
--- a certificate that is put is one row more at the most
+-- a table has at most one row more after a certificate is put
 put_rows : (t : List Cert) (c : Cert) → length (put t c) ≤ length t + 1
 put_rows [] c = omega arith
 put_rows (k ∷ ks) c =
@@ -191,7 +192,7 @@ put_rows (k ∷ ks) c =
 merge_rows : (t : List Cert) (c : Cert) → length (merge t c) ≤ length t + 1
 merge_rows t c = cond_both (is_news t c) (put t c) t (λ u. length u ≤ length t + 1) (λ _. put_rows t c) (λ _. omega arith)
 
--- the table after one more record has as many more rows at the most as the record brings
+-- the table after one more record has at most as many more rows as the record brings
 rows_one : (d : Durable) (r : Record) → length (fold_one d r).table ≤ length d.table + brought r
 rows_one d (records.Ask s p) = omega arith
 rows_one d (records.Joined p r) = cond_both (d.seq == 0) d (record d { mode = modes.Joined p; rank = Some r; log = begun_with d.table }) (λ e. length e.table ≤ length d.table + 0) (λ _. omega arith) (λ _. omega arith)
@@ -240,7 +241,7 @@ room_for v r room places = record {
   based = omega (arith, brought_few r);
 }
 
--- the log is no longer than one more, or than a base may be
+-- the log is at most one longer, or at most as long as a base may be
 pub length_one : (nodes : ℕ) (d : Durable) (r : Record) (most : ℕ) → IsRecord nodes r → IsKept nodes d → MAX_BASE_ACKED ≤ most → d.log.length ≤ most → (fold_one d r).log.length ≤ most + 1
 length_one nodes d r most ok kept base less = by_length ((follows_one nodes d r ok kept).length) where
   by_length : ((fold_one d r).log.length ≤ d.log.length + brought r) ⊎ ((fold_one d r).log.length ≤ MAX_BASE_ACKED) → (fold_one d r).log.length ≤ most + 1

@@ -2,7 +2,7 @@
 use Rattle.std.proofs.Common.{◌≡◌, ℕ, zero, suc, ◌+◌, ◌-◌, ◌<◌, ◌≤◌, min, get_or, List, [], ◌∷◌, length, take, drop, ◌++◌, refl, sym, ◌∙◌, ap, arith, length-drop}
 use Rattle.std.proofs.Math.Seq.{drop-nil}
 
--- the first a, and then b more
+-- the first a items are left out, and then b more
 drop_sum : {X : Type 0} (a b : ℕ) (xs : List X) → drop (a + b) xs ≡ drop b (drop a xs)
 drop_sum zero b xs = let e : 0 + b ≡ b = omega arith in ap (λ (n : ℕ). drop n xs) e
 drop_sum (suc a) b [] = drop-nil (suc a + b) ∙ sym (drop-nil b)
@@ -14,11 +14,11 @@ drop_few zero xs = let e : min 0 (length xs) ≡ 0 = omega arith in ap (λ (n : 
 drop_few (suc n) [] = drop-nil (min (suc n) 0)
 drop_few (suc n) (x ∷ xs) = let e : min (suc n) (suc (length xs)) ≡ suc (min n (length xs)) = omega arith in ap (λ (n : ℕ). drop n (x ∷ xs)) e ∙ drop_few n xs
 
--- the first a, and then n more, or all that are left
+-- the first a items are left out, and then n more, or all that are left
 pub drop_more : {X : Type 0} (a n : ℕ) (xs : List X) → drop (a + min n (length xs - a)) xs ≡ drop n (drop a xs)
 drop_more a n xs = let left : length (drop a xs) ≡ length xs - a = length-drop a xs in drop_sum a (min n (length xs - a)) xs ∙ ap (λ (k : ℕ). drop (min n k) (drop a xs)) (sym left) ∙ drop_few n (drop a xs)
 
--- one more
+-- one more item is left out
 pub drop_one_more : {X : Type 0} (a : ℕ) (xs : List X) → drop (a + 1) xs ≡ drop 1 (drop a xs)
 drop_one_more a xs = drop_sum a 1 xs
 

@@ -101,7 +101,7 @@ held_few (l ∷ ls) are = let rest : held_in_all ls ≤ length ls * MAX_GROUP_BY
 pub held_short : (ls : List Shelf) → IsShelf ls → held_in_all ls < 2 ^ 64
 held_short ls is = omega (arith, held_few ls is.0, is.1)
 
--- Whose turn it is
+-- The line whose turn it is
 
 -- the first line of which the other has less, in a list and then in another
 pub behind_first : (have xs ys : List Shelf) (l : Shelf) → first_behind have xs ≡ Some l → first_behind have (xs ++ ys) ≡ Some l
@@ -118,7 +118,7 @@ behind_second have (k ∷ ks) ys e = by_test (is_behind (line_of k.group have) k
   by_test true rest e = absurd cc
   by_test false rest e = rest e
 
--- there is none on an empty shelf
+-- an empty shelf has no such line
 pub behind_empty : (chunk : ℕ) (have : List Shelf) → next_behind chunk have [] ≡ None
 behind_empty chunk have = by_place (turn chunk have []) where
   by_place : (i : ℕ) → first_behind have (drop i [] ++ take i []) ≡ None
@@ -129,7 +129,7 @@ behind_empty chunk have = by_place (turn chunk have []) where
 the_rest : (ls : List Shelf) (i : ℕ) → take (length ls - i) (drop i ls) ≡ drop i ls
 the_rest ls i = take_all (length ls - i) (drop i ls) (omega (arith, length-drop i ls))
 
--- from its place on, and then before it
+-- a line that is found from the place of the turn on is the result
 pub turn_first : (chunk : ℕ) (have ls : List Shelf) (i : ℕ) (l : Shelf) → i ≡ turn chunk have ls → Some l ≡ first_behind have (take (length ls - i) (drop i ls)) → Some l ≡ next_behind chunk have ls
 turn_first chunk have ls i l place found =
     sym (behind_first have (drop i ls) (take i ls) l (sym (found ∙ ap (first_behind have) (the_rest ls i)))) ∙ ap (λ (j : ℕ). first_behind have (from_place j ls)) place

@@ -57,7 +57,7 @@ rates_go_on ms i before after whole within put so =
 
 -- The state of a snapshot
 
--- a conclusion about a value holds if there is one
+-- a conclusion about the value of a result, if there is one
 pub if_ok_then : {A E : Type 0} (r : Result A E) (P Q : A → Type 0) → ((a : A) → P a → Q a) → IfOk r P → IfOk r Q
 if_ok_then (Ok a) P Q f here = f a here
 if_ok_then (Err e) P Q f here = tt

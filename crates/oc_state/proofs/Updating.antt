@@ -1,4 +1,4 @@
--- Touches, one after another.
+-- Updates of lists, one after another.
 use Rattle.std.proofs.Common.{◌≡◌, ℕ, ◌+◌, ◌<◌, Option, List, ◌∷◌, length, drop, get_or, ap, sym, subst, ◌∙◌}
 use Rattle.std.specs.List.{AllByRecursion}
 use Rattle.std.proofs.lemmas.List.{drop_more}
@@ -17,7 +17,7 @@ update_here nodes us i u within e all = (subst (λ (vs : List ListUpdate). AllBy
 pub updates_left : (nodes : ℕ) (us : List ListUpdate) (i : ℕ) (u : ListUpdate) → i < length us → u ≡ get_or us i u → AllByRecursion (IsListUpdate nodes) (drop i us) → AllByRecursion (IsListUpdate nodes) (drop (i + 1) us)
 updates_left nodes us i u within e all = (subst (λ (vs : List ListUpdate). AllByRecursion (IsListUpdate nodes) vs) (updates_at us i u within e) all).1
 
--- after one update, the effect of the rest still completes the whole
+-- the effect of the rest still completes the whole after one update
 pub leases_go_on : (t : List Cert) (me : ℕ) (us : List ListUpdate) (i : ℕ) (u : ListUpdate) (ends new whole : List (Option ℕ)) → i < length us → u ≡ get_or us i u → new ≡ leases_by t me ends u → leases_after t me ends (drop i us) ≡ whole → leases_after t me new (drop (i + 1) us) ≡ whole
 leases_go_on t me us i u ends new whole within e did so =
     ap (λ (l : List (Option ℕ)). leases_after t me l (drop (i + 1) us)) did ∙ sym (ap (leases_after t me ends) (updates_at us i u within e)) ∙ so

@@ -9,7 +9,7 @@ use Rattle.oc_updown.specs.TableView.{entries_of}
 pub all_are_taken : (cs : List Cert) (n : ℕ) → length cs ≤ n → take n cs ≡ cs
 all_are_taken cs n few = take_all n cs few
 
--- there are no more entries than rows in use
+-- the number of entries is at most that of the rows in use
 pub entries_in_use : (rows : List (Option Cert)) (used n : ℕ) (blank : Option Cert) → drop used rows ≡ replicate n blank → blank ≡ None → length (entries_of rows) ≤ used
 entries_in_use [] used n blank e none = omega arith
 entries_in_use (row ∷ rows) zero n blank e none = omega (arith, ap length (no_entries_past (row ∷ rows) 0 0 n blank (omega arith) e none))

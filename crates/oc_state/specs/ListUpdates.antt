@@ -46,7 +46,7 @@ abbrev pub counts_after : List ℕ → List ListUpdate → List ℕ
 counts_after counts [] = counts
 counts_after counts (u ∷ us) = counts_after (counts_by counts u) us
 
--- the lists have an item for each of this many nodes, and memory for all of them
+-- the lists have an item for each of this number of nodes, and memory for all of them
 pub record AreReserved (nodes : ℕ) (ends : LeasesView) (told sent : SlotsView ℕ) : Type 0 where
   pub leases : length ends.ends ≡ nodes
   pub leases_room : nodes ≤ ends.room

@@ -145,7 +145,7 @@ impl Durable {
         }
     }
 
-    /// Adds that there is no parent, if there was an ask.
+    /// Adds the record of a lost parent, if there was an ask.
     fn push_lost(&self, list: &mut Vec<Record>) -> Result<(), Memory>
         ensures { OnOk result (list.new.items ≡ list.old.items ++ mode_records Mode.Idle self.now.kept) }
     {

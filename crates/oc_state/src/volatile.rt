@@ -11,20 +11,20 @@ pub struct Volatile {
     pub clock: u64,
     /// The second of the next check.
     pub due: Option<u64>,
-    /// No node has refused since the tries were last set.
+    /// Whether no node has refused since the tries were last set.
     pub silent: bool,
-    /// A node has refused since the last check in time.
+    /// Whether a node has refused since the last check in time.
     pub refused: bool,
     /// The second of the last check-in.
     pub checked: Option<u64>,
     pub search: Option<Search>,
-    /// The clients served since the node last took clients into its own count.
+    /// The number of clients served since the node last took clients into its own count.
     pub served: u64,
     /// The place that reviews speak for, until the node has a parent anew.
     pub wish: Option<NodeId>,
     /// The parent that the node left when it last asked for its wish, or was moved while it had one.
     pub left: Option<NodeId>,
-    /// The number of reviews that spoke for the wish, less those that spoke for another place.
+    /// The number of reviews that spoke for the wish, less those that did not.
     pub waits: u64,
     /// The number of reviews above two that have to speak for a wish before the node asks for it.
     pub patience: u8,

@@ -89,16 +89,16 @@ entry_folded d (r ∷ rs) x = entry_folded (fold_one d r) rs x ∙ ap (λ (was :
 pub entry_subject : (t : List Cert) (x : ℕ) (k : Cert) → newest t x ≡ Some k → k.subject ≡ x
 entry_subject t x k e = newest-subject t x k e
 
--- Records that tell something
+-- Records that tell a fact
 
--- leave the measures
+-- records that tell a fact leave the measures
 pub measures_told : (d : Durable) (rs : List Record) → AreTold rs → (folded d rs).measures ≡ d.measures
 measures_told d [] told = refl
 measures_told d (records.Entry c ∷ rs) told = measures_told (fold_one d (records.Entry c)) rs told.1
 measures_told d (records.Info number clients ∷ rs) told = measures_told (fold_one d (records.Info number clients)) rs told.1
 measures_told d (r ∷ rs) told = absurd (told.0)
 
--- leave the mode
+-- records that tell a fact leave the mode
 pub mode_told : (d : Durable) (rs : List Record) → AreTold rs → (folded d rs).mode ≡ d.mode
 mode_told d [] told = refl
 mode_told d (records.Entry c ∷ rs) told = mode_told (fold_one d (records.Entry c)) rs told.1

@@ -26,7 +26,7 @@ pushed_none n cs few = sym (ap (λ (zs : List Cert). take n zs) (append-nil cs) 
 pub pushed_one : (n : ℕ) (cs : List Cert) (c : Cert) → length cs < n → cs ++ c ∷ [] ≡ take n (cs ++ c ∷ [])
 pushed_one n cs c room = sym (take_all n (cs ++ c ∷ []) (omega (arith, length-append cs (c ∷ []))))
 
--- after the certificate of a record was added, the rest still completes the whole
+-- the rest still completes the whole after the certificate of a record was added
 pub certs_go_on : (n : ℕ) (rs : List Record) (i : ℕ) (r : Record) (before after whole : List Cert) → i < length rs → r ≡ get_or rs i r → after ≡ take n (before ++ certs_of r) → take n (before ++ certs_in (drop i rs)) ≡ whole → take n (after ++ certs_in (drop (i + 1) rs)) ≡ whole
 certs_go_on n rs i r before after whole within e put so =
     let rest = certs_in (drop (i + 1) rs) in
@@ -41,7 +41,7 @@ taken_few n cs ds e = rw e (length_take n ds) where
   length_take (suc n) [] = omega arith
   length_take (suc n) (d ∷ ds) = let rest : length (take n ds) ≤ n = length_take n ds in omega arith
 
--- at the end nothing is left
+-- nothing is left at the end
 pub certs_end : (n : ℕ) (rs : List Record) (i : ℕ) (cs whole : List Cert) → length cs ≤ n → length rs ≤ i → take n (cs ++ certs_in (drop i rs)) ≡ whole → cs ≡ whole
 certs_end n rs i cs whole few over so =
     let none : drop i rs ≡ [] = drop_of_length-le rs over in

@@ -34,6 +34,6 @@ counts_more counts (u ∷ us) t = counts_more (counts_by counts u) us t
 pub updates_more : (nodes : ℕ) (us : List ListUpdate) (u : ListUpdate) → AllByRecursion (IsListUpdate nodes) us → IsListUpdate nodes u → AllByRecursion (IsListUpdate nodes) (us ++ u ∷ [])
 updates_more nodes us u all one = all_append (IsListUpdate nodes) us (u ∷ []) all (one, tt)
 
--- where there is no certificate, no lease begins
+-- no lease begins at a table without certificates
 pub none_start : (base : Control) (now : ℕ) (o : Plan) → base.kept.table ≡ [] → updates base (list_updates.Start now) o ≡ o
 none_start base now o none = ap (λ (t : List Cert). record o { node = record o.node { leases = start_all t base.me o.node.leases now } }) none

@@ -9,14 +9,14 @@ use Rattle.oc_state.specs.Children.{told_child, told_children}
 use Rattle.oc_state.proofs.Lists.{drop_at}
 use Rattle.oc_step.specs.Told.{but}
 
--- the first is told or not, and the rest as the others
+-- the first child is told or left out, and then the others
 but_cons : (xs : List ℕ) (c : Child) (cs : List Child) → but xs (c ∷ cs) ≡ but xs (c ∷ []) ++ but xs cs
 but_cons xs c cs = by_test (not (has xs c.id)) refl where
   by_test : (b : Bool) → not (has xs c.id) ≡ b → but xs (c ∷ cs) ≡ but xs (c ∷ []) ++ but xs cs
   by_test true e = rw e
   by_test false e = rw e
 
--- after a child was added, the rest still completes the whole
+-- the rest still completes the whole after a child was added
 pub but_go_on : (xs : List ℕ) (cs : List Child) (i : ℕ) (c : Child) (before after whole : List Child) → i < length cs → c ≡ get_or cs i c → after ≡ before ++ but xs (c ∷ []) → before ++ but xs (drop i cs) ≡ whole → after ++ but xs (drop (i + 1) cs) ≡ whole
 but_go_on xs cs i c before after whole within e put so =
     let here : but xs (drop i cs) ≡ but xs (c ∷ []) ++ but xs (drop (i + 1) cs) = ap (but xs) (drop_at cs i c within e) ∙ but_cons xs c (drop (i + 1) cs) in

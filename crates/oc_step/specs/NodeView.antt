@@ -7,7 +7,7 @@ use Rattle.oc_model.specs.Node.{Control, Durable}
 use Rattle.oc_laws_step.specs.LawfulNode.{IsLawfulControl}
 use Rattle.oc_laws_step.specs.Sound.{IsSound}
 
--- the number of nodes for which each list by node has memory
+-- the number of nodes for which each of these lists has memory
 pub record ListRooms : Type 0 where
   pub leases : ℕ
   pub rates : ℕ

@@ -19,12 +19,12 @@ no_line bytes lines are none =
     let first : IsUnfinished ReadsRequest lines = subst (IsUnfinished ReadsRequest) (sym none) (IsUnfinished-none request_form) in
     subst (IsUnfinished ReadsRequest) (sym are.split) (IsUnfinished-more request_form lines are.rest first are.begun)
 
--- bytes whose last line that ended leaves a head open are unfinished
+-- bytes are unfinished if a head is still open at the end of their last finished line
 open_line : (lines line : List ℕ) → lines ≡ ended line → HasNoRequest lines → MayBecomeRequest lines → IsUnfinished ReadsRequest lines
 open_line lines line text none may =
     IsUnfinished-open lines none (subst (CanBecome ReadsRequest) (sym text) (CanBecome-request line (subst MayBecomeRequest text may)))
 
--- lines that no bytes can make a head make the bytes no request
+-- bytes begin no request if no further bytes complete their lines to a head
 never_lines : (bytes lines line : List ℕ) → AreWholeLines bytes lines → lines ≡ ended line → NeverHasRequest lines → IsNoRequest bytes
 never_lines bytes lines line are text never =
     let none : NeverHasRequest bytes = λ more head rest reads.

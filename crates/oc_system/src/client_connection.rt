@@ -61,8 +61,8 @@ impl<'a, R: Net<Stream = TcpStream> + Clock> ClientConnection<'a, R> {
         }
     }
 
-    /// Makes a further request on the outgoing connection. Its peer may have ended it meanwhile; then it is made
-    /// on a new one (RFC 9112, section 9.3.1).
+    /// Makes a further request on the outgoing connection. Its peer may have ended the connection
+    /// meanwhile; then the request is made on a new one (RFC 9112, section 9.3.1).
     pub(crate) fn ask(&mut self, bytes: &[u8]) -> io::Result<()> {
         self.asked.clear();
         self.asked.extend_from_slice(bytes)?;

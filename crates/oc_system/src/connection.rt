@@ -396,8 +396,8 @@ impl Connection {
         }
     }
 
-    /// Whether the connection's time has run out and nothing was done about that so far. The time
-    /// of a request stops while it waits for other requests.
+    /// Whether the connection's time has run out and nothing was done about that so far. A wait for
+    /// other requests does not count as a time without progress.
     pub(crate) fn is_due(&mut self, now: u64) -> bool {
         if self.is_held() {
             self.deadline.progress(now);
@@ -529,9 +529,9 @@ impl Connection {
     }
 
     /// The claim of the connection to its place, if it may be asked to give way. A connection whose
-    /// request has come may not be asked, unless the request was left; nor one that has bytes to
-    /// read, since they may be its request. Otherwise each of many new connections would drop the
-    /// one before.
+    /// request has come and was not taken may not be asked, unless the request was left; nor one
+    /// that has bytes to read, since they may be its request, unless they wait for one of the
+    /// places for large requests. Otherwise each of many new connections would drop the one before.
     pub(crate) fn claim(&self) -> Option<Claim>
         ensures left { self.now.stage ≡ stages.Awaiting → self.now.incoming.was_left ≡ true
             → self.now.is_readable ≡ false → IsSome result }

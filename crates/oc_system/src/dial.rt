@@ -156,7 +156,7 @@ impl Dial {
         }
     }
 
-    /// The rest of a time limit that is counted from its beginning, in milliseconds.
+    /// The rest of a time limit that is counted from the beginning of the dial, in milliseconds.
     fn left(&self, now: u64, time: u64) -> u64 {
         self.begun.saturating_add(time).saturating_sub(now)
     }

@@ -25,7 +25,7 @@ pub(crate) struct Incoming {
     pub(crate) bytes: Vec<u8>,
     /// The outline of the head, once it is complete.
     pub(crate) outline: Option<Outline>,
-    /// Whether no head can begin with these bytes.
+    /// Whether no head can begin with these bytes, or the head is longer than a head may be.
     is_hopeless: bool,
     /// Whether the request was reported in its present state and left, so that more bytes are
     /// wanted.

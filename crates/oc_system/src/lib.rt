@@ -4,7 +4,7 @@
 //! ([`SocketLink`]). All numbers, times and bounds are in `limits`.
 //!
 //! The edge is trusted: each thing tells no more than the system does, of a file its size, of sockets counts and
-//! lengths alone, and no story. Each counts its failures, makes interrupted calls again, and keeps why its last call
+//! lengths alone, and no story. Each counts its failures, makes interrupted calls again, and keeps the reason why its last call
 //! failed ([`Trouble`]).
 //!
 //! No socket of a node blocks: one thread and one wait serve the incoming connections and the

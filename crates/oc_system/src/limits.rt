@@ -78,8 +78,8 @@ pub(crate) const FINISH_MILLIS: u64 = 2_000;
 /// The time between two looks for connections and dials whose time has run out.
 pub(crate) const SWEEP_MILLIS: u64 = 100;
 
-/// The time for which no connection is accepted when the system had no more files and none could
-/// give way.
+/// The time for which no connection is accepted after accepting one failed for a cause that does
+/// not pass at once, such as a system without free files where no connection could give way.
 pub(crate) const SHUT_MILLIS: u64 = 50;
 
 /// The number of places looked at before the system is asked again which sockets are ready. So a

@@ -20,7 +20,7 @@ pub(crate) enum Moved {
     Failed,
 }
 
-/// Reads the bytes that came to the front of the buffer. An interrupted call is repeated: no bytes
+/// Reads the bytes that came into the front of the buffer. An interrupted call is repeated: no bytes
 /// are lost.
 pub(crate) fn read_some(stream: &mut TcpStream, buf: &mut [u8]) -> Moved
     ensures within { MovesAtMost (length buf.old) result }

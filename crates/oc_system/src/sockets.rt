@@ -155,8 +155,9 @@ impl Sockets {
         Ok(now)
     }
 
-    /// The time to wait for sockets: none if progress is possible, and otherwise up to the next
-    /// look for those whose time has run out.
+    /// The time to wait for sockets: none if progress is possible; at most `SHUT_MILLIS` while
+    /// waiting connections are not accepted; otherwise at most the time between two looks for those
+    /// whose time has run out.
     fn patience(&self, longest: u64) -> u64 {
         if !self.turns.is_empty() || !self.gone.is_empty() {
             return 0;

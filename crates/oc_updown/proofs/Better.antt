@@ -18,11 +18,11 @@ no_freer_passes counts d c b x y = grind (arith, nat_tests)
 not_freer_itself : (counts : List ℕ) (c : ℕ) → is_freer counts c c ≡ false
 not_freer_itself counts c = grind (arith, nat_tests)
 
--- of two nodes at most one is freer
+-- at most one of two nodes is freer
 freer_one_way : (counts : List ℕ) (c d : ℕ) → is_freer counts c d ≡ true → is_freer counts d c ≡ false
 freer_one_way counts c d h = grind (arith, nat_tests)
 
--- the test of the better one, by who is in the area and who is freer
+-- the test of the better node: whether each is in the area, and whether one is freer
 abbrev pub by_area : Bool → Bool → Bool → Bool
 by_area x y freer = if x then not y || freer else not y && freer
 
@@ -36,7 +36,7 @@ passes false true b dc cb db h x y = absurd cc
 passes false false true dc cb db h x y = absurd cc
 passes false false false dc cb db h x y = h x y
 
--- and its failure where that does
+-- the failure of the test passes on where the failure of the freer one does
 no_passes : (d c b dc cb db : Bool) → (dc ≡ false → cb ≡ false → db ≡ false) → by_area d c dc ≡ false → by_area c b cb ≡ false → by_area d b db ≡ false
 no_passes true true true dc cb db h x y = h x y
 no_passes true true false dc cb db h x y = absurd cc
@@ -46,12 +46,12 @@ no_passes false true false dc cb db h x y = absurd cc
 no_passes false false true dc cb db h x y = refl
 no_passes false false false dc cb db h x y = h x y
 
--- none passes it with itself
+-- no node passes the test with itself
 itself : (c cc' : Bool) → cc' ≡ false → by_area c c cc' ≡ false
 itself true f h = h
 itself false f h = h
 
--- of two nodes at most one passes the test
+-- at most one of two nodes passes the test
 one_way : (c d cd dc : Bool) → (cd ≡ true → dc ≡ false) → by_area c d cd ≡ true → by_area d c dc ≡ false
 one_way true true cd dc h x = h x
 one_way true false cd dc h x = refl
@@ -70,7 +70,7 @@ no_better_passes areas counts area d c b = no_passes (is_near areas area d) (is_
 pub not_better_itself : (areas counts : List ℕ) (area c : ℕ) → is_better areas counts area c c ≡ false
 not_better_itself areas counts area c = itself (is_near areas area c) (is_freer counts c c) (not_freer_itself counts c)
 
--- of two nodes at most one is better
+-- at most one of two nodes is better
 pub better_one_way : (areas counts : List ℕ) (area c d : ℕ) → is_better areas counts area c d ≡ true → is_better areas counts area d c ≡ false
 better_one_way areas counts area c d = one_way (is_near areas area c) (is_near areas area d) (is_freer counts c d) (is_freer counts d c) (freer_one_way counts c d)
 
@@ -127,7 +127,7 @@ best_of_more areas counts area x xs b n false e = record {
   least = λ d h. elim h [ inl same ↦ subst (λ (z : ℕ). is_better areas counts area z x ≡ false) same (not_better_itself areas counts area x) | inr behind ↦ no_better_passes areas counts area d b x (n.least d behind) e ];
 }
 
--- where there is no best there is none
+-- a list without a best node has no nodes
 pub best_none : (better : ℕ → ℕ → Bool) (xs : List ℕ) (d : ℕ) → best_of better xs ≡ None → ¬ IsAmong d xs
 best_none better [] d e = λ h. h
 best_none better (x ∷ xs) d e = absurd cc

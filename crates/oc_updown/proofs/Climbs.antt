@@ -6,7 +6,7 @@ use Rattle.oc_model.specs.Table.{parent_in, reaches}
 use Rattle.oc_model.proofs.Walks.{steps_enough}
 use Rattle.oc_updown.specs.Listing.{is_beneath, AreKnownFrom, AreKnown}
 
--- whether the way up from x comes to r within this many steps past its parent
+-- whether the way up from x comes to r within this number of steps past the parent of x
 abbrev pub arrives : List Cert → ℕ → ℕ → ℕ → Bool
 arrives t r steps x = reaches steps t r (parent_in t x)
 
@@ -22,11 +22,11 @@ beneath_above t r x y up other = steps_enough (length t) (suc (length t)) t r x 
 pub beneath_root : (t : List Cert) (r x y : ℕ) → parent_in t x ≡ Some y → y == r ≡ true → is_beneath t r x ≡ true
 beneath_root t r x y up is = steps_enough (length t) (suc (length t)) t r x (omega arith) (omega arith) ∙ rw (up, is)
 
--- a node without a parent is not
+-- a node without a parent is not beneath the root
 pub beneath_none : (t : List Cert) (r x : ℕ) → parent_in t x ≡ None → is_beneath t r x ≡ false
 beneath_none t r x up = steps_enough (length t) (suc (length t)) t r x (omega arith) (omega arith) ∙ rw up
 
--- from p the way up goes on as from y, some steps later
+-- the way up from p goes on as that from y, some steps later
 abbrev pub Leads : List Cert → ℕ → ℕ → ℕ → Type 0
 Leads t r p y = (m : ℕ) × ((k : ℕ) → arrives t r (m + k) p ≡ arrives t r k y)
 
@@ -38,12 +38,13 @@ leads_itself t r x = (0, λ k. let e : 0 + k ≡ k = omega arith in rw e)
 pub leads_above : (t : List Cert) (r p x y : ℕ) → Leads t r p x → parent_in t x ≡ Some y → y == r ≡ false → Leads t r p y
 leads_above t r p x y leads up other = (suc leads.0, λ k. let e : suc leads.0 + k ≡ leads.0 + suc k = omega arith in ap (λ (n : ℕ). arrives t r n p) e ∙ (leads.1 (suc k) ∙ arrives_above t r x y k up other))
 
--- for each number there are at least as many steps by which the way from a node that leads back to itself does not arrive
+-- a way from a node that leads back to itself does not arrive within some number of steps, however
+-- great that number has to be
 never_by : (t : List Cert) (r x m : ℕ) → ((k : ℕ) → arrives t r (suc m + k) x ≡ arrives t r k x) → (n : ℕ) → (k : ℕ) × (n ≤ k) × (arrives t r k x ≡ false)
 never_by t r x m round zero = (0, omega arith, refl)
 never_by t r x m round (suc n) = let before : (k : ℕ) × (n ≤ k) × (arrives t r k x ≡ false) = never_by t r x m round n in (suc m + before.0, omega (arith, before.1), round before.0 ∙ before.2)
 
--- whose parent leads back to it is not beneath the root
+-- a node whose parent leads back to it is not beneath the root
 pub round_never : (t : List Cert) (r x y : ℕ) → Leads t r y x → parent_in t x ≡ Some y → y == r ≡ false → is_beneath t r x ≡ false
 unfolding leads_above
 round_never t r x y leads up other =
@@ -75,7 +76,7 @@ known_more_from t r x (suc i) (Some a ∷ known) b all so = let e : (x + 1) + i 
 pub known_more : (t : List Cert) (r x : ℕ) (known : List (Option Bool)) (b : Bool) → AreKnown t r known → 1 ≤ x → is_beneath t r x ≡ b → AreKnown t r (set known (x - 1) (Some b))
 known_more t r x known b all first so = let e : 1 + (x - 1) ≡ x = omega arith in known_more_from t r 1 (x - 1) known b all (ap (is_beneath t r) e ∙ so)
 
--- where nothing is known, all that is known is so
+-- all known results are right where nothing is known
 none_known_from : (t : List Cert) (r x n : ℕ) → AreKnownFrom t r x (replicate n None)
 none_known_from t r x zero = tt
 none_known_from t r x (suc n) = none_known_from t r (x + 1) n
@@ -83,7 +84,7 @@ none_known_from t r x (suc n) = none_known_from t r (x + 1) n
 pub none_known : (t : List Cert) (r n : ℕ) → AreKnown t r (replicate n None)
 none_known t r n = none_known_from t r 1 n
 
--- no more steps are left, or the way goes on with one fewer
+-- the way goes on to the parent with one step fewer
 pub arrives_step : (t : List Cert) (r x y steps i : ℕ) → i < steps → parent_in t x ≡ Some y → y == r ≡ false → arrives t r (steps - i) x ≡ arrives t r (steps - (i + 1)) y
 arrives_step t r x y steps i within up other = let e : steps - i ≡ suc (steps - (i + 1)) = omega arith in rw e (arrives_above t r x y (steps - (i + 1)) up other)
 
@@ -116,13 +117,13 @@ climb_goes_on t r steps i node place post y post' climb within up other anew = r
 pub climb_known : (t : List Cert) (r steps node place post : ℕ) (known : List (Option Bool)) (b : Bool) → IsClimb t r steps node place post → AreKnown t r known → 1 ≤ place → Some b ≡ at known place None → b ≡ is_beneath t r node
 climb_known t r steps node place post known b climb all first h = sym (known_at t r place known b all first (sym h)) ∙ climb.same
 
--- where the parent is the post, the way goes round and never comes to the root
+-- a way whose next parent is the post goes round and never comes to the root
 pub climb_round : (t : List Cert) (r steps node place post y : ℕ) → IsClimb t r steps node place post → parent_in t place ≡ Some y → y == r ≡ false → y ≡ post → false ≡ is_beneath t r node
 climb_round t r steps node place post y climb up other e =
     let back : Leads t r y place = subst (λ (p : ℕ). Leads t r p place) (sym e) climb.leads in
     sym (round_never t r place y back up other) ∙ climb.same
 
--- where the parent is the root, or there is none, or no step is left
+-- the ends of a climb: the parent is the root, or there is none, or no step is left
 pub climb_arrives : (t : List Cert) (r steps node place post y : ℕ) → IsClimb t r steps node place post → parent_in t place ≡ Some y → y == r ≡ true → true ≡ is_beneath t r node
 climb_arrives t r steps node place post y climb up is = sym (beneath_root t r place y up is) ∙ climb.same
 

@@ -18,7 +18,7 @@ start_cons y (Some k) rows ends now = by_test (is_lease_of y k) refl where
   by_test true e = rw e
   by_test false e = rw e
 
--- after one row was started, the rest still completes the whole
+-- the rest still completes the whole after one row was started
 pub start_goes_on : (y : ℕ) (rows : List (Option Cert)) (i : ℕ) (row : Option Cert) (ends new whole : List (Option ℕ)) (now : ℕ) → i < length rows → row ≡ get_or rows i row → new ≡ start_row y row ends now → start_all (entries_of (drop i rows)) y ends now ≡ whole → start_all (entries_of (drop (i + 1) rows)) y new now ≡ whole
 start_goes_on y rows i row ends new whole now within e did so =
     let here : start_all (entries_of (drop i rows)) y ends now ≡ start_all (entries_of (drop (i + 1) rows)) y (start_row y row ends now) now = ap (λ (rs : List (Option Cert)). start_all (entries_of rs) y ends now) (rows_at rows i row within e) ∙ start_cons y row (drop (i + 1) rows) ends now in
@@ -77,7 +77,7 @@ next_from y (suc i) [] ends nodes x z now fit within = refl
 next_from y (suc i) (row ∷ rows) ends nodes x z now fit within =
     next_from y i rows ends nodes x (z + 1) now (rows_rest nodes z row rows fit) (omega arith) ∙ sym (next_not_yet y row rows ends nodes x z now fit (omega arith))
 
--- the rows that are left belong to the nodes past it
+-- the rows that are left are of the nodes past those that were left out
 drop_fits : (nodes z i : ℕ) (rows : List (Option Cert)) → AreRowsFrom nodes z rows → AreRowsFrom nodes (z + i) (drop i rows)
 drop_fits nodes z zero rows fit = let e : z + 0 ≡ z = omega arith in rw e fit
 drop_fits nodes z (suc i) [] fit = tt

@@ -1,4 +1,5 @@
--- Rows and the entries that they are: to find a row is to find the last word, and to set one is to put it.
+-- Rows and the entries in them: the row of a node is its newest certificate, and setting the row is
+-- putting the certificate.
 use Rattle.std.proofs.Common.{◌≡◌, ℕ, zero, suc, ◌+◌, ◌-◌, ◌<◌, ◌≤◌, Bool, true, false, ◌==◌, nat_lt, Option, Some, None, IfSome, List, [], ◌∷◌, length, drop, get_or, set, replicate, Bor, refl, ap, sym, subst, ◌∙◌, arith, eqb-true, eq-eqb, ne_eqb}
 use Rattle.std.proofs.lemmas.Bool.{le-ltb, lt-ltb}
 use Rattle.std.proofs.Math.ListN.{length-set}
@@ -9,7 +10,7 @@ use Rattle.oc_model.specs.Table.{newest, put}
 use Rattle.oc_updown.specs.TableView.{AreRowsFrom, AreRows, entries_of}
 use Rattle.oc_base.specs.Lawful.{IsNode, IsCert}
 
--- the rows from a node on say nothing of those before it
+-- the rows from a node on have no certificate of a node before it
 pub newest_before : (nodes x y : ℕ) (rows : List (Option Cert)) → AreRowsFrom nodes x rows → y < x → newest (entries_of rows) y ≡ None
 newest_before nodes x y [] fit less = refl
 newest_before nodes x y (None ∷ rows) fit less = newest_before nodes (x + 1) y rows fit (omega arith)
@@ -17,7 +18,7 @@ newest_before nodes x y (Some k ∷ rows) fit less =
     let away : k.subject == y ≡ false = ne_eqb k.subject y (λ h. omega (arith, fit.0, h)) in
     rw away (newest_before nodes (x + 1) y rows fit.2 (omega arith))
 
--- the last word on a node is its row
+-- the newest certificate of a node is its row
 newest_from : (nodes x y i : ℕ) (rows : List (Option Cert)) → AreRowsFrom nodes x rows → y ≡ x + i → newest (entries_of rows) y ≡ get_or rows i None
 newest_from nodes x y i [] fit e = refl
 newest_from nodes x y zero (None ∷ rows) fit e = newest_before nodes (x + 1) y rows fit (omega arith)
@@ -27,7 +28,7 @@ newest_from nodes x y (suc i) (Some k ∷ rows) fit e =
     let away : k.subject == y ≡ false = ne_eqb k.subject y (λ h. omega (arith, fit.0, h)) in
     rw away (newest_from nodes (x + 1) y i rows fit.2 (omega arith))
 
--- the last word on a node, by its place
+-- the newest certificate of a node, by the node's place
 pub newest_row : (rows : List (Option Cert)) (y place : ℕ) → AreRows rows → y ≡ place + 1 → newest (entries_of rows) y ≡ get_or rows place None
 newest_row rows y place fit e = newest_from (length rows) 1 y place rows fit (omega arith)
 
@@ -81,7 +82,7 @@ pub row_fits : (rows : List (Option Cert)) (y : ℕ) (row : Option Cert) → Are
 row_fits rows y None fit e = tt
 row_fits rows y (Some k) fit e = newest_fits (length rows) 1 y rows k fit (sym e)
 
--- the certificate that was put is the last word on its subject
+-- the certificate that was put is the newest of its subject
 newest-put : (t : List Cert) (c : Cert) → newest (put t c) c.subject ≡ Some c
 newest-put [] c = let is : c.subject == c.subject ≡ true = eq-eqb c.subject c.subject refl in rw is
 newest-put (k ∷ ks) c = by_tests (newest-put ks c) (k.subject == c.subject) refl (nat_lt c.subject k.subject) refl where
@@ -118,7 +119,7 @@ none_from nodes x (suc n) = none_from nodes (x + 1) n
 pub no_rows : (n : ℕ) → AreRows (replicate n None)
 no_rows n = none_from (length (replicate n None)) 1 n
 
--- rows filled up without certificates are rows of nodes, if they are at most that many
+-- rows without certificates are rows of nodes, and their number is within the limit
 pub filled_rows : (rows : List (Option Cert)) (n most : ℕ) → rows ≡ replicate n None → n ≤ most → AreRows rows × (length rows ≤ most)
 filled_rows rows n most e few =
     subst (λ rs. AreRows rs × (length rs ≤ most)) (sym e) (no_rows n, subst (λ k. k ≤ most) (sym (length-replicate {A = Option Cert} n None)) few)
@@ -137,7 +138,7 @@ no_entries_past rows used k n blank past e none =
     let further : drop (k - used) (drop used rows) ≡ drop k rows = drop-drop (k - used) used rows ∙ ap (λ i. drop i rows) (omega (arith, past)) in
     no_more_entries rows k (n - (k - used)) (sym further ∙ ap (drop (k - used)) (e ∙ ap (replicate n) none) ∙ drop-replicate (k - used) n None)
 
--- there are no more entries than rows
+-- the number of entries is at most that of the rows
 pub fewer_entries : (rows : List (Option Cert)) → length (entries_of rows) ≤ length rows
 fewer_entries [] = omega arith
 fewer_entries (None ∷ rows) = omega (arith, fewer_entries rows)

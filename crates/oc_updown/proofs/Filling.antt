@@ -10,13 +10,13 @@ pub entries_cons : (row : Option Cert) (rows : List (Option Cert)) → length (e
 entries_cons None rows = omega arith
 entries_cons (Some k) rows = omega arith
 
--- where there is room for all rows, there is room for the one that comes next
+-- room for all rows is room for the row that comes next
 pub room_for_row : (certs before : List Cert) (rows : List (Option Cert)) (i : ℕ) (row : Option Cert) (room : ℕ) → i < length rows → row ≡ get_or rows i row → certs ++ entries_of (drop i rows) ≡ before ++ entries_of rows → length before + length (entries_of rows) ≤ room → length certs + length (entries_of (row ∷ [])) ≤ room
 room_for_row certs before rows i row room within e so fits =
     let here : length (entries_of (drop i rows)) ≡ length (entries_of (row ∷ [])) + length (entries_of (drop (i + 1) rows)) = ap (λ (rs : List (Option Cert)). length (entries_of rs)) (rows_at rows i row within e) ∙ entries_cons row (drop (i + 1) rows) in
     let all : length certs + length (entries_of (drop i rows)) ≡ length before + length (entries_of rows) = sym (length-append certs (entries_of (drop i rows))) ∙ (ap length so ∙ length-append before (entries_of rows)) in
     omega arith
 
--- one dropped more
+-- one more item is dropped
 pub drop_more : (i : ℕ) (cs new : List Cert) → new ≡ drop 1 (drop i cs) → new ≡ drop (i + 1) cs
 drop_more i cs new e = e ∙ drop-drop 1 i cs

@@ -22,7 +22,7 @@ freest_among : (counts : List ℕ) (xs : List ℕ) (y : ℕ) → freest counts x
 freest_among counts [] y e = absurd cc
 freest_among counts (x ∷ xs) y e = freer_among counts x xs y (freest counts xs) (freest_among counts xs) cc
 
--- of two nodes that are alike the freer is better
+-- the freer of two nodes that are alike is better
 by_alike : (b f : Bool) → by_area b b f ≡ f
 by_alike true f = refl
 by_alike false f = refl

@@ -15,11 +15,11 @@ end_is_set : (o : Option ℕ) (now : ℕ) → is_over o now ≡ true → (end : 
 end_is_set None now h = absurd (true≢false (sym h))
 end_is_set (Some end) now h = (end, refl, leb-true end now h)
 
--- the reverse
+-- an end that is set and not later than now is over
 end_is_over : (o : Option ℕ) (end now : ℕ) → o ≡ Some end → end ≤ now → is_over o now ≡ true
 end_is_over o end now e h = rw e (le-leb end now h)
 
--- the entries before do not matter for another node
+-- the first entry does not matter for another node
 leased_other : (k : Cert) (t : List Cert) (y x : ℕ) → (k.subject ≡ x → ⊥) → leased_by (k ∷ t) y x ≡ leased_by t y x
 leased_other k t y x other = let away : k.subject == x ≡ false = ne_eqb k.subject x other in rw away
 

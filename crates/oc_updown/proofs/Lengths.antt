@@ -26,7 +26,7 @@ length_of_each_started (x ∷ xs) ends now = length_of_each_started xs (start_if
 pub length_of_started : (t : List Cert) (y : ℕ) (ends : List (Option ℕ)) (now : ℕ) → length (start_all t y ends now) ≡ length ends
 length_of_started t y ends now = length_of_each_started (leased_children t y) ends now
 
--- a certificate that is noted waits besides the others
+-- a certificate that is noted waits after the others
 pub length_of_noted : (l : Log) (c : Cert) → length (note l c).waiting ≡ length l.waiting + 1
 length_of_noted l c = length_push l.waiting c
 

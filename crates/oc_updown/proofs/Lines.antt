@@ -29,7 +29,7 @@ rows_at [] i row within e = absurd (omega arith)
 rows_at (x ∷ rows) zero row within e = ap (λ (y : Option Cert). y ∷ rows) (sym e)
 rows_at (x ∷ rows) (suc i) row within e = let more : suc i + 1 ≡ suc (i + 1) = omega arith in rw more (rows_at rows i row (omega arith) e)
 
--- after the line of a row was added, the rest still completes the whole
+-- the rest still completes the whole after the line of a row was added
 pub lines_go_on : (t : List Cert) (r : ℕ) (rows : List (Option Cert)) (i : ℕ) (row : Option Cert) (before after whole : List Line) → i < length rows → row ≡ get_or rows i row → after ≡ before ++ lines_of_row t r row → before ++ lines_among t r (drop i rows) ≡ whole → after ++ lines_among t r (drop (i + 1) rows) ≡ whole
 lines_go_on t r rows i row before after whole within e put so =
     let here : lines_among t r (drop i rows) ≡ lines_of_row t r row ++ lines_among t r (drop (i + 1) rows) = ap (lines_among t r) (rows_at rows i row within e) ∙ lines_cons t r row (drop (i + 1) rows) in

@@ -45,7 +45,7 @@ pub filtered_among : (p : ℕ → Bool) (cs : List ℕ) (d : ℕ) → p d ≡ tr
 filtered_among p [] d t h = h
 filtered_among p (c ∷ cs) d t h = filtered_step p c cs d t (p c) refl (filtered_among p cs d t) h
 
--- where none passes the test each fails it
+-- each item fails a test that no item passes
 pub none_passes : (p : ℕ → Bool) (cs : List ℕ) (d : ℕ) → filter p cs ≡ [] → IsAmong d cs → p d ≡ false
 none_passes p cs d e h = elim (cases_Bool (p d)) [
   | inl t ↦ absurd (subst (λ (ys : List ℕ). IsAmong d ys) e (filtered_among p cs d t h))

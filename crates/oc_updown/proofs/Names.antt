@@ -14,14 +14,14 @@ use Rattle.oc_base.specs.Names.{is_name_byte, is_path, fault_at, IsGroupName}
 name_byte_ascii : (b : ℕ) → is_name_byte b ≡ true → b < 128
 name_byte_ascii b h = grind (arith, nat_tests)
 
--- where no place is the first, each is before it
+-- without an item that passes the test, the position found is past the list
 none_first : {X : Type 0} (p : X → Bool) (xs : List X) → position p xs ≡ None → length xs ≤ position_or_len p xs
 none_first p xs none = elim (cases_lt (position_or_len p xs) (length xs)) [
   | inl less ↦ let e = rw (lt-ltb _ _ less) at none in cc e
   | inr past ↦ past
 ]
 
--- a name has no strange byte
+-- each byte of a name is one that a name may have
 named : (bytes : List ℕ) → IsGroupName bytes → position (λ b. not (is_name_byte b)) bytes ≡ None
 named bytes name = first_of (position (λ b. not (is_name_byte b)) bytes) (is_path bytes) (within bytes name)
   where

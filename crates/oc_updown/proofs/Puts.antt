@@ -14,7 +14,7 @@ reading_put ms p x low high peer = grind (arith, common_steps, get_or-set_other)
 pub length_put : (ms : List Reading) (p : Put) → length (with_reading ms p.peer p.reading) ≡ length ms
 length_put ms p = grind (arith, common_steps)
 
--- after any puts the reading of x is the last that was put, or the one before them
+-- the reading of x after any puts is the last that was put, or the one before them
 pub reading_after : (ps : List Put) (ms : List Reading) (x : ℕ) → 1 ≤ x → x ≤ length ms → OfPeers ps → reading_of (after_puts ms ps) x ≡ last_put x (reading_of ms x) ps
 reading_after [] ms x low high peers = refl
 reading_after (p ∷ ps) ms x low high peers =

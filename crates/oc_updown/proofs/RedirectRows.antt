@@ -10,7 +10,7 @@ use Rattle.oc_model.proofs.Walks.{walk_ends}
 use Rattle.oc_updown.specs.TableView.{AreRowsFrom, AreRows, entries_of}
 use Rattle.oc_updown.proofs.Lists.{filter_taken, filter_left, filter_either}
 
--- the rows from a node on say nothing of those before it
+-- the rows from a node on have no certificate of a node before it
 newest_before : (nodes x y : ℕ) (rows : List (Option Cert)) → AreRowsFrom nodes x rows → y < x → newest (entries_of rows) y ≡ None
 newest_before nodes x y [] fit less = refl
 newest_before nodes x y (None ∷ rows) fit less = newest_before nodes (x + 1) y rows fit (omega arith)
@@ -49,7 +49,7 @@ all_past chain a (suc n) h =
     filter_taken (λ x. nat_lt chain x) a (range_with_len (a + 1) n) (grind (arith, nat_tests))
     ∙ ap (λ (xs : List ℕ). a ∷ xs) (all_past chain (a + 1) n (omega arith))
 
--- of the nodes from one on that is at most the first past the chain, the ones past the chain
+-- the nodes past the chain, among those from a number on that is at most the first past the chain
 pub some_past : (chain a n : ℕ) → a ≤ chain + 1 → filter (λ x. nat_lt chain x) (range_with_len a n) ≡ range_with_len (chain + 1) (a + n - (chain + 1))
 some_past chain a zero h = let none : a + 0 - (chain + 1) ≡ 0 = omega arith in ap (λ (n : ℕ). range_with_len (chain + 1) n) (sym none)
 some_past chain a (suc n) h = by_test (λ near. some_past chain (a + 1) n near) (nat_lt chain a) refl where

@@ -32,7 +32,7 @@ listed_parent : (t : List Cert) (r x : ℕ) (ys : List ℕ) → IsWay t r x ys �
 listed_parent t r x [] way = (r, way)
 listed_parent t r x (y ∷ ys) way = (y, way.0)
 
--- each that is among the servers is one
+-- a node among the servers of the table is a server
 pub among_servers : (t : List Cert) (me chain x : ℕ) → IsAmong x (servers t me chain) → IsServer t me chain x
 among_servers t me chain x h =
     let a = among_filtered (λ y. nat_lt chain y) (filter (is_listed t me) (map (λ (c : Cert). c.subject) t)) x h in
@@ -40,7 +40,7 @@ among_servers t me chain x h =
     let past : nat_lt chain x ≡ true = a.1 in
     (grind (arith, nat_tests), (is_listed-exact t me x).0 b.1)
 
--- each server is among them
+-- each server is among the servers of the table
 pub servers_among : (t : List Cert) (me chain x : ℕ) → IsServer t me chain x → IsAmong x (servers t me chain)
 servers_among t me chain x s =
     let past : nat_lt chain x ≡ true = (let h = s.0 in grind (arith, nat_tests)) in
@@ -49,7 +49,7 @@ servers_among t me chain x s =
     filtered_among (λ y. nat_lt chain y) (filter (is_listed t me) (map (λ (c : Cert). c.subject) t)) x past
     (filtered_among (is_listed t me) (map (λ (c : Cert). c.subject) t) x ((is_listed-exact t me x).1 s.1) (row_among t x k.0 k.1))
 
--- the test says who is in the area
+-- a node that passes the test is in the area
 near_area : (areas : List ℕ) (area x : ℕ) → is_near areas area x ≡ true → at areas x 0 ≡ area
 near_area areas area x h = grind (arith, nat_tests)
 
@@ -57,19 +57,19 @@ near_area areas area x h = grind (arith, nat_tests)
 area_near : (areas : List ℕ) (area x : ℕ) → at areas x 0 ≡ area → is_near areas area x ≡ true
 area_near areas area x h = grind (arith, nat_tests)
 
--- the test finds each that is freer
+-- a freer node passes the test
 freer_test : (counts : List ℕ) (x y : ℕ) → IsFreer counts x y → is_freer counts x y ≡ true
 freer_test counts x y (inl h) = grind (arith, nat_tests)
 freer_test counts x y (inr h) = grind (arith, nat_tests)
 
--- where none is better, one is in the area if another is
+-- a node than which none is better is in the area if another one is
 near_best : (areas counts : List ℕ) (area x k : ℕ) → is_better areas counts area x k ≡ false → is_near areas area x ≡ true → is_near areas area k ≡ true
 near_best areas counts area x k h e = elim (cases_Bool (is_near areas area k)) [
   | inl yes_near ↦ yes_near
   | inr far ↦ absurd (let f : true ≡ false = sym (inside areas counts area k x far e) ∙ h in cc)
 ]
 
--- no node that is alike in this is freer
+-- no node is freer than the best, unless only the best one is in the area
 least_best : (areas counts : List ℕ) (area x k : ℕ) → is_better areas counts area x k ≡ false → (is_near areas area k ≡ true → is_near areas area x ≡ true) → is_freer counts x k ≡ false
 least_best areas counts area x k h f = by_test (is_near areas area k) refl (is_near areas area x) refl where
   by_test : (b : Bool) → is_near areas area k ≡ b → (c : Bool) → is_near areas area x ≡ c → is_freer counts x k ≡ false
@@ -78,7 +78,7 @@ least_best areas counts area x k h f = by_test (is_near areas area k) refl (is_n
   by_test false e true g = absurd (let w : true ≡ false = sym (inside areas counts area k x e g) ∙ h in cc)
   by_test false e false g = sym (alike areas counts area k x false e g) ∙ h
 
--- the best of the servers, in words
+-- the best of the servers by the test is the best server
 best_server : (t : List Cert) (me chain : ℕ) (areas counts : List ℕ) (area k : ℕ) → IsBestOf (is_better areas counts area) (servers t me chain) k → IsBestServer t me chain areas counts area k
 best_server t me chain areas counts area k b = record {
   server = among_servers t me chain k b.among;
@@ -90,6 +90,6 @@ best_server t me chain areas counts area k b = record {
 pub selected_best : (t : List Cert) (me chain : ℕ) (areas counts : List ℕ) (area k : ℕ) → selected t me chain areas counts area ≡ Some k → IsBestServer t me chain areas counts area k
 selected_best t me chain areas counts area k e = best_server t me chain areas counts area k (best_is areas counts area (servers t me chain) k (sym (freest_best areas counts area (servers t me chain)) ∙ e))
 
--- where none is selected there is no server
+-- no node is a server if none is selected
 pub selected_none : (t : List Cert) (me chain : ℕ) (areas counts : List ℕ) (area : ℕ) → selected t me chain areas counts area ≡ None → (x : ℕ) → ¬ IsServer t me chain x
 selected_none t me chain areas counts area e x s = best_none (is_better areas counts area) (servers t me chain) x (sym (freest_best areas counts area (servers t me chain)) ∙ e) (servers_among t me chain x s)

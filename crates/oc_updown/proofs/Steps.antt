@@ -11,7 +11,7 @@ use Rattle.oc_updown.proofs.Lists.{filter_taken, filter_left}
 abbrev pub state : List ℕ → List ℕ → ℕ → (ℕ → Bool) → Option ℕ → List ℕ → Option ℕ
 state areas counts area p best xs = with_rest (is_better areas counts area) best (best_of (is_better areas counts area) (filter p xs))
 
--- after one that passes the test and beats the best so far
+-- the state after a node that passes the test and beats the best so far
 pub after_better : (areas counts : List ℕ) (area : ℕ) (p : ℕ → Bool) (best new : Option ℕ) (x : ℕ) (xs : List ℕ) → beats (is_better areas counts area) x best ≡ true → p x ≡ true → new ≡ Some x → state areas counts area p new xs ≡ state areas counts area p best (x ∷ xs)
 after_better areas counts area p best new x xs h t e =
     let rest = best_of (is_better areas counts area) (filter p xs) in
@@ -19,13 +19,13 @@ after_better areas counts area p best new x xs h t e =
     ∙ one_more areas counts area best x rest
     ∙ ap (λ (ys : List ℕ). with_rest (is_better areas counts area) best (best_of (is_better areas counts area) ys)) (sym (filter_taken p x xs t))
 
--- after one that fails the test
+-- the state after a node that fails the test
 pub after_failed : (areas counts : List ℕ) (area : ℕ) (p : ℕ → Bool) (best new : Option ℕ) (x : ℕ) (xs : List ℕ) → p x ≡ false → new ≡ best → state areas counts area p new xs ≡ state areas counts area p best (x ∷ xs)
 after_failed areas counts area p best new x xs t e =
     ap (λ (o : Option ℕ). state areas counts area p o xs) e
     ∙ ap (λ (ys : List ℕ). with_rest (is_better areas counts area) best (best_of (is_better areas counts area) ys)) (sym (filter_left p x xs t))
 
--- after one that does not beat the best so far, whether it passes the test or not
+-- the state after a node that does not beat the best so far, whether it passes the test or not
 pub after_worse : (areas counts : List ℕ) (area : ℕ) (p : ℕ → Bool) (best new : Option ℕ) (x : ℕ) (xs : List ℕ) → beats (is_better areas counts area) x best ≡ false → new ≡ best → state areas counts area p new xs ≡ state areas counts area p best (x ∷ xs)
 after_worse areas counts area p best new x xs h e = elim (cases_Bool (p x)) [
   | inl t ↦
@@ -40,11 +40,11 @@ after_worse areas counts area p best new x xs h e = elim (cases_Bool (p x)) [
 pub next_node : (n i : ℕ) → i < n → range_with_len (i + 1) (n - i) ≡ (i + 1) ∷ range_with_len (i + 1 + 1) (n - (i + 1))
 next_node n i h = let more : n - i ≡ suc (n - (i + 1)) = omega arith in ap (λ (m : ℕ). range_with_len (i + 1) m) more
 
--- after the last there is none
+-- no node comes after the last
 pub no_node : (n i : ℕ) → n ≤ i → range_with_len (i + 1) (n - i) ≡ []
 no_node n i h = let none : n - i ≡ 0 = omega arith in ap (λ (m : ℕ). range_with_len (i + 1) m) none
 
--- with nothing after it the best so far is the best
+-- the best so far is the best where no node is left
 pub rest_none : (better : ℕ → ℕ → Bool) (best : Option ℕ) → with_rest better best None ≡ best
 rest_none better None = refl
 rest_none better (Some b) = refl

@@ -134,7 +134,7 @@ impl ChangeLog {
         Ok(self.acked + count as u64)
     }
 
-    /// Acknowledges up to a place, and frees the acknowledged certificates. It changes nothing if the place
+    /// Acknowledges up to a place, and frees the acknowledged certificates. Nothing changes if the place
     /// is past the end, or is acknowledged already. Takes no memory.
     #[tactic(auto, using(crate::proofs::Lengths::length_of_acknowledged))]
     pub fn ack(&mut self, upto: u64)

@@ -5,7 +5,7 @@ use std::alloc::{AllocError, AllocFailed};
 use std::error::Error;
 use std::fmt;
 
-/// Why a text is not a list of measure lines.
+/// The reason why a text is not a list of measure lines.
 #[derive(Clone, Copy, Debug, PartialEq, Eq)]
 pub enum MeasureFault {
     /// The first refused line, counted from 1, and the cause.

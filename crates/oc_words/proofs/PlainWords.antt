@@ -144,7 +144,7 @@ unfolding command clap_on_literals
 asked_both url u =
     row_asks (codes "put") (built_of put_shape) (free url ∷ fixed (codes "--append") ∷ fixed (codes "--resume") ∷ []) (u, (tt, (tt, tt))) refl refl refl
 
--- live, beside other words
+-- requests with `--live`, alone and beside other flags
 pub asked_by_live : (url : Text) → IsNoFlag url → asked (codes "put" ∷ url ∷ codes "--live" ∷ []) ≡ Some (put_at url New false true None false)
 unfolding command clap_on_literals
 asked_by_live url u = row_asks (codes "put") (built_of put_shape) (free url ∷ fixed (codes "--live") ∷ []) (u, (tt, tt)) refl refl refl
@@ -180,14 +180,14 @@ unfolding command clap_on_literals
 asked_by_log id log i l =
     row_asks (codes "node") (built_of node_shape) (free id ∷ fixed (codes "--log") ∷ free log ∷ []) (i, (tt, (l, tt))) refl refl refl
 
--- texts that are not the same
+-- texts that differ fail the test of equality
 bytes_differ : (one other : Text) → one ≢ other → bytes_eq one other ≡ false
 bytes_differ one other apart = by_test (bytes_eq one other) refl where
   by_test : (b : Bool) → bytes_eq one other ≡ b → bytes_eq one other ≡ false
   by_test true is = absurd (apart ((bytes_eq-Decides one other).0 is))
   by_test false is = is
 
--- an unknown word for the log leaves nothing to ask for
+-- an unknown word for the log makes no request
 no_service : (id : Result ℕ Why) (log : Text) → log_by log ≡ Err Word
     → result_ok (asking (node_at None None) (id >>= λ x. Ok ENDLESS >>= λ turns. log_by log >>= λ word. Ok (record { id = x; turns = turns; probes = false; log = word }))) ≡ None
 no_service (Err why) log is = refl
@@ -287,7 +287,7 @@ pub asked_by_rules : asked (codes "rules" ∷ []) ≡ Some (Rules None)
 unfolding asked verdict_of command clap_on_literals
 asked_by_rules = refl
 
--- Plain words ask for something
+-- Plain words make a request
 
 and_false : (b : Bool) → (b && false) ≡ false
 and_false true = refl
@@ -346,11 +346,11 @@ start_word url start download is =
     let (b, second, last) = both_gave (number_in 0 MAX_START start) _ a first in
     no_flag _ _ start b second
 
--- a request of fields that are as they have to be
+-- a request of fields that are valid
 of_fields : {A : Type 0} (make : A → Invocation) (said : Result A _) (fields : A) → said ≡ Ok fields → result_ok (asking make said) ≡ Some (make fields)
 of_fields make said fields is = ap (λ s. result_ok (asking make s)) is
 
--- words that ask for something ask not for nothing
+-- words whose row makes a request make one
 something : (words row : List Text) (request : Invocation) → words ≡ row → asked row ≡ Some request → asked words ≢ None
 something words row request is asks = λ none. let asks_too : asked words ≡ Some request = ap asked is ∙ asks in cc
 

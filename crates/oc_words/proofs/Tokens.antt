@@ -14,7 +14,7 @@ use Rattle.oc_words.specs.Arguments.{IsNoFlag}
 
 -- A word that is no flag
 
--- `clap` takes it for no flag with a long name, no flag with a short one, and not for `--`
+-- a word that `clap` takes neither for a long flag, nor for a short one, nor for `--`
 record IsPlainWord (word : Text) : Type 0 where
   long : long_of word ≡ None
   short : short_of word ≡ None

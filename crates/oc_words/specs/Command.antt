@@ -7,8 +7,8 @@ use Rattle.clap.specs.declared.builder.arg.Arg.{Arg}
 use Rattle.clap.specs.declared.builder.command.Command.{Command}
 use Rattle.clap.specs.declared.builder.command.Command.TheViews.{out-Command as fields_of}
 
--- the words begin after the program's name, one of them has to be a subcommand, unless they ask for the version, and there is
--- no subcommand `help`
+-- the command without its subcommands: its words begin after the program's name, one of them has to
+-- be a subcommand unless they ask for help or the version, and there is no subcommand `help`
 abbrev pub bare_command : App
 bare_command = on_top (λ s. record s {
   has_version = true;

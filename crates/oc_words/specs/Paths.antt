@@ -30,22 +30,22 @@ token_file_of (Get download) = download.token_file
 token_file_of (Put upload) = upload.token_file
 token_file_of request = None
 
--- the node that words name which ask for this, if for anything
+-- the id of the node to run, for words that make this request, if they make one
 abbrev pub node_asked : Option Invocation → Option ℕ
 node_asked None = None
 node_asked (Some request) = node_of request
 
--- the file that they name
+-- the file that takes the place of the input, for such words
 abbrev pub file_asked : Option Invocation → Option Text
 file_asked None = None
 file_asked (Some request) = file_of request
 
--- the folder
+-- the folder of the three files of a node, for such words
 abbrev pub folder_asked : Option Invocation → Option Text
 folder_asked None = None
 folder_asked (Some request) = folder_of request
 
--- the file of a client's token
+-- the file of a client's token, for such words
 abbrev pub token_file_asked : Option Invocation → Option Text
 token_file_asked None = None
 token_file_asked (Some request) = token_file_of request

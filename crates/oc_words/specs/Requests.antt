@@ -21,7 +21,7 @@ use Rattle.oc_words.specs.declared.request.TheConstants.{ENDLESS, MAX_EVENTS, MA
 
 -- Requests of `replay`
 
--- a large schedule is summed up
+-- the request of a replay, whose large schedule has to be summed up
 abbrev pub replay_in : Bool → Bool → Option (List ℕ) → Result Invocation Why
 replay_in large summary file = if large && not summary then Err Count else Ok (Replay large summary file)
 
@@ -118,7 +118,8 @@ start_in (Some word) = do
   start ← number_in 0 MAX_START word
   Ok (Some start)
 
--- the address, any text, how many replies are followed, where to begin, the file of a token, and whether lines tell how far it came
+-- the address (any text), the number of replies to follow, the first byte, the file of a token, and
+-- whether progress lines are written
 abbrev pub download_in : List ℕ → Option (List ℕ) → Option (List ℕ) → Option (List ℕ) → Bool → Result Download Why
 download_in address follow from token_file progress = do
   times ← times_in follow

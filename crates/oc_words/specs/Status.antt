@@ -3,7 +3,7 @@ use Rattle.std.specs.Prelude.{ℕ}
 use Rattle.oc_words.specs.declared.status.Status.{Status}
 use Rattle.oc_words.specs.declared.status.Status.TheVariants.{Done, Failed, Usage, BadText, Memory, Limit, NotGot}
 
--- the status of a process that ended so
+-- the exit status of the process
 abbrev pub number_of : Status → ℕ
 number_of Done = 0
 number_of Failed = 1

@@ -120,7 +120,7 @@ request_by name rows =
     else if bytes_eq name (codes "put") then put_of rows
     else other_by name rows
 
--- the same, of the subcommand that `clap` found, if any
+-- the request of the subcommand that `clap` found, if any
 abbrev pub request_of : Option (Text × List Row) → Result Invocation Why
 request_of None = Err Count
 request_of (Some named) = request_by named.0 named.1

@@ -5,7 +5,7 @@ ghost use Rattle.oc_words.specs.Status.{number_of};
 /// The end of a run of the program.
 #[derive(Clone, Copy)]
 pub enum Status {
-    /// The work was completed, or the words asked for help.
+    /// The work was completed, or the words asked for help or the version.
     Done = 0,
     /// An input, an output, a disk or a link failed.
     Failed = 1,
@@ -17,7 +17,8 @@ pub enum Status {
     Memory = 4,
     /// A limit was exceeded.
     Limit = 5,
-    /// No content was downloaded: a bad URL, a status, too many redirections or a bad reply.
+    /// A download or a publishing was not done: a bad URL, a status, too many redirections, a bad
+    /// reply, or a length of the group that does not fit the input.
     NotGot = 6,
 }
 

@@ -273,7 +273,7 @@ pub fn clients_ask()
     ensures publishing_as { (url file : Text) → IsNoFlag url → IsNoFlag file
         → asked (codes "put" ∷ url ∷ codes "--token-file" ∷ file ∷ []) ≡ Some (put_at url New false false (Some file) false) }
 
-    // An input goes after the present end of the group, or the group has its first bytes already.
+    // An input goes to the present end of its group or resumes there, never both.
     ensures said_both { (url : Text) → IsNoFlag url → asked (codes "put" ∷ url ∷ codes "--append" ∷ codes "--resume" ∷ []) ≡ None }
     ensures getting_from { (url start : Text) → IsNoFlag url → IsNoFlag start
         → asked (codes "get" ∷ url ∷ codes "--from" ∷ start ∷ [])

@@ -40,7 +40,7 @@ pub(crate) fn nowhere(alloc: Global, manner: Manner) -> Result<Response, Memory>
     whole_for(alloc, manner, &reply)
 }
 
-/// Whether the start is past the end of a group that is sealed here; at its end it is not.
+/// Whether the start is past the end of a group that is sealed here; the end itself is not past it.
 pub(crate) fn is_past(start: u64, holding: Holding) -> bool
     ensures { result ≡ is_past start holding }
 {
@@ -55,7 +55,7 @@ pub(crate) fn past(alloc: Global, manner: Manner, length: u64) -> Result<Respons
     whole_for(alloc, manner, &past_reply(line, length))
 }
 
-/// The reply with this line, which tells the length of the group, too.
+/// The reply 416 with this line; it tells the length of the group.
 fn past_reply(line: Vec<u8>, length: u64) -> Reply
     ensures { result ≡ record (telling 416 line.items) { content_range = Some length } }
 {
@@ -96,7 +96,7 @@ fn is_chunked(manner: Manner, sealed: bool) -> bool
     manner == Manner::Follow && !sealed
 }
 
-/// The end of a content.
+/// The framing of a content: in chunks, or by its length.
 fn framing_for(chunked: bool, count: u64) -> Framing
     ensures { result ≡ framing_for chunked count }
 {

@@ -12,7 +12,7 @@ use std::alloc::Global;
 /// The path of the metrics.
 pub const METRICS_PATH: &str = "/!metrics";
 
-/// The same under a name that shells and collectors can spell.
+/// The path of the metrics in a form that shells and collectors can spell.
 pub const METRICS_NAME: &str = "/-/metrics";
 
 /// The report of a node at `/!metrics`, in the text format of Prometheus. `shelf` is its holding of each

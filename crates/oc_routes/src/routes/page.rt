@@ -9,11 +9,11 @@ use std::alloc::Global;
 /// The path of the page.
 pub const PAGE_PATH: &str = "/!";
 
-/// The same under a name that shells and collectors can spell.
+/// The path of the page in a form that shells and collectors can spell.
 pub const PAGE_NAME: &str = "/-/";
 
-/// The page, whole: it reads the status, by the name that goes with its own, each second, and draws the tree that the
-/// node's table tells.
+/// The whole page. A script in it reads the status each second, by the name that goes with the page's own, and draws the
+/// tree that the node's table tells.
 pub const PAGE: &str = r##"<!doctype html>
 <html lang="en">
 <head>

@@ -16,7 +16,7 @@ use std::alloc::Global;
 /// The path of the status.
 pub const STATUS_PATH: &str = "/!status";
 
-/// The same under a name that shells and collectors can spell.
+/// The path of the status in a form that shells and collectors can spell.
 pub const STATUS_NAME: &str = "/-/status";
 
 /// The report of a node at `/!status`: one object of JSON, and a line's end. `shelf` is its holding of each
@@ -56,7 +56,7 @@ fn put_object(
     put(out, b"}\n")
 }
 
-/// Puts who the node is, its place in the tree, and its counts.
+/// Puts the id and the network of the node, its place in the tree, and its counts.
 #[tactic(auto, unfolding(crate::specs::Status::state_text))]
 fn put_state(out: &mut Vec<u8>, node: &Node) -> Result<(), Memory>
     ensures { OnOk result (out.new.items ≡ out.old.items ++ state_text node.now.control) }
@@ -66,7 +66,7 @@ fn put_state(out: &mut Vec<u8>, node: &Node) -> Result<(), Memory>
     put_counts(out, node)
 }
 
-/// Puts which node it is, and in which network.
+/// Puts the id of the node, and its network.
 fn put_network(out: &mut Vec<u8>, node: &Node) -> Result<(), Memory>
     ensures { OnOk result (out.new.items ≡ out.old.items ++ network_text node.now.control) }
 {

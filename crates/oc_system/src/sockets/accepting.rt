@@ -24,7 +24,7 @@ impl Sockets {
         }
         self.shut_until = 0;
         for _ in 0..MOST_ACCEPTED {
-            // Room for the connections that give way, which are reported one by one.
+            // Room is needed for the connections that give way, which are reported one by one.
             if !self.knocks || self.gone.len() >= PLACES {
                 return;
             }

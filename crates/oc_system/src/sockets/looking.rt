@@ -57,7 +57,7 @@ impl Sockets {
                 return Some(self.with_nothing(event));
             }
         }
-        // A connection that was dropped is reported at the next look.
+        // A connection that was lost is reported at the next look.
         None
     }
 

@@ -1,4 +1,4 @@
--- the lines so far are written
+-- the lines so far were written
 use Rattle.std.proofs.Common.{◌-◌, ◌≤◌}
 use Rattle.oc_client.specs.Lines.{lines_after}
 use Rattle.oc_client.proofs.progress_lines.write_lines.Given as goal

@@ -26,7 +26,7 @@ same_mode Acting = refl
 still : (m : Mode) (n : Control) → n.kept.mode ≡ m → moved_line m n ≡ []
 still m n is = ap (λ (b : Bool). if b then [] else place_line n) (ap (is_still m) is ∙ same_mode m)
 
--- a measure leaves it
+-- a measure leaves the mode of a node
 mode_stays : (o : Plan) (peer rate hops : ℕ) (own same : Bool)
     → (if own then answers o words.Own else if same then o else may_move (write o (records.Rate peer rate hops))).node.kept.mode ≡ o.node.kept.mode
 mode_stays o peer rate hops true same = refl

@@ -33,7 +33,7 @@ returns-then-count-eq0-clause-gives g c =
     let both = g.met.S.Source.gives_then c.args.source.now c.loop-buffer.source c.read.new.self bytes [] c.loop-buffer.invariant.came nothing in
     subst (λ came. g.S.Source.gives c.args.source.now came c.read.new.self) (append-nil bytes) both
 
--- how long the bytes are with a prefix of the buffer after them
+-- the length of the bytes with a prefix of the buffer after them
 length-piece : (bytes buffer : List ℕ) (n : ℕ) → n ≤ length buffer → length (bytes ++ take n buffer) ≡ length bytes + n
 length-piece bytes buffer n fits =
     omega (arith, length-append bytes (take n buffer), length-take-le n buffer fits)

@@ -30,7 +30,7 @@ take_measures-requires-clause-lawful g c =
     subst (λ (x : Settings). All (IsMeasure c.says_first.new.self.kept.node.control.nodes) x.measures) (sym first.config)
     (subst (λ (h : Header). All (IsMeasure h.nodes) s.config.measures) (sym first.same.header) c.requires.lawful)
 
--- the position is reported first, and then the measures are taken
+-- the lines of the beginning come first, and then the measures are taken
 pub returns-clause-did : goal.returns-clause-did
 returns-clause-did g c =
     let s = c.args.server.now in

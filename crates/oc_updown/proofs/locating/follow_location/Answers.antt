@@ -1,4 +1,4 @@
--- Where the client begins with the first byte, and where it does not.
+-- The URL for a client that begins with the first byte, and for one that does not.
 use Rattle.std.proofs.Common.{List, ℕ, ◌++◌, ap, ◌∙◌}
 use Rattle.std.specs.Prelude.{codes, decimal}
 use Rattle.oc_updown.proofs.Locations.{follow_from_first, follow_from_later}

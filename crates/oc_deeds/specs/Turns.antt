@@ -17,12 +17,13 @@ use Rattle.oc_probe.specs.Turns.{turned}
 use Rattle.oc_probe.specs.declared.fault.ProbeFault.{ProbeFault}
 use Rattle.oc_probe.specs.declared.fault.ProbeFault.TheVariants as faults
 use Rattle.oc_probe.specs.declared.probing.Probing.{Probing}
+use Rattle.oc_routes.specs.declared.tally.MessageFault.{MessageFault}
 use Rattle.oc_routes.specs.Verdicts.{IsVerdict, NodeTerms}
 use Rattle.oc_routes.specs.declared.verdict.Verdict.{Verdict}
 use Rattle.oc_deeds.specs.Asks.{obeys, takes_up}
 use Rattle.oc_deeds.specs.Brought.{HadMemory, IsReading, comes_back}
 use Rattle.oc_deeds.specs.Choices.{due_place, free_number, wait_for}
-use Rattle.oc_deeds.specs.Deeds.{Notes, Probes, Reads, Sees, Tells, dials_behind}
+use Rattle.oc_deeds.specs.Deeds.{Notes, Probes, Reads, Rejects, Sees, Tells, dials_behind}
 use Rattle.oc_deeds.specs.Hurries.{came_hurries}
 use Rattle.oc_deeds.specs.Pace.{has_passed, hurried, looked, wait_until}
 use Rattle.oc_deeds.specs.Parts.{Part, nothing, one, ◌>>◌}
@@ -112,6 +113,11 @@ probes_next probing started s a = probes_it (next_peer probing a.dials) started 
 
 -- What is done
 
+-- the reply to a message was refused, if it was
+abbrev pub rejects : Option MessageFault → Part
+rejects None s a = []
+rejects (Some fault) s a = Rejects fault ∷ []
+
 -- the input that results from a message's reply is taken
 abbrev pub brought : Option Input → Part
 brought None s a = []
@@ -122,7 +128,7 @@ abbrev pub happens : Option Probing → Came → ℕ → ℕ → ℕ → Part
 happens probing (comes.Request c count verdict) now median started = obeys c count verdict now
 happens probing (comes.Room c) now median started = room c now
 happens probing (comes.Gone c loss) now median started = gone c loss
-happens probing (comes.Reply input taken) now median started = brought input
+happens probing (comes.Reply input taken refused) now median started = rejects refused >> brought input
 happens probing (comes.Probed peer since fault) now median started = measures probing peer fault median
 happens probing comes.Nothing now median started = probes_next probing started
 

@@ -5,7 +5,7 @@ ghost use Rattle.oc_base.specs.Lawful.{IsNode};
 ghost use Rattle.oc_deeds.specs.Hurries.{came_hurries};
 ghost use Rattle.oc_deeds.specs.Lawful.{IsLawfulCame, IsMadeFor};
 ghost use Rattle.oc_deeds.specs.Measured.{IsMeasured, IsMedianOf};
-ghost use Rattle.oc_deeds.specs.Turns.{deals, happens, measures, paced, probed, probes_next, quickened, rotated, takes_due, takes_median, ticks, ticks_and_sends, with_measure};
+ghost use Rattle.oc_deeds.specs.Turns.{deals, happens, measures, paced, probed, probes_next, quickened, rejects, rotated, takes_due, takes_median, ticks, ticks_and_sends, with_measure};
 ghost use Rattle.oc_deeds.specs.declared.came.Came.TheVariants as comes;
 
 use crate::came::Came;
@@ -19,6 +19,7 @@ use crate::sending::sends;
 use crate::taking_up::{notes_fault, probes_it, takes_brought, takes_measure, takes_up, ticked};
 use oc_base::{MAX_RATE, NodeId};
 use oc_probe::{ProbeFault, Probing, rate_of};
+use oc_routes::MessageFault;
 
 /// Takes up the work at an index, which is due by itself. Then it takes a tick, where one is due, and dials messages.
 pub fn takes_due<W: Doer>(
@@ -96,7 +97,12 @@ fn happens<W: Doer>(
             loses(doer, connection, loss)?;
             Ok(false)
         }
-        Came::Reply { input, taken } => {
+        Came::Reply {
+            input,
+            taken,
+            refused,
+        } => {
+            rejects(doer, refused);
             takes_brought(doer, input)?;
             Ok(taken)
         }
@@ -108,6 +114,18 @@ fn happens<W: Doer>(
             probes_next(doer, probing)?;
             Ok(false)
         }
+    }
+}
+
+/// Counts the reply to a message that was refused, if it was.
+fn rejects<W: Doer>(doer: &mut W, refused: Option<MessageFault>)
+    requires { W.serving doer.old }
+    ensures { W.does (rejects refused) doer.old doer.new }
+{
+    W::parts_go_on();
+    match refused {
+        Some(fault) => doer.rejects(fault),
+        None => {}
     }
 }
 

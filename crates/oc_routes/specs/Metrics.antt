@@ -10,9 +10,8 @@ use Rattle.oc_model.specs.Adopting.{is_acting}
 use Rattle.oc_model.specs.Node.{Control}
 use Rattle.oc_model.specs.Records.{is_joined}
 use Rattle.oc_model.specs.Table.{leased_children, listed_in}
-use Rattle.oc_routes.specs.Sights.{Sight, ids_told, is_here, name_of, silence_of}
+use Rattle.oc_routes.specs.Sights.{AboutView, Sight, ids_told, is_here, name_of, silence_of}
 use Rattle.oc_routes.specs.Tallies.{TallyView}
-use Rattle.oc_routes.specs.declared.about.About.{About}
 use Rattle.oc_routes.specs.declared.counts.Counts.{Counts}
 use Rattle.oc_routes.specs.declared.tally.StatusCount.{StatusCount}
 
@@ -138,11 +137,11 @@ other_counters t =
     ++ counter (codes "overcast_clients_total") (codes "Clients served since the start.") t.served
 
 -- the limit of groups, and what is told of the program
-abbrev pub program_gauges : About → List ℕ
+abbrev pub program_gauges : AboutView → List ℕ
 program_gauges about =
     gauge (codes "overcast_groups_limit") (codes "The most groups that a node holds.") MAX_GROUPS
     ++ gauge (codes "overcast_start_time_seconds") (codes "When the node started, in seconds since 1970.") about.started
-    ++ heading (codes "overcast_build_info") (codes "The version of the program.") ++ labelled (codes "overcast_build_info") (codes "version") about.version.now 1
+    ++ heading (codes "overcast_build_info") (codes "The version of the program.") ++ labelled (codes "overcast_build_info") (codes "version") about.version 1
     ++ gauge (codes "overcast_configuration_refused") (codes "Whether the configuration's file was refused when it was read last.") (from_bool about.refused)
 
 -- what was told first: the node's place, its counts, its groups and its outbox

@@ -6,8 +6,13 @@ use Rattle.oc_model.specs.Node.{Control}
 use Rattle.oc_model.specs.Numbers.{at}
 use Rattle.oc_model.specs.Table.{is_listed, newest}
 use Rattle.oc_routes.specs.Tallies.{TallyView}
-use Rattle.oc_routes.specs.declared.about.About.{About}
 use Rattle.oc_routes.specs.declared.seen.Seen.{Seen}
+
+-- the version of the program, when it started, in seconds since 1970, and whether the configuration's file was refused when it was read last
+pub record AboutView : Type 0 where
+  pub version : List ℕ
+  pub started : ℕ
+  pub refused : Bool
 
 -- the control state of a node, what it holds of each group, and the number of messages in its outbox; what its configuration says of the
 -- nodes, by their ids; what its run counted; and what is told of the program
@@ -19,7 +24,7 @@ pub record Sight : Type 0 where
   pub names : List (Option (List ℕ))
   pub retired : List Bool
   pub tally : TallyView
-  pub about : About
+  pub about : AboutView
 
 abbrev pub sight_of : Seen → Sight
 sight_of seen = record {

@@ -9,9 +9,8 @@ use Rattle.oc_model.specs.Node.{Control}
 use Rattle.oc_base.specs.declared.limits.TheConstants.{MAX_GROUPS}
 use Rattle.oc_routes.specs.Json.{array_text, flag_text, number_text, or_null, quoted}
 use Rattle.oc_routes.specs.Rows.{leased_of, rows_told}
-use Rattle.oc_routes.specs.Sights.{Sight, missing, name_of, silence_of}
+use Rattle.oc_routes.specs.Sights.{AboutView, Sight, missing, name_of, silence_of}
 use Rattle.oc_routes.specs.Tallies.{TallyView}
-use Rattle.oc_routes.specs.declared.about.About.{About}
 use Rattle.oc_routes.specs.declared.leased.Leased.{Leased}
 use Rattle.oc_routes.specs.declared.rows.Row.{Row}
 
@@ -105,9 +104,9 @@ unfoldable pub state_text : Control → List ℕ
 state_text n = network_text n ++ place_text n ++ counts_text n
 
 -- the program, and its limit of groups
-abbrev pub program_text : About → List ℕ
+abbrev pub program_text : AboutView → List ℕ
 program_text about =
-    codes ",\"version\":" ++ quoted about.version.now
+    codes ",\"version\":" ++ quoted about.version
     ++ codes ",\"started\":" ++ number_text about.started
     ++ codes ",\"groups_limit\":" ++ number_text MAX_GROUPS
 

@@ -4,6 +4,7 @@ use oc_http::HeadReader;
 use oc_io::{Disk, Sink};
 use oc_keep::Kept;
 use oc_link::Link;
+use oc_routes::{About, Tally};
 use std::alloc::Global;
 
 /// A running node: its files, what it has still to send and to answer, its configuration, and what it reaches the
@@ -19,6 +20,10 @@ pub struct Server<D: Disk, L: Link, K: Sink> {
     /// What it has dialled.
     pub dials: Dials,
     pub config: Config,
+    /// What is told of its program.
+    pub about: About,
+    /// What it counted.
+    pub tally: Tally,
     /// What it writes of its inputs.
     pub log: Log,
     pub link: L,

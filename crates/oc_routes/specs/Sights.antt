@@ -6,6 +6,7 @@ use Rattle.oc_model.specs.Node.{Control}
 use Rattle.oc_model.specs.Numbers.{at}
 use Rattle.oc_model.specs.Table.{is_listed, newest}
 use Rattle.oc_routes.specs.Tallies.{TallyView}
+use Rattle.oc_routes.specs.declared.about.About.{About}
 use Rattle.oc_routes.specs.declared.seen.Seen.{Seen}
 
 -- the version of the program, when it started, in seconds since 1970, and whether the configuration's file was refused when it was read last
@@ -13,6 +14,9 @@ pub record AboutView : Type 0 where
   pub version : List ℕ
   pub started : ℕ
   pub refused : Bool
+
+abbrev pub about_of : About → AboutView
+about_of a = record { version = a.version.now; started = a.started; refused = a.refused }
 
 -- the control state of a node, what it holds of each group, and the number of messages in its outbox; what its configuration says of the
 -- nodes, by their ids; what its run counted; and what is told of the program
@@ -35,7 +39,7 @@ sight_of seen = record {
   names = map (option_map string_bytes) seen.directory.names.now;
   retired = seen.directory.retired.now;
   tally = seen.tally.now;
-  about = seen.about;
+  about = about_of seen.about;
 }
 
 -- Of one node

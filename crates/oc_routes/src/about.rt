@@ -1,5 +1,3 @@
-use std::marker::Model;
-
 /// What is told of the program that runs a node, and of the file of its configuration.
 #[derive(Clone, Copy, Debug)]
 pub struct About {
@@ -9,12 +7,4 @@ pub struct About {
     pub started: u64,
     /// The file was refused when it was read last: a start with it would fail, or is needed.
     pub refused: bool,
-}
-
-impl Model for About {
-    ghost use Rattle.oc_routes.specs.Sights.{AboutView};
-
-    ghost Value = { AboutView };
-
-    ghost view = { λ a. record { version = a.version.now; started = a.started; refused = a.refused } };
 }

@@ -20,6 +20,7 @@ use Rattle.oc_model.specs.Node.{Header, Node}
 use Rattle.oc_model.specs.Step.{step}
 use Rattle.oc_node.specs.OutcomeView.{OutcomeView}
 use Rattle.oc_policy.specs.declared.deciding.TheConstants.{MAX_RULES}
+use Rattle.oc_routes.specs.Sights.{about_of}
 use Rattle.oc_deeds.specs.Done.{AreDone, CountsAll}
 use Rattle.oc_deeds.specs.Lawful.{IsLawfulDial, IsLawfulWork, IsPlaced}
 use Rattle.oc_deeds.specs.Under.{Idle, Taking, Under, under_line}
@@ -46,7 +47,7 @@ setting s = record {
   retired = s.config.retired;
   key = key_of s.config.keys;
   log = s.log;
-  about = s.about;
+  about = about_of s.about;
 }
 
 -- What holds between any two calls

@@ -24,6 +24,7 @@ use Rattle.oc_model.specs.Step.{step}
 use Rattle.oc_probe.specs.Turns.{peers_of}
 use Rattle.oc_probe.specs.declared.probing.Probing.{Probing}
 use Rattle.oc_routes.specs.Responses.{address_of}
+use Rattle.oc_routes.specs.Sights.{about_of}
 use Rattle.oc_routes.specs.Verdicts.{NodeTerms, terms_of}
 use Rattle.oc_deeds.specs.Deeds.{Deed, Setting, calls_of, inputs_of, line, lines}
 use Rattle.oc_deeds.specs.Pace.{most_interval}
@@ -62,7 +63,7 @@ setting_of c task = record {
   retired = c.retired;
   key = key_of c.keys;
   log = task.log;
-  about = task.about;
+  about = about_of task.about;
 }
 
 -- the terms by which the node reads requests

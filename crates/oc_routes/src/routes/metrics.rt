@@ -3,7 +3,7 @@
 ghost use Rattle.std.specs.Prelude.{◌≡◌, ◌++◌, IfOk, OnOk, option_map};
 ghost use Rattle.std.specs.List.{flat_map};
 ghost use Rattle.oc_routes.specs.Metrics.{bare_sample, cause_sample, count_gauges, count_heading, counted, counter, gauge, group_gauges, heading, heading_as, heard_sample, held_samples, labelled, metrics_text, name_label, node_gauges, node_sample, other_counters, place_gauges, program_gauges, reply_counters, sample, sealed_samples, state_gauges, status_sample, up_sample, up_samples};
-ghost use Rattle.oc_routes.specs.Sights.{name_of, sight_of};
+ghost use Rattle.oc_routes.specs.Sights.{about_of, name_of, sight_of};
 
 use crate::about::About;
 use crate::counts::{Counts, counted};
@@ -320,7 +320,7 @@ fn put_cause(out: &mut Vec<u8>, cause: &str, count: u64) -> Result<(), Memory>
 
 /// Puts the limit of groups, and what is told of the program.
 fn put_program(out: &mut Vec<u8>, about: &About) -> Result<(), Memory>
-    ensures { OnOk result (out.new.items ≡ out.old.items ++ program_gauges about.now) }
+    ensures { OnOk result (out.new.items ≡ out.old.items ++ program_gauges (about_of about.now)) }
 {
     put_gauge(
         out,

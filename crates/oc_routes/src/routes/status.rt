@@ -2,7 +2,7 @@
 
 ghost use Rattle.std.specs.Prelude.{◌≡◌, ◌++◌, IfOk, OnOk};
 ghost use Rattle.oc_routes.specs.Json.{number_text, or_null};
-ghost use Rattle.oc_routes.specs.Sights.{sight_of};
+ghost use Rattle.oc_routes.specs.Sights.{about_of, sight_of};
 ghost use Rattle.oc_routes.specs.Status.{configuration_word, counts_text, end_text, mode_word, network_text, object_text, peer_of, place_text, program_text, rank_text, state_text, status_text, tally_text};
 
 use crate::about::About;
@@ -77,7 +77,7 @@ fn put_end(out: &mut Vec<u8>, seen: &Seen<'_>, missing: &[MissingNode]) -> Resul
 
 /// Puts what is told of the program, and its limit of groups.
 fn put_program(out: &mut Vec<u8>, about: &About) -> Result<(), Memory>
-    ensures { OnOk result (out.new.items ≡ out.old.items ++ program_text about.now) }
+    ensures { OnOk result (out.new.items ≡ out.old.items ++ program_text (about_of about.now)) }
 {
     put(out, b",\"version\":")?;
     put_quoted(out, about.version.as_bytes())?;

@@ -156,7 +156,9 @@ footer a { color: inherit; }
   ul.tree ul > li::before, ul.tree ul > li::after { left: -.75rem; }
   ul.tree ul > li::after { width: .62rem; }
   th, td { padding: .26rem .45rem; }
-  .row .named { max-width: 8.5rem; }
+  .row { flex-wrap: wrap; }
+  .row .named { max-width: 12rem; }
+  .row > .more:not(.word) { flex: 1 1 100%; padding: 0 0 0 2.2rem; }
   td.word.named { min-width: 7.5rem; }
 }
 ul.tree ul ul ul ul ul ul ul ul { margin-left: 0; padding-left: .4rem; }

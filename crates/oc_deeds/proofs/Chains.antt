@@ -4,7 +4,7 @@ use Rattle.std.proofs.lemmas.List.{append_assoc}
 use Rattle.oc_link.specs.declared.call.Call.{Call}
 use Rattle.oc_link.specs.declared.counts.LinkCounts.{LinkCounts}
 use Rattle.oc_model.specs.declared.input.Input.{Input}
-use Rattle.oc_deeds.specs.Deeds.{Deed, Running, Setting, after, after_all, calls, calls_of, input_of, inputs_of, line, lines, with_input}
+use Rattle.oc_deeds.specs.Deeds.{Deed, Running, Setting, after, after_all, calls, calls_of, deed_input, inputs_of, line, lines, with_input}
 use Rattle.oc_deeds.specs.Deeds as deeds
 use Rattle.oc_deeds.specs.Done.{CountsAll}
 
@@ -23,7 +23,7 @@ with_append (Some i) is js = refl
 -- their inputs
 pub inputs_append : (ds es : List Deed) → inputs_of (ds ++ es) ≡ inputs_of ds ++ inputs_of es
 inputs_append [] es = refl
-inputs_append (d ∷ ds) es = ap (λ (is : List Input). with_input (input_of d) is) (inputs_append ds es) ∙ with_append (input_of d) (inputs_of ds) (inputs_of es)
+inputs_append (d ∷ ds) es = ap (λ (is : List Input). with_input (deed_input d) is) (inputs_append ds es) ∙ with_append (deed_input d) (inputs_of ds) (inputs_of es)
 
 -- what they make of a running node
 pub after_append : (ds es : List Deed) (a : Running) → after_all (ds ++ es) a ≡ after_all es (after_all ds a)

@@ -119,7 +119,7 @@ heard_speaks at request bytes over a b c p q end = record {
   rest = behind at a b c p.rest q.rest;
 }
 
--- and then a call failed
+-- a connection on which bytes were read before a call failed
 broken_told : (bytes : List ℕ) (talk : Talk) (between : Connection) (old new : Dial) → IsTold talk old → ReadsFront bytes old.connection between → Some new.connection ≡ Some (broken between) → Some new.address ≡ Some old.address → IsTold (record { address = talk.address; written = talk.written; read = talk.read ++ bytes; over = false }) new
 broken_told bytes talk between old new told gives breaks a =
     let e : new.connection ≡ broken between = some_is new.connection (broken between) breaks in

@@ -31,9 +31,9 @@ abbrev pub UnlessChecked : ConfiguredEnd → Type 0 → Type 0
 UnlessChecked (Checked end) so = ⊤
 UnlessChecked end so = so
 
--- ---- which status has to come
+-- The status that has to come
 
--- for a configuration without a node of this id the status is 3; otherwise, over the files of a
+-- the status is 3 for a configuration without a node of this id; otherwise, over the files of a
 -- node, it is 0
 abbrev pub IsShownOver : {D : Type 0} → (D → DiskView) → Disks D → Settings → ℕ → ℕ → Type 0
 IsShownOver view d s id status =

@@ -71,9 +71,9 @@ abbrev pub IsPlacedOf : List (Option (List ℕ)) → ℕ → Option ℕ → Type
 IsPlacedOf addresses id (Some me) = HasAddress addresses id × (me ≡ id)
 IsPlacedOf addresses id None = HasAddress addresses id → ⊥
 
--- ---- which status has to come
+-- The status that has to come
 
--- For a configuration without a node of this id the status is 3. Otherwise, over the files of a
+-- The status is 3 for a configuration without a node of this id. Otherwise, over the files of a
 -- node, it is 0, or 5 if a file is full.
 abbrev pub IsStatusOver : {D : Type 0} → (D → DiskView) → Disks D → Settings → Service → ℕ → Type 0
 IsStatusOver view d s v status =

@@ -42,7 +42,7 @@ pub fn recovered_text<D: Disk>(
     // The text is that of the node that the files recover.
     ensures shows { IfOk result.text (λ text. Shows D.view (header_without_areas sizes) id (disks_in files) text.items) }
 
-    // When it refuses.
+    // The refusals, each with its cause.
     ensures refuses { IfErr result.text (λ error. RefusesNode D.view sizes.nodes (disks_in files) (disks_in result.files) error) }
 
     // At every moment a crash leaves what a crash at the start would have left.

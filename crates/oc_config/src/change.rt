@@ -13,11 +13,11 @@ use oc_updown::Measure;
 #[derive(Clone, Copy)]
 pub struct Running {
     pub me: NodeId,
-    /// Whether it writes a record, which has one header for all that follows.
+    /// Whether the node writes a record, which has one header for all entries after it.
     pub recorded: bool,
 }
 
-/// What a node goes by after its configuration was read again: all of the new one, or the first key, in the order of
+/// The configuration of a node after it was read again: all of the new one, or the first key, in the order of
 /// `restart_key`, whose change needs a new start of the node; then the old one stays.
 pub fn config_change(running: Running, old: &Config, new: Config) -> Result<Config, ConfigKey>
     ensures { result ≡ config_change running old.now new }
@@ -68,14 +68,14 @@ fn same_presence(old: &Option<Keyring>, new: &Option<Keyring>) -> bool
     old.is_some() == new.is_some()
 }
 
-/// Whether a node listens where it did.
+/// Whether a node listens where it listened before.
 fn keeps_listen(node: NodeId, old: &Config, new: &Config) -> bool
     ensures { result ≡ same_text (listen_at node old.now) (listen_at node new.now) }
 {
     same_text(listen_at(node, old), listen_at(node, new))
 }
 
-/// Where a node listens.
+/// The address at which a node listens.
 fn listen_at(node: NodeId, config: &Config) -> Option<&str>
     ensures { option_map (λ s. s.now) result ≡ listen_at node config.now }
 {
@@ -95,15 +95,15 @@ fn same_text(old: Option<&str>, new: Option<&str>) -> bool
     }
 }
 
-/// Whether the areas may go from one to the other: of a node that writes a record they stay.
+/// Whether the areas may go from one to the other: the areas of a node that writes a record stay.
 fn keeps_areas(running: Running, old: &[u8], new: &[u8]) -> bool
     ensures { result ≡ keeps_areas running old.now new.now }
 {
     if running.recorded { old == new } else { true }
 }
 
-/// Whether a measure is one of these. Of a configuration that is taken over a node takes those of its own which the one
-/// before had not.
+/// Whether a measure is one of these. A node takes those of its own measures from a configuration that is taken over
+/// which the configuration before had not.
 pub fn has_measure(measure: Measure, measures: &[Measure]) -> bool
     ensures { result ≡ has_measure measure measures.now }
 {

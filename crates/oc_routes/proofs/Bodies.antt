@@ -22,7 +22,7 @@ IsOfRequest (inputs.Seal group) = Unit {0}
 IsOfRequest (inputs.Client area start group) = Unit {0}
 IsOfRequest input = ⊥
 
--- such an input, or none; it is refused as no message only where a message is asked, and else only since there is a body
+-- an input of this kind, or none; a body is refused as no message only where a message is asked, and else only since there is a body
 abbrev pub IsOfBody : Operation → Result (Option Input) Refused → Type 0
 IsOfBody operation (Ok None) = Unit {0}
 IsOfBody operation (Ok (Some input)) = IsOfRequest input

@@ -17,7 +17,7 @@ use Rattle.oc_routes.specs.declared.routes.Operation.{Operation}
 use Rattle.oc_routes.specs.declared.routes.Operation.TheVariants.{Publish, Seal}
 use Rattle.oc_routes.specs.declared.showing.Shown.{Shown}
 
--- by the Location that was made
+-- the redirection with the Location that was made
 pub sent_told : {M : Type 0} (r : Result Response M) (address group : List ℕ) (start : ℕ) (manner : Manner) (hint : Hint) (h : Holding) (told location : List ℕ) → told ≡ told_text hint h → location ≡ location_of address group start told manner
     → IfOk r (λ (x : Response). x ≡ whole (redirection location)) → IfOk r (λ (x : Response). x ≡ whole (redirection (location_of address group start (told_text hint h) manner)))
 sent_told (Ok x) address group start manner hint h told location tells at is =

@@ -48,8 +48,8 @@ place_gauges mode =
     ++ gauge (codes "overcast_acting") (codes "The node acts as root.") (from_bool (is_acting mode))
     ++ gauge (codes "overcast_joined") (codes "The node is joined to a parent.") (from_bool (is_joined mode))
 
--- what is counted of the node: who is listed beneath it, the rows of its table, its leased children, the clients in its own count,
--- and what its parent has not acknowledged
+-- the counts of a node: the nodes listed beneath it, the rows of its table, its leased children, the clients in its own count,
+-- and the certificates that its parent has not acknowledged
 abbrev pub counted : Control → Counts
 counted n = record {
   listed = length (listed_in n.kept.table n.me);
@@ -67,7 +67,7 @@ count_gauges counts =
     ++ gauge (codes "overcast_clients") (codes "Clients counted by this node.") counts.clients
     ++ gauge (codes "overcast_certificates_waiting") (codes "Certificates not acknowledged by the parent.") counts.waiting
 
--- how many bytes of each group it holds
+-- the number of bytes of each group that the node holds
 abbrev pub held_samples : List Shelf → List ℕ
 held_samples shelf = flat_map (λ line. sample (codes "overcast_group_bytes") line line.held) shelf
 
@@ -75,7 +75,7 @@ held_samples shelf = flat_map (λ line. sample (codes "overcast_group_bytes") li
 abbrev pub sealed_samples : List Shelf → List ℕ
 sealed_samples shelf = flat_map (λ line. sample (codes "overcast_group_sealed") line (from_bool line.sealed)) shelf
 
--- its groups
+-- the gauges of the groups
 abbrev pub group_gauges : List Shelf → List ℕ
 group_gauges shelf =
     heading (codes "overcast_group_bytes") (codes "Bytes held of a group.") ++ held_samples shelf

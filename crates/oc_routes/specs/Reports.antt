@@ -1,4 +1,4 @@
--- What a node tells of itself, as it is asked.
+-- The reports of a node, as they are asked for.
 use Rattle.std.specs.Prelude.{ℕ, Bool, None, List, [], ◌++◌, length}
 use Rattle.oc_http.specs.Writing.{head_text}
 use Rattle.oc_http.specs.declared.content_type.ContentType.{ContentType}
@@ -29,12 +29,12 @@ report_text reports.Status s = status_text s
 report_text reports.Metrics s = metrics_text s
 report_text reports.Page s = page_text
 
--- What is told where that is asked, and else nothing.
+-- The text of the report that is asked for; without one no text.
 abbrev pub report_of : Operation → Sight → List ℕ
 report_of (asks.Report report manner) s = report_text report s
 report_of other s = []
 
--- to one who asks what the node tells of itself, which is this
+-- the reply to a request for a report with this text
 abbrev pub report_response : Report → Manner → Bool → List ℕ → Response
 report_response report manner last text = record {
   text = head_text (typed_as (content_type_of report) []) (framings.Length (length text)) (connection_for manner last) ++ body_for manner text;

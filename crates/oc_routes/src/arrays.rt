@@ -8,7 +8,7 @@ ghost use Rattle.oc_routes.specs.Status.{list_text};
 use crate::seen::Seen;
 use oc_base::{Memory, put};
 
-/// What an array contains.
+/// An item of an array.
 pub(crate) trait ArrayItem {
     /// Its text, where the node is looked at so.
     ghost text: { Sight → Self → List ℕ };

@@ -1,4 +1,4 @@
-/// Why a request becomes no input. If a request has several of these faults, the first in this order
+/// The fault of a request that becomes no input. If a request has several of these faults, the first in this order
 /// counts; `Source` and `Ended` come where the head is read and where the body is.
 #[derive(Clone, Copy, Debug, PartialEq, Eq)]
 pub enum Refused {

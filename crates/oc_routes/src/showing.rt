@@ -1,4 +1,4 @@
-//! What a client is answered by what it tells.
+//! The answer that a client is shown by its hint.
 
 ghost use Rattle.std.specs.Prelude.{◌≡◌, ◌++◌, IfOk, OnOk, map, option_map, string_bytes};
 ghost use Rattle.oc_routes.specs.Group.{given_response, group_response, here_response, redirection, served_or_past};
@@ -14,14 +14,14 @@ use oc_http::put_path;
 use oc_model::Answer;
 use std::alloc::Global;
 
-/// A client that asks for a group, and what it tells of it.
+/// A client that asks for a group, and its hint.
 #[derive(Clone, Copy, Debug)]
 pub(crate) struct Client {
     pub(crate) group: GroupName,
     pub(crate) start: u64,
     pub(crate) manner: Manner,
     pub(crate) hint: Hint,
-    /// Its request is the last of its connection whatever it asks.
+    /// Whether its request is the last of its connection whatever it asks.
     pub(crate) last: bool,
 }
 
@@ -32,7 +32,7 @@ pub(crate) struct Shown {
     pub sealed: bool,
 }
 
-/// What a client is answered, where the addresses of the nodes are these.
+/// The answer to a client, where the addresses of the nodes are these.
 pub(crate) fn to_client(
     alloc: Global,
     client: &Client,
@@ -56,8 +56,8 @@ pub(crate) fn to_client(
     }
 }
 
-/// What a client is given of what is here, where the node to which it would be sent has no address; one that follows,
-/// which would ask without end, is told so.
+/// The bytes that are here, for a client where the node to which it would be sent has no address; one that follows,
+/// which would ask without end, is told this.
 fn here(alloc: Global, client: &Client, holding: Holding) -> Result<Response, Memory>
     ensures { IfOk result (λ response. response ≡ here_response client.now.start client.now.manner client.now.last holding) }
 {
@@ -73,7 +73,7 @@ fn here(alloc: Global, client: &Client, holding: Holding) -> Result<Response, Me
     }
 }
 
-/// What a client is given that is not sent elsewhere.
+/// The reply to a client that is not sent elsewhere.
 fn given(alloc: Global, client: &Client, shown: Shown, holding: Holding) -> Result<Response, Memory>
     ensures { IfOk result (λ response. response ≡ given_response client.now.start client.now.manner shown.answer shown.sealed client.now.last holding) }
 {
@@ -174,7 +174,7 @@ fn known_shown(answer: Answer, sealed: bool) -> Shown
     }
 }
 
-/// What is told of a group to the next node.
+/// The hint about a group for the next node.
 fn told_text(alloc: Global, hint: Hint, holding: Holding) -> Result<Vec<u8>, Memory>
     ensures { IfOk result (λ text. text.items ≡ told_text hint holding) }
 {

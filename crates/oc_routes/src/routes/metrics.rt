@@ -21,7 +21,7 @@ pub const METRICS_PATH: &str = "/!metrics";
 /// The same under a name that shells and collectors can spell.
 pub const METRICS_NAME: &str = "/-/metrics";
 
-/// What a node tells of itself at `/!metrics`, in the text format of Prometheus.
+/// The report of a node at `/!metrics`, in the text format of Prometheus.
 pub fn metrics(alloc: Global, seen: &Seen<'_>) -> Result<Vec<u8>, Memory>
     ensures { IfOk result (λ text. text.items ≡ metrics_text (sight_of seen.now)) }
 {
@@ -70,7 +70,7 @@ fn put_place(out: &mut Vec<u8>, node: &Node) -> Result<(), Memory>
     )
 }
 
-/// Puts the metrics of what is counted of the node.
+/// Puts the metrics of the counts of a node.
 fn put_counts(out: &mut Vec<u8>, counts: &Counts) -> Result<(), Memory>
     ensures { OnOk result (out.new.items ≡ out.old.items ++ count_gauges counts.now) }
 {
@@ -116,7 +116,7 @@ fn put_groups(out: &mut Vec<u8>, shelf: &[Shelf]) -> Result<(), Memory>
     put_sealed(out, shelf)
 }
 
-/// Puts how many bytes of each group are held.
+/// Puts the number of bytes held of each group.
 fn put_held(out: &mut Vec<u8>, shelf: &[Shelf]) -> Result<(), Memory>
     ensures { OnOk result (out.new.items ≡ out.old.items ++ held_samples shelf.now) }
 {

@@ -25,7 +25,7 @@ pub const STATUS_PATH: &str = "/!status";
 /// The same under a name that shells and collectors can spell.
 pub const STATUS_NAME: &str = "/-/status";
 
-/// What a node tells of itself at `/!status`: one object of JSON, and a line's end.
+/// The report of a node at `/!status`: one object of JSON, and a line's end.
 pub fn status(alloc: Global, seen: &Seen<'_>) -> Result<Vec<u8>, Memory>
     ensures { IfOk result (λ text. text.items ≡ status_text (sight_of seen.now)) }
 {

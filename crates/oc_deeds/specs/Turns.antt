@@ -123,12 +123,16 @@ abbrev pub takes_brought : Option Input → Part
 takes_brought None s a = []
 takes_brought (Some i) s a = takes_in i s a
 
+-- the reply to a message is counted where it was refused, and the input that results from it is taken
+abbrev pub takes_reply : Option Input → Option MessageFault → Part
+takes_reply input refused = rejects refused >> takes_brought input
+
 -- what is done with what came: at this time, with the median of the rates of a peer that was probed, and the time when a probe begins
 abbrev pub happens : Option Probing → Came → ℕ → ℕ → ℕ → Part
 happens probing (comes.Request c count verdict) now median started = obeys c count verdict now
 happens probing (comes.Room c) now median started = takes_room c now
 happens probing (comes.Gone c loss) now median started = takes_loss c loss
-happens probing (comes.Reply input taken refused) now median started = rejects refused >> takes_brought input
+happens probing (comes.Reply input taken refused) now median started = takes_reply input refused
 happens probing (comes.Probed peer since fault) now median started = measures probing peer fault median
 happens probing comes.Nothing now median started = probes_next probing started
 

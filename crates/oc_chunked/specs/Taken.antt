@@ -98,7 +98,7 @@ pub record HasBadTrailer (bytes content : List ℕ) : Type 0 where
       ⊎ ((fields : List Field × LineEnd) × ReadsFields front fields [] × (MAX_FIELDS < length fields.0))
   pub short : length front ≤ MAX_TRAILER_BYTES
 
--- as many bytes as a size line may have, without its end
+-- a size line of the greatest length, without its end
 pub record HasLongSize (bytes content : List ℕ) : Type 0 where
   pub unfinished : IsUnfinished ReadsChunkLine bytes
   pub long : length bytes ≡ MAX_SIZE_LINE_BYTES

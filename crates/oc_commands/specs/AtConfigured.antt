@@ -26,7 +26,7 @@ abbrev pub HappenedAtConfigured : Input → OnFiles → Output → ℕ → Confi
 HappenedAtConfigured input files output id (Config end) = ReadsConfig input (Err end) × output.written []
 HappenedAtConfigured input files output id end = (s : Settings) × ReadsConfig input (Ok s) × ChecksOne files output s id end
 
--- this holds, unless the files were read
+-- a statement that holds unless the files were read
 abbrev pub UnlessChecked : ConfiguredEnd → Type 0 → Type 0
 UnlessChecked (Checked end) so = ⊤
 UnlessChecked end so = so

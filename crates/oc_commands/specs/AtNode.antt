@@ -23,7 +23,7 @@ use Rattle.oc_commands.specs.Outside.{Input, OnNode, Output}
 use Rattle.oc_commands.specs.declared.serving.ServiceEnd.{ServiceEnd}
 use Rattle.oc_commands.specs.declared.serving.ServiceEnd.TheVariants.{Config, Stranger, Ran}
 
--- this is the id of a node that has an address
+-- the id of a node that has an address
 abbrev pub HasAddress : List (Option (List ℕ)) → ℕ → Type 0
 HasAddress addresses id = IsNode (length addresses) id × (is_some (slice_index_or addresses (id - 1) None) ≡ true)
 
@@ -56,7 +56,7 @@ abbrev pub HappenedAtNode : Input → OnNode → Output → Service → ServiceE
 HappenedAtNode input node output v (Config end) = ReadsConfig input (Err end) × output.written []
 HappenedAtNode input node output v end = (s : Settings) × ReadsConfig input (Ok s) × RunsService node output s v end
 
--- this holds, unless the node ran
+-- a statement that holds unless the node ran
 abbrev pub UnlessRan : ServiceEnd → Type 0 → Type 0
 UnlessRan (Ran end) so = ⊤
 UnlessRan end so = so

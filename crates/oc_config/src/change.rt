@@ -22,17 +22,16 @@ pub struct Running {
 pub fn config_change(running: Running, old: &Config, new: Config) -> Result<Config, ConfigKey>
     ensures { result ≡ config_change running old.now new }
 {
-    match restart_key(running, old, &new) {
+    match restart_key(&running, old, &new) {
         Some(key) => Err(key),
         None => Ok(new),
     }
 }
 
 /// The first key whose change needs a new start of the node.
-fn restart_key(running: Running, old: &Config, new: &Config) -> Option<ConfigKey>
-    ensures { result ≡ restart_key running old.now new.now }
+fn restart_key(running: &Running, old: &Config, new: &Config) -> Option<ConfigKey>
+    ensures { result ≡ restart_key running.now old.now new.now }
 {
-    let me = running.me;
     if !keeps_nodes(running, old.addresses.len(), new.addresses.len()) {
         Some(ConfigKey::Nodes)
     } else if old.chain != new.chain {
@@ -41,7 +40,7 @@ fn restart_key(running: Running, old: &Config, new: &Config) -> Option<ConfigKey
         Some(ConfigKey::Chunk)
     } else if !same_presence(&old.keys, &new.keys) {
         Some(ConfigKey::NodeKey)
-    } else if !keeps_listen(me, old, new) {
+    } else if !keeps_listen(running.me, old, new) {
         Some(ConfigKey::Listen)
     } else if !keeps_areas(running, &old.areas, &new.areas) {
         Some(ConfigKey::Area)
@@ -51,8 +50,8 @@ fn restart_key(running: Running, old: &Config, new: &Config) -> Option<ConfigKey
 }
 
 /// Whether the greatest id may go from one to the other: it may grow, except where the node writes a record.
-fn keeps_nodes(running: Running, old: usize, new: usize) -> bool
-    ensures { result ≡ keeps_nodes running old new }
+fn keeps_nodes(running: &Running, old: usize, new: usize) -> bool
+    ensures { result ≡ keeps_nodes running.now old new }
 {
     if running.recorded {
         old == new
@@ -96,8 +95,8 @@ fn same_text(old: Option<&str>, new: Option<&str>) -> bool
 }
 
 /// Whether the areas may go from one to the other: the areas of a node that writes a record stay.
-fn keeps_areas(running: Running, old: &[u8], new: &[u8]) -> bool
-    ensures { result ≡ keeps_areas running old.now new.now }
+fn keeps_areas(running: &Running, old: &[u8], new: &[u8]) -> bool
+    ensures { result ≡ keeps_areas running.now old.now new.now }
 {
     if running.recorded { old == new } else { true }
 }

@@ -76,7 +76,7 @@ spared_or : (row : Option Resource) (path : List ℕ) → IsSpared (resource_or 
 spared_or (Some resource) path = tt
 spared_or None path = spared_own path (is_own path)
 
--- whatever rows the table has
+-- the resource of a path, whatever rows the table has
 spared_resource : (action : Action) (path : Option (List ℕ)) → IsSpared (resource_named action path)
 spared_resource action None = tt
 spared_resource action (Some path) = spared_or (resource_at action path) path

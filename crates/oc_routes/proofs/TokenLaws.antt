@@ -26,7 +26,7 @@ alike_by rules action name area p q Allowed Allowed operation = inl refl
 alike_by rules action name area p q Allowed (Denied rule) operation = inr (inr tt)
 alike_by rules action name area p q (Denied rule) w operation = inr (inl tt)
 
--- whatever the rules speak of
+-- the decision, whatever the rules speak of
 alike_permitted : (rules : List Rule) (action : Action) (name : Option (List ℕ)) (area : ℕ) (p q : Bool) (x y : Option (List ℕ)) (operation : Operation)
     → AreAlike (permitted_as rules action name area p x >>= (λ allowed. Ok operation)) (permitted_as rules action name area q y >>= (λ allowed. Ok operation))
 alike_permitted rules action None area p q x y operation = inl refl

@@ -55,6 +55,6 @@ abbrev pub ending : Bool → Bool → List ℕ
 ending true true = end_written
 ending chunked last = []
 
--- these bytes, as they are given
+-- the text of these bytes as they are given
 abbrev pub piece_text : UnderWay → List ℕ → List ℕ
 piece_text u bytes = pieces u.chunked bytes ++ ending u.chunked (is_last u (length bytes))

@@ -69,11 +69,14 @@ abbrev pub here_response : ℕ → Manner → Bool → Holding → Response
 here_response start Follow last h = whole_for Follow (telling 503 nowhere_line)
 here_response start manner last h = given_response start manner (here_answer h start) h.sealed last h
 
+-- the reply to a client that is sent to the node at this address; an empty one is none
+abbrev pub sent_response : List ℕ → ℕ → Manner → List ℕ → List ℕ → Bool → Holding → Response
+sent_response group start manner told address last h =
+    if length address == 0 then here_response start manner last h else whole (redirection (location_of address group start told manner))
+
 -- the reply to a client of such a node, which is shown `Redirect`, `Serve` or `NoGroup`, of a group that it is shown as sealed or not
 abbrev pub client_response : List ℕ → ℕ → Manner → List ℕ → Answer → Bool → Bool → Holding → List (Option (List ℕ)) → Response
-client_response group start manner told (answers.Redirect node) sealed last h addresses =
-    if length (address_of addresses node) == 0 then here_response start manner last h
-    else whole (redirection (location_of (address_of addresses node) group start told manner))
+client_response group start manner told (answers.Redirect node) sealed last h addresses = sent_response group start manner told (address_of addresses node) last h
 client_response group start manner told answer sealed last h addresses = given_response start manner answer sealed last h
 
 abbrev pub shown_response : List ℕ → ℕ → Manner → List ℕ → Shown → Bool → Holding → List (Option (List ℕ)) → Response

@@ -42,7 +42,7 @@ with_hint (Err (refusals.Denied rule needs_token)) (Ok hint) = Err (refusals.Den
 with_hint (Err (refusals.Denied rule needs_token)) (Err why) = Err why
 with_hint (Err other) told = Err other
 
--- only a GET or HEAD tells something
+-- the hint of a request, which only a GET or HEAD has
 abbrev pub hint_for : Method → List ℕ → Result Hint Refused
 hint_for methods.Get query = hint_in query
 hint_for methods.Head query = hint_in query

@@ -1,5 +1,5 @@
--- What a node tells of itself at `/!metrics`, in the text format of Prometheus, version 0.0.4: for each metric two lines that
--- name it, and its samples.
+-- The report of a node at `/!metrics`, in the text format of Prometheus, version 0.0.4: for each metric two lines with its name and
+-- meaning, and its samples.
 use Rattle.std.specs.Prelude.{ℕ, ◌-◌, ◌==◌, if◌then◌else◌, Option, Some, None, List, [], ◌++◌, length, codes, decimal}
 use Rattle.std.specs.Int.{from_bool}
 use Rattle.std.specs.List.{flat_map}

@@ -16,7 +16,7 @@ pub(crate) struct Counts {
     pub(crate) listed: u64,
     /// Rows of its table.
     pub(crate) rows: u64,
-    /// Its leased children.
+    /// The leased children of the node.
     pub(crate) children: u64,
     /// The clients in its own count.
     pub(crate) clients: u64,

@@ -14,7 +14,7 @@
 //! | the name of a group | POST with `seal` | `seal` | `Seal` | `Seal` | a status |
 //!
 //! A path is looked up in [`resource_at`] alone, once a request: another name of a route is another row there. A POST of a
-//! group may say by `at=N` which length the group has to have; whether it has is looked at by the layer above.
+//! group may name by `at=N` the length that its group has to have; the layer above looks whether it has this length.
 //!
 //! The laws look at no single route: that of tokens rests on the names of which the rules speak ([`name_of`]), those of MACs,
 //! of failures and of plain lines on the input that a body gives (`proofs/Bodies`), which computes for a route without one.

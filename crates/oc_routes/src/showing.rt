@@ -1,8 +1,7 @@
 //! The answer that a client is shown by its hint.
 
 ghost use Rattle.std.specs.Prelude.{◌≡◌, ◌++◌, IfOk, OnOk, map, option_map, string_bytes};
-ghost use Rattle.oc_routes.specs.Group.{given_response, group_response, here_response, redirection, served_or_past};
-ghost use Rattle.oc_routes.specs.Responses.{whole};
+ghost use Rattle.oc_routes.specs.Group.{given_response, group_response, here_response, sent_response, served_or_past};
 ghost use Rattle.oc_routes.specs.Shown.{here_answer, known_shown, location_of, of_shown, follow_text, shown, start_text, told_text};
 
 use crate::hint::Hint;
@@ -45,13 +44,7 @@ pub(crate) fn to_client(
     let holding = answered.holding;
     let shown = as_shown(client.hint, answered.answer, holding, client.start);
     match shown.answer {
-        Answer::Redirect(node) => {
-            let address = address_of(addresses, node);
-            if address.is_empty() {
-                return here(alloc, client, holding);
-            }
-            sent_on(alloc, client, holding, address)
-        }
+        Answer::Redirect(node) => sent_on(alloc, client, holding, address_of(addresses, node)),
         _ => given(alloc, client, shown, holding),
     }
 }
@@ -83,7 +76,7 @@ fn given(alloc: Global, client: &Client, shown: Shown, holding: Holding) -> Resu
     }
 }
 
-/// Sends a client to the node at an address.
+/// Sends a client to the node at an address; where that is empty the node has none, and the client is given what is here.
 fn sent_on(
     alloc: Global,
     client: &Client,
@@ -91,8 +84,11 @@ fn sent_on(
     address: &str,
 ) -> Result<Response, Memory>
     ensures { IfOk result (λ response. response
-        ≡ whole (redirection (location_of address.now client.now.group client.now.start (told_text client.now.hint holding) client.now.manner))) }
+        ≡ sent_response client.now.group client.now.start client.now.manner (told_text client.now.hint holding) address.now client.now.last holding) }
 {
+    if address.is_empty() {
+        return here(alloc, client, holding);
+    }
     let told = told_text(alloc, client.hint, holding)?;
     let location = location_of(alloc, address, client, &told)?;
     sent_to(alloc, location)

@@ -1,4 +1,4 @@
--- What is lawful of servers.
+-- Lawful servers.
 use Rattle.std.proofs.Common.{ℕ, sym, subst}
 use Rattle.std.specs.List.{AllByRecursion}
 use Rattle.oc_keep.specs.Promises.{IsSameNode}
@@ -8,7 +8,7 @@ use Rattle.oc_deeds.specs.Lawful.{IsLawfulDial, IsLawfulWork}
 use Rattle.oc_deeds.specs.Sending.{AreSendable}
 use Rattle.oc_server.specs.declared.server.Server.{Server}
 
--- what is lawful among some nodes is lawful at another moment of the same node
+-- a server that is lawful among some nodes is lawful at another moment of the same node
 pub lawful_of : {D L K : Type 0} (old new : Server D L K) → IsSameNode old.kept.node.control new.kept.node.control
     → (AreSendable old.kept.node.control.nodes old.outbox → AreSendable old.kept.node.control.nodes new.outbox)
     → (AllByRecursion (IsLawfulWork old.kept.node.control.nodes old.kept.node.control.me) old.works → AllByRecursion (IsLawfulWork old.kept.node.control.nodes old.kept.node.control.me) new.works)

@@ -7,17 +7,17 @@ use oc_link::Link;
 use oc_routes::{About, Tally};
 use std::alloc::Global;
 
-/// A running node: its files, what it has still to send and to answer, its configuration, and what it reaches the
-/// world by.
+/// A running node: its files, the messages to send and the requests to answer, its configuration, and its ways to the
+/// world.
 #[derive(Drop)]
 pub struct Server<D: Disk, L: Link, K: Sink> {
     pub alloc: Global,
     pub kept: Kept<D>,
     /// The messages that are still to be sent.
     pub outbox: Outbox,
-    /// What is under way on its connections.
+    /// The works on its connections.
     pub works: Works,
-    /// What it has dialled.
+    /// The dials of the node.
     pub dials: Dials,
     pub config: Config,
     /// What is told of its program.
@@ -27,7 +27,7 @@ pub struct Server<D: Disk, L: Link, K: Sink> {
     /// What it writes of its inputs.
     pub log: Log,
     pub link: L,
-    /// Where its lines go.
+    /// The output for its lines.
     pub sink: K,
     pub heads: HeadReader,
 }

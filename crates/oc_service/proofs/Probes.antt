@@ -21,7 +21,7 @@ all_peers me nodes id (Some x ∷ places) some within = by_test (id == me) where
   by_test true = rest
   by_test false = ((some, omega (arith, within)), rest)
 
--- what is there of a list is there of what is read of it
+-- the peers of a list are those of the list that is read from it
 same_peers : {A B : Type 0} (f : A → B) (me id : ℕ) (places : List (Option A)) → peers_from me id (map (option_map f) places) ≡ peers_from me id places
 same_peers f me id [] = refl
 same_peers f me id (None ∷ places) = same_peers f me (id + 1) places
@@ -40,7 +40,7 @@ made_for f me places p gauge rotation = subst (λ (n : ℕ). IsMadeFor n p) (sym
 abbrev probing_from : List (List ℕ) → RotationView → Probing
 probing_from gauge rotation = record { gauge = gauge; rotation = rotation }
 
--- and a node begins with it
+-- a node begins with this state for probes
 pub first_is : {A : Type 0} (f : A → List ℕ) (me : ℕ) (places : List (Option A)) (p : Probing) → p.gauge ≡ replicate (length places) [] → p.rotation ≡ record { coming = peers_of me places }
     → p ≡ probing_of me (map (option_map f) places)
 first_is f me places p gauge rotation =

@@ -5,6 +5,8 @@ use Rattle.oc_model.specs.declared.answer.Answer.{Answer}
 use Rattle.oc_model.specs.Node.{Control}
 use Rattle.oc_routes.specs.Refusals.{refusal_text}
 use Rattle.oc_routes.specs.Tallies.{TallyView, with_answer, with_news, with_refused, with_reply, with_sender}
+use Rattle.oc_routes.specs.declared.asker.Asker.{Asker}
+use Rattle.oc_routes.specs.declared.asker.Asker.TheVariants.{Node}
 use Rattle.oc_routes.specs.declared.refused.Refused.{Refused}
 use Rattle.oc_routes.specs.declared.refused.Refused.TheVariants as refusals
 use Rattle.oc_routes.specs.declared.routes.Operation.{Operation}
@@ -37,10 +39,15 @@ message_fault refusals.Mac = Some Mac
 message_fault refusals.Message = Some Message
 message_fault why = None
 
-abbrev pub with_refused_by : Option MessageFault → Option (List ℕ) → TallyView → TallyView
-with_refused_by (Some fault) text t = with_refused fault t
-with_refused_by None text t = with_refusal text t
+-- the reply to a node is none to a client
+abbrev pub with_refusal_to : Asker → Option (List ℕ) → TallyView → TallyView
+with_refusal_to Node text t = t
+with_refusal_to asker text t = with_refusal text t
+
+abbrev pub with_refused_by : Option MessageFault → Asker → Option (List ℕ) → TallyView → TallyView
+with_refused_by (Some fault) asker text t = with_refused fault t
+with_refused_by None asker text t = with_refusal_to asker text t
 
 -- a request was refused
 abbrev pub with_refused_request : Refusal → TallyView → TallyView
-with_refused_request refusal t = with_refused_by (message_fault refusal.why) (refusal_text refusal) t
+with_refused_request refusal t = with_refused_by (message_fault refusal.why) refusal.asker (refusal_text refusal) t

@@ -1,12 +1,12 @@
 //! What a running node counts.
 
 ghost use Rattle.std.specs.Prelude.{◌≡◌, option_map};
-ghost use Rattle.oc_deeds.specs.Counted.{message_fault, noted, with_refusal, with_refused_by, with_reply_to};
+ghost use Rattle.oc_deeds.specs.Counted.{message_fault, noted, with_refusal_to, with_refused_by, with_reply_to};
 
 use oc_base::NodeId;
 use oc_model::Answer;
 use oc_node::Node;
-use oc_routes::{KnownRows, MessageFault, Operation, Refused, Tally};
+use oc_routes::{Asker, KnownRows, MessageFault, Operation, Refusal, Refused, Tally};
 
 /// Counts an input of this sender that was answered so, by what was known before it and by the node after it.
 pub fn count_input(
@@ -33,22 +33,23 @@ pub fn count_reply(tally: &mut Tally, asked: &Operation, text: &[u8])
     }
 }
 
-/// Counts a request that was refused for this, and given this text, if any.
-pub fn count_refusal(tally: &mut Tally, why: Refused, text: &Option<Vec<u8>>)
-    ensures { tally.new ≡ with_refused_by (message_fault why) (option_map (λ t. t.items) text.now) tally.old }
+/// Counts a request that was refused, and given this text, if any.
+pub fn count_refusal(tally: &mut Tally, refusal: Refusal, text: &Option<Vec<u8>>)
+    ensures { tally.new ≡ with_refused_by (message_fault refusal.why) refusal.asker (option_map (λ t. t.items) text.now) tally.old }
 {
-    match message_fault(why) {
+    match message_fault(refusal.why) {
         Some(fault) => tally.refuses(fault),
-        None => count_refused(tally, text),
+        None => count_refused(tally, refusal.asker, text),
     }
 }
 
-/// Counts the refusal of a client, if something was given.
-fn count_refused(tally: &mut Tally, text: &Option<Vec<u8>>)
-    ensures { tally.new ≡ with_refusal (option_map (λ t. t.items) text.now) tally.old }
+/// Counts the refusal of a client, if something was given; of a node nothing.
+fn count_refused(tally: &mut Tally, asker: Asker, text: &Option<Vec<u8>>)
+    ensures { tally.new ≡ with_refusal_to asker (option_map (λ t. t.items) text.now) tally.old }
 {
-    if let Some(text) = text {
-        tally.replies(text);
+    match (asker, text) {
+        (Asker::Client | Asker::HeadAlone, Some(text)) => tally.replies(text),
+        _ => {}
     }
 }
 

@@ -10,7 +10,6 @@ use Rattle.oc_link.specs.declared.event.Coming.{Coming}
 use Rattle.oc_link.specs.declared.event.Coming.TheVariants.{Open, Ended, Failed}
 use Rattle.oc_link.specs.declared.event.LinkEvent.{LinkEvent}
 use Rattle.oc_link.specs.declared.event.LinkEvent.TheVariants as events
-use Rattle.oc_http.specs.Requests.{begins_with_head}
 use Rattle.oc_http.specs.declared.fault.HttpFault.{HttpFault}
 use Rattle.oc_http.specs.declared.head.Head.{Head}
 use Rattle.oc_http.specs.declared.reply.Reply.{Reply}
@@ -20,12 +19,14 @@ use Rattle.oc_model.specs.declared.message.Message.{Message}
 use Rattle.oc_probe.specs.declared.fault.ProbeFault.{ProbeFault}
 use Rattle.oc_probe.specs.declared.probing.Probing.{Probing}
 use Rattle.oc_routes.proofs.Bodies.{IsOfBody, IsOfRequest, of_body}
+use Rattle.oc_routes.specs.Askers.{asker_in, asker_of}
+use Rattle.oc_routes.specs.declared.asker.Asker.{Asker}
 use Rattle.oc_routes.specs.Conditions.{unmet}
 use Rattle.oc_routes.specs.Connections.{awaits_continue, is_last}
 use Rattle.oc_routes.specs.Hints.{asked_with_hint}
 use Rattle.oc_routes.specs.Macs.{is_forged}
 use Rattle.oc_routes.specs.Routes.{input_asked}
-use Rattle.oc_routes.specs.Verdicts.{IsVerdict, NodeTerms, answered, fault_met, input_for, is_head, is_none, refuse, routed, taken, unfinished, unread, verdict_for, whole, with_body}
+use Rattle.oc_routes.specs.Verdicts.{IsVerdict, NodeTerms, answered, fault_met, input_for, is_none, refuse, routed, taken, unfinished, unread, verdict_for, whole, with_body}
 use Rattle.oc_routes.specs.declared.fault.RouteFault.{RouteFault}
 use Rattle.oc_routes.specs.declared.fault.RouteFault.TheVariants as faults
 use Rattle.oc_routes.specs.declared.hint.Asked.{Asked}
@@ -165,7 +166,7 @@ body_plain t x came head rest said = by_permit (awaits_continue head && not x.pe
     body : List ℕ
     body = take head.length rest
 
-    by_mac : (b : Bool) → AsksPlainly (if b then refuse (is_head head.method) refusals.Mac else answered head request (input_asked t.nodes t.me said.operation body))
+    by_mac : (b : Bool) → AsksPlainly (if b then refuse (asker_of head) refusals.Mac else answered head request (input_asked t.nodes t.me said.operation body))
     by_mac true = tt
     by_mac false = answered_plain head request (input_asked t.nodes t.me said.operation body) (asked_plain t.nodes t.me said.operation body)
 
@@ -181,14 +182,14 @@ routed_plain : (t : NodeTerms) (x : Arrival) (came : ℕ) (head : Head) (rest : 
 routed_plain t x came head rest (Ok said) = body_plain t x came head rest said
 routed_plain t x came head rest (Err why) = tt
 
-unread_plain : (coming : Coming) (none head_alone : Bool) (fault : Option RouteFault) → AsksPlainly (unread coming none head_alone fault)
-unread_plain coming none head_alone None = unfinished_plain coming none
-unread_plain coming none head_alone (Some (faults.Refused why)) = tt
-unread_plain coming none head_alone (Some faults.Memory) = tt
+unread_plain : (coming : Coming) (none : Bool) (asker : Asker) (fault : Option RouteFault) → AsksPlainly (unread coming none asker fault)
+unread_plain coming none asker None = unfinished_plain coming none
+unread_plain coming none asker (Some (faults.Refused why)) = tt
+unread_plain coming none asker (Some faults.Memory) = tt
 
 verdict_plain : (t : NodeTerms) (x : Arrival) (bytes rest : List ℕ) (answer : Result Head HttpFault) → AsksPlainly (verdict_for t x bytes rest answer)
 verdict_plain t x bytes rest (Ok head) = routed_plain t x (length bytes) head rest (asked_with_hint head t.rules)
-verdict_plain t x bytes rest (Err fault) = unread_plain x.coming (is_none bytes) (begins_with_head (taken bytes rest)) (fault_met fault)
+verdict_plain t x bytes rest (Err fault) = unread_plain x.coming (is_none bytes) (asker_in (taken bytes rest)) (fault_met fault)
 
 read_plain : (t : NodeTerms) (x : Arrival) (bytes : List ℕ) (v : Verdict) → IsVerdict t x bytes v → AsksPlainly v
 read_plain t x bytes v is = subst (λ (w : Verdict). AsksPlainly w) (sym is.verdict) (verdict_plain t x bytes is.rest is.answer)

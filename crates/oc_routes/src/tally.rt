@@ -1,4 +1,4 @@
-//! What a run of a node counts from its start on.
+//! The counts of a node's run since its start.
 
 ghost use Rattle.std.specs.Prelude.{◌≡◌, ◌≤◌, IfOk, None, length, map, option_map};
 ghost use Rattle.oc_base.specs.declared.limits.TheConstants.{MAX_NODES as NODES_LIMIT};
@@ -23,23 +23,23 @@ const MIN_STATUS: u64 = 100;
 
 const MAX_STATUS: u64 = 999;
 
-/// How many replies had a status.
+/// The number of replies with a status.
 #[derive(Clone, Copy, Debug)]
 pub struct StatusCount {
     pub status: u64,
     pub count: u64,
 }
 
-/// Why a message of another node was refused.
+/// The fault of a message of another node that was refused.
 #[derive(Clone, Copy, Debug, PartialEq, Eq)]
 pub enum MessageFault {
-    /// It has no good MAC.
+    /// The message has no good MAC.
     Mac,
-    /// It is no message to this node.
+    /// The bytes are no message to this node.
     Message,
 }
 
-/// What a run of a node counted since its start. A count goes up to 2^64 - 1 and stays there.
+/// The counts of a node's run since its start. A count goes up to 2^64 - 1 and stays there.
 #[derive(Drop)]
 pub struct Tally {
     sent: u64,
@@ -70,7 +70,7 @@ impl Model for Tally {
 }
 
 impl Tally {
-    /// Nothing was counted yet, in a network of this number of nodes.
+    /// The counts at the start, in a network of this number of nodes.
     pub fn new(alloc: Global, nodes: u32) -> Result<Tally, Memory>
         requires { nodes ≤ NODES_LIMIT }
         ensures { IfOk result (λ tally. tally ≡ first_tally nodes) }
@@ -85,35 +85,35 @@ impl Tally {
         })
     }
 
-    /// The bytes of replies to clients: heads and bodies, as they were given.
+    /// The number of bytes of replies to clients: heads and bodies, as they were given.
     pub fn sent(&self) -> u64
         ensures { result ≡ self.now.sent }
     {
         self.sent
     }
 
-    /// The replies to clients, by their statuses.
+    /// The numbers of replies to clients, by status.
     pub fn replied(&self) -> &[StatusCount]
         ensures { result.now ≡ self.now.replied }
     {
         &self.replied
     }
 
-    /// The messages of nodes that were refused since they had no good MAC.
+    /// The number of messages of nodes that were refused without a good MAC.
     pub fn macs(&self) -> u64
         ensures { result ≡ self.now.macs }
     {
         self.macs
     }
 
-    /// The others that were no message to this node.
+    /// The number of others that were no message to this node.
     pub fn messages(&self) -> u64
         ensures { result ≡ self.now.messages }
     {
         self.messages
     }
 
-    /// The inputs of clients that were answered with bytes of this node.
+    /// The number of inputs that were answered `Serve`.
     pub fn served(&self) -> u64
         ensures { result ≡ self.now.served }
     {
@@ -179,7 +179,7 @@ impl Tally {
         }
     }
 
-    /// Notes for which nodes a table has another row at this second than before, where it was known then.
+    /// Notes the nodes whose rows have changed at this second, where the table before is known.
     pub fn hears_of(&mut self, before: Option<&KnownRows>, table: &Table, second: u64)
         ensures { self.new ≡ with_news (option_map (λ known. known.now) before.entry) table.now.entries second self.old }
     {
@@ -189,7 +189,7 @@ impl Tally {
     }
 }
 
-/// Notes for which nodes a table has another row at this second than before.
+/// Notes the nodes whose rows have changed at this second.
 fn note_news(heard: &mut [Option<u64>], before: &KnownRows, table: &Table, second: u64)
     requires { length heard.old ≤ NODES_LIMIT }
     ensures { heard.new ≡ noted_from (is_news_in before.now table.now.entries) second 1 heard.old }
@@ -201,7 +201,7 @@ fn note_news(heard: &mut [Option<u64>], before: &KnownRows, table: &Table, secon
     }
 }
 
-/// No reply of any status was given.
+/// No replies of any status.
 fn none_replied(alloc: Global) -> Result<Vec<StatusCount>, Memory>
     ensures { IfOk result (λ made. made.items ≡ none_replied) }
 {
@@ -212,14 +212,14 @@ fn none_replied(alloc: Global) -> Result<Vec<StatusCount>, Memory>
     Ok(made)
 }
 
-/// A count and more, up to 2^64 - 1.
+/// The sum of a count and more, up to 2^64 - 1.
 fn sum_of(count: u64, more: u64) -> u64
     ensures { result ≡ sum_of count more }
 {
     count.saturating_add(more)
 }
 
-/// The status of a reply, which comes after `HTTP/1.1 `.
+/// The status of a reply: the three digits after `HTTP/1.1 `.
 fn status_in(text: &[u8]) -> Option<u64>
     ensures { result ≡ status_in text.now }
 {

@@ -42,10 +42,11 @@ use Rattle.oc_routes.specs.declared.verdict.Verdict.{Verdict}
 use Rattle.oc_routes.specs.declared.verdict.Verdict.TheVariants as verdicts
 use Rattle.oc_routes.specs.declared.waiting.Prospect.{Prospect}
 use Rattle.oc_routes.specs.declared.waiting.Prospect.TheVariants as prospects
+use Rattle.oc_routes.specs.declared.tally.MessageFault.{MessageFault}
 use Rattle.oc_deeds.specs.Asks.{has_to_wait, obeys, refuses_or, responds, takes_on, takes_up, waiting}
-use Rattle.oc_deeds.specs.Brought.{comes_back, delivered_or, fault_of, input_of, input_of_reply, message_in}
+use Rattle.oc_deeds.specs.Brought.{comes_back, delivered_or, fault_of, input_of, input_of_reply, message_in, refused_of}
 use Rattle.oc_deeds.specs.Choices.{next_to_dial, prospect_of, wait_for}
-use Rattle.oc_deeds.specs.Deeds.{Deed, Reads, Running, Says, Sees, Setting, Takes, Tells, Waits, after, after_all, errand_in}
+use Rattle.oc_deeds.specs.Deeds.{Deed, Reads, Running, Says, Sees, Setting, Takes, Tells, Waits, after, after_all, errand_in, Rejects}
 use Rattle.oc_deeds.specs.Hurries.{came_hurries}
 use Rattle.oc_deeds.specs.Pace.{has_passed, wait_until}
 use Rattle.oc_deeds.specs.Parts.{nothing, one, ◌>>◌}
@@ -53,7 +54,7 @@ use Rattle.oc_deeds.specs.Records.{told_ahead}
 use Rattle.oc_deeds.specs.Rooms.{moves, room_for}
 use Rattle.oc_deeds.specs.Rooms as rooms
 use Rattle.oc_deeds.specs.Sends.{dials_at, dials_it, dials_next, sends}
-use Rattle.oc_deeds.specs.Turns.{Means, MeansBack, Observation, takes_brought, deals, happens, measures, next_peer, probes_it, quickened, takes_at, takes_due, ticked, ticks, ticks_and_sends, ticks_if}
+use Rattle.oc_deeds.specs.Turns.{Means, MeansBack, Observation, takes_brought, takes_reply, deals, happens, measures, next_peer, probes_it, quickened, takes_at, takes_due, ticked, ticks, ticks_and_sends, ticks_if}
 use Rattle.oc_deeds.specs.Works.{client_input, pending, work_on}
 use Rattle.oc_deeds.specs.declared.came.Came.{Came}
 use Rattle.oc_deeds.specs.declared.came.Came.TheVariants as comes
@@ -240,6 +241,10 @@ plain_brought : (input : Option Input) (s : Setting) (a : Running) → IfSome in
 plain_brought None s a is = tt
 plain_brought (Some i) s a is = (tt, (is, (tt, tt)))
 
+plain_reply_part : (input : Option Input) (refused : Option MessageFault) (s : Setting) (a : Running) → IfSome input IsOfRecord → ArePlain (takes_reply input refused s a)
+plain_reply_part input None s a is = plain_brought input s a is
+plain_reply_part input (Some fault) s a is = (tt, plain_brought input s (after (Rejects fault) a) is)
+
 plain_probe : (peer : Option ℕ) (started : ℕ) (s : Setting) (a : Running) → ArePlain (probes_it peer started s a)
 plain_probe None started s a = tt
 plain_probe (Some peer) started s a = (tt, (tt, tt))
@@ -263,7 +268,7 @@ input_plain me nodes key peer (Err fault) = tt
 -- the reply on a dial
 back_plain : (t : NodeTerms) (errand : Errand) (reading : Result Reply HttpFault) (probing : Option Probing) (now median started : ℕ) (s : Setting) (a : Running)
     → ArePlain (happens probing (comes_back t.me t.nodes t.keys errand reading) now median started s a)
-back_plain t (errands.Message to fetch) reading probing now median started s a = plain_brought (input_of t.me t.nodes t.keys to reading) s a (input_plain t.me t.nodes t.keys to reading)
+back_plain t (errands.Message to fetch) reading probing now median started s a = plain_reply_part (input_of t.me t.nodes t.keys to reading) (refused_of t.me t.nodes t.keys to reading) s a (input_plain t.me t.nodes t.keys to reading)
 back_plain t (errands.Probe peer since) reading probing now median started s a = plain_measures probing peer (fault_of reading) median s a
 
 nothing_plain : (probing : Option Probing) (now median started : ℕ) (s : Setting) (a : Running) → ArePlain (happens probing comes.Nothing now median started s a)

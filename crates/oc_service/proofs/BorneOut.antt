@@ -48,10 +48,11 @@ use Rattle.oc_routes.specs.declared.verdict.Refusal.{Refusal}
 use Rattle.oc_routes.specs.declared.refused.Refused.TheVariants as refusals
 use Rattle.oc_routes.specs.declared.routes.Operation.{Operation}
 use Rattle.oc_routes.specs.declared.routes.Operation.TheVariants as asks
+use Rattle.oc_routes.specs.declared.tally.MessageFault.{MessageFault}
 use Rattle.oc_deeds.specs.Asks.{has_to_wait, obeys, refuses_or, responds, takes_on, takes_up, waiting}
-use Rattle.oc_deeds.specs.Brought.{comes_back, fault_of, input_of}
+use Rattle.oc_deeds.specs.Brought.{comes_back, fault_of, input_of, refused_of}
 use Rattle.oc_deeds.specs.Choices.{due_index, next_to_dial, prospect_of, wait_for}
-use Rattle.oc_deeds.specs.Deeds.{Deed, Drops, Reads, Refuses, Running, Says, Sees, Setting, Takes, Tells, Waits, after, after_all, errand_in}
+use Rattle.oc_deeds.specs.Deeds.{Deed, Drops, Reads, Refuses, Running, Says, Sees, Setting, Takes, Tells, Waits, after, after_all, errand_in, Rejects}
 use Rattle.oc_deeds.specs.Hurries.{came_hurries}
 use Rattle.oc_deeds.specs.Pace.{has_passed, wait_until}
 use Rattle.oc_deeds.specs.Parts.{nothing, one, ◌>>◌}
@@ -60,7 +61,7 @@ use Rattle.oc_deeds.specs.Rooms.{goes_on, is_told, moves, takes_room, room_for}
 use Rattle.oc_deeds.specs.Rooms as rooms
 use Rattle.oc_deeds.specs.Done.{CountsAll}
 use Rattle.oc_deeds.specs.Sends.{dials_at, dials_it, dials_next, sends}
-use Rattle.oc_deeds.specs.Turns.{Means, MeansBack, Observation, takes_brought, deals, happens, measures, next_peer, probes_it, quickened, takes_at, takes_due, ticked, ticks, ticks_and_sends, ticks_if}
+use Rattle.oc_deeds.specs.Turns.{Means, MeansBack, Observation, takes_brought, takes_reply, deals, happens, measures, next_peer, probes_it, quickened, takes_at, takes_due, ticked, ticks, ticks_and_sends, ticks_if}
 use Rattle.oc_deeds.specs.Works.{client_input, pending, work_on}
 use Rattle.oc_deeds.specs.declared.came.Came.{Came}
 use Rattle.oc_deeds.specs.declared.came.Came.TheVariants as comes
@@ -304,6 +305,10 @@ mild_brought : (input : Option Input) (s : Setting) (a : Running) → all_mild (
 mild_brought None s a = refl
 mild_brought (Some i) s a = refl
 
+mild_reply : (input : Option Input) (refused : Option MessageFault) (s : Setting) (a : Running) → all_mild (takes_reply input refused s a) ≡ true
+mild_reply input None s a = mild_brought input s a
+mild_reply input (Some fault) s a = mild_brought input s (after (Rejects fault) a)
+
 mild_probe : (peer : Option ℕ) (started : ℕ) (s : Setting) (a : Running) → all_mild (probes_it peer started s a) ≡ true
 mild_probe None started s a = refl
 mild_probe (Some peer) started s a = refl
@@ -311,7 +316,7 @@ mild_probe (Some peer) started s a = refl
 -- the reply on a dial
 back_borne : (t : NodeTerms) (event : LinkEvent) (errand : Errand) (reading : Result Reply HttpFault) (probing : Option Probing) (now median started : ℕ) (s : Setting) (a : Running)
     → AreBorneOut event (happens probing (comes_back t.me t.nodes t.keys errand reading) now median started s a)
-back_borne t event (errands.Message to fetch) reading probing now median started s a = borne_mild event (takes_brought (input_of t.me t.nodes t.keys to reading) s a) (mild_brought (input_of t.me t.nodes t.keys to reading) s a)
+back_borne t event (errands.Message to fetch) reading probing now median started s a = borne_mild event (takes_reply (input_of t.me t.nodes t.keys to reading) (refused_of t.me t.nodes t.keys to reading) s a) (mild_reply (input_of t.me t.nodes t.keys to reading) (refused_of t.me t.nodes t.keys to reading) s a)
 back_borne t event (errands.Probe peer since) reading probing now median started s a = borne_mild event (measures probing peer (fault_of reading) median s a) (mild_measures probing peer (fault_of reading) median s a)
 
 nothing_borne : (event : LinkEvent) (probing : Option Probing) (now median started : ℕ) (s : Setting) (a : Running) → AreBorneOut event (happens probing comes.Nothing now median started s a)

@@ -1,5 +1,5 @@
 -- A node as it is seen by its reports, and the facts about nodes by their ids.
-use Rattle.std.specs.Prelude.{ℕ, zero, suc, ◌+◌, ◌-◌, Bool, true, false, not, ◌&&◌, ◌||◌, ◌==◌, if◌then◌else◌, Option, Some, None, is_some, List, [], ◌∷◌, filter, map, option_map, string_bytes}
+use Rattle.std.specs.Prelude.{ℕ, zero, suc, ◌+◌, ◌-◌, Bool, false, not, ◌&&◌, ◌||◌, ◌==◌, if◌then◌else◌, Option, None, is_some, List, [], ◌∷◌, filter, map, option_map, string_bytes}
 use Rattle.oc_base.specs.declared.shelf.Shelf.{Shelf}
 use Rattle.oc_model.specs.Adopting.{is_acting}
 use Rattle.oc_model.specs.Node.{Control}

@@ -1,5 +1,5 @@
 -- The counts of a node's run since its start, and the seconds at which it heard of others.
-use Rattle.std.specs.Prelude.{ℕ, ◌+◌, ◌==◌, Bool, true, false, if◌then◌else◌, Option, Some, None, Result, Ok, Err, List, [], ◌∷◌, length, map, take, drop, replicate}
+use Rattle.std.specs.Prelude.{ℕ, ◌+◌, ◌==◌, Bool, true, false, nat_lt, if◌then◌else◌, Option, Some, None, Result, Ok, Err, List, [], ◌∷◌, length, map, take, drop, replicate}
 use Rattle.oc_base.specs.Words.{number_in}
 use Rattle.oc_base.specs.declared.cert.Cert.{Cert}
 use Rattle.oc_base.specs.declared.why.Why.{Why}
@@ -52,7 +52,7 @@ number_or_none (Err why) = None
 
 -- the status of a reply: the three digits after `HTTP/1.1 `
 abbrev pub status_in : List ℕ → Option ℕ
-status_in text = number_or_none (number_in 100 999 (take 3 (drop 9 text)))
+status_in text = if nat_lt (length text) 12 then None else number_or_none (number_in 100 999 (take 3 (drop 9 text)))
 
 -- the count of a status after a reply of this status
 abbrev pub counted_in : Option ℕ → StatusCount → StatusCount

@@ -1,8 +1,8 @@
 //! The counts of a node's run since its start.
 
-ghost use Rattle.std.specs.Prelude.{◌≡◌, ◌≤◌, IfOk, None, length, map, option_map};
+ghost use Rattle.std.specs.Prelude.{◌≡◌, ◌≤◌, IfOk, None, Some, length, map, option_map};
 ghost use Rattle.oc_base.specs.declared.limits.TheConstants.{MAX_NODES as NODES_LIMIT};
-ghost use Rattle.oc_model.specs.Numbers.{at};
+ghost use Rattle.oc_model.specs.Numbers.{at, put_at};
 ghost use Rattle.oc_routes.specs.Tallies.{counted_in, first_tally, is_news_in, none_replied, noted_from, status_in, sum_of, with_answer, with_news, with_refused, with_reply, with_sender, with_sent};
 
 use crate::known_rows::KnownRows;
@@ -124,12 +124,7 @@ impl Tally {
     pub fn heard(&self, node: NodeId) -> Option<u64>
         ensures { result ≡ at self.now.heard node None }
     {
-        let slot = (node.0 as usize).saturating_sub(1);
-        if slot < self.heard.len() {
-            self.heard[slot]
-        } else {
-            None
-        }
+        second_of(&self.heard, node)
     }
 
     /// Counts this many bytes of replies to clients.
@@ -172,10 +167,7 @@ impl Tally {
         ensures { self.new ≡ with_sender sender second self.old }
     {
         if let Some(sender) = sender {
-            let slot = (sender.0 as usize).saturating_sub(1);
-            if slot < self.heard.len() {
-                self.heard[slot] = Some(second);
-            }
+            put_second(&mut self.heard, sender, second);
         }
     }
 
@@ -186,6 +178,29 @@ impl Tally {
         if let Some(before) = before {
             note_news(&mut self.heard, before, table, second);
         }
+    }
+}
+
+/// The second of a node, by its id.
+fn second_of(heard: &[Option<u64>], node: NodeId) -> Option<u64>
+    ensures { result ≡ at heard.now node None }
+{
+    let slot = (node.0 as usize).saturating_sub(1);
+    if slot < heard.len() {
+        heard[slot]
+    } else {
+        None
+    }
+}
+
+/// Puts the second of a node, by its id.
+#[tactic(auto, using(std::proofs::lemmas::List::set_past))]
+fn put_second(heard: &mut [Option<u64>], node: NodeId, second: u64)
+    ensures { heard.new ≡ put_at heard.old node (Some second) }
+{
+    let slot = (node.0 as usize).saturating_sub(1);
+    if slot < heard.len() {
+        heard[slot] = Some(second);
     }
 }
 
@@ -223,8 +238,10 @@ fn sum_of(count: u64, more: u64) -> u64
 fn status_in(text: &[u8]) -> Option<u64>
     ensures { result ≡ status_in text.now }
 {
-    let digits = text.get(9..12)?;
-    number(digits, MIN_STATUS, MAX_STATUS).ok()
+    if text.len() < 12 {
+        return None;
+    }
+    number(&text[9..12], MIN_STATUS, MAX_STATUS).ok()
 }
 
 /// Counts one more reply of a status.

@@ -1,6 +1,6 @@
 //! The rows of a table as they were before an input.
 
-ghost use Rattle.std.specs.Prelude.{◌≡◌, IfOk, IfSome};
+ghost use Rattle.std.specs.Prelude.{◌≡◌, IfOk, IfSome, None, get_or};
 ghost use Rattle.oc_model.specs.Table.{is_news_to, newest};
 ghost use Rattle.oc_routes.specs.Tallies.{is_news_of, known_before, may_change_rows, tells_of_rows};
 ghost use Rattle.oc_updown.specs.TableView.{AreRows, entries_of};
@@ -62,8 +62,19 @@ fn row_of(rows: &[Option<Cert>], node: NodeId) -> Option<Cert>
     ensures of_it { IfSome result (λ row. row.subject ≡ node) }
 {
     match (node.0 as usize).checked_sub(1) {
-        Some(slot) if slot < rows.len() => rows[slot],
-        _ => None,
+        None => None,
+        Some(place) => row_at(rows, place),
+    }
+}
+
+/// The row at a place, if there is one.
+fn row_at(rows: &[Option<Cert>], place: usize) -> Option<Cert>
+    ensures { result ≡ get_or rows.now place None }
+{
+    if place < rows.len() {
+        rows[place]
+    } else {
+        None
     }
 }
 

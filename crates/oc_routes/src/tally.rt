@@ -249,8 +249,20 @@ fn count_status(replied: &mut [StatusCount], status: Option<u64>)
     ensures { replied.new ≡ map (counted_in status) replied.old }
 {
     for row in replied.iter_mut() {
-        if status == Some(row.status) {
-            row.count = sum_of(row.count, 1);
+        *row = counted_in(status, *row);
+    }
+}
+
+/// A row with one more reply, if it is of this status.
+fn counted_in(status: Option<u64>, row: StatusCount) -> StatusCount
+    ensures { result ≡ counted_in status row }
+{
+    if status == Some(row.status) {
+        StatusCount {
+            status: row.status,
+            count: sum_of(row.count, 1),
         }
+    } else {
+        row
     }
 }

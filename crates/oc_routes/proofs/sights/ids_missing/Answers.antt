@@ -1,4 +1,4 @@
-use Rattle.std.proofs.Common.{◌≡◌, ◌+◌, ◌-◌, ◌++◌, ◌∙◌, ℕ, List, filter, sym, ap, arith}
+use Rattle.std.proofs.Common.{◌+◌, ◌-◌, ◌++◌, ◌∙◌, ℕ, List, filter, sym, ap, arith}
 use Rattle.oc_routes.proofs.Ids.{id_taken, id_passed, ids_found}
 use Rattle.oc_routes.specs.Sights.{ids_from, ids_with, is_missing, sight_of}
 use Rattle.oc_routes.proofs.sights.ids_missing.Goals as goal

@@ -1,6 +1,6 @@
 //! The medians of a gauge, and the peers of a rotation.
 
-ghost use Rattle.std.specs.Prelude.{◌≡◌, ◌≤◌, IfOk, length, vec_len};
+ghost use Rattle.std.specs.Prelude.{◌≡◌, length};
 
 use oc_base::{MAX_NODES, NodeId};
 use oc_probe::{Gauge, Rotation};
@@ -53,19 +53,16 @@ fn turn(alloc: Global, mut fields: RowFields<'_>, said: &mut String) -> Result<(
     let me = fields.node()?;
     let nodes = fields.small()?;
     let count = fields.byte()?;
-    if nodes > MAX_NODES {
+    let places = places_of(alloc, nodes, fields)?;
+    if places.len() > MAX_NODES as usize {
         return Err(Fault::Field);
     }
-    let places = places_of(alloc, nodes, fields)?;
     let mut rotation = Rotation::new(alloc, me, &places)?;
     put_turns(&mut rotation, count, said)
 }
 
 /// The places of this many nodes, of which those with these ids hold nothing.
-fn places_of(alloc: Global, nodes: u32, absent: RowFields<'_>) -> Result<Vec<Option<bool>>, Fault>
-    requires { nodes ≤ MAX_NODES }
-    ensures { IfOk result (λ places. vec_len places ≤ MAX_NODES) }
-{
+fn places_of(alloc: Global, nodes: u32, absent: RowFields<'_>) -> Result<Vec<Option<bool>>, Fault> {
     let mut places = Vec::new(alloc);
     for place in 0..nodes {
         places.push(if is_among(absent, place + 1)? {

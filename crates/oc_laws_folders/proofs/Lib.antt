@@ -1,0 +1,4 @@
+pub mod Later
+pub mod Read
+pub mod Grown
+pub mod Copies

@@ -1,0 +1,12 @@
+pub mod Forms
+pub mod Moves
+pub mod Rows
+pub mod Star
+pub mod Arrivals
+pub mod Ticks
+pub mod Rested
+pub mod News
+pub mod Peers
+pub mod Links
+pub mod Upward
+pub mod Roots

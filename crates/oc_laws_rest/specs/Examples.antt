@@ -1,0 +1,99 @@
+use Rattle.std.specs.Prelude.{◌≡◌, ℕ, true, false, [], ◌∷◌}
+use Rattle.oc_model.specs.declared.event.Event.TheVariants.{Crash}
+use Rattle.oc_model.specs.declared.mode.Mode.TheVariants.{Asking, Joined, Acting}
+use Rattle.oc_model.specs.ClaimsTree.{seq_of}
+use Rattle.oc_model.specs.ExampleRuns.{header}
+use Rattle.oc_model.specs.NextWorld.{next_world}
+use Rattle.oc_model.specs.Ready.{is_settled}
+use Rattle.oc_model.specs.World.{World, mode_of}
+use Rattle.oc_laws_rest.specs.Rounds.{Turn, Round, after_rounds, is_quiet}
+use Rattle.oc_laws_rest.specs.Rest.{begun}
+
+-- Worked examples of rounds, and of what is none.
+
+abbrev turn : ℕ → ℕ → Turn
+turn x t = record { node = x; time = t }
+
+-- A new network of a source and two others comes to rest in one round: they look at the source, and ask it.
+
+abbrev three : World
+three = begun (header 3 1 (0 ∷ 0 ∷ 0 ∷ [])) (3 ∷ 1 ∷ 2 ∷ [])
+
+-- the messages in the order in which they were sent
+abbrev joining : Round
+joining = record { turns = turn 2 0 ∷ turn 1 0 ∷ turn 3 0 ∷ []; arrivals = 1 ∷ 2 ∷ 3 ∷ 4 ∷ 5 ∷ 6 ∷ 7 ∷ 8 ∷ [] }
+
+-- another order, in which some messages arrive twice
+abbrev joining_twice : Round
+joining_twice = record { turns = turn 3 29 ∷ turn 2 7 ∷ turn 1 0 ∷ []; arrivals = 2 ∷ 2 ∷ 4 ∷ 3 ∷ 5 ∷ 5 ∷ 1 ∷ 6 ∷ 8 ∷ 7 ∷ 9 ∷ 10 ∷ 10 ∷ [] }
+
+-- the round after it: both check in, and the source ticks before its leases end
+abbrev checking : Round
+checking = record { turns = turn 2 5 ∷ turn 3 7 ∷ turn 1 19 ∷ []; arrivals = 9 ∷ 10 ∷ 11 ∷ 12 ∷ 13 ∷ 14 ∷ 15 ∷ 16 ∷ 17 ∷ 18 ∷ [] }
+
+pub record NewNetworkRests : Type 0 where
+  pub before : is_settled three ≡ false
+  pub quiet : is_quiet three (joining ∷ checking ∷ []) ≡ true
+  pub settled : is_settled (after_rounds three (joining ∷ [])) ≡ true
+  pub again : is_settled (after_rounds three (joining ∷ checking ∷ [])) ≡ true
+  pub twice : is_quiet three (joining_twice ∷ []) ≡ true
+  pub after_twice : is_settled (after_rounds three (joining_twice ∷ [])) ≡ true
+
+-- The source is down: the second chain member asks it, and becomes the root where the failure is told.
+
+abbrev alone : World
+alone = begun (header 2 2 (0 ∷ 0 ∷ [])) (2 ∷ [])
+
+abbrev told : Round
+told = record { turns = turn 2 0 ∷ []; arrivals = 1 ∷ [] }
+
+pub record FailuresAreTold : Type 0 where
+  pub quiet : is_quiet alone (told ∷ []) ≡ true
+  pub root : mode_of (after_rounds alone (told ∷ [])) 2 ≡ Acting
+  pub settled : is_settled (after_rounds alone (told ∷ [])) ≡ true
+
+-- Without that the member asks for ever, so ticks alone are no round.
+
+abbrev untold : ℕ → Round
+untold t = record { turns = turn 2 t ∷ []; arrivals = [] }
+
+pub record UntoldFailuresAreNone : Type 0 where
+  pub not_quiet : is_quiet alone (untold 0 ∷ []) ≡ false
+  pub asks : mode_of (after_rounds alone (untold 0 ∷ untold 20 ∷ untold 40 ∷ [])) 2 ≡ Asking 1
+  pub not_settled : is_settled (after_rounds alone (untold 0 ∷ untold 20 ∷ untold 40 ∷ [])) ≡ false
+
+-- The source goes down while the second chain member is joined to it: its check-in fails, so it leaves the source, and acts as root.
+
+abbrev pair : World
+pair = begun (header 2 2 (0 ∷ 0 ∷ [])) (1 ∷ 2 ∷ [])
+
+abbrev meeting : Round
+meeting = record { turns = turn 1 0 ∷ turn 2 0 ∷ []; arrivals = 1 ∷ 2 ∷ [] }
+
+abbrev bereft : World
+bereft = next_world (after_rounds pair (meeting ∷ [])) (Crash 1)
+
+abbrev leaving : Round
+leaving = record { turns = turn 2 5 ∷ []; arrivals = 3 ∷ 4 ∷ [] }
+
+pub record ParentsAreLeft : Type 0 where
+  pub met : is_quiet pair (meeting ∷ []) ≡ true
+  pub joined : mode_of bereft 2 ≡ Joined 1
+  pub quiet : is_quiet bereft (leaving ∷ []) ≡ true
+  pub root : mode_of (after_rounds bereft (leaving ∷ [])) 2 ≡ Acting
+  pub settled : is_settled (after_rounds bereft (leaving ∷ [])) ≡ true
+
+-- Turns without a clock: the source ticks 40 seconds later, when each lease has ended, so the others have to ask anew; so it goes in
+-- each such round. Such turns are no round.
+
+abbrev late : Round
+late = record {
+  turns = turn 2 5 ∷ turn 3 7 ∷ turn 1 40 ∷ [];
+  arrivals = 9 ∷ 10 ∷ 11 ∷ 12 ∷ 13 ∷ 14 ∷ 15 ∷ 16 ∷ 17 ∷ 18 ∷ 19 ∷ 20 ∷ 21 ∷ 22 ∷ [];
+}
+
+pub record TurnsNeedAClock : Type 0 where
+  pub not_quiet : is_quiet three (joining ∷ late ∷ []) ≡ false
+  pub joined : mode_of (after_rounds three (joining ∷ [])) 2 ≡ Joined 1
+  pub seq : seq_of (after_rounds three (joining ∷ [])) 2 ≡ 1
+  pub asks_anew : seq_of (after_rounds three (joining ∷ late ∷ [])) 2 ≡ 2

@@ -1,0 +1,43 @@
+use Rattle.std.specs.Prelude.{◌≡◌, ℕ, ◌≤◌, true, List, map}
+use Rattle.oc_model.specs.declared.event.Event.TheVariants.{Up}
+use Rattle.oc_model.specs.Chains.{IsUp, true_line}
+use Rattle.oc_model.specs.Checking.{is_peer}
+use Rattle.oc_model.specs.ClaimsTree.{table_of, IsTold}
+use Rattle.oc_model.specs.Heal.{IsMember}
+use Rattle.oc_model.specs.NextWorld.{world_after}
+use Rattle.oc_model.specs.Node.{Header}
+use Rattle.oc_model.specs.Ready.{IsReadyUnder, IsSettled}
+use Rattle.oc_model.specs.Table.{table_line}
+use Rattle.oc_model.specs.World.{World, mode_of, new_world}
+
+-- Rest, and new networks.
+
+-- the network is at rest under m: the least chain member that is up is the one root, each other node that is up has a true chain to it
+-- and its leases, no lease is stale, nothing waits, parents know their children's own numbers, and the root lists exactly the live tree
+pub record IsAtRest (w : World) (m : ℕ) : Type 0 where
+  pub member : IsMember w m
+  pub least : (x : ℕ) → IsUp w x → IsMember w x → m ≤ x
+  pub ready : IsReadyUnder w m
+  pub settled : IsSettled w
+  pub told : IsTold w
+  pub exact : (x : ℕ) → table_line (table_of w m) m x ≡ true_line w m x
+
+-- the new network of this header in which these nodes were started, and nothing else has happened
+abbrev pub begun : Header → List ℕ → World
+begun h xs = world_after (new_world h) (map (λ x. Up x) xs)
+
+-- m is up, and no other chain member is
+pub record IsOnlyMember (w : World) (m : ℕ) : Type 0 where
+  pub up : IsUp w m
+  pub member : IsMember w m
+  pub only : (x : ℕ) → IsUp w x → IsMember w x → x ≡ m
+
+-- m is up, and no chain member before it is
+pub record IsLeastMember (w : World) (m : ℕ) : Type 0 where
+  pub up : IsUp w m
+  pub member : IsMember w m
+  pub least : (x : ℕ) → IsUp w x → IsMember w x → m ≤ x
+
+-- no node that is up asks a node that is down, or is joined to one
+abbrev pub PeersAreUp : World → Type 0
+PeersAreUp w = (x p : ℕ) → IsUp w x → is_peer (mode_of w x) p ≡ true → IsUp w p

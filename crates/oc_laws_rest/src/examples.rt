@@ -1,0 +1,10 @@
+ghost use Rattle.oc_laws_rest.specs.Examples.{NewNetworkRests, FailuresAreTold, UntoldFailuresAreNone, ParentsAreLeft, TurnsNeedAClock};
+
+/// Checks worked examples of rounds.
+pub fn rounds_compute()
+    ensures rests { NewNetworkRests }
+    ensures told { FailuresAreTold }
+    ensures untold { UntoldFailuresAreNone }
+    ensures left { ParentsAreLeft }
+    ensures clock { TurnsNeedAClock }
+{}

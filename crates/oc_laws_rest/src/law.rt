@@ -1,0 +1,50 @@
+ghost use Rattle.std.specs.Prelude.{◌≡◌, ℕ, true, List, ◌∷◌};
+ghost use Rattle.oc_model.specs.declared.event.Event.{Event};
+ghost use Rattle.oc_model.specs.Chains.{IsUp, IsRoot};
+ghost use Rattle.oc_model.specs.Checking.{is_peer};
+ghost use Rattle.oc_model.specs.ClaimsTree.{seq_of};
+ghost use Rattle.oc_model.specs.Lawful.{IsHeader};
+ghost use Rattle.oc_model.specs.NextWorld.{world_after};
+ghost use Rattle.oc_model.specs.Node.{Header};
+ghost use Rattle.oc_model.specs.Numbers.{number_end};
+ghost use Rattle.oc_model.specs.World.{World, is_up, mode_of, new_world};
+ghost use Rattle.oc_laws_rest.specs.Rest.{IsAtRest, begun, IsOnlyMember, PeersAreUp, IsLeastMember};
+ghost use Rattle.oc_laws_rest.specs.Rounds.{Round, after_rounds, is_quiet};
+
+/// A new network in which one chain member is up comes to rest by itself in two rounds, and is at rest at the
+/// end of each later one: whatever nodes were started, in whatever order the nodes tick and the messages
+/// arrive, and however often a message arrives. Where that member is the source, one round is enough.
+///
+/// In a round each node that is up ticks once, at a second at which its check is due and before a lease could
+/// end; then each message of the round arrives, or its sender is told that its receiver is down. The member
+/// asks each earlier one first, and acts as root when it was told of all; every other node then becomes its
+/// child by its first ask, and asks no more. The nodes that are up stay so.
+pub fn new_networks_rest()
+    ensures rests { (h : Header) (xs : List ℕ) (m : ℕ) (q r : Round) (rs : List Round) → IsHeader h → IsOnlyMember (begun h xs) m → is_quiet (begun h xs) (q ∷ r ∷ rs) ≡ true
+        → IsAtRest (after_rounds (begun h xs) (q ∷ r ∷ rs)) m }
+    ensures source { (h : Header) (xs : List ℕ) (q : Round) (rs : List Round) → IsHeader h → IsOnlyMember (begun h xs) 1 → is_quiet (begun h xs) (q ∷ rs) ≡ true
+        → IsAtRest (after_rounds (begun h xs) (q ∷ rs)) 1 }
+    ensures asks { (h : Header) (xs : List ℕ) (m : ℕ) (q r : Round) (rs : List Round) (x : ℕ) → IsHeader h → IsOnlyMember (begun h xs) m → is_quiet (begun h xs) (q ∷ r ∷ rs) ≡ true
+        → IsUp (begun h xs) x → (x ≡ m → ⊥) → seq_of (after_rounds (begun h xs) (q ∷ r ∷ rs)) x ≡ 1 }
+    ensures up { (h : Header) (xs : List ℕ) (m : ℕ) (q r : Round) (rs : List Round) (x : ℕ) → IsHeader h → IsOnlyMember (begun h xs) m → is_quiet (begun h xs) (q ∷ r ∷ rs) ≡ true
+        → is_up (after_rounds (begun h xs) (q ∷ r ∷ rs)) x ≡ is_up (begun h xs) x }
+{}
+
+/// From the end of the first round on, whatever world it began in, every parent and every node that is asked is
+/// up: a node whose parent went down, or that asks a node that is down, learns so in the round and has left it at
+/// the end. The nodes that are up stay so, and no other comes up.
+pub fn failures_are_noticed()
+    ensures peers { (w : World) (r : Round) (rs : List Round) → is_quiet w (r ∷ rs) ≡ true → PeersAreUp (after_rounds w (r ∷ rs)) }
+    ensures up { (w : World) (r : Round) (rs : List Round) (x : ℕ) → is_quiet w (r ∷ rs) ≡ true → is_up (after_rounds w (r ∷ rs)) x ≡ is_up w x }
+{}
+
+/// In every world that events lead to, and whatever messages of before still come in the first round: from the
+/// end of the first round on the least chain member that is up neither asks a node nor is joined to one, and
+/// from the end of the second round on it acts as root, unless it has used up its ask numbers.
+pub fn least_members_become_roots()
+    ensures asks { (h : Header) (es : List Event) (m : ℕ) (r : Round) (rs : List Round) (p : ℕ) → IsLeastMember (world_after (new_world h) es) m
+        → is_quiet (world_after (new_world h) es) (r ∷ rs) ≡ true → is_peer (mode_of (after_rounds (world_after (new_world h) es) (r ∷ rs)) m) p ≡ true → ⊥ }
+    ensures root { (h : Header) (es : List Event) (m : ℕ) (q r : Round) (rs : List Round) → IsLeastMember (world_after (new_world h) es) m
+        → is_quiet (world_after (new_world h) es) (q ∷ r ∷ rs) ≡ true → (seq_of (after_rounds (world_after (new_world h) es) (q ∷ r ∷ rs)) m ≡ number_end → ⊥)
+        → IsRoot (after_rounds (world_after (new_world h) es) (q ∷ r ∷ rs)) m }
+{}

@@ -1,0 +1,18 @@
+//! The law that a network comes to rest by itself: nobody changes it any more, its nodes tick, and each message
+//! arrives or its sender is told that it failed.
+//!
+//! `specs/Rounds` says what a round of such a run is, `specs/Rest` what rest is. [`rounds_compute`] has worked
+//! examples of both, and of two runs that are none: one in which a failure is not told, and one in which the
+//! nodes take turns without a clock.
+//!
+//! Proved whole is the law for a new network in which one chain member is up: [`new_networks_rest`]. Of its way
+//! for any other world, with several chain members up, with nodes that have places, ranks or leases from before,
+//! with content, and with measures, two parts are proved: [`failures_are_noticed`], which holds of any world,
+//! and [`least_members_become_roots`], which holds of every world that events lead to.
+#![tactic(auto)]
+
+mod examples;
+mod law;
+
+pub use examples::rounds_compute;
+pub use law::{failures_are_noticed, least_members_become_roots, new_networks_rest};

@@ -20,7 +20,8 @@ noted_more holds second x y zero (h ∷ rest) within at is =
     let here : holds x ≡ true = subst (λ (z : ℕ). holds z ≡ true) e is in
     rw here refl
 noted_more holds second x y (suc i) (h ∷ rest) within at is =
-    ap (λ (hs : List (Option ℕ)). (if holds x then Some second else h) ∷ hs) (noted_more holds second (x + 1) y i rest (omega arith) (omega arith) is)
+    let next : suc i + 1 ≡ suc (i + 1) = omega arith in
+    rw next (ap (λ (hs : List (Option ℕ)). (if holds x then Some second else h) ∷ hs) (noted_more holds second (x + 1) y i rest (omega arith) (omega arith) is))
 
 -- the next node is not heard of
 pub noted_less : (holds : ℕ → Bool) (second x y i : ℕ) (heard : List (Option ℕ)) → i < length heard → y ≡ x + i → holds y ≡ false
@@ -31,7 +32,8 @@ noted_less holds second x y zero (h ∷ rest) within at is =
     let here : holds x ≡ false = subst (λ (z : ℕ). holds z ≡ false) e is in
     rw here refl
 noted_less holds second x y (suc i) (h ∷ rest) within at is =
-    ap (λ (hs : List (Option ℕ)). (if holds x then Some second else h) ∷ hs) (noted_less holds second (x + 1) y i rest (omega arith) (omega arith) is)
+    let next : suc i + 1 ≡ suc (i + 1) = omega arith in
+    rw next (ap (λ (hs : List (Option ℕ)). (if holds x then Some second else h) ∷ hs) (noted_less holds second (x + 1) y i rest (omega arith) (omega arith) is))
 
 -- a list is as long with seconds noted in its front
 pub noted_long : (holds : ℕ → Bool) (second x i : ℕ) (heard : List (Option ℕ)) → length (noted_from holds second x (take i heard) ++ drop i heard) ≡ length heard

@@ -119,7 +119,7 @@ node_gauges s xs =
 unfoldable pub labelled : List ℕ → List ℕ → List ℕ → ℕ → List ℕ
 labelled metric label is value = metric ++ codes "{" ++ label ++ codes "=\"" ++ is ++ codes "\"} " ++ decimal value ++ codes "\n"
 
-abbrev pub status_sample : StatusCount → List ℕ
+unfoldable pub status_sample : StatusCount → List ℕ
 status_sample row = codes "overcast_requests_total{status=\"" ++ decimal row.status ++ codes "\"} " ++ decimal row.count ++ codes "\n"
 
 abbrev pub cause_sample : List ℕ → ℕ → List ℕ

@@ -278,6 +278,7 @@ fn put_statuses(out: &mut Vec<u8>, replied: &[StatusCount]) -> Result<(), Memory
 }
 
 /// Puts the number of replies with a status.
+#[tactic(auto, unfolding(crate::specs::Metrics::status_sample))]
 fn put_status(out: &mut Vec<u8>, row: &StatusCount) -> Result<(), Memory>
     ensures { OnOk result (out.new.items ≡ out.old.items ++ status_sample row.now) }
 {

@@ -6,4 +6,4 @@ use Rattle.oc_routes.proofs.rows.rows_told.Given as goal
 
 abbrev pub invariant-loop-row : goal.invariant-loop-row
 invariant-loop-row l =
-    l.told.items ++ filter (λ row. not (is_left_out (sight_of l.seen) row.cert.subject row.listed)) (drop l.row-index l.rows.items) ≡ rows_told (sight_of l.seen)
+    l.told.items ++ filter (λ row. not (is_left_out (sight_of l.seen) row.cert.subject row.listed)) (drop l.row-index l.row-items) ≡ rows_told (sight_of l.seen)

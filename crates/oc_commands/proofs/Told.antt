@@ -290,7 +290,7 @@ module _ (i j : Input) (o p : Output) (d e : OnError) (stage : OnStage) (input :
   node_told node other tells v services.Stranger h = let (settings, read, rest) = h in (settings, config_told (Ok settings) read, (rest.0, output.written _ rest.1))
   node_told node other tells v (services.Ran end) h =
       let (settings, read, rest) = h in
-      (settings, config_told (Ok settings) read, (rest.0, run_told (node.run settings (task_of v)) (other.run settings (task_of v)) (tells.run settings (task_of v)) (setting_of settings (task_of v)) end rest.1))
+      (settings, config_told (Ok settings) read, (rest.0, rest.1, run_told (node.run settings (task_of v rest.1)) (other.run settings (task_of v rest.1)) (tells.run settings (task_of v rest.1)) (setting_of settings (task_of v rest.1)) end rest.2))
 
   module _ (asked : Option Invocation) (files : OnFiles) (link : OnLink) (node other : OnNode) (t u : Input) (tells : TellsNode node other) (token : TellsInput t u) where
     abbrev before : Outside

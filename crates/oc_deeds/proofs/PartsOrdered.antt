@@ -19,7 +19,6 @@ use Rattle.oc_link.specs.declared.event.Loss.{Loss}
 use Rattle.oc_link.specs.declared.phase.Phase.{Phase}
 use Rattle.oc_link.specs.declared.phase.Phase.TheVariants.{Awaiting, Answering, Whole, Broken, Gone}
 use Rattle.oc_link.specs.declared.phase.Standing.{Standing}
-use Rattle.oc_http.specs.Requests.{begins_with_head}
 use Rattle.oc_http.specs.declared.fault.HttpFault.{HttpFault}
 use Rattle.oc_http.specs.declared.head.Head.{Head}
 use Rattle.oc_http.specs.declared.reply.Reply.{Reply}
@@ -31,13 +30,15 @@ use Rattle.oc_model.specs.Node.{Node}
 use Rattle.oc_model.specs.Step.{step}
 use Rattle.oc_probe.specs.declared.fault.ProbeFault.{ProbeFault}
 use Rattle.oc_probe.specs.declared.probing.Probing.{Probing}
+use Rattle.oc_routes.specs.Askers.{asker_in, asker_of}
+use Rattle.oc_routes.specs.declared.asker.Asker.{Asker}
 use Rattle.oc_routes.specs.Asks.{IsInputOf}
 use Rattle.oc_routes.specs.Conditions.{unmet}
 use Rattle.oc_routes.specs.Elements.{element_at}
 use Rattle.oc_routes.specs.Hints.{asked_with_hint}
 use Rattle.oc_routes.specs.Macs.{is_forged}
 use Rattle.oc_routes.specs.Routes.{response_for}
-use Rattle.oc_routes.specs.Verdicts.{IsVerdict, NodeTerms, answered, fault_met, input_for, is_head, is_none, refuse, routed, taken, unfinished, unread, verdict_for, whole, with_body}
+use Rattle.oc_routes.specs.Verdicts.{IsVerdict, NodeTerms, answered, fault_met, input_for, is_none, refuse, routed, taken, unfinished, unread, verdict_for, whole, with_body}
 use Rattle.oc_routes.specs.declared.hint.Asked.{Asked}
 use Rattle.oc_routes.specs.declared.hint.Hint.{Hint}
 use Rattle.oc_routes.specs.declared.hint.Hint.TheVariants.{Plain, Here, Of, Known}
@@ -58,12 +59,13 @@ use Rattle.oc_routes.specs.declared.routes.Operation.{Operation}
 use Rattle.oc_routes.specs.declared.routes.Operation.TheVariants as asks
 use Rattle.oc_deeds.proofs.ChunksThere.{here_there, step_there}
 use Rattle.oc_deeds.proofs.Settled.{AllQuiet, IsLeft, IsOrderly, all_quiet, breaks, drops, fits_if, gives, lays, one_at_most, orderly_behind, orderly_none, orderly_then, permits, quiet_behind, refuses_request, replies_request, settled_by, waits}
+use Rattle.oc_routes.specs.declared.tally.MessageFault.{MessageFault}
 use Rattle.oc_deeds.specs.Asks.{has_to_wait, holding_for, obeys, refuses_or, replies, report_for, responds, response_now, takes_on, takes_up, waiting}
 use Rattle.oc_deeds.specs.Brief.{told_of}
 use Rattle.oc_deeds.specs.Records.{told_ahead}
 use Rattle.oc_deeds.specs.Brought.{comes_back}
 use Rattle.oc_deeds.specs.Choices.{due_index, next_to_dial, prospect_of, wait_for}
-use Rattle.oc_deeds.specs.Deeds.{Deed, Sees, Reads, Tells, Accepts, Says, Waits, Running, Setting, after, after_all, back_to, calls_of, content_in, sender_of}
+use Rattle.oc_deeds.specs.Deeds.{Deed, Sees, Reads, Rejects, Tells, Accepts, Says, Waits, Running, Setting, after, after_all, back_to, calls_of, content_in, sender_of}
 use Rattle.oc_deeds.specs.Hurries.{came_hurries}
 use Rattle.oc_deeds.specs.Pace.{has_passed, wait_until}
 use Rattle.oc_deeds.specs.Parts.{nothing, one, ◌>>◌}
@@ -73,7 +75,7 @@ use Rattle.oc_deeds.specs.Rooms as rooms
 use Rattle.oc_deeds.specs.Telling.{takes_in}
 use Rattle.oc_deeds.specs.Sends.{dials_at, dials_it, dials_next, sends}
 use Rattle.oc_deeds.specs.Settled.{Fits, IsSettled}
-use Rattle.oc_deeds.specs.Turns.{Means, MeansBack, Observation, takes_brought, deals, happens, measures, next_peer, probes_it, quickened, takes_at, takes_due, takes_next, takes_one, ticked, ticks, ticks_and_sends, ticks_if, turn}
+use Rattle.oc_deeds.specs.Turns.{Means, MeansBack, Observation, takes_brought, takes_reply, deals, happens, measures, next_peer, probes_it, quickened, takes_at, takes_due, takes_next, takes_one, ticked, ticks, ticks_and_sends, ticks_if, turn}
 use Rattle.oc_deeds.specs.Works.{client_input, connection_of, pending, index_on, work_on}
 use Rattle.oc_deeds.specs.declared.came.Came.{Came}
 use Rattle.oc_deeds.specs.declared.came.Came.TheVariants as comes
@@ -278,7 +280,7 @@ body_input t x came head rest said = by_permit (awaits_continue head && not x.pe
     body : List ℕ
     body = take head.length rest
 
-    by_mac : (b : Bool) → HasInput (if b then refuse (is_head head.method) refusals.Mac else answered head request (input_asked t.nodes t.me said.operation body))
+    by_mac : (b : Bool) → HasInput (if b then refuse (asker_of head) refusals.Mac else answered head request (input_asked t.nodes t.me said.operation body))
     by_mac true = tt
     by_mac false = answered_input head request (input_asked t.nodes t.me said.operation body) (asked_input t.nodes t.me said.operation said.hint body)
 
@@ -294,14 +296,14 @@ routed_input : (t : NodeTerms) (x : Arrival) (came : ℕ) (head : Head) (rest : 
 routed_input t x came head rest (Ok said) = body_input t x came head rest said
 routed_input t x came head rest (Err why) = tt
 
-unread_input : (coming : Coming) (none head_alone : Bool) (fault : Option RouteFault) → HasInput (unread coming none head_alone fault)
-unread_input coming none head_alone None = unfinished_input coming none
-unread_input coming none head_alone (Some (faults.Refused why)) = tt
-unread_input coming none head_alone (Some faults.Memory) = tt
+unread_input : (coming : Coming) (none : Bool) (asker : Asker) (fault : Option RouteFault) → HasInput (unread coming none asker fault)
+unread_input coming none asker None = unfinished_input coming none
+unread_input coming none asker (Some (faults.Refused why)) = tt
+unread_input coming none asker (Some faults.Memory) = tt
 
 verdict_input : (t : NodeTerms) (x : Arrival) (bytes rest : List ℕ) (answer : Result Head HttpFault) → HasInput (verdict_for t x bytes rest answer)
 verdict_input t x bytes rest (Ok head) = routed_input t x (length bytes) head rest (asked_with_hint head t.rules)
-verdict_input t x bytes rest (Err fault) = unread_input x.coming (is_none bytes) (begins_with_head (taken bytes rest)) (fault_met fault)
+verdict_input t x bytes rest (Err fault) = unread_input x.coming (is_none bytes) (asker_in (taken bytes rest)) (fault_met fault)
 
 has_input : (t : NodeTerms) (x : Arrival) (bytes : List ℕ) (v : Verdict) → IsVerdict t x bytes v → HasInput v
 has_input t x bytes v is = subst HasInput (sym is.verdict) (verdict_input t x bytes is.rest is.answer)
@@ -324,6 +326,10 @@ bringing : (s : Setting) (made : List Call) (input : Option Input) (a : Running)
 bringing s made None a settled = orderly_none s made a settled
 bringing s made (Some i) a settled = all_quiet s made (takes_in i s a) a (tt, (tt, (tt, tt))) settled
 
+replying_to : (s : Setting) (made : List Call) (input : Option Input) (refused : Option MessageFault) (a : Running) → IsSettled made a.works → IsOrderly s made (takes_reply input refused s a) a
+replying_to s made input None a settled = bringing s made input a settled
+replying_to s made input (Some fault) a settled = quiet_behind s made (Rejects fault) (takes_brought input s (after (Rejects fault) a)) a tt settled (λ onward. bringing s (made ++ []) input (after (Rejects fault) a) onward)
+
 probing_it : (s : Setting) (made : List Call) (peer : Option ℕ) (started : ℕ) (a : Running) → IsSettled made a.works → IsOrderly s made (probes_it peer started s a) a
 probing_it s made None started a settled = orderly_none s made a settled
 probing_it s made (Some peer) started a settled = all_quiet s made (probes_it (Some peer) started s a) a (tt, (tt, tt)) settled
@@ -332,7 +338,7 @@ pub happening : (s : Setting) (made : List Call) (probing : Option Probing) (cam
 happening s made probing (comes.Request c count v) now median started a ready = obeying s made c count v now a (ready.1) (ready.2) (ready.0)
 happening s made probing (comes.Room c) now median started a ready = has_room s made c now a ready
 happening s made probing (comes.Gone c loss) now median started a ready = drops s made c (is_failure loss && is_told (work_on c a.works)) a ready
-happening s made probing (comes.Reply input taken) now median started a ready = bringing s made input a ready
+happening s made probing (comes.Reply input taken refused) now median started a ready = replying_to s made input refused a ready
 happening s made probing (comes.Probed peer since fault) now median started a ready = no_fault s made peer probing fault median a ready
 happening s made probing comes.Nothing now median started a ready = probing_it s made (next_peer probing a.dials) started a ready
 

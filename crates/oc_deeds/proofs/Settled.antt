@@ -17,7 +17,7 @@ use Rattle.oc_routes.specs.declared.response.Response.{Response}
 use Rattle.oc_deeds.proofs.Givings.{works_left}
 use Rattle.oc_deeds.proofs.Replying.{first_at, left_on, other_left, phase_here, rest_at, taken_other, taken_out}
 use Rattle.oc_deeds.proofs.WorksOn.{other_pushed, other_without, own_pushed}
-use Rattle.oc_deeds.specs.Deeds.{Deed, Sees, Reads, Tells, Takes, Accepts, Says, Notes, Permits, Waits, Replies, Refuses, BreaksOff, Gives, LaysAside, Drops, Dials, Probes, Running, Setting, after, after_all, calls, calls_of, content_in, finish, first_piece, first_rest, keeps, piece, transfer_for, refuses, rest, takes_request, with_content}
+use Rattle.oc_deeds.specs.Deeds.{Deed, Sees, Reads, Tells, Takes, Accepts, Says, Notes, Permits, Waits, Replies, Refuses, Rejects, BreaksOff, Gives, LaysAside, Drops, Dials, Probes, Running, Setting, after, after_all, calls, calls_of, content_in, finish, first_piece, first_rest, keeps, piece, transfer_for, refuses, rest, takes_request, with_content}
 use Rattle.oc_deeds.specs.Replying.{HasContent, IsGivable, IsOrdered, MayAnswer, MayDo, phase_on, works_on}
 use Rattle.oc_deeds.specs.Settled.{Fits, IsSettled}
 use Rattle.oc_deeds.specs.Works.{without_work}
@@ -107,6 +107,7 @@ IsQuiet (Takes i) = Unit {0}
 IsQuiet (Accepts i) = Unit {0}
 IsQuiet (Says text) = Unit {0}
 IsQuiet (Notes why) = Unit {0}
+IsQuiet (Rejects fault) = Unit {0}
 IsQuiet (Dials place m d) = Unit {0}
 IsQuiet (Probes peer d t) = Unit {0}
 IsQuiet d = ⊥
@@ -123,6 +124,7 @@ quiet_behind s made (Takes i) ds a quiet settled onward = orderly_behind s made 
 quiet_behind s made (Accepts i) ds a quiet settled onward = orderly_behind s made (Accepts i) ds a tt (onward (settled_by made [] a.works (λ c. settled c)))
 quiet_behind s made (Says text) ds a quiet settled onward = orderly_behind s made (Says text) ds a tt (onward (settled_by made [] a.works (λ c. settled c)))
 quiet_behind s made (Notes why) ds a quiet settled onward = orderly_behind s made (Notes why) ds a tt (onward (settled_by made [] a.works (λ c. settled c)))
+quiet_behind s made (Rejects fault) ds a quiet settled onward = orderly_behind s made (Rejects fault) ds a tt (onward (settled_by made [] a.works (λ c. settled c)))
 quiet_behind s made (Dials place m d) ds a quiet settled onward = orderly_behind s made (Dials place m d) ds a tt (onward (settled_by made (calls s (Dials place m d) a) a.works (λ c. settled c)))
 quiet_behind s made (Probes peer d t) ds a quiet settled onward = orderly_behind s made (Probes peer d t) ds a tt (onward (settled_by made (calls s (Probes peer d t) a) a.works (λ c. settled c)))
 quiet_behind s made (Sees e wait bytes) ds a quiet settled onward = absurd quiet

@@ -40,5 +40,5 @@ verdict_hurries verdict n = false
 -- whether news hurries the tick: a verdict on a request, or the reply of 200 to a message, with its MAC where the network has keys
 abbrev pub came_hurries : Came → Node → Bool
 came_hurries (comes.Request c count verdict) n = verdict_hurries verdict n
-came_hurries (comes.Reply input taken) n = taken
+came_hurries (comes.Reply input taken refused) n = taken
 came_hurries came n = false

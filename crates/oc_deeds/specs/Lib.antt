@@ -6,6 +6,7 @@ pub mod Sending
 pub mod Within
 pub mod Records
 pub mod Brief
+pub mod Counted
 pub mod Deeds
 pub mod Done
 pub mod Under

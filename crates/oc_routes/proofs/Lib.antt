@@ -23,3 +23,5 @@ mod Marks
 mod PlainNames
 mod Counting
 mod Texts
+mod Ids
+mod Noted

@@ -1,5 +1,6 @@
 pub mod Reasons
 pub mod Lines
+pub mod Askers
 pub mod Refusals
 pub mod Inputs
 pub mod Responses
@@ -24,6 +25,8 @@ pub mod Hints
 pub mod Macs
 pub mod Json
 pub mod Rows
+pub mod Tallies
+pub mod Sights
 pub mod Status
 pub mod Metrics
 pub mod PlainNames

@@ -1,3 +1,6 @@
+use crate::about::About;
+use crate::directory::Directory;
+use crate::tally::Tally;
 use oc_base::Shelf;
 use oc_node::Node;
 
@@ -9,4 +12,9 @@ pub struct Seen<'a> {
     pub shelf: &'a [Shelf],
     /// The number of messages in its outbox.
     pub messages: usize,
+    /// The nodes of its network, by its configuration.
+    pub directory: Directory<'a>,
+    /// The counts of its run.
+    pub tally: &'a Tally,
+    pub about: About,
 }

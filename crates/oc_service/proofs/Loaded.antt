@@ -22,6 +22,7 @@ use Rattle.oc_deeds.specs.Sending.{AreSendable}
 use Rattle.oc_deeds.specs.declared.dials.Dialling.{Dialling}
 use Rattle.oc_deeds.specs.declared.pace.Pace.{Pace}
 use Rattle.oc_server.specs.declared.turns.Turns.{Turns}
+use Rattle.oc_routes.specs.Tallies.{TallyView, first_tally}
 use Rattle.oc_deeds.specs.declared.work.Work.{Work}
 use Rattle.oc_service.specs.Loading.{IsLoaded}
 use Rattle.oc_service.specs.OnSite.{header_of_settings, machine_on, probing_at_first}
@@ -67,9 +68,11 @@ loaded_areas view c config me d k node is = ap (λ (x : Settings). x.areas) is �
 pub loaded_machine : {D L K : Type 0} (view : D → DiskView) (c : Settings) (task : Task) (site : Site D L K) (turns : Turns D L K) → IsLoaded view c task site turns → AreHonest view (disks_in site.files)
     → machine turns ≡ machine_on view c task (disks_in site.files)
 loaded_machine view c task site turns loaded honest =
-    ap (λ (ms : List Message). record { running = record { node = node_of turns.server.kept; outbox = ms; works = turns.server.works; dials = turns.server.dials }; pace = turns.pace; probing = turns.probing }) loaded.outbox
-    ∙ ap (λ (ws : List Work). record { running = record { node = node_of turns.server.kept; outbox = []; works = ws; dials = turns.server.dials }; pace = turns.pace; probing = turns.probing }) loaded.works
-    ∙ ap (λ (ds : List Dialling). record { running = record { node = node_of turns.server.kept; outbox = []; works = []; dials = ds }; pace = turns.pace; probing = turns.probing }) loaded.dials
-    ∙ ap (λ (p : Pace). record { running = record { node = node_of turns.server.kept; outbox = []; works = []; dials = [] }; pace = p; probing = turns.probing }) loaded.pace
+    let nodes_are : turns.server.kept.node.control.nodes ≡ length c.addresses = ap (λ (h : Header). h.nodes) loaded.node.header in
+    ap (λ (t : TallyView). record { running = record { node = node_of turns.server.kept; outbox = turns.server.outbox; works = turns.server.works; dials = turns.server.dials; tally = t }; pace = turns.pace; probing = turns.probing }) (loaded.tally ∙ sym (ap first_tally nodes_are))
+    ∙ ap (λ (ms : List Message). record { running = record { node = node_of turns.server.kept; outbox = ms; works = turns.server.works; dials = turns.server.dials; tally = first_tally turns.server.kept.node.control.nodes }; pace = turns.pace; probing = turns.probing }) loaded.outbox
+    ∙ ap (λ (ws : List Work). record { running = record { node = node_of turns.server.kept; outbox = []; works = ws; dials = turns.server.dials; tally = first_tally turns.server.kept.node.control.nodes }; pace = turns.pace; probing = turns.probing }) loaded.works
+    ∙ ap (λ (ds : List Dialling). record { running = record { node = node_of turns.server.kept; outbox = []; works = []; dials = ds; tally = first_tally turns.server.kept.node.control.nodes }; pace = turns.pace; probing = turns.probing }) loaded.dials
+    ∙ ap (λ (p : Pace). record { running = record { node = node_of turns.server.kept; outbox = []; works = []; dials = []; tally = first_tally turns.server.kept.node.control.nodes }; pace = p; probing = turns.probing }) loaded.pace
     ∙ ap (λ (p : Option Probing). at_first (is_record task.log) (most_interval task.probes task.me) p (node_of turns.server.kept)) loaded.probing
     ∙ ap (λ (n : Node). at_first (is_record task.log) (most_interval task.probes task.me) (probing_at_first task.probes task.me c.addresses) n) (loaded.node.node honest)

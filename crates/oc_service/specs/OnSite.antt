@@ -24,6 +24,7 @@ use Rattle.oc_model.specs.Step.{step}
 use Rattle.oc_probe.specs.Turns.{peers_of}
 use Rattle.oc_probe.specs.declared.probing.Probing.{Probing}
 use Rattle.oc_routes.specs.Responses.{address_of}
+use Rattle.oc_routes.specs.Sights.{about_of}
 use Rattle.oc_routes.specs.Verdicts.{NodeTerms, terms_of}
 use Rattle.oc_deeds.specs.Deeds.{Deed, Setting, calls_of, inputs_of, line, lines}
 use Rattle.oc_deeds.specs.Pace.{most_interval}
@@ -52,10 +53,18 @@ use Rattle.oc_service.specs.declared.running.Task.{Task}
 abbrev pub header_of_settings : Settings → Header
 header_of_settings c = header (length c.addresses) c.chain c.chunk c.areas
 
--- the number of the node, the addresses of all nodes, the key of the network, and the form of the
--- log
+-- the number of the node; of all nodes the addresses, the names, and whether they are retired; the
+-- key of the network, the form of the log, and what is told of the program
 abbrev pub setting_of : Settings → Task → Setting
-setting_of c task = record { me = task.me; addresses = c.addresses; key = key_of c.keys; log = task.log }
+setting_of c task = record {
+  me = task.me;
+  addresses = c.addresses;
+  names = c.names;
+  retired = c.retired;
+  key = key_of c.keys;
+  log = task.log;
+  about = about_of task.about;
+}
 
 -- the terms by which the node reads requests
 abbrev pub terms_in : Settings → ℕ → NodeTerms

@@ -7,6 +7,7 @@ use Rattle.oc_base.specs.declared.shelf.Shelf.{Shelf}
 use Rattle.oc_model.specs.declared.input.Input.TheVariants.{Measured}
 use Rattle.oc_model.specs.Node.{Control, Node}
 use Rattle.oc_probe.specs.declared.probing.Probing.{Probing}
+use Rattle.oc_routes.specs.Tallies.{first_tally}
 use Rattle.oc_deeds.specs.Brief.{told_first}
 use Rattle.oc_deeds.specs.Choices.{due_index}
 use Rattle.oc_deeds.specs.Deeds.{Deed, Running, Says, Setting, Takes, after_all}
@@ -22,10 +23,10 @@ pub record Machine : Type 0 where
   pub pace : Pace
   pub probing : Option Probing
 
--- the machine at first: no messages to send, no request under way, and no tick yet; in a record
+-- the machine at first: no messages to send, no request under way, nothing counted, and no tick yet; in a record
 -- ticks are whole seconds apart, otherwise they are at most this interval apart
 abbrev pub at_first : Bool → ℕ → Option Probing → Node → Machine
-at_first whole most probing n = record { running = record { node = n; outbox = []; works = []; dials = [] }; pace = first_pace whole most; probing = probing }
+at_first whole most probing n = record { running = record { node = n; outbox = []; works = []; dials = []; tally = first_tally n.control.nodes }; pace = first_pace whole most; probing = probing }
 
 -- each of the node's own measures is taken as an input
 abbrev pub own_measure : Setting → Measure → List Deed

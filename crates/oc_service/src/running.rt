@@ -24,7 +24,7 @@ use oc_deeds::{Log, TurnEnd};
 use oc_io::{Disk, Sink};
 use oc_keep::{Files, KeepLoad};
 use oc_link::Link;
-use oc_routes::address_of;
+use oc_routes::{About, address_of};
 use oc_server::{Server, Turns, turns_are_in_order};
 use std::alloc::Global;
 
@@ -39,6 +39,8 @@ pub struct Task {
     pub probes: bool,
     /// The form in which the node logs its inputs.
     pub log: Log,
+    /// What is told of the program.
+    pub about: About,
 }
 
 /// The end of a node's run.
@@ -174,6 +176,8 @@ fn leave<D: Disk, L: Link, K: Sink>(turns: Turns<D, L, K>) -> Site<D, L, K>
         works,
         dials,
         config,
+        about: _,
+        tally,
         log: _,
         link,
         sink,
@@ -183,6 +187,7 @@ fn leave<D: Disk, L: Link, K: Sink>(turns: Turns<D, L, K>) -> Site<D, L, K>
     drop(works);
     drop(dials);
     drop(config);
+    drop(tally);
     drop(heads);
     let (control, alternate, content) = kept.into_disks();
     Site {

@@ -1,0 +1,26 @@
+use Rattle.std.proofs.Common.{◌+◌, ◌-◌, ◌++◌, ◌∙◌, ℕ, List, filter, sym, ap, arith}
+use Rattle.oc_routes.proofs.Ids.{id_taken, id_passed, ids_found}
+use Rattle.oc_routes.specs.Sights.{ids_from, ids_told, is_told, sight_of}
+use Rattle.oc_routes.proofs.sights.ids_told.Goals as goal
+use Rattle.oc_routes.proofs.sights.ids_told.Goals.{then-is_told+in_ok-push, else-is_told}
+
+pub loop-before-preserved : goal.loop-before-preserved
+loop-before-preserved c =
+    let s = sight_of c.args.seen.now in
+    let k = c.loop-before.before in
+    let nodes = s.node.nodes in
+    let out = c.loop-before.ids.items in
+    let rest : List ℕ = filter (is_told s) (ids_from (k + 1 + 1) (nodes - (k + 1))) in
+    elim c.if-is_told.branch [
+      | then-is_told+in_ok-push found ↦
+          ap (λ (xs : List ℕ). xs ++ rest) (ap (λ v. v.items) found.ids-is ∙ found.in_ok-push.ensures.items)
+          ∙ id_taken (is_told s) k nodes out (ids_told s) (omega arith) (sym c.is_told.ensures ∙ found.if-is_told.true) c.loop-before.invariant
+      | else-is_told other ↦
+          ap (λ (xs : List ℕ). xs ++ rest) (ap (λ v. v.items) other.ids-is)
+          ∙ id_passed (is_told s) k nodes out (ids_told s) (omega arith) (sym c.is_told.ensures ∙ other.if-is_told.false) c.loop-before.invariant
+    ]
+
+pub returns : goal.returns
+returns c =
+    let s = sight_of c.args.seen.now in
+    ids_found (is_told s) c.loop-before.before s.node.nodes c.loop-before.ids.items (ids_told s) (omega arith) c.loop-before.invariant

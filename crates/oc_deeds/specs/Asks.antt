@@ -21,7 +21,7 @@ use Rattle.oc_routes.specs.declared.verdict.Refusal.{Refusal}
 use Rattle.oc_routes.specs.declared.response.Response.{Response}
 use Rattle.oc_routes.specs.declared.routes.Operation.{Operation}
 use Rattle.oc_routes.specs.declared.routes.Operation.TheVariants as asks
-use Rattle.oc_deeds.specs.Deeds.{BreaksOff, Permits, Refuses, Replies, Running, Setting, Waits, back_to, sender_of}
+use Rattle.oc_deeds.specs.Deeds.{BreaksOff, Permits, Refuses, Replies, Running, Setting, Waits, back_to, key_in, sender_of}
 use Rattle.oc_deeds.specs.Parts.{Part, nothing, one, ◌>>◌}
 use Rattle.oc_deeds.specs.Rooms.{goes_on}
 use Rattle.oc_deeds.specs.Telling.{accepts_in}
@@ -49,7 +49,7 @@ report_for asked a = report_of asked a.node.control (shelf a.node.groups) (lengt
 
 -- what a request is answered by what the node is now
 abbrev pub response_now : Pending → Answer → Option Message → Setting → Running → Response
-response_now r answer back s a = response_for r.asked r.last answer back (holding_for r.asked.operation a.node.groups) s.addresses s.key (report_for r.asked.operation a)
+response_now r answer back s a = response_for r.asked r.last answer back (holding_for r.asked.operation a.node.groups) a.config.addresses (key_in a) (report_for r.asked.operation a)
 
 abbrev pub replies : Pending → ℕ → Answer → Option Message → Part
 replies r now answer back s a = Replies r (response_now r answer back s a) now ∷ []

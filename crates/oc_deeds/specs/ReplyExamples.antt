@@ -8,13 +8,14 @@ use Rattle.oc_routes.specs.declared.hint.Hint.TheVariants.{Of}
 use Rattle.oc_routes.specs.declared.manner.Manner.TheVariants.{Follow}
 use Rattle.oc_routes.specs.declared.routes.Operation.TheVariants as asks
 use Rattle.oc_deeds.specs.Deeds.{Accepts, BreaksOff, Deed, Gives, Permits, Replies, Running, Setting, after_all, calls_of}
+use Rattle.oc_deeds.specs.Examples.{two_nodes}
 use Rattle.oc_deeds.specs.Replying.{IsOrdered, replies}
 use Rattle.oc_deeds.specs.declared.log.Log.TheVariants.{Inputs}
 use Rattle.oc_deeds.specs.declared.work.Transfer.{Transfer}
 
 -- node 1 of 2, which holds three bytes of a group
 abbrev node_one : Setting
-node_one = record { me = 1; addresses = Some (codes "a:1") ∷ Some (codes "b:2") ∷ []; key = None; log = Inputs }
+node_one = record { me = 1; log = Inputs }
 
 abbrev holds_three : Running
 holds_three = record {
@@ -22,6 +23,7 @@ holds_three = record {
   outbox = [];
   works = [];
   dials = [];
+  config = two_nodes;
 }
 
 -- on connection 8 a client is told six bytes of it

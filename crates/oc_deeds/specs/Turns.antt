@@ -6,6 +6,7 @@ use Rattle.oc_base.specs.declared.limits.TheConstants.{MAX_RATE, MAX_TIME}
 use Rattle.oc_link.specs.declared.event.Coming.{Coming}
 use Rattle.oc_link.specs.declared.event.LinkEvent.{LinkEvent}
 use Rattle.oc_link.specs.declared.event.LinkEvent.TheVariants as events
+use Rattle.oc_link.specs.declared.look.Look.{Look}
 use Rattle.oc_http.specs.declared.fault.HttpFault.{HttpFault}
 use Rattle.oc_http.specs.declared.reply.Reply.{Reply}
 use Rattle.oc_model.specs.declared.input.Input.{Input}
@@ -17,15 +18,16 @@ use Rattle.oc_probe.specs.Turns.{turned}
 use Rattle.oc_probe.specs.declared.fault.ProbeFault.{ProbeFault}
 use Rattle.oc_probe.specs.declared.fault.ProbeFault.TheVariants as faults
 use Rattle.oc_probe.specs.declared.probing.Probing.{Probing}
-use Rattle.oc_routes.specs.Verdicts.{IsVerdict, NodeTerms}
+use Rattle.oc_routes.specs.Verdicts.{IsVerdict, NodeTerms, terms_of}
 use Rattle.oc_routes.specs.declared.verdict.Verdict.{Verdict}
 use Rattle.oc_deeds.specs.Asks.{obeys, takes_up}
 use Rattle.oc_deeds.specs.Brought.{HadMemory, IsReading, comes_back}
 use Rattle.oc_deeds.specs.Choices.{due_place, free_number, wait_for}
-use Rattle.oc_deeds.specs.Deeds.{Notes, Probes, Reads, Sees, Tells, dials_behind}
+use Rattle.oc_deeds.specs.Deeds.{Notes, Probes, Reads, Running, Sees, Setting, Tells, dials_behind}
 use Rattle.oc_deeds.specs.Hurries.{came_hurries}
 use Rattle.oc_deeds.specs.Pace.{has_passed, hurried, looked, wait_until}
 use Rattle.oc_deeds.specs.Parts.{Part, nothing, one, ◌>>◌}
+use Rattle.oc_deeds.specs.Rereading.{looks_again}
 use Rattle.oc_deeds.specs.Rooms.{gone, room}
 use Rattle.oc_deeds.specs.Sends.{sends}
 use Rattle.oc_deeds.specs.Telling.{takes_ahead, takes_in}
@@ -35,9 +37,14 @@ use Rattle.oc_deeds.specs.declared.choosing.TheConstants.{MAX_DIALS}
 use Rattle.oc_deeds.specs.declared.dials.Dialling.{Dialling}
 use Rattle.oc_deeds.specs.declared.dials.Errand.{Errand}
 use Rattle.oc_deeds.specs.declared.pace.Pace.{Pace}
+use Rattle.oc_deeds.specs.declared.reread.Reread.{Reread}
 use Rattle.oc_deeds.specs.declared.work.Work.{Work}
 
 -- What came
+
+-- the terms by which a running node reads requests
+abbrev pub terms_in : Setting → Running → NodeTerms
+terms_in s a = terms_of s.me a.node.control.nodes a.config.rules a.config.keys
 
 -- what came back on a dial, where it was made for this; a reply to no dial is nothing
 abbrev pub MeansBack : NodeTerms → List ℕ → Option Errand → Coming → Came → Type 0
@@ -68,6 +75,9 @@ pub record Observation : Type 0 where
   pub started : ℕ
   -- the seconds at the tick
   pub seconds : ℕ
+  -- what the look at the file of the configuration gave, and what that is
+  pub look : Look
+  pub reread : Reread
 
 -- Probes
 
@@ -169,9 +179,13 @@ takes_at (Some place) pace probing t s a = takes_due pace (slice_get a.works pla
 abbrev pub takes_one : Pace → Option Probing → Observation → Part
 takes_one pace probing t s a = takes_at (due_place a.works (shelf a.node.groups) t.before) pace probing t s a
 
--- What a turn does, by what it is told.
+-- what came or was due is dealt with
+abbrev pub dealt : Pace → Option Probing → Observation → Part
+dealt pace probing t = one (Reads t.before) >> takes_one pace probing t
+
+-- What a turn does, by what it is told: it deals with what came or was due, and looks whether the configuration changed.
 abbrev pub turn : Pace → Option Probing → Observation → Part
-turn pace probing t = one (Reads t.before) >> takes_one pace probing t
+turn pace probing t = dealt pace probing t >> looks_again t.look t.reread
 
 -- After a turn
 

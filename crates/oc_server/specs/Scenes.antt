@@ -23,23 +23,22 @@ use Rattle.oc_policy.specs.declared.deciding.TheConstants.{MAX_RULES}
 use Rattle.oc_deeds.specs.Done.{AreDone, CountsAll}
 use Rattle.oc_deeds.specs.Lawful.{IsLawfulDial, IsLawfulWork, IsPlaced}
 use Rattle.oc_deeds.specs.Under.{Idle, Taking, Under, under_line}
-use Rattle.oc_deeds.specs.Deeds.{Deed, Running, Setting, inputs_of, line, lines}
+use Rattle.oc_deeds.specs.Deeds.{Deed, Running, Setting, config_behind, inputs_of, line, lines}
 use Rattle.oc_server.specs.Looks.{LooksOn, LooksOnly, RunsSafely}
 use Rattle.oc_server.specs.Moments.{AtEachPrefix}
 use Rattle.oc_deeds.specs.Sending.{AreSendable}
 use Rattle.oc_deeds.specs.Within.{IsWithin}
 use Rattle.oc_deeds.specs.declared.ends.TurnEnd.{TurnEnd}
 use Rattle.oc_deeds.specs.declared.ends.TurnEnd.TheVariants as ends
-use Rattle.oc_config.specs.Settings.{key_of}
 use Rattle.oc_server.specs.declared.server.Server.{Server}
 
 -- What a server is seen as
 
 abbrev pub running : {D L K : Type 0} → Server D L K → Running
-running s = record { node = node_of s.kept; outbox = s.outbox; works = s.works; dials = s.dials }
+running s = record { node = node_of s.kept; outbox = s.outbox; works = s.works; dials = s.dials; config = s.config }
 
 abbrev pub setting : {D L K : Type 0} → Server D L K → Setting
-setting s = record { me = s.kept.node.control.me; addresses = s.config.addresses; key = key_of s.config.keys; log = s.log }
+setting s = record { me = s.kept.node.control.me; log = s.log }
 
 -- What holds between any two calls
 
@@ -49,7 +48,12 @@ pub record IsLawful {D L K : Type 0} (s : Server D L K) : Type 0 where
   pub works : AllByRecursion (IsLawfulWork s.kept.node.control.nodes s.kept.node.control.me) s.works
   pub dials : AllByRecursion (IsLawfulDial s.kept.node.control.nodes) s.dials
 
--- no disk failed, each node has an address, there are not too many rules, and all is lawful
+-- each node has a place in the configuration, and there are not too many rules
+pub record IsSet {D L K : Type 0} (s : Server D L K) : Type 0 where
+  pub placed : IsPlaced s.kept.node.control.nodes s.config.addresses
+  pub rules : length s.config.rules ≤ MAX_RULES
+
+-- no disk failed, each node has a place, there are not too many rules, and all is lawful
 pub record IsServing {D L K : Type 0} (s : Server D L K) : Type 0 where
   pub is_open : s.kept.closed ≡ false
   pub placed : IsPlaced s.kept.node.control.nodes s.config.addresses
@@ -83,7 +87,8 @@ KeepsAll {D} view (i ∷ is) old new = (at next : KeptView D) × (outcome : Outc
 pub record Did {D L K : Type 0} (view : D → DiskView) (takes : K → List ℕ → K → Type 0) (faults : K → ℕ) (story : L → Option (List Call)) (counts : L → LinkCounts) (deeds : List Deed) (old new : Server D L K) : Type 0 where
   pub is_open : new.kept.closed ≡ false
   pub same : IsSameNode old.kept.node.control new.kept.node.control
-  pub config : new.config ≡ old.config
+  pub config : new.config ≡ config_behind deeds old.config
+  pub set : IsSet old → IsSet new
   pub log : new.log ≡ old.log
   pub goes_on : AllGoOn view (disks_of old.kept) (disks_of new.kept)
   pub no_fall : NoFall (faults old.sink) (faults new.sink)

@@ -13,7 +13,10 @@ use Rattle.oc_routes.specs.Verdicts.{arrival}
 use Rattle.oc_routes.specs.declared.verdict.Verdict.TheVariants as verdicts
 use Rattle.oc_routes.specs.declared.refused.Refused.{Refused}
 use Rattle.oc_routes.specs.declared.refused.Refused.TheVariants as refusals
-use Rattle.oc_deeds.specs.Deeds.{Deed, Drops, Reads, Refuses, Running, Sees, Setting, lines}
+use Rattle.oc_deeds.specs.Deeds.{Deed, Drops, Looks, Reads, Refuses, Running, Sees, Setting, lines}
+use Rattle.oc_deeds.specs.Examples.{two_nodes}
+use Rattle.oc_deeds.specs.declared.reread.Reread.TheVariants as rereads
+use Rattle.oc_link.specs.declared.look.Look.TheVariants as looks
 use Rattle.oc_deeds.specs.Turns.{Observation, turn}
 use Rattle.oc_deeds.specs.declared.came.Came.TheVariants as comes
 use Rattle.oc_deeds.specs.declared.log.Log.TheVariants.{Inputs}
@@ -23,17 +26,17 @@ use Rattle.oc_service.specs.Failures.{AreBorneOut}
 
 -- node 1 of 2, new, whose tick is not due
 abbrev example : Setting
-example = record { me = 1; addresses = Some (codes "a:1") ∷ Some (codes "b:2") ∷ []; key = None; log = Inputs }
+example = record { me = 1; log = Inputs }
 
 abbrev idle : Running
-idle = record { node = new_node (record { nodes = 2; chain = 1; chunk = 4096; areas = 0 ∷ 0 ∷ [] }) 1; outbox = []; works = []; dials = [] }
+idle = record { node = new_node (record { nodes = 2; chain = 1; chunk = 4096; areas = 0 ∷ 0 ∷ [] }) 1; outbox = []; works = []; dials = []; config = two_nodes }
 
 abbrev ticked : Pace
 ticked = record { last = Some 0; interval = 100; most = 1000; whole = false; second = None }
 
 -- the observation of a quiet turn
 abbrev quiet : Observation
-quiet = record { before = 0; event = events.Quiet; bytes = []; came = comes.Nothing; now = 5; median = 0; started = 5; seconds = 7 }
+quiet = record { before = 0; event = events.Quiet; bytes = []; came = comes.Nothing; now = 5; median = 0; started = 5; seconds = 7; look = looks.Nothing; reread = rereads.Nothing }
 
 -- the bytes of a request of connection 8 end so
 abbrev request : Coming → LinkEvent
@@ -45,7 +48,7 @@ refuses coming bytes count why = turn ticked None (told_request quiet (arrival 8
 
 pub record AreTold : Type 0 where
   -- `! source` after a read that failed, and `! write` after a reply that could not be sent
-  pub reads : refuses comings.Failed (codes "GE") 2 refusals.Source ≡ Reads 0 ∷ Sees (request comings.Failed) 100 (codes "GE") ∷ Reads 5 ∷ Refuses 8 2 (refusing refusals.Source) ∷ []
+  pub reads : refuses comings.Failed (codes "GE") 2 refusals.Source ≡ Reads 0 ∷ Sees (request comings.Failed) 100 (codes "GE") ∷ Reads 5 ∷ Refuses 8 2 (refusing refusals.Source) ∷ Looks looks.Nothing ∷ []
   pub read : AreBorneOut events.Quiet (refuses comings.Failed (codes "GE") 2 refusals.Source)
   pub sent : AreBorneOut events.Quiet (Sees (events.Gone 8 losses.Failed) 100 [] ∷ Reads 5 ∷ Drops 8 true ∷ [])
   -- and not after a request that ended, nor a connection that gave way

@@ -1,5 +1,5 @@
 -- A node that was loaded from its files, or not.
-use Rattle.std.specs.Prelude.{◌≡◌, ◌≤◌, ℕ, Bool, Option, IfSome, List, [], length}
+use Rattle.std.specs.Prelude.{◌≡◌, ◌≤◌, ℕ, Bool, Option, Some, IfSome, List, [], length}
 use Rattle.std.specs.List.{AllByRecursion}
 use Rattle.oc_base.specs.declared.limits.TheConstants.{MAX_AREA}
 use Rattle.oc_config.specs.Settings.{Settings}
@@ -39,6 +39,7 @@ pub record IsLoaded {D L K : Type 0} (view : D → DiskView) (c : Settings) (tas
   pub dials : turns.server.dials ≡ []
   pub pace : turns.pace ≡ first_pace (is_record task.log) (most_interval task.probes task.me)
   pub probing : turns.probing ≡ probing_at_first task.probes task.me c.addresses
+  pub reading : turns.reading ≡ Some task.text
   pub config : turns.server.config ≡ c
   pub log : turns.server.log ≡ task.log
   pub link : turns.server.link ≡ site.link

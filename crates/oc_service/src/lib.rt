@@ -2,7 +2,8 @@
 //!
 //! [`run_node`] is the call for the layer above. It loads the node of a configuration from its
 //! three files, has its link listen, takes the measures, and turns: a number of times, or without
-//! an end. Its [`Site`] is given by the caller and given back.
+//! an end. At the end of each turn it looks whether its configuration changed, and goes by what that
+//! says then: what holds of a run holds of each stretch between two readings. Its [`Site`] is given by the caller and given back.
 //!
 //! `specs/WhatNodeDoes` defines the deeds of a node on one page: a machine whose steps are turns,
 //! given the reports of the link and the clock in each. The contract of [`run_node`] is that

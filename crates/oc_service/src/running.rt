@@ -18,7 +18,7 @@ ghost use Rattle.oc_updown.specs.MeasureLines.{IsMeasure};
 use crate::loading::load;
 use crate::measuring::begin;
 use crate::site::Site;
-use oc_base::NodeId;
+use oc_base::{Bytes, NodeId};
 use oc_config::Config;
 use oc_deeds::{Log, TurnEnd};
 use oc_io::{Disk, Sink};
@@ -29,7 +29,7 @@ use oc_server::{Server, Turns, turns_are_in_order};
 use std::alloc::Global;
 
 /// The task of a node.
-#[derive(Clone, Copy)]
+#[derive(Drop)]
 pub struct Task {
     /// The number of the node.
     pub me: NodeId,
@@ -39,6 +39,8 @@ pub struct Task {
     pub probes: bool,
     /// The form in which the node logs its inputs.
     pub log: Log,
+    /// The bytes that its configuration was read from.
+    pub text: Bytes,
 }
 
 /// The end of a node's run.
@@ -165,8 +167,10 @@ fn leave<D: Disk, L: Link, K: Sink>(turns: Turns<D, L, K>) -> Site<D, L, K>
         server,
         pace: _,
         probing,
+        reading,
     } = turns;
     drop(probing);
+    drop(reading);
     let Server {
         alloc: _,
         kept,

@@ -1,5 +1,5 @@
 -- Deeds, one at a time.
-use Rattle.std.proofs.Common.{◌≡◌, ℕ, Bool, false, Option, None, Some, List, [], ◌∷◌, ◌++◌, refl, sym, ap, subst, ◌∙◌, arith}
+use Rattle.std.proofs.Common.{◌≡◌, ◌≤◌, length, ℕ, Bool, false, Option, None, Some, List, [], ◌∷◌, ◌++◌, refl, sym, ap, subst, ◌∙◌, arith}
 use Rattle.std.proofs.lemmas.List.{append-nil}
 use Rattle.std.specs.List.{AllByRecursion}
 use Rattle.oc_link.specs.Counts.{CountsFailure}
@@ -16,13 +16,16 @@ use Rattle.oc_keep.specs.KeptView.{IsHonest, KeptView, NodeSurvives, disks_of, h
 use Rattle.oc_model.specs.declared.input.Input.{Input}
 use Rattle.oc_model.specs.declared.message.Message.{Message}
 use Rattle.oc_model.specs.Node.{Node}
-use Rattle.oc_deeds.specs.Deeds.{Deed, Running, after, calls, finish, input_of, line, with_input}
+use Rattle.std.specs.Prelude.{unwrap_or}
+use Rattle.oc_config.specs.Settings.{Settings}
+use Rattle.oc_deeds.specs.Deeds.{Deed, Rereads, Running, after, calls, finish, input_of, line, reread_line, reread_of, with_input}
 use Rattle.oc_server.specs.Looks.{LooksOnly, LookStops}
 use Rattle.oc_server.specs.Moments.{TakesOne}
 use Rattle.oc_server.specs.Noting.{LineStops, NoteBreaks}
 use Rattle.oc_deeds.specs.Done.{AreDone, CountsAll}
 use Rattle.oc_server.specs.Scenes.{Breaks, Did, IsLawful, KeepsAll, running, setting}
-use Rattle.oc_deeds.specs.Lawful.{IsLawfulWork}
+use Rattle.oc_deeds.specs.Lawful.{IsLawfulWork, IsPlaced}
+use Rattle.oc_policy.specs.declared.deciding.TheConstants.{MAX_RULES}
 use Rattle.oc_deeds.specs.Under.{Idle}
 use Rattle.oc_deeds.specs.declared.dials.Dialling.{Dialling}
 use Rattle.oc_deeds.specs.declared.ends.TurnEnd.{TurnEnd}
@@ -30,7 +33,7 @@ use Rattle.oc_deeds.specs.declared.ends.TurnEnd.TheVariants as ends
 use Rattle.oc_server.specs.declared.server.Server.{Server}
 use Rattle.oc_deeds.specs.declared.work.Transfer.{Transfer}
 use Rattle.oc_deeds.specs.declared.work.Work.{Work}
-use Rattle.oc_server.proofs.Lawful.{lawful_of}
+use Rattle.oc_server.proofs.Lawful.{lawful_of, set_of}
 use Rattle.oc_server.proofs.Looking.{go_on_none, looks_none, memory_looks}
 use Rattle.oc_server.proofs.Moments.{prefix_none, prefix_one}
 use Rattle.oc_server.proofs.Scenes.{done_none}
@@ -38,16 +41,17 @@ use Rattle.oc_server.proofs.Scenes.{done_none}
 module _ {D L K : Type 0} (view : D → DiskView) (takes fails : K → List ℕ → K → Type 0) (faults : K → ℕ) (story : L → Option (List Call)) (counts : L → LinkCounts) where
   -- One deed that takes no input
 
-  pub did_step : (d : Deed) (old new : Server D L K) → input_of d ≡ None → new.config ≡ old.config → new.log ≡ old.log
+  pub did_step : (d : Deed) (old new : Server D L K) → input_of d ≡ None → reread_of d ≡ None → new.config ≡ old.config → new.log ≡ old.log
       → takes old.sink (line (setting old) d) new.sink → NoFall (faults old.sink) (faults new.sink)
       → CountsAll (d ∷ []) (counts old.link) (counts new.link) → LooksOnly view old.kept new.kept → (IsLawful old → IsLawful new)
       → (IsHonest view old.kept → running new ≡ after d (running old))
       → (IsHonest view old.kept → AddsAll (calls (setting old) d (running old)) (story old.link) (story new.link))
       → Did view takes faults story counts (d ∷ []) old new
-  did_step d old new none config log text few counted looks lawful is made = record {
+  did_step d old new none unread config log text few counted looks lawful is made = record {
     is_open = looks.is_open;
     same = looks.same;
-    config = config;
+    config = config ∙ ap (λ (o : Option Settings). unwrap_or o old.config) (sym unread);
+    set = set_of old new looks.same config;
     log = log;
     goes_on = looks.goes_on;
     no_fall = few;
@@ -67,39 +71,62 @@ module _ {D L K : Type 0} (view : D → DiskView) (takes fails : K → List ℕ 
   }
 
   -- one that changes what is under way and the link
-  pub did_works : (takes_nothing : (k : K) → takes k [] k) (d : Deed) (old : Server D L K) (ws : List Work) (link : L) → input_of d ≡ None → line (setting old) d ≡ []
+  pub did_works : (takes_nothing : (k : K) → takes k [] k) (d : Deed) (old : Server D L K) (ws : List Work) (link : L) → input_of d ≡ None → reread_of d ≡ None → line (setting old) d ≡ []
       → old.kept.closed ≡ false → CountsAll (d ∷ []) (counts old.link) (counts link)
       → (AllByRecursion (IsLawfulWork old.kept.node.control.nodes old.kept.node.control.me) old.works → AllByRecursion (IsLawfulWork old.kept.node.control.nodes old.kept.node.control.me) ws)
       → record (running old) { works = ws } ≡ after d (running old) → AddsAll (calls (setting old) d (running old)) (story old.link) (story link)
       → Did view takes faults story counts (d ∷ []) old (record old { works = ws; link = link })
-  did_works takes_nothing d old ws link none silent is_open counted lawful is made =
-      did_step d old (record old { works = ws; link = link }) none refl refl (subst (λ (t : List ℕ). takes old.sink t old.sink) (sym silent) (takes_nothing old.sink)) (omega arith)
+  did_works takes_nothing d old ws link none unread silent is_open counted lawful is made =
+      did_step d old (record old { works = ws; link = link }) none unread refl refl (subst (λ (t : List ℕ). takes old.sink t old.sink) (sym silent) (takes_nothing old.sink)) (omega arith)
       counted (looks_none view old.kept is_open) (lawful_of old (record old { works = ws; link = link }) (record { me = refl; header = refl }) (λ all. all) lawful (λ all. all)) (λ honest. is) (λ honest. made)
 
   -- one that writes a line, and changes what is under way and the link
-  pub did_line : (d : Deed) (old : Server D L K) (sink : K) (ws : List Work) (link : L) → input_of d ≡ None
+  pub did_line : (d : Deed) (old : Server D L K) (sink : K) (ws : List Work) (link : L) → input_of d ≡ None → reread_of d ≡ None
       → old.kept.closed ≡ false → CountsAll (d ∷ []) (counts old.link) (counts link) → takes old.sink (line (setting old) d) sink → NoFall (faults old.sink) (faults sink)
       → (AllByRecursion (IsLawfulWork old.kept.node.control.nodes old.kept.node.control.me) old.works → AllByRecursion (IsLawfulWork old.kept.node.control.nodes old.kept.node.control.me) ws)
       → record (running old) { works = ws } ≡ after d (running old) → AddsAll (calls (setting old) d (running old)) (story old.link) (story link)
       → Did view takes faults story counts (d ∷ []) old (record old { sink = sink; works = ws; link = link })
-  did_line d old sink ws link none is_open counted text few lawful is made =
-      did_step d old (record old { sink = sink; works = ws; link = link }) none refl refl text few counted (looks_none view old.kept is_open)
+  did_line d old sink ws link none unread is_open counted text few lawful is made =
+      did_step d old (record old { sink = sink; works = ws; link = link }) none unread refl refl text few counted (looks_none view old.kept is_open)
       (lawful_of old (record old { sink = sink; works = ws; link = link }) (record { me = refl; header = refl }) (λ all. all) lawful (λ all. all)) (λ honest. is) (λ honest. made)
 
   -- one after a look that changes what is under way and the link
-  pub did_given : (takes_nothing : (k : K) → takes k [] k) (d : Deed) (old : Server D L K) (kept : KeptView D) (ws left : List Work) (link : L) → input_of d ≡ None → line (setting old) d ≡ []
+  pub did_given : (takes_nothing : (k : K) → takes k [] k) (d : Deed) (old : Server D L K) (kept : KeptView D) (ws left : List Work) (link : L) → input_of d ≡ None → reread_of d ≡ None → line (setting old) d ≡ []
       → LooksOnly view old.kept kept → CountsAll (d ∷ []) (counts old.link) (counts link)
       → (AllByRecursion (IsLawfulWork old.kept.node.control.nodes old.kept.node.control.me) old.works → AllByRecursion (IsLawfulWork old.kept.node.control.nodes old.kept.node.control.me) ws)
       → after d (running old) ≡ record (running old) { works = left } → (IsHonest view old.kept → ws ≡ left)
       → (IsHonest view old.kept → AddsAll (calls (setting old) d (running old)) (story old.link) (story link))
       → Did view takes faults story counts (d ∷ []) old (record old { kept = kept; works = ws; link = link })
-  did_given takes_nothing d old kept ws left link none silent looks counted lawful behind is made =
-      did_step d old (record old { kept = kept; works = ws; link = link }) none refl refl (subst (λ (t : List ℕ). takes old.sink t old.sink) (sym silent) (takes_nothing old.sink)) (omega arith)
+  did_given takes_nothing d old kept ws left link none unread silent looks counted lawful behind is made =
+      did_step d old (record old { kept = kept; works = ws; link = link }) none unread refl refl (subst (λ (t : List ℕ). takes old.sink t old.sink) (sym silent) (takes_nothing old.sink)) (omega arith)
       counted looks (lawful_of old (record old { kept = kept; works = ws; link = link }) looks.same (λ all. all) lawful (λ all. all))
       (λ honest.
-      ap (λ (n : Node). record { node = n; outbox = old.outbox; works = ws; dials = old.dials }) (looks.node honest)
-      ∙ ap (λ (x : List Work). record { node = node_of old.kept; outbox = old.outbox; works = x; dials = old.dials }) (is honest)
+      ap (λ (n : Node). record { node = n; outbox = old.outbox; works = ws; dials = old.dials; config = old.config }) (looks.node honest)
+      ∙ ap (λ (x : List Work). record { node = node_of old.kept; outbox = old.outbox; works = x; dials = old.dials; config = old.config }) (is honest)
       ∙ sym behind) made
+
+  -- one that goes by another configuration
+  pub did_reread : (takes_nothing : (k : K) → takes k [] k) (old : Server D L K) (config : Settings) (link : L) → old.kept.closed ≡ false
+      → IsPlaced old.kept.node.control.nodes config.addresses → length config.rules ≤ MAX_RULES
+      → AddsAll (acts.Report reread_line ∷ []) (story old.link) (story link) → counts link ≡ counts old.link
+      → Did view takes faults story counts (Rereads config ∷ []) old (record old { config = config; link = link })
+  did_reread takes_nothing old config link is_open placed rules made counted = record {
+    is_open = is_open;
+    same = record { me = refl; header = refl };
+    config = refl;
+    set = λ set. record { placed = placed; rules = rules };
+    log = refl;
+    goes_on = go_on_none view (disks_of old.kept);
+    no_fall = omega arith;
+    counted = counted;
+    keeps = looks_none view old.kept is_open;
+    lawful = lawful_of old (record old { config = config; link = link }) (record { me = refl; header = refl }) (λ all. all) (λ all. all) (λ all. all);
+    text = takes_nothing old.sink;
+    done = λ honest. record { after = refl; calls = made };
+    moments = λ honest.
+        prefix_one view (header_of old.kept.node.control) old.kept.node.control.me takes (line (setting old)) (Rereads config) (node_of old.kept) (disks_of old.kept) (disks_of old.kept) (disks_of old.kept) old.sink old.sink
+        (0, refl) refl (takes_nothing old.sink);
+  }
 
   -- none, and the files were looked at
   pub did_look : (takes_nothing : (k : K) → takes k [] k) (old new : Server D L K) → new.config ≡ old.config → new.log ≡ old.log → new.sink ≡ old.sink → new.link ≡ old.link
@@ -109,6 +136,7 @@ module _ {D L K : Type 0} (view : D → DiskView) (takes fails : K → List ℕ 
     is_open = looks.is_open;
     same = looks.same;
     config = config;
+    set = set_of old new looks.same config;
     log = log;
     goes_on = looks.goes_on;
     no_fall = subst (λ (k : K). NoFall (faults old.sink) (faults k)) (sym sink) (omega arith);
@@ -127,10 +155,11 @@ module _ {D L K : Type 0} (view : D → DiskView) (takes fails : K → List ℕ 
     where
       is_same : IsHonest view old.kept → running new ≡ running old
       is_same honest =
-          ap (λ (n : Node). record { node = n; outbox = new.outbox; works = new.works; dials = new.dials }) (looks.node honest)
-          ∙ ap (λ (ms : List Message). record { node = node_of old.kept; outbox = ms; works = new.works; dials = new.dials }) outbox
-          ∙ ap (λ (ws : List Work). record { node = node_of old.kept; outbox = old.outbox; works = ws; dials = new.dials }) works
-          ∙ ap (λ (ds : List Dialling). record { node = node_of old.kept; outbox = old.outbox; works = old.works; dials = ds }) dials
+          ap (λ (n : Node). record { node = n; outbox = new.outbox; works = new.works; dials = new.dials; config = new.config }) (looks.node honest)
+          ∙ ap (λ (ms : List Message). record { node = node_of old.kept; outbox = ms; works = new.works; dials = new.dials; config = new.config }) outbox
+          ∙ ap (λ (ws : List Work). record { node = node_of old.kept; outbox = old.outbox; works = ws; dials = new.dials; config = new.config }) works
+          ∙ ap (λ (ds : List Dialling). record { node = node_of old.kept; outbox = old.outbox; works = old.works; dials = ds; config = new.config }) dials
+          ∙ ap (λ (c : Settings). record { node = node_of old.kept; outbox = old.outbox; works = old.works; dials = old.dials; config = c }) config
 
   -- It ended so at once
 

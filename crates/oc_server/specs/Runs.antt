@@ -122,7 +122,7 @@ pub record LooksAgain {D L K : Type 0} (view : D → DiskView) (takes : K → Li
   pub means : MeansLook old.reading look reread
   pub reading : new.reading ≡ last_read look old.reading
   pub pace : new.pace ≡ old.pace
-  pub probing : new.probing ≡ probing_by (setting old.server).me old.server.config reread old.probing
+  pub probing : IsHonest view old.server.kept → new.probing ≡ probing_by (setting old.server).me old.server.config reread old.probing
 
 -- A front of that was done, and then it ended so. What the look gave was read, where anything was done by it.
 pub record LookAgainStops {D L K : Type 0} (view : D → DiskView) (takes fails : K → List ℕ → K → Type 0) (faults : K → ℕ) (story : L → Option (List Call)) (counts : L → LinkCounts) (end : TurnEnd) (old new : Turns D L K) : Type 0 where

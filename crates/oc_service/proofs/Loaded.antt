@@ -29,7 +29,7 @@ use Rattle.oc_service.specs.Running.{machine}
 use Rattle.oc_service.specs.WhatNodeDoes.{at_first}
 use Rattle.oc_service.specs.declared.running.Task.{Task}
 use Rattle.oc_service.specs.declared.site.Site.{Site}
-use Rattle.oc_service.proofs.Places.{placed}
+use Rattle.oc_server.proofs.Places.{placed}
 
 module _ {D L K : Type 0} (view : D → DiskView) (c : Settings) (me : ℕ) (probes : Bool) (site : Site D L K) (turns : Turns D L K) (lawful : IsConfig c)
     (node : IsNodeOf view (header_of_settings c) me (disks_in site.files) turns.server.kept)

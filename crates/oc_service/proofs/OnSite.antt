@@ -306,7 +306,7 @@ module _ {D L K : Type 0} (view : D → DiskView) (takes fails : K → List ℕ 
       -- the bytes written after the deeds
       rest_on : (end : TurnEnd) (breaks : BreaksBehind view takes fails faults story counts end deeds under l last.server) → WritesAt takes fails breaks.0.sink last.server.sink end [] (under_line (setting_of c task) under)
       rest_on end (at, did, breaks) =
-          subst (λ (x : Setting). WritesAt takes fails at.sink last.server.sink end [] (under_line x under)) (setting_stays view takes fails faults story counts l at did.same did.config did.log ∙ setting_is) breaks.text
+          subst (λ (x : Setting). WritesAt takes fails at.sink last.server.sink end [] (under_line x under)) (setting_stays view takes fails faults story counts l at did.same did.log ∙ setting_is) breaks.text
 
       adds_all : (end : TurnEnd) → BreaksBehind view takes fails faults story counts end deeds under l last.server → AreHonest view d
           → AddsAll (calls_of (setting l) deeds (running l)) (story link) (story last.server.link)

@@ -111,7 +111,7 @@ module _ {D L K : Type 0} (view : D → DiskView) (takes fails : K → List ℕ 
     honest_at honest = still_honest view takes fails faults story counts own listening at did (honest_listening honest)
 
     setting_at : setting at ≡ s
-    setting_at = setting_stays view takes fails faults story counts listening at did.same did.config did.log ∙ listening_setting
+    setting_at = setting_stays view takes fails faults story counts listening at did.same did.log ∙ listening_setting
 
     terms_at : reads_by at ≡ terms
     terms_at = reads_stay listening at did.same did.config ∙ listening_terms
@@ -213,7 +213,7 @@ module _ {D L K : Type 0} (view : D → DiskView) (takes fails : K → List ℕ 
         honest_last honest = still_honest view takes fails faults story counts turns.deeds at last.server turns.did (honest_at honest)
 
         setting_last : setting last.server ≡ s
-        setting_last = setting_stays view takes fails faults story counts at last.server turns.did.same turns.did.config turns.did.log ∙ setting_at
+        setting_last = setting_stays view takes fails faults story counts at last.server turns.did.same turns.did.log ∙ setting_at
 
         terms_last : reads_by last.server ≡ terms
         terms_last = reads_stay at last.server turns.did.same turns.did.config ∙ terms_at

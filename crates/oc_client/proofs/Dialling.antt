@@ -4,7 +4,7 @@ use Rattle.std.proofs.lemmas.List.{append-nil, append_assoc}
 use Rattle.std.proofs.Math.Bool.{and-false}
 use Rattle.oc_client.specs.Completeness.{text_of}
 use Rattle.oc_client.specs.Conversations.{GoesOn, Leads, EndsAt}
-use Rattle.oc_client.specs.Turns.{Turn, Talk, Talks, begun, ended_by, last_by, behind_turn, behind_turns, no_talks, all_of, talks_of, IsTold, AreTold, IsCutAddress}
+use Rattle.oc_client.specs.Turns.{Turn, Talk, Talks, begun, ended_by, last_by, after_turn, after_turns, no_talks, all_of, talks_of, IsTold, AreTold, IsCutAddress}
 use Rattle.oc_client.specs.FetchOptions.{FetchOptions}
 use Rattle.oc_client.specs.Wishes.{whole, dialled_at}
 use Rattle.oc_client.specs.declared.end.GetEnd.{GetEnd}
@@ -81,10 +81,10 @@ pub record HasFronts (talks : List Talk) (turns : List Turn) (made : List Dial) 
   pub told : AreTold talks before
   pub fronts : AreFronts turns (map text_of of_turns)
 
-fronts_behind : (talks : Talks) (turns : List Turn) (made : List Dial) → AllDial turns → AreTold (all_of (behind_turns talks turns)) made → HasFronts (all_of talks) turns made
+fronts_behind : (talks : Talks) (turns : List Turn) (made : List Dial) → AllDial turns → AreTold (all_of (after_turns talks turns)) made → HasFronts (all_of talks) turns made
 fronts_behind talks [] made all told = record { before = made; of_turns = []; split = sym (append-nil made); told = told; fronts = tt }
 fronts_behind talks (turn ∷ turns) made all told =
-    let more = fronts_behind (behind_turn talks turn) turns made all.1 told in
+    let more = fronts_behind (after_turn talks turn) turns made all.1 told in
     let added = all_behind talks turn turn.dialled all.0.address all.0.dialled in
     let one = told_split (all_of talks) (begun all.0.address turn) more.before (subst (λ (ts : List Talk). AreTold ts more.before) added more.told) in
     record {

@@ -1,7 +1,7 @@
 -- Turns one after another, and the dials that they make.
 use Rattle.std.proofs.Common.{◌≡◌, ℕ, Bool, Option, Some, None, List, [], ◌∷◌, ◌++◌, option_to_list, inr, refl, sym, ap, ◌∙◌, subst}
 use Rattle.std.proofs.lemmas.List.{append-nil, append_assoc}
-use Rattle.oc_client.specs.Turns.{Turn, Talk, Talks, begun, went_on, ended_by, last_by, behind_turn, behind_turns, no_talks, IsTold, AreTold, Makes, Carries, ready_for, Speaks}
+use Rattle.oc_client.specs.Turns.{Turn, Talk, Talks, begun, went_on, ended_by, last_by, after_turn, after_turns, no_talks, IsTold, AreTold, Makes, Carries, ready_for, Speaks}
 use Rattle.oc_link.specs.Story.{Dial, Story, dials, hung_up}
 
 -- the connections so far, where the last one may go on
@@ -80,14 +80,14 @@ shows_by (Some address) request reply over (Some talk) ended old mid new ready s
     }
 
 -- one turn more
-pub shows_then : (talks : Talks) (turn : Turn) (old mid new : Story) → IsReady turn.dialled talks.last → Shows talks old mid → Speaks turn mid new → Shows (behind_turn talks turn) old new
+pub shows_then : (talks : Talks) (turn : Turn) (old mid new : Story) → IsReady turn.dialled talks.last → Shows talks old mid → Speaks turn mid new → Shows (after_turn talks turn) old new
 shows_then talks turn old mid new ready shows speaks =
     shows_by turn.dialled turn.request turn.reply turn.over talks.last talks.ended old mid new ready shows speaks.carries speaks.rest
 
 -- a turn at the end of others
-pub behind_turns-push : (talks : Talks) (turns : List Turn) (turn : Turn) → behind_turns talks (turns ++ turn ∷ []) ≡ behind_turn (behind_turns talks turns) turn
-behind_turns-push talks [] turn = refl
-behind_turns-push talks (t ∷ turns) turn = behind_turns-push (behind_turn talks t) turns turn
+pub after_turns-push : (talks : Talks) (turns : List Turn) (turn : Turn) → after_turns talks (turns ++ turn ∷ []) ≡ after_turn (after_turns talks turns) turn
+after_turns-push talks [] turn = refl
+after_turns-push talks (t ∷ turns) turn = after_turns-push (after_turn talks t) turns turn
 
 -- after a turn there is a connection
 pub last_behind : (at : Option (List ℕ)) (turn : Turn) (last : Option Talk) → IsReady at last → IsReady None (last_by at turn last)
@@ -108,9 +108,9 @@ made_by (Some talk) ended old new end shows hung = (
 )
 
 -- the dials of all turns, once the last connection is ended
-pub shows_makes : (turns : List Turn) (old new end : Story) → Shows (behind_turns no_talks turns) old new → end ≡ hung_up new → Makes turns old end
+pub shows_makes : (turns : List Turn) (old new end : Story) → Shows (after_turns no_talks turns) old new → end ≡ hung_up new → Makes turns old end
 shows_makes turns old new end shows hung =
-    let talks = behind_turns no_talks turns in
+    let talks = after_turns no_talks turns in
     let by = made_by talks.last talks.ended old new end shows hung in
     record {
       made = by.0;

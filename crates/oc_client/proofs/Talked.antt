@@ -3,12 +3,12 @@ use Rattle.std.proofs.Common.{◌≡◌, ℕ, ◌+◌, ◌-◌, ◌<◌, Bool, t
 use Rattle.std.proofs.lemmas.List.{append-nil, append_assoc}
 use Rattle.oc_client.specs.Conversations.{GoesOn, Leads, EndsIn, EndsAt, Converses, wanted_after}
 use Rattle.oc_client.specs.Passing.{IsExchanged, IsLastExchanged, IsTalkedThrough, IsTalked}
-use Rattle.oc_client.specs.Turns.{Turn, Talk, IsCutAddress, behind_turn, behind_turns, no_talks, Makes, MakesOnceHung, Speaks, MaySpeakLast}
+use Rattle.oc_client.specs.Turns.{Turn, Talk, IsCutAddress, after_turn, after_turns, no_talks, Makes, MakesOnceHung, Speaks, MaySpeakLast}
 use Rattle.oc_client.specs.Wishes.{Wish, dialled_at}
 use Rattle.oc_client.specs.declared.end.GetEnd.{GetEnd}
 use Rattle.oc_client.specs.declared.end.GetEnd.TheVariants.{Done}
 use Rattle.oc_client.specs.declared.client_state.ClientState.{ClientState}
-use Rattle.oc_client.proofs.Made.{Shows, IsReady, shows_then, shows_makes, behind_turns-push, last_behind}
+use Rattle.oc_client.proofs.Made.{Shows, IsReady, shows_then, shows_makes, after_turns-push, last_behind}
 use Rattle.oc_client.proofs.Moving.{Then, sent_then}
 use Rattle.oc_client.proofs.Spoken.{told_so, some_is}
 use Rattle.oc_link.specs.Calls.{Told}
@@ -19,10 +19,10 @@ use Rattle.oc_link.specs.Story.{Story, hung_up}
 pub record HasTalked {K : Type 0} (takes : K → List ℕ → K → Type 0) (wish : Wish) (first : ClientState) (old new : Option Story) (before after : K) (state : ClientState) : Type 0 where
   pub through : List Turn
   pub content : List ℕ
-  pub shows : Told (Shows (behind_turns no_talks through)) old new
+  pub shows : Told (Shows (after_turns no_talks through)) old new
   pub sent : takes before content after
   pub leads : Leads wish first through content state
-  pub ready : IsReady (dialled_at state.kept state) (behind_turns no_talks through).last
+  pub ready : IsReady (dialled_at state.kept state) (after_turns no_talks through).last
 
 -- where the connection is not kept a turn can begin
 ready_new : (kept : Bool) (state : ClientState) (last : Option Talk) → kept ≡ false → IsReady (dialled_at kept state) last
@@ -54,10 +54,10 @@ leads_push wish first (t ∷ turns) content state turn more next (some, (second,
 
 pub talked_then : {K : Type 0} (takes : K → List ℕ → K → Type 0) → Then takes takes → (wish : Wish) (first state next : ClientState) (a b c : Option Story) (p q r : K) → 0 < state.replies → HasTalked takes wish first a b p q state → IsExchanged takes (λ turn content. GoesOn wish state turn content next) b c q r → HasTalked takes wish first a c p r next
 talked_then takes then wish first state next a b c p q r wanted has goes =
-    let talks = behind_turns no_talks has.through in
+    let talks = after_turns no_talks has.through in
     let ready : IsReady goes.turn.dialled talks.last = subst (λ (at : Option (List ℕ)). IsReady at talks.last) (sym goes.so.asks.dialled) has.ready in
-    let shows = Told-then (Shows talks) (Speaks goes.turn) (Shows (behind_turn talks goes.turn)) (λ x y z s t. shows_then talks goes.turn x y z ready s t) a b c has.shows goes.spoke in
-    let pushed = behind_turns-push no_talks has.through goes.turn in
+    let shows = Told-then (Shows talks) (Speaks goes.turn) (Shows (after_turn talks goes.turn)) (λ x y z s t. shows_then talks goes.turn x y z ready s t) a b c has.shows goes.spoke in
+    let pushed = after_turns-push no_talks has.through goes.turn in
     record {
       through = has.through ++ goes.turn ∷ [];
       content = has.content ++ goes.content;
@@ -68,14 +68,14 @@ talked_then takes then wish first state next a b c p q r wanted has goes =
     }
 
 -- how the turns show with a last one
-makes_last : (through : List Turn) (last : Option Turn) (old mid new : Story) → ((turn : Turn) → last ≡ Some turn → IsReady turn.dialled (behind_turns no_talks through).last) → Shows (behind_turns no_talks through) old mid → MaySpeakLast last mid new → MakesOnceHung (through ++ option_to_list last) old new
+makes_last : (through : List Turn) (last : Option Turn) (old mid new : Story) → ((turn : Turn) → last ≡ Some turn → IsReady turn.dialled (after_turns no_talks through).last) → Shows (after_turns no_talks through) old mid → MaySpeakLast last mid new → MakesOnceHung (through ++ option_to_list last) old new
 makes_last through None old mid new ready shows same =
     subst (λ (ts : List Turn). MakesOnceHung ts old new) (sym (append-nil through)) (shows_makes through old mid (hung_up new) shows (ap hung_up same))
 makes_last through (Some turn) old mid new ready shows last =
-    let talks = behind_turns no_talks through in
+    let talks = after_turns no_talks through in
     let more = shows_then talks turn old mid last.between (ready turn refl) shows last.speaks in
-    let P : List Turn → Type 0 = λ ts. Shows (behind_turns no_talks ts) old last.between in
-    shows_makes (through ++ turn ∷ []) old last.between (hung_up new) (rw (behind_turns-push no_talks through turn) more) last.same
+    let P : List Turn → Type 0 = λ ts. Shows (after_turns no_talks ts) old last.between in
+    shows_makes (through ++ turn ∷ []) old last.between (hung_up new) (rw (after_turns-push no_talks through turn) more) last.same
 
 -- a turn that is cut off begins like the whole one
 cut_ready : (kept at : Option (List ℕ)) (talk : Option Talk) → IsCutAddress kept at → IsReady at talk → IsReady kept talk
@@ -98,7 +98,7 @@ pub talked_last : {K : Type 0} (takes breaks : K → List ℕ → K → Type 0) 
 talked_last takes breaks then fail wish first state a b c p q r end has last = record {
   turns = has.through ++ option_to_list last.turn;
   written = has.content ++ last.written;
-  makes = Told-then (Shows (behind_turns no_talks has.through)) (MaySpeakLast last.turn) (MakesOnceHung (has.through ++ option_to_list last.turn)) (λ x y z s t. makes_last has.through last.turn x y z (last_ready wish state last.turn last.written end _ has.ready last.so) s t) a b c has.shows last.spoke;
+  makes = Told-then (Shows (after_turns no_talks has.through)) (MaySpeakLast last.turn) (MakesOnceHung (has.through ++ option_to_list last.turn)) (λ x y z s t. makes_last has.through last.turn x y z (last_ready wish state last.turn last.written end _ has.ready last.so) s t) a b c has.shows last.spoke;
   sent = sent_then takes breaks then fail end p q r has.content last.written has.sent last.sent;
   so = record {
     through = has.through;
@@ -118,7 +118,7 @@ pub talked_through : {K : Type 0} (takes breaks : K → List ℕ → K → Type 
 talked_through takes breaks wish first state a b p q none has = record {
   turns = has.through;
   written = has.content;
-  makes = told_so (Shows (behind_turns no_talks has.through)) (MakesOnceHung has.through) (λ x y s. shows_makes has.through x y (hung_up y) s refl) a b has.shows;
+  makes = told_so (Shows (after_turns no_talks has.through)) (MakesOnceHung has.through) (λ x y s. shows_makes has.through x y (hung_up y) s refl) a b has.shows;
   sent = has.sent;
   so = record {
     through = has.through;

@@ -1,7 +1,7 @@
 -- Lines that are written, one after another.
 use Rattle.std.proofs.Common.{◌≡◌, ℕ, ◌+◌, ◌*◌, ◌-◌, ◌≤◌, List, [], ◌++◌, take, drop, sym, ap, ◌∙◌, arith, append_assoc, append-nil}
 use Rattle.std.proofs.lemmas.List.{take-append-drop}
-use Rattle.oc_client.specs.Lines.{WritesFront, progress_line, lines_behind}
+use Rattle.oc_client.specs.Lines.{WritesFront, progress_line, lines_after}
 use Rattle.oc_client.specs.Metered.{lines_more}
 use Rattle.oc_client.specs.declared.progress_lines.TheConstants.{PROGRESS_STEP}
 use Rattle.oc_client.proofs.Moving.{front_behind}
@@ -21,16 +21,16 @@ pub fails_of_more : {E : Type 0} (fails : E → List ℕ → E → Type 0) (a c 
 fails_of_more fails a c text rest (front, (more, e), broke) = (front, (more ++ rest, ap (λ (x : List ℕ). x ++ rest) e ∙ append_assoc front more rest), broke)
 
 -- one line more
-pub line_more : (done at : ℕ) → done ≤ at → lines_behind done ((at + 1) - done) ≡ lines_behind done (at - done) ++ progress_line ((at + 1) * PROGRESS_STEP)
+pub line_more : (done at : ℕ) → done ≤ at → lines_after done ((at + 1) - done) ≡ lines_after done (at - done) ++ progress_line ((at + 1) * PROGRESS_STEP)
 line_more done at before =
     let many : (at + 1) - done ≡ (at - done) + 1 = omega (arith, before) in
     let place : done + (at - done) ≡ at = omega (arith, before) in
-    ap (λ (n : ℕ). lines_behind done n) many ∙ lines_more done (at - done) 1 ∙ ap (λ (n : ℕ). lines_behind done (at - done) ++ (progress_line ((n + 1) * PROGRESS_STEP) ++ [])) place
-    ∙ ap (λ (x : List ℕ). lines_behind done (at - done) ++ x) (append-nil (progress_line ((at + 1) * PROGRESS_STEP)))
+    ap (λ (n : ℕ). lines_after done n) many ∙ lines_more done (at - done) 1 ∙ ap (λ (n : ℕ). lines_after done (at - done) ++ (progress_line ((n + 1) * PROGRESS_STEP) ++ [])) place
+    ∙ ap (λ (x : List ℕ). lines_after done (at - done) ++ x) (append-nil (progress_line ((at + 1) * PROGRESS_STEP)))
 
 -- the lines up to here begin those up to there
-pub lines_begin : (done at last : ℕ) → done ≤ at → at ≤ last → lines_behind done (last - done) ≡ lines_behind done (at - done) ++ lines_behind at (last - at)
+pub lines_begin : (done at last : ℕ) → done ≤ at → at ≤ last → lines_after done (last - done) ≡ lines_after done (at - done) ++ lines_after at (last - at)
 lines_begin done at last first rest =
     let many : last - done ≡ (at - done) + (last - at) = omega (arith, first, rest) in
     let place : done + (at - done) ≡ at = omega (arith, first) in
-    ap (λ (n : ℕ). lines_behind done n) many ∙ lines_more done (at - done) (last - at) ∙ ap (λ (n : ℕ). lines_behind done (at - done) ++ lines_behind n (last - at)) place
+    ap (λ (n : ℕ). lines_after done n) many ∙ lines_more done (at - done) (last - at) ∙ ap (λ (n : ℕ). lines_after done (at - done) ++ lines_after n (last - at)) place

@@ -8,13 +8,13 @@ abbrev pub progress_line : ℕ → List ℕ
 progress_line count = codes "overcast: " ++ decimal count ++ codes " bytes\n"
 
 -- the lines of this count of multiples, after the one of this number
-abbrev pub lines_behind : ℕ → ℕ → List ℕ
-lines_behind done zero = []
-lines_behind done (suc many) = progress_line ((done + 1) * PROGRESS_STEP) ++ lines_behind (done + 1) many
+abbrev pub lines_after : ℕ → ℕ → List ℕ
+lines_after done zero = []
+lines_after done (suc many) = progress_line ((done + 1) * PROGRESS_STEP) ++ lines_after (done + 1) many
 
 -- the lines of the multiples that are reached or passed from one count to another
 abbrev pub lines_between : ℕ → ℕ → List ℕ
-lines_between old new = lines_behind (old / PROGRESS_STEP) (new / PROGRESS_STEP - old / PROGRESS_STEP)
+lines_between old new = lines_after (old / PROGRESS_STEP) (new / PROGRESS_STEP - old / PROGRESS_STEP)
 
 -- a part of a text, from its beginning, was taken, and then a call failed
 abbrev pub WritesFront : {E : Type 0} → (E → List ℕ → E → Type 0) → E → E → List ℕ → Type 0

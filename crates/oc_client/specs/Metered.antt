@@ -1,7 +1,7 @@
 -- The effect of a write to a metered sink.
 use Rattle.std.specs.Prelude.{◌≡◌, ℕ, ◌+◌, ◌*◌, ◌-◌, ◌/◌, ◌≤◌, zero, suc, Bool, true, false, length, List, [], ◌++◌, refl}
 use Rattle.std.proofs.Common.{◌∙◌, ap, sym, subst, inl, inr, arith, append_assoc, length-append}
-use Rattle.oc_client.specs.Lines.{Tells, lines_behind, lines_between, progress_line}
+use Rattle.oc_client.specs.Lines.{Tells, lines_after, lines_between, progress_line}
 use Rattle.oc_client.specs.ProgressLines.{Grows}
 use Rattle.oc_client.specs.declared.metered.Metered.{Metered}
 use Rattle.oc_client.specs.declared.progress_lines.ProgressLines.{ProgressLines}
@@ -12,29 +12,29 @@ use Rattle.oc_io.specs.Counts.{Rises, Rises-none}
 no_lines : (count : ℕ) → lines_between count count ≡ []
 no_lines count =
     let none : count / PROGRESS_STEP - count / PROGRESS_STEP ≡ 0 = omega arith in
-    ap (λ (many : ℕ). lines_behind (count / PROGRESS_STEP) many) none
+    ap (λ (many : ℕ). lines_after (count / PROGRESS_STEP) many) none
 
 -- some lines and further ones
-pub lines_more : (done many further : ℕ) → lines_behind done (many + further) ≡ lines_behind done many ++ lines_behind (done + many) further
+pub lines_more : (done many further : ℕ) → lines_after done (many + further) ≡ lines_after done many ++ lines_after (done + many) further
 lines_more done zero further =
     let none : 0 + further ≡ further = omega arith in
     let same : done ≡ done + 0 = omega arith in
-    ap (λ (n : ℕ). lines_behind done n) none ∙ ap (λ (n : ℕ). lines_behind n further) same
+    ap (λ (n : ℕ). lines_after done n) none ∙ ap (λ (n : ℕ). lines_after n further) same
 lines_more done (suc many) further =
     let step : suc many + further ≡ suc (many + further) = omega arith in
     let place : (done + 1) + many ≡ done + suc many = omega arith in
-    let more = lines_more (done + 1) many further ∙ ap (λ (n : ℕ). lines_behind (done + 1) many ++ lines_behind n further) place in
-    ap (λ (n : ℕ). lines_behind done n) step
+    let more = lines_more (done + 1) many further ∙ ap (λ (n : ℕ). lines_after (done + 1) many ++ lines_after n further) place in
+    ap (λ (n : ℕ). lines_after done n) step
     ∙ ap (λ (text : List ℕ). progress_line ((done + 1) * PROGRESS_STEP) ++ text) more
-    ∙ sym (append_assoc (progress_line ((done + 1) * PROGRESS_STEP)) (lines_behind (done + 1) many) (lines_behind (done + suc many) further))
+    ∙ sym (append_assoc (progress_line ((done + 1) * PROGRESS_STEP)) (lines_after (done + 1) many) (lines_after (done + suc many) further))
 
 lines_then : (a b c : ℕ) → a ≤ b → b ≤ c → lines_between a c ≡ lines_between a b ++ lines_between b c
 lines_then a b c first rest =
     let many : c / PROGRESS_STEP - a / PROGRESS_STEP ≡ (b / PROGRESS_STEP - a / PROGRESS_STEP) + (c / PROGRESS_STEP - b / PROGRESS_STEP) = omega (arith, first, rest) in
     let place : a / PROGRESS_STEP + (b / PROGRESS_STEP - a / PROGRESS_STEP) ≡ b / PROGRESS_STEP = omega (arith, first) in
-    ap (λ (n : ℕ). lines_behind (a / PROGRESS_STEP) n) many
+    ap (λ (n : ℕ). lines_after (a / PROGRESS_STEP) n) many
     ∙ lines_more (a / PROGRESS_STEP) (b / PROGRESS_STEP - a / PROGRESS_STEP) (c / PROGRESS_STEP - b / PROGRESS_STEP)
-    ∙ ap (λ (n : ℕ). lines_between a b ++ lines_behind n (c / PROGRESS_STEP - b / PROGRESS_STEP)) place
+    ∙ ap (λ (n : ℕ). lines_between a b ++ lines_after n (c / PROGRESS_STEP - b / PROGRESS_STEP)) place
 
 -- two rises are one by both
 rises_both : (a b c m n : ℕ) → Rises a m b → Rises b n c → Rises a (m + n) c

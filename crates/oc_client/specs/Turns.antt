@@ -46,16 +46,16 @@ last_by None turn last = option_map (went_on turn) last
 last_by (Some address) turn last = Some (begun address turn)
 
 -- the connections after a turn
-abbrev pub behind_turn : Talks → Turn → Talks
-behind_turn talks turn = record {
+abbrev pub after_turn : Talks → Turn → Talks
+after_turn talks turn = record {
   ended = talks.ended ++ ended_by turn.dialled talks.last;
   last = last_by turn.dialled turn talks.last;
 }
 
 -- the connections after some turns
-abbrev pub behind_turns : Talks → List Turn → Talks
-behind_turns talks [] = talks
-behind_turns talks (turn ∷ turns) = behind_turns (behind_turn talks turn) turns
+abbrev pub after_turns : Talks → List Turn → Talks
+after_turns talks [] = talks
+after_turns talks (turn ∷ turns) = after_turns (after_turn talks turn) turns
 
 -- no connection made so far
 abbrev pub no_talks : Talks
@@ -66,7 +66,7 @@ all_of talks = talks.ended ++ option_to_list talks.last
 
 -- the connections of some turns, oldest first
 abbrev pub talks_of : List Turn → List Talk
-talks_of turns = all_of (behind_turns no_talks turns)
+talks_of turns = all_of (after_turns no_talks turns)
 
 -- a dial of a link tells this
 pub record IsTold (talk : Talk) (dial : Dial) : Type 0 where

@@ -1,7 +1,7 @@
 //! Progress lines of a client.
 
 ghost use Rattle.std.specs.Prelude.{◌≡◌, ◌-◌, ◌*◌, ◌^◌, ◌<◌, ◌≤◌, OnOk, OnErr};
-ghost use Rattle.oc_client.specs.Lines.{Tells, WritesFront, progress_line, lines_behind};
+ghost use Rattle.oc_client.specs.Lines.{Tells, WritesFront, progress_line, lines_after};
 ghost use Rattle.oc_client.specs.declared.progress_lines.TheConstants.{PROGRESS_STEP};
 ghost use Rattle.oc_client.specs.ProgressLines.{Grows};
 
@@ -82,8 +82,8 @@ impl<E: Sink> ProgressLines<E> {
 fn write_lines<E: Sink>(sink: &mut E, done: u64, last: u64) -> Result<(), Failed>
     requires ahead { done ≤ last }
     requires fits { last * PROGRESS_STEP < 2 ^ 64 }
-    ensures written { OnOk result (E.takes sink.old (lines_behind done (last - done)) sink.new) }
-    ensures front { OnErr result (WritesFront E.fails sink.old sink.new (lines_behind done (last - done))) }
+    ensures written { OnOk result (E.takes sink.old (lines_after done (last - done)) sink.new) }
+    ensures front { OnErr result (WritesFront E.fails sink.old sink.new (lines_after done (last - done))) }
 {
     let mut at = done;
     'lines: while at < last {

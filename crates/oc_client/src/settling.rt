@@ -95,7 +95,7 @@ fn settle<L: Dialler, P: Pause>(
         let answer = exchange(job.target.address(), &request, asks, &mut room.heads, link);
         match react(effort, answer) {
             Next::Again(further) => {
-                pause_behind(answer, pause);
+                pause_after(answer, pause);
                 effort = further;
             }
             Next::Settled(progress) => return Ok(progress),
@@ -105,7 +105,7 @@ fn settle<L: Dialler, P: Pause>(
 }
 
 /// Pauses after a failure.
-fn pause_behind<P: Pause>(answer: Result<PutAnswer, Failure>, pause: &mut P) {
+fn pause_after<P: Pause>(answer: Result<PutAnswer, Failure>, pause: &mut P) {
     if answer.is_err() {
         pause.pause();
     }

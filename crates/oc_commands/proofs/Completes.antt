@@ -11,7 +11,7 @@ use Rattle.oc_io.specs.Faults.{Rose}
 use Rattle.oc_link.specs.Calls.{Told}
 use Rattle.oc_link.specs.Story.{Story}
 use Rattle.oc_words.specs.declared.request.Download.{Download}
-use Rattle.oc_words.specs.declared.request.Member.{Member}
+use Rattle.oc_words.specs.declared.request.CheckedNode.{CheckedNode}
 use Rattle.oc_words.specs.declared.request.Invocation.{Invocation}
 use Rattle.oc_words.specs.declared.request.Invocation.TheVariants.{Check, Get}
 use Rattle.oc_commands.specs.AtGet.{Downloaded}
@@ -33,7 +33,7 @@ abbrev pub IsSound : Output → Type 0
 IsSound output = (text : List ℕ) → output.cut_off text → ⊥
 
 -- a request for one node or for one download is for no other
-same_member : (asked : Option Invocation) (m n : Member) (f g : Option (List ℕ)) → asked ≡ Some (Check m f) → asked ≡ Some (Check n g) → n ≡ m
+same_member : (asked : Option Invocation) (m n : CheckedNode) (f g : Option (List ℕ)) → asked ≡ Some (Check m f) → asked ≡ Some (Check n g) → n ≡ m
 same_member asked m n f g is also = cc
 
 same_download : (asked : Option Invocation) (d e : Download) → asked ≡ Some (Get d) → asked ≡ Some (Get e) → e ≡ d
@@ -46,7 +46,7 @@ module _ {D : Type 0} (view : D → DiskView) (old new : Disks D) (output : Outp
   check_done n id (checks.Load error) files h =
       inr (ap (λ e. number_of (status_of_cause e)) (only_memory view n.nodes old new honest files unfailed error h.0.0))
 
-  pub checked : (input : Input) (error : OnError) (stage : OnStage) (link : OnLink) (token : Input) (node : OnNode) (asked : Option Invocation) (m : Member) (f : Option (List ℕ)) (end : End) → asked ≡ Some (Check m f) → HoldFiles view m.nodes old
+  pub checked : (input : Input) (error : OnError) (stage : OnStage) (link : OnLink) (token : Input) (node : OnNode) (asked : Option Invocation) (m : CheckedNode) (f : Option (List ℕ)) (end : End) → asked ≡ Some (Check m f) → HoldFiles view m.nodes old
       → Happened (record { asked = asked; input = input; output = output; error = error; stage = stage; files = at_files view old new; link = link; token = token; node = node }) end
       → IsDoneOrMemory (number_of (status_of end))
   checked input error stage link token node asked m f Helped is files h = let also = h.0 in cc
@@ -61,7 +61,7 @@ module _ {D : Type 0} (view : D → DiskView) (old new : Disks D) (output : Outp
   checked input error stage link token node asked m f (Listed end) is files h = let also = h.0.1 in cc
   checked input error stage link token node asked m f (Checked end) is files h =
       let (n, g, also, at) = h.0 in
-      check_done (sizes_of m) m.id end files (subst (λ (x : Member). HappenedAtCheck (at_files view old new) output (sizes_of x) x.id end) (same_member asked m n f g is also) at)
+      check_done (sizes_of m) m.id end files (subst (λ (x : CheckedNode). HappenedAtCheck (at_files view old new) output (sizes_of x) x.id end) (same_member asked m n f g is also) at)
   checked input error stage link token node asked m f (CheckedConfigured end) is files h = let also = h.0.2 in cc
   checked input error stage link token node asked m f (NoToken end) is files h = absurd (untokened asked (Check m f) h.0.0 is refl h.0.1)
   checked input error stage link token node asked m f (Got end) is files h = let also = h.0.1 in cc

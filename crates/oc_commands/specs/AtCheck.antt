@@ -1,17 +1,17 @@
 -- The effect of `check` at each of its ends.
 use Rattle.std.specs.Prelude.{ℕ, List, [], length}
 use Rattle.oc_base.specs.declared.limits.TheConstants.{USUAL_CHUNK_BYTES}
-use Rattle.oc_commands.specs.Checks.{header_without_areas}
+use Rattle.oc_schedule.specs.Lines.{header_without_areas}
 use Rattle.oc_config.specs.Settings.{Settings}
 use Rattle.oc_model.specs.declared.header.Sizes.{Sizes}
 use Rattle.oc_replay.specs.Pieces.{SomeFront}
-use Rattle.oc_words.specs.declared.request.Member.{Member}
+use Rattle.oc_words.specs.declared.request.CheckedNode.{CheckedNode}
 use Rattle.oc_commands.specs.Outside.{OnFiles, Output}
 use Rattle.oc_commands.specs.declared.checking.CheckEnd.{CheckEnd}
 use Rattle.oc_commands.specs.declared.checking.CheckEnd.TheVariants.{Done, Load, Sink}
 
 -- the sizes of the network of a member, with the usual chunk
-abbrev pub sizes_of : Member → Sizes
+abbrev pub sizes_of : CheckedNode → Sizes
 sizes_of m = record { nodes = m.nodes; chain = m.chain; chunk = USUAL_CHUNK_BYTES }
 
 -- and of a configuration

@@ -1,10 +1,9 @@
 -- The text shown for a node's files.
-use Rattle.std.specs.Prelude.{◌≡◌, ◌≤◌, ℕ, false, List, ◌++◌, replicate}
+use Rattle.std.specs.Prelude.{◌≡◌, ◌≤◌, ℕ, false, List, ◌++◌}
 use Rattle.oc_base.specs.declared.limits.TheConstants.{MAX_CHAIN, MAX_CHUNK_BYTES, MAX_NODES}
 use Rattle.oc_base.specs.Groups.{shelf}
 use Rattle.oc_base.specs.declared.shelf.Shelf.{Shelf}
 use Rattle.oc_keep.specs.Files.{Disks, AreHonest}
-use Rattle.oc_keep.specs.KeptView.{header}
 use Rattle.oc_keep.specs.Trials.{first_node}
 use Rattle.oc_model.specs.Node.{Control, Header}
 use Rattle.oc_io.specs.DiskView.{DiskView}
@@ -22,10 +21,6 @@ pub record AreSizes (n : Sizes) : Type 0 where
   pub within : n.chain ≤ n.nodes
   pub sends : 1 ≤ n.chunk
   pub fits : n.chunk ≤ MAX_CHUNK_BYTES
-
--- in a network of these sizes, with areas of 0
-abbrev pub header_without_areas : Sizes → Header
-header_without_areas n = header n.nodes n.chain n.chunk (replicate n.nodes 0)
 
 -- a text is the block of `show` of a node that is down, and its block of `held`: over honest disks, of the node that their files recover
 pub record Shows {D : Type 0} (view : D → DiskView) (h : Header) (me : ℕ) (d : Disks D) (text : List ℕ) : Type 0 where

@@ -3,7 +3,7 @@ use Rattle.std.specs.Prelude.{◌≡◌, ℕ, ◌<◌, ◌⊎◌, Bool, List, []
 use Rattle.oc_io.specs.Faults.{Rose}
 use Rattle.oc_replay.specs.Pieces.{SomeFront}
 use Rattle.oc_words.specs.declared.request.Download.{Download}
-use Rattle.oc_words.specs.declared.request.Member.{Member}
+use Rattle.oc_words.specs.declared.request.CheckedNode.{CheckedNode}
 use Rattle.oc_words.specs.declared.request.Paths.{Paths}
 use Rattle.oc_words.specs.declared.request.Invocation.{Invocation}
 use Rattle.oc_words.specs.declared.request.Invocation.TheVariants.{Help, Version, Replay, Merge, Gen, Check, CheckConfigured, Get, Put, Node, Rules}
@@ -72,7 +72,7 @@ Happened o (Replayed large end) = ((summary : Bool) × (file : Option (List ℕ)
 Happened o (Generated end) = ((sample : Sample) × (o.asked ≡ Some (Gen sample)) × HappenedAtGen o.output sample end) × IsUnplayed o × IsAlone o
 Happened o (Merged end) = (o.asked ≡ Some Merge) × HappenedAtMerge o.input o.output end × o.stage.unplayed × IsAlone o
 Happened o (Listed end) = ((file : Option (List ℕ)) × (o.asked ≡ Some (Rules file))) × HappenedAtRules o.input o.output end × o.stage.unplayed × IsAlone o
-Happened o (Checked end) = ((member : Member) × (folder : Option (List ℕ)) × (o.asked ≡ Some (Check member folder)) × HappenedAtCheck o.files o.output (sizes_of member) member.id end) × IsUnplayed o × IsOffline o
+Happened o (Checked end) = ((member : CheckedNode) × (folder : Option (List ℕ)) × (o.asked ≡ Some (Check member folder)) × HappenedAtCheck o.files o.output (sizes_of member) member.id end) × IsUnplayed o × IsOffline o
 Happened o (CheckedConfigured end) = ((id : ℕ) × (paths : Paths) × (o.asked ≡ Some (CheckConfigured id paths)) × HappenedAtConfigured o.input o.files o.output id end) × o.stage.unplayed × IsOffline o
     × UnlessChecked end o.files.untouched
 Happened o (NoToken end) = LacksToken o.token (token_file_asked o.asked) end × o.output.written [] × IsUnplayed o × o.link.untouched × IsFileless o × o.error.silent

@@ -8,7 +8,7 @@ ghost use Rattle.oc_io.specs.Faults.{NoFall};
 ghost use Rattle.oc_commands.specs.AtCheck.{HappenedAtCheck, sizes_in, sizes_of};
 ghost use Rattle.oc_commands.specs.AtConfigured.{ChecksOne, HappenedAtConfigured, UnlessChecked};
 ghost use Rattle.oc_commands.specs.Outside.{at_files, at_sink, at_source};
-ghost use Rattle.oc_words.specs.Requests.{IsMember};
+ghost use Rattle.oc_words.specs.Requests.{IsCheckedNode};
 
 use crate::configuring::{ConfigEnd, read_config};
 use crate::serving::member_of;
@@ -18,7 +18,7 @@ use oc_config::Config;
 use oc_io::{Disk, Sink, Source, write_all};
 use oc_keep::{Files, KeepLoad};
 use oc_model::Sizes;
-use oc_words::Member;
+use oc_words::CheckedNode;
 use std::alloc::Global;
 
 /// The end of `check`.
@@ -46,11 +46,11 @@ pub enum ConfiguredEnd {
 /// Writes what the files of a node recover, one of a network with these sizes.
 pub fn check_files<K: Sink, D: Disk>(
     alloc: Global,
-    member: Member,
+    member: CheckedNode,
     out: &mut K,
     files: Files<D>,
 ) -> (CheckEnd, Files<D>)
-    requires { IsMember member }
+    requires { IsCheckedNode member }
     ensures happened { HappenedAtCheck
         (at_files D.view (disks_in files) (disks_in result.1))
         (at_sink K.takes K.fails K.faults out.old out.new) (sizes_of member) member.id result.0 }
@@ -61,8 +61,8 @@ pub fn check_files<K: Sink, D: Disk>(
 }
 
 /// The sizes of the network of a member, with the usual chunk.
-fn sizes_of(member: Member) -> Sizes
-    requires { IsMember member }
+fn sizes_of(member: CheckedNode) -> Sizes
+    requires { IsCheckedNode member }
     ensures same { result ≡ sizes_of member }
     ensures lawful { AreSizes result }
 {

@@ -2,7 +2,8 @@
 
 ghost use Rattle.std.specs.Prelude.{◌≡◌, ◌++◌, false, IfErr, IfOk, replicate};
 ghost use Rattle.oc_base.specs.Lawful.{IsNode};
-ghost use Rattle.oc_commands.specs.Checks.{AreSizes, Shows, header_without_areas};
+ghost use Rattle.oc_commands.specs.Checks.{AreSizes, Shows};
+ghost use Rattle.oc_schedule.specs.Lines.{header_without_areas};
 ghost use Rattle.oc_keep.specs.Errors.{IsOutOfMemory};
 ghost use Rattle.oc_keep.specs.Files.{AreHonest, OneRose, disks_in};
 ghost use Rattle.oc_base.specs.Groups.{shelf};

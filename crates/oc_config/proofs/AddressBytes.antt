@@ -10,7 +10,7 @@ use Rattle.std.proofs.lemmas.List.Folds.{list_all-append}
 use Rattle.std.proofs.lemmas.List.Sums.{passes_at_first, split_at_first}
 use Rattle.oc_base.specs.Words.{is_number, number_in}
 use Rattle.oc_http.specs.Writing.{IsHost, is_host_byte}
-use Rattle.oc_config.specs.Addresses.{is_address, is_behind_host, is_bracketed, is_closing, is_colon, is_hostname, is_hostname_byte, is_ipv6, is_ipv6_byte, is_named, is_port}
+use Rattle.oc_config.specs.Addresses.{is_address, is_after_host, is_bracketed, is_closing, is_colon, is_hostname, is_hostname_byte, is_ipv6, is_ipv6_byte, is_named, is_port}
 
 hostname_byte : (b : ℕ) → is_hostname_byte b ≡ true → is_host_byte b ≡ true
 hostname_byte b is = grind (arith, nat_tests)
@@ -81,7 +81,7 @@ named_bytes text is =
     )
 
 -- what follows a host in brackets
-behind_bytes : (text : List ℕ) → is_behind_host text ≡ true → (0 < length text) × (list_all is_host_byte text ≡ true)
+behind_bytes : (text : List ℕ) → is_after_host text ≡ true → (0 < length text) × (list_all is_host_byte text ≡ true)
 behind_bytes [] is = absurd cc
 behind_bytes (b ∷ port) is =
     let parts = and_parts (is_colon b) (is_port port) is in
@@ -92,7 +92,7 @@ bracketed_bytes : (text : List ℕ) → is_bracketed text ≡ true → (0 < leng
 bracketed_bytes [] is = absurd cc
 bracketed_bytes (b ∷ rest) is =
     let parts = and_parts (b == byte "[") _ is in
-    let inner = and_parts (is_ipv6 (before_first is_closing rest)) (is_behind_host (after_first is_closing rest)) parts.1 in
+    let inner = and_parts (is_ipv6 (before_first is_closing rest)) (is_after_host (after_first is_closing rest)) parts.1 in
     let host = (and_parts (list_all is_ipv6_byte (before_first is_closing rest)) _ inner.0).0 in
     let behind = behind_bytes (after_first is_closing rest) inner.1 in
     let all = in_parts is_closing rest closing_byte (there_is is_closing rest behind.0) (all_by is_ipv6_byte is_host_byte ipv6_byte (before_first is_closing rest) host) behind.1 in

@@ -40,13 +40,13 @@ abbrev pub is_closing : ℕ → Bool
 is_closing b = b == byte "]"
 
 -- a colon and a port
-abbrev pub is_behind_host : List ℕ → Bool
-is_behind_host [] = false
-is_behind_host (b ∷ port) = is_colon b && is_port port
+abbrev pub is_after_host : List ℕ → Bool
+is_after_host [] = false
+is_after_host (b ∷ port) = is_colon b && is_port port
 
 -- an address of IPv6, the bracket after it, a colon and a port
 abbrev pub is_closed : List ℕ → Bool
-is_closed rest = is_ipv6 (before_first is_closing rest) && is_behind_host (after_first is_closing rest)
+is_closed rest = is_ipv6 (before_first is_closing rest) && is_after_host (after_first is_closing rest)
 
 -- the same after the bracket before it
 abbrev pub is_bracketed : List ℕ → Bool

@@ -28,7 +28,7 @@ use Rattle.oc_config.specs.declared.fault.ConfigFault.{ConfigFault}
 use Rattle.oc_config.specs.declared.fault.ConfigFault.TheVariants.{Toml, Value}
 use Rattle.oc_config.specs.declared.config_key.ConfigKey.TheVariants.{Chain, Nodes, Chunk, Node, Measures}
 use Rattle.oc_config.specs.declared.section_name.Kind.TheVariants as kinds
-use Rattle.oc_config.specs.declared.reading.Common.{Common}
+use Rattle.oc_config.specs.declared.reading.NetworkSettings.{NetworkSettings}
 
 -- the number of chain members
 abbrev pub chain_in : Section → Result ℕ ConfigFault
@@ -74,17 +74,17 @@ abbrev pub measures_in : ℕ → Section → Result (List Measure) ConfigFault
 measures_in nodes s = measures_at nodes s (value_in Measures s)
 
 -- the greatest id: what is said, or the number of tables
-abbrev pub greatest_of : Common → List Section → ℕ
-greatest_of common nodes = unwrap_or common.nodes (length nodes)
+abbrev pub greatest_of : NetworkSettings → List Section → ℕ
+greatest_of network nodes = unwrap_or network.nodes (length nodes)
 
 -- What a text says, with the first fault in the order of these steps:
 
 -- all of it
-abbrev pub settings_with : Common → List (Option NodeSettings) → List Measure → List Rule → Result Settings ConfigFault
-settings_with common places measures rules = Ok (record {
-  chain = common.chain;
-  chunk = common.chunk;
-  keys = common.keys;
+abbrev pub settings_with : NetworkSettings → List (Option NodeSettings) → List Measure → List Rule → Result Settings ConfigFault
+settings_with network places measures rules = Ok (record {
+  chain = network.chain;
+  chunk = network.chunk;
+  keys = network.keys;
   retired = map retired_at places;
   addresses = map address_at places;
   listens = map listen_at places;
@@ -106,50 +106,50 @@ keys_known s nodes rules = do
   tables_known nodes rules
 
 -- the keys, where all before them is read
-abbrev pub with_keys : Section → Common → List Section → List (Option NodeSettings) → List Measure → List Section → List Rule → Result Settings ConfigFault
-with_keys s common nodes places measures tables rules = do
+abbrev pub with_keys : Section → NetworkSettings → List Section → List (Option NodeSettings) → List Measure → List Section → List Rule → Result Settings ConfigFault
+with_keys s network nodes places measures tables rules = do
   done ← keys_known s nodes tables
-  settings_with common places measures rules
+  settings_with network places measures rules
 
 -- the tables of rules, one after another
-abbrev pub with_rule_tables : Section → Common → List Section → List (Option NodeSettings) → List Measure → List Section → Result Settings ConfigFault
-with_rule_tables s common nodes places measures tables = do
+abbrev pub with_rule_tables : Section → NetworkSettings → List Section → List (Option NodeSettings) → List Measure → List Section → Result Settings ConfigFault
+with_rule_tables s network nodes places measures tables = do
   rules ← rules_from [] tables
-  with_keys s common nodes places measures tables rules
+  with_keys s network nodes places measures tables rules
 
 -- the array of the rules
-abbrev pub with_rules : Section → Common → List Section → List (Option NodeSettings) → List Measure → Result Settings ConfigFault
-with_rules s common nodes places measures = do
+abbrev pub with_rules : Section → NetworkSettings → List Section → List (Option NodeSettings) → List Measure → Result Settings ConfigFault
+with_rules s network nodes places measures = do
   tables ← rule_tables_in s
-  with_rule_tables s common nodes places measures tables
+  with_rule_tables s network nodes places measures tables
 
 -- the measures
-abbrev pub with_measures : Section → Common → List Section → List (Option NodeSettings) → Result Settings ConfigFault
-with_measures s common nodes places = do
-  measures ← measures_in (greatest_of common nodes) s
-  with_rules s common nodes places measures
+abbrev pub with_measures : Section → NetworkSettings → List Section → List (Option NodeSettings) → Result Settings ConfigFault
+with_measures s network nodes places = do
+  measures ← measures_in (greatest_of network nodes) s
+  with_rules s network nodes places measures
 
 -- the chain against the greatest id
-abbrev pub with_chain : Section → Common → List Section → List (Option NodeSettings) → Result Settings ConfigFault
-with_chain s common nodes places = do
-  done ← chain_within s (greatest_of common nodes) common.chain
-  with_measures s common nodes places
+abbrev pub with_chain : Section → NetworkSettings → List Section → List (Option NodeSettings) → Result Settings ConfigFault
+with_chain s network nodes places = do
+  done ← chain_within s (greatest_of network nodes) network.chain
+  with_measures s network nodes places
 
 -- the tables of nodes, one after another
-abbrev pub with_tables : Section → Common → List Section → Result Settings ConfigFault
-with_tables s common nodes = do
-  places ← nodes_in (replicate (greatest_of common nodes) None) nodes
-  with_chain s common nodes places
+abbrev pub with_tables : Section → NetworkSettings → List Section → Result Settings ConfigFault
+with_tables s network nodes = do
+  places ← nodes_in (replicate (greatest_of network nodes) None) nodes
+  with_chain s network nodes places
 
 -- the array of the nodes
-abbrev pub with_nodes : Section → Common → Result Settings ConfigFault
-with_nodes s common = do
+abbrev pub with_nodes : Section → NetworkSettings → Result Settings ConfigFault
+with_nodes s network = do
   nodes ← node_tables_in s
-  with_tables s common nodes
+  with_tables s network nodes
 
 -- what is said at the top for all nodes
-abbrev pub common_in : Section → Result Common ConfigFault
-common_in s = do
+abbrev pub network_in : Section → Result NetworkSettings ConfigFault
+network_in s = do
   chain ← chain_in s
   nodes ← greatest_in s
   chunk ← chunk_in s
@@ -159,8 +159,8 @@ common_in s = do
 -- and these before all
 abbrev pub settings_in : Section → Result Settings ConfigFault
 settings_in s = do
-  common ← common_in s
-  with_nodes s common
+  network ← network_in s
+  with_nodes s network
 
 -- the table that a text is, if it is one
 abbrev pub document : List ℕ → Option Members
@@ -201,11 +201,11 @@ pub record ReadsTable (bytes : List ℕ) (result : Result (BTreeMap (String Glob
   pub gives : GivesBy table_view result (table_or_fault line (document bytes))
 
 -- what is said at the top is within its ranges
-pub record IsCommon (common : Common) : Type 0 where
-  pub chain : (1 ≤ common.chain) × (common.chain ≤ MAX_CHAIN)
-  pub nodes : IfSome common.nodes (λ n. (1 ≤ n) × (n ≤ MAX_NODES))
-  pub chunk : (1 ≤ common.chunk) × (common.chunk ≤ MAX_CHUNK)
-  pub keys : IfSome common.keys (λ ring. length ring.accept ≤ MAX_ACCEPTED)
+pub record IsCommon (network : NetworkSettings) : Type 0 where
+  pub chain : (1 ≤ network.chain) × (network.chain ≤ MAX_CHAIN)
+  pub nodes : IfSome network.nodes (λ n. (1 ≤ n) × (n ≤ MAX_NODES))
+  pub chunk : (1 ≤ network.chunk) × (network.chunk ≤ MAX_CHUNK)
+  pub keys : IfSome network.keys (λ ring. length ring.accept ≤ MAX_ACCEPTED)
 
 -- the lists of the nodes are as long as each other
 pub record HavePlaces (s : Settings) : Type 0 where

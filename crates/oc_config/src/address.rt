@@ -1,7 +1,7 @@
 ghost use Rattle.std.specs.Prelude.{◌≡◌, is_some};
 ghost use Rattle.std.specs.List.{list_all};
 ghost use Rattle.std.specs.Net.Reader.{read_ipv6, whole_value};
-ghost use Rattle.oc_config.specs.Addresses.{is_address, is_behind_host, is_bracketed, is_closed, is_everywhere, is_hostname, is_hostname_byte, is_ipv6, is_ipv6_byte, is_named, is_port, is_reachable};
+ghost use Rattle.oc_config.specs.Addresses.{is_address, is_after_host, is_bracketed, is_closed, is_everywhere, is_hostname, is_hostname_byte, is_ipv6, is_ipv6_byte, is_named, is_port, is_reachable};
 
 use oc_base::cut_at_first;
 use oc_base::words::number;
@@ -55,7 +55,7 @@ fn is_closed(rest: &[u8]) -> bool
     ensures { result ≡ is_closed rest.now }
 {
     let (host, behind) = cut_at_first(rest, b']');
-    is_ipv6(host) && is_behind_host(behind)
+    is_ipv6(host) && is_after_host(behind)
 }
 
 /// Whether a text is an address of IPv6, without a scope (RFC 4291, section 2.2).
@@ -84,8 +84,8 @@ fn is_ipv6_byte(byte: u8) -> bool
 }
 
 /// Whether a text is `:` and a port.
-fn is_behind_host(text: &[u8]) -> bool
-    ensures { result ≡ is_behind_host text.now }
+fn is_after_host(text: &[u8]) -> bool
+    ensures { result ≡ is_after_host text.now }
 {
     match text {
         [b':', port @ ..] => is_port(port),

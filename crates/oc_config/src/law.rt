@@ -7,13 +7,13 @@ ghost use Rattle.oc_config.specs.Changes.{Stays, config_change};
 ghost use Rattle.oc_config.specs.Examples.{accepts, five_keys, grown, has_key, named, one_node, one_place, other_key, placed, read, retired_and_placed};
 ghost use Rattle.oc_config.specs.Examples.{retired_node, retired_read, running, two_keys_read, with_room, with_room_read};
 ghost use Rattle.oc_config.specs.Laws.{IsSaid};
-ghost use Rattle.oc_config.specs.Reading.{common_in, greatest_of, settings_in, node_tables_in};
+ghost use Rattle.oc_config.specs.Reading.{network_in, greatest_of, settings_in, node_tables_in};
 ghost use Rattle.oc_config.specs.Settings.{Settings};
 ghost use Rattle.oc_config.specs.Values.{Section};
 ghost use Rattle.oc_config.specs.declared.change.Running.{Running};
 ghost use Rattle.oc_config.specs.declared.config_key.ConfigKey.TheVariants.{Accept, Area, Id, Listen, Name, NodeKey, Nodes, Retired};
 ghost use Rattle.oc_config.specs.declared.fault.ConfigFault.TheVariants.{Value};
-ghost use Rattle.oc_config.specs.declared.reading.Common.{Common};
+ghost use Rattle.oc_config.specs.declared.reading.NetworkSettings.{NetworkSettings};
 ghost use Rattle.oc_config.specs.declared.section_name.SectionName.TheVariants.{Node, Top};
 
 /// Each address may stand in a request as its host.
@@ -24,9 +24,9 @@ pub fn each_address_is_a_host()
 /// What is said of a node, at the place of its id, is what the table with that id says, whatever the order of the
 /// tables.
 pub fn each_node_has_its_table()
-    ensures { (text : Section) (s : Settings) (common : Common) (tables : List Section)
-        → settings_in text ≡ Ok s → common_in text ≡ Ok common → node_tables_in text ≡ Ok tables
-        → AllByRecursion (IsSaid s (greatest_of common tables)) tables }
+    ensures { (text : Section) (s : Settings) (network : NetworkSettings) (tables : List Section)
+        → settings_in text ≡ Ok s → network_in text ≡ Ok network → node_tables_in text ≡ Ok tables
+        → AllByRecursion (IsSaid s (greatest_of network tables)) tables }
 {}
 
 /// Worked examples of configurations come out as they should. They are computed.

@@ -2,7 +2,7 @@ ghost use Rattle.std.specs.Prelude.{◌≡◌, ◌≤◌, IfOk, IfSome, OnOk, Al
 ghost use Rattle.toml.specs.View.{table_view, view};
 ghost use Rattle.oc_updown.specs.MeasureLines.{IsMeasure};
 ghost use Rattle.oc_config.specs.Values.{Gives, GivesBy, section_of, sections_of};
-ghost use Rattle.oc_config.specs.Reading.{IsCommon, IsConfig, Reads, ReadsTable, settings_in, with_tables, chain_in, chunk_in, common_in};
+ghost use Rattle.oc_config.specs.Reading.{IsCommon, IsConfig, Reads, ReadsTable, settings_in, with_tables, chain_in, chunk_in, network_in};
 ghost use Rattle.oc_config.specs.Reading.{chain_within, keys_known, line_at, greatest_in, greatest_of, measures_in, node_tables_in};
 
 use crate::config::{Config, FIRST_CHUNK, MAX_CHUNK};
@@ -23,7 +23,7 @@ use toml::{Table, Value, table_from_slice};
 
 /// What the top of a configuration says for all nodes.
 #[derive(Drop)]
-pub(crate) struct Common {
+pub(crate) struct NetworkSettings {
     pub(crate) chain: u32,
     pub(crate) nodes: Option<u32>,
     pub(crate) chunk: u32,
@@ -76,35 +76,35 @@ fn read_table(alloc: Global, top: &Section<'_>) -> Result<Config, ConfigFault>
     ensures exact { Gives result (settings_in (section_of top.now)) }
     ensures lawful { IfOk result IsConfig }
 {
-    let common = read_common(alloc, top)?;
+    let network = read_network(alloc, top)?;
     let tables = node_tables(alloc, top)?;
-    read_parts(alloc, top, common, &tables)
+    read_parts(alloc, top, network, &tables)
 }
 
 /// The same, with what is said for all nodes, and these tables of nodes.
 fn read_parts(
     alloc: Global,
     top: &Section<'_>,
-    common: Common,
+    network: NetworkSettings,
     tables: &[Section<'_>],
 ) -> Result<Config, ConfigFault>
-    requires common { IsCommon common }
+    requires network { IsCommon network }
     requires count { (1 ≤ length tables.now) × (length tables.now ≤ MAX_NODES) }
-    ensures exact { Gives result (with_tables (section_of top.now) common (sections_of tables.now)) }
+    ensures exact { Gives result (with_tables (section_of top.now) network (sections_of tables.now)) }
     ensures lawful { IfOk result IsConfig }
 {
-    let greatest = greatest_of(&common, tables);
+    let greatest = greatest_of(&network, tables);
     let places = nodes(alloc, greatest, tables)?;
-    check_chain(top, common.chain, greatest)?;
+    check_chain(top, network.chain, greatest)?;
     let measures = measures(alloc, top, greatest)?;
     let rule_tables = rule_tables(alloc, top)?;
     let rules = rules(alloc, &rule_tables)?;
     check_keys(top, tables, &rule_tables)?;
     let split = Split::of(alloc, places)?;
     Ok(Config {
-        chain: common.chain,
-        chunk: common.chunk,
-        keys: common.keys,
+        chain: network.chain,
+        chunk: network.chunk,
+        keys: network.keys,
         retired: split.retired,
         addresses: split.addresses,
         listens: split.listens,
@@ -116,24 +116,24 @@ fn read_parts(
 }
 
 /// The greatest id: what is said, or the number of tables.
-fn greatest_of(common: &Common, tables: &[Section<'_>]) -> u32
-    requires common { IsCommon common.now }
+fn greatest_of(network: &NetworkSettings, tables: &[Section<'_>]) -> u32
+    requires network { IsCommon network.now }
     requires count { (1 ≤ length tables.now) × (length tables.now ≤ MAX_NODES) }
-    ensures said { result ≡ greatest_of common.now (sections_of tables.now) }
+    ensures said { result ≡ greatest_of network.now (sections_of tables.now) }
     ensures range { (1 ≤ result) × (result ≤ MAX_NODES) }
 {
-    match common.nodes {
+    match network.nodes {
         Some(nodes) => nodes,
         None => tables.len() as u32,
     }
 }
 
 /// What is said for all nodes.
-fn read_common(alloc: Global, top: &Section<'_>) -> Result<Common, ConfigFault>
-    ensures said { Gives result (common_in (section_of top.now)) }
+fn read_network(alloc: Global, top: &Section<'_>) -> Result<NetworkSettings, ConfigFault>
+    ensures said { Gives result (network_in (section_of top.now)) }
     ensures lawful { IfOk result IsCommon }
 {
-    Ok(Common {
+    Ok(NetworkSettings {
         chain: chain(top)?,
         nodes: greatest(top)?,
         chunk: chunk(top)?,

@@ -20,7 +20,7 @@ use crate::frame_reads::read_group;
 use crate::index::Index;
 use crate::indexing::index_frames;
 use crate::piece::Piece;
-use crate::putting::{NewBytes, ready};
+use crate::putting::{NewBytes, prepare_piece};
 use crate::spot::Spot;
 use oc_base::{GroupName, MAX_GROUP_BYTES, MAX_GROUPS, MAX_PUBLISH_BYTES, Shelf};
 use oc_io::{Disk, Failed, MemDisk};
@@ -124,7 +124,7 @@ impl<D: Disk> Content<D> {
         ensures none { OnOk result
             (fault_of (group_state_in self.old.shelves added.now.group.now) added.now.start (length added.now.bytes.now) ≡ None) }
     {
-        ready(alloc, &mut self.journal, &mut self.index, added)
+        prepare_piece(alloc, &mut self.journal, &mut self.index, added)
     }
 
     /// Appends a prepared piece, and answers the number of bytes of its group. It takes no memory. After

@@ -34,7 +34,7 @@ pub struct NewBytes<'a> {
 }
 
 /// Prepares bytes of a group, with all memory for them.
-pub fn ready<D: Disk>(
+pub fn prepare_piece<D: Disk>(
     alloc: Global,
     journal: &mut Journal<D>,
     index: &mut Index,

@@ -17,7 +17,7 @@ use Rattle.oc_routes.specs.declared.waiting.Prospect.TheVariants as prospects
 use Rattle.oc_routes.specs.declared.verdict.Refusal.{Refusal}
 use Rattle.oc_deeds.specs.Answered.{AreAnswered, AreAnsweredBy, IsAnsweredBy, answer_of, back_of}
 use Rattle.oc_deeds.specs.Asks.{has_to_wait, obeys, refuses_or, responds, takes_on, takes_up, waiting}
-use Rattle.oc_deeds.specs.Choices.{due_place, next_to_dial, prospect_of, wait_for}
+use Rattle.oc_deeds.specs.Choices.{due_index, next_to_dial, prospect_of, wait_for}
 use Rattle.oc_deeds.specs.Deeds.{Accepts, BreaksOff, Deed, Dials, Drops, Gives, Keeps, LaysAside, Looks, Notes, Permits, Probes, Reads, Refuses, Replies, Rereads, Running, Says, Sees, Setting, Takes, Tells, Waits, after, after_all}
 use Rattle.oc_config.specs.Settings.{Settings}
 use Rattle.oc_link.specs.declared.look.Look.{Look}
@@ -30,10 +30,10 @@ use Rattle.oc_deeds.specs.declared.unfit.Unfit.{Unfit}
 use Rattle.oc_deeds.specs.Hurries.{came_hurries}
 use Rattle.oc_deeds.specs.Pace.{has_passed, wait_until}
 use Rattle.oc_deeds.specs.Parts.{nothing, one, ◌>>◌}
-use Rattle.oc_deeds.specs.Rooms.{goes_on, moves, room, room_for}
+use Rattle.oc_deeds.specs.Rooms.{goes_on, moves, takes_room, room_for}
 use Rattle.oc_deeds.specs.Rooms as rooms
 use Rattle.oc_deeds.specs.Sends.{dials_at, dials_it, dials_next, sends}
-use Rattle.oc_deeds.specs.Turns.{Observation, brought, deals, happens, measures, next_peer, probes_it, quickened, takes_at, takes_due, ticked, ticks, ticks_and_sends, ticks_if, turn}
+use Rattle.oc_deeds.specs.Turns.{Observation, takes_brought, deals, happens, measures, next_peer, probes_it, quickened, takes_at, takes_due, ticked, ticks, ticks_and_sends, ticks_if, turn}
 use Rattle.oc_deeds.specs.Turns as turns
 use Rattle.oc_deeds.specs.Works.{client_input, pending, work_on}
 use Rattle.oc_deeds.specs.declared.came.Came.{Came}
@@ -128,7 +128,7 @@ silent_moves p now prospects.Gives = (tt, tt)
 silent_moves p now prospects.Waits = (tt, tt)
 silent_moves p now prospects.Breaks = (tt, tt)
 
-silent_room : (o : Option Work) (now : ℕ) (s : Setting) (a : Running) → AreSilent (room_for (rooms.content_in o) now s a)
+silent_room : (o : Option Work) (now : ℕ) (s : Setting) (a : Running) → AreSilent (room_for (rooms.transfer_of o) now s a)
 silent_room None now s a = tt
 silent_room (Some (works.Content p)) now s a = silent_moves p now (prospect_of p (shelf a.node.groups) now)
 silent_room (Some (works.Aside p)) now s a = tt
@@ -139,7 +139,7 @@ silent_measures None peer None median s a = tt
 silent_measures (Some probing) peer None median s a = (tt, (tt, tt))
 silent_measures probing peer (Some fault) median s a = (tt, tt)
 
-silent_brought : (input : Option Input) (s : Setting) (a : Running) → AreSilent (brought input s a)
+silent_brought : (input : Option Input) (s : Setting) (a : Running) → AreSilent (takes_brought input s a)
 silent_brought None s a = tt
 silent_brought (Some i) s a = (tt, (tt, (tt, tt)))
 
@@ -171,9 +171,9 @@ obeyed c count (verdicts.Ask request) now s a = took_on c request now s a
 
 happened : (probing : Option Probing) (came : Came) (now median started : ℕ) (s : Setting) (a : Running) → AreAnswered s (happens probing came now median started s a) a
 happened probing (comes.Request c count v) now median started s a = obeyed c count v now s a
-happened probing (comes.Room c) now median started s a = silent_all answers.Ok None s (room c now s a) a (silent_room (work_on c a.works) now s a)
+happened probing (comes.Room c) now median started s a = silent_all answers.Ok None s (takes_room c now s a) a (silent_room (work_on c a.works) now s a)
 happened probing (comes.Gone c loss) now median started s a = (tt, tt)
-happened probing (comes.Reply input taken) now median started s a = silent_all answers.Ok None s (brought input s a) a (silent_brought input s a)
+happened probing (comes.Reply input taken) now median started s a = silent_all answers.Ok None s (takes_brought input s a) a (silent_brought input s a)
 happened probing (comes.Probed peer since fault) now median started s a = silent_all answers.Ok None s (measures probing peer fault median s a) a (silent_measures probing peer fault median s a)
 happened probing comes.Nothing now median started s a = silent_all answers.Ok None s (probes_it (next_peer probing a.dials) started s a) a (silent_probe (next_peer probing a.dials) started s a)
 
@@ -225,5 +225,5 @@ silent_looks look r s a = (tt, silent_by r s a)
 pub turn_answers : (pace : Pace) (probing : Option Probing) (t : Observation) (s : Setting) (a : Running) → AreAnswered s (turn pace probing t s a) a
 turn_answers pace probing t s a =
     let ds : List Deed = turns.dealt pace probing t s a in
-    answered_then answers.Ok None s ds (looks_again t.look t.reread s (after_all ds a)) a (tt, took_at (due_place a.works (shelf a.node.groups) t.before) pace probing t s a)
+    answered_then answers.Ok None s ds (looks_again t.look t.reread s (after_all ds a)) a (tt, took_at (due_index a.works (shelf a.node.groups) t.before) pace probing t s a)
     (silent_looks t.look t.reread s (after_all ds a))

@@ -6,7 +6,7 @@ use Rattle.oc_link.specs.declared.counts.LinkCounts.{LinkCounts}
 use Rattle.oc_model.specs.declared.input.Input.{Input}
 use Rattle.std.specs.Prelude.{unwrap_or}
 use Rattle.oc_config.specs.Settings.{Settings}
-use Rattle.oc_deeds.specs.Deeds.{Deed, Running, Setting, after, after_all, calls, calls_of, config_behind, input_of, inputs_of, line, lines, reread_of, with_input}
+use Rattle.oc_deeds.specs.Deeds.{Deed, Running, Setting, after, after_all, calls, calls_of, config_behind, deed_input, inputs_of, line, lines, reread_of, with_input}
 use Rattle.oc_deeds.specs.Deeds as deeds
 use Rattle.oc_deeds.specs.Done.{CountsAll}
 
@@ -25,7 +25,7 @@ with_append (Some i) is js = refl
 -- their inputs
 pub inputs_append : (ds es : List Deed) → inputs_of (ds ++ es) ≡ inputs_of ds ++ inputs_of es
 inputs_append [] es = refl
-inputs_append (d ∷ ds) es = ap (λ (is : List Input). with_input (input_of d) is) (inputs_append ds es) ∙ with_append (input_of d) (inputs_of ds) (inputs_of es)
+inputs_append (d ∷ ds) es = ap (λ (is : List Input). with_input (deed_input d) is) (inputs_append ds es) ∙ with_append (deed_input d) (inputs_of ds) (inputs_of es)
 
 -- what they make of a running node
 pub after_append : (ds es : List Deed) (a : Running) → after_all (ds ++ es) a ≡ after_all es (after_all ds a)

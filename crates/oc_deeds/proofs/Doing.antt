@@ -7,7 +7,7 @@ use Rattle.oc_model.specs.declared.answer.Answer.{Answer}
 use Rattle.oc_model.specs.declared.input.Input.{Input}
 use Rattle.oc_deeds.specs.Brief.{told_of}
 use Rattle.oc_deeds.specs.Deeds.{Deed, Running, Says, Setting, after}
-use Rattle.oc_deeds.specs.Telling.{IsBefore, told_behind}
+use Rattle.oc_deeds.specs.Telling.{IsBefore, told_after}
 use Rattle.oc_deeds.specs.declared.brief.Before.{Before}
 use Rattle.oc_deeds.proofs.ToldInputs.{told_same}
 
@@ -19,7 +19,7 @@ input_stays nodes me more other i many same lawful =
 -- what is told after an input is what is told of it
 pub told_after : (d : Deed) (i : Input) (s : Setting) (a b : Running) (before : Option Before) (answer : Answer) → IsBefore s.log a.node.control i before
     → (after d a).node ≡ (step a.node i).node → b ≡ after d a → answer ≡ (step a.node i).answer
-    → Says (told_behind before b.node.control answer) ∷ [] ≡ Says (told_of s.log a.node i) ∷ []
+    → Says (told_after before b.node.control answer) ∷ [] ≡ Says (told_of s.log a.node i) ∷ []
 told_after d i s a b before answer known stepped is says =
     ap (λ (t : List ℕ). Says t ∷ [])
     (told_same s.log a.node b.node.control i before answer known (ap (λ (r : Running). r.node.control) is ∙ ap (λ (n : Node). n.control) stepped) says)

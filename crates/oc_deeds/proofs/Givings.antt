@@ -11,7 +11,7 @@ use Rattle.oc_link.specs.declared.phase.Phase.{Phase}
 use Rattle.oc_link.specs.declared.phase.Phase.TheVariants.{Awaiting, Answering, Whole, Broken, Gone}
 use Rattle.oc_link.specs.declared.phase.Standing.{Standing}
 use Rattle.oc_routes.proofs.PieceLaws.{owed_then}
-use Rattle.oc_routes.specs.Contents.{behind, is_last, owed, piece_of}
+use Rattle.oc_routes.specs.Contents.{rest_after, is_last, owed, piece_of}
 use Rattle.oc_routes.specs.declared.content.UnderWay.{UnderWay}
 use Rattle.oc_routes.specs.declared.response.Response.{Response}
 use Rattle.oc_deeds.proofs.Grown.{Grows}
@@ -81,7 +81,7 @@ abbrev pub content_left : Option Transfer → Option UnderWay
 content_left None = None
 content_left (Some p) = Some p.content
 
-behind_givable : (u : UnderWay) (n : ℕ) (now : List Group) → IsGivable (Some u) now → IsGivable (behind u n) now
+behind_givable : (u : UnderWay) (n : ℕ) (now : List Group) → IsGivable (Some u) now → IsGivable (rest_after u n) now
 behind_givable u n now there = by_test (is_last u n) refl
   where
     by_test : (b : Bool) → is_last u n ≡ b → IsGivable (if b then None else Some (record u { at = u.at + n })) now
@@ -94,7 +94,7 @@ left_behind p t (Some u) = refl
 
 pub rest_givable : (p : Transfer) (t : ℕ) (now : List Group) → IsGivable (Some p.content) now → IsGivable (content_left (rest p t now)) now
 rest_givable p t now there =
-    subst (λ (o : Option UnderWay). IsGivable o now) (sym (left_behind p t (behind p.content (length (piece_of p.content now)))))
+    subst (λ (o : Option UnderWay). IsGivable o now) (sym (left_behind p t (rest_after p.content (length (piece_of p.content now)))))
     (behind_givable p.content (length (piece_of p.content now)) now there)
 
 -- what is owed of a content is its next piece, and what is owed after that
@@ -102,7 +102,7 @@ pub piece_given : (p : Transfer) (t : ℕ) (now later : List Group) → Grows no
     → owed (Some p.content) later ≡ piece p now ++ owed (content_left (rest p t now)) later
 piece_given p t now later grows there =
     owed_then p.content now later ((grows p.content.group).0) there ((grows p.content.group).1)
-    ∙ ap (λ (o : Option UnderWay). piece p now ++ owed o later) (sym (left_behind p t (behind p.content (length (piece_of p.content now)))))
+    ∙ ap (λ (o : Option UnderWay). piece p now ++ owed o later) (sym (left_behind p t (rest_after p.content (length (piece_of p.content now)))))
 
 -- the place from which a content is given
 abbrev pub place_from : Pending → Response → ℕ → Option UnderWay → Option Transfer

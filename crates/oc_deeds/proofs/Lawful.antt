@@ -9,10 +9,10 @@ use Rattle.oc_model.specs.Lawful.{IsInput}
 use Rattle.oc_routes.specs.Elements.{element_at, without_at}
 use Rattle.oc_routes.specs.Lawful.{IsAsked}
 use Rattle.oc_deeds.specs.Asks.{due_of}
-use Rattle.oc_deeds.specs.Deeds.{dials_behind, errand_in, with_content}
+use Rattle.oc_deeds.specs.Deeds.{dials_after, errand_in, with_content}
 use Rattle.oc_deeds.specs.Dials as dials
 use Rattle.oc_deeds.specs.Lawful.{IsLawfulDial, IsLawfulErrand, IsLawfulWaiting, IsLawfulWork}
-use Rattle.oc_deeds.specs.Works.{client_input, pending, place_on, without}
+use Rattle.oc_deeds.specs.Works.{client_input, pending, index_on, without_work}
 use Rattle.oc_deeds.specs.declared.due.Due.TheVariants as dues
 use Rattle.oc_deeds.specs.declared.work.Pending.{Pending}
 use Rattle.oc_deeds.specs.declared.dials.Dialling.{Dialling}
@@ -54,8 +54,8 @@ module _ (nodes me : ℕ) where
   without_place (Some place) ws all = all_remove (IsLawfulWork nodes me) place ws all
 
   -- without what is under way on a connection
-  pub works_without : (c : ℕ) (ws : List Work) → AllByRecursion (IsLawfulWork nodes me) ws → AllByRecursion (IsLawfulWork nodes me) (without c ws)
-  works_without c ws all = without_place (place_on c ws) ws all
+  pub works_without : (c : ℕ) (ws : List Work) → AllByRecursion (IsLawfulWork nodes me) ws → AllByRecursion (IsLawfulWork nodes me) (without_work c ws)
+  works_without c ws all = without_place (index_on c ws) ws all
 
   -- with further work
   pub works_with : (ws : List Work) (w : Work) → AllByRecursion (IsLawfulWork nodes me) ws → IsLawfulWork nodes me w → AllByRecursion (IsLawfulWork nodes me) (ws ++ w ∷ [])
@@ -94,11 +94,11 @@ dials_without_place nodes None ds all = all
 dials_without_place nodes (Some place) ds all = all_remove (IsLawfulDial nodes) place ds all
 
 -- without the dial of a number
-pub dials_without : (nodes d : ℕ) (ds : List Dialling) → AllByRecursion (IsLawfulDial nodes) ds → AllByRecursion (IsLawfulDial nodes) (dials.without d ds)
-dials_without nodes d ds all = dials_without_place nodes (dials.place_of d ds) ds all
+pub dials_without : (nodes d : ℕ) (ds : List Dialling) → AllByRecursion (IsLawfulDial nodes) ds → AllByRecursion (IsLawfulDial nodes) (dials.without_dial d ds)
+dials_without nodes d ds all = dials_without_place nodes (dials.index_of d ds) ds all
 
 -- without the dial whose reply an event is
-pub dials_seen : (nodes : ℕ) (e : LinkEvent) (ds : List Dialling) → AllByRecursion (IsLawfulDial nodes) ds → AllByRecursion (IsLawfulDial nodes) (dials_behind e ds)
+pub dials_seen : (nodes : ℕ) (e : LinkEvent) (ds : List Dialling) → AllByRecursion (IsLawfulDial nodes) ds → AllByRecursion (IsLawfulDial nodes) (dials_after e ds)
 dials_seen nodes (events.Reply d coming) ds all = dials_without nodes d ds all
 dials_seen nodes e ds all = all
 
@@ -113,7 +113,7 @@ dial_placed nodes ds (Some k) all = dial_there nodes ds k all
 
 -- for what a dial was made whose reply an event is
 pub errand_seen : (nodes : ℕ) (e : LinkEvent) (ds : List Dialling) → AllByRecursion (IsLawfulDial nodes) ds → IfSome (errand_in e ds) (IsLawfulErrand nodes)
-errand_seen nodes (events.Reply d coming) ds all = dial_placed nodes ds (dials.place_of d ds) all
+errand_seen nodes (events.Reply d coming) ds all = dial_placed nodes ds (dials.index_of d ds) all
 errand_seen nodes (events.Request a) ds all = tt
 errand_seen nodes (events.Room c) ds all = tt
 errand_seen nodes (events.Gone c loss) ds all = tt

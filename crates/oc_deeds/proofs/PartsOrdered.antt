@@ -62,20 +62,20 @@ use Rattle.oc_deeds.specs.Asks.{has_to_wait, holding_for, obeys, refuses_or, rep
 use Rattle.oc_deeds.specs.Brief.{told_of}
 use Rattle.oc_deeds.specs.Records.{told_ahead}
 use Rattle.oc_deeds.specs.Brought.{comes_back}
-use Rattle.oc_deeds.specs.Choices.{due_place, next_to_dial, prospect_of, wait_for}
+use Rattle.oc_deeds.specs.Choices.{due_index, next_to_dial, prospect_of, wait_for}
 use Rattle.oc_deeds.specs.Deeds.{Deed, Sees, Reads, Tells, Accepts, Says, Waits, Running, Setting, after, after_all, back_to, calls_of, content_in, sender_of, key_in}
 use Rattle.oc_deeds.specs.Rereading.{looks_again}
 use Rattle.oc_deeds.specs.Hurries.{came_hurries}
 use Rattle.oc_deeds.specs.Pace.{has_passed, wait_until}
 use Rattle.oc_deeds.specs.Parts.{nothing, one, ◌>>◌}
 use Rattle.oc_deeds.specs.Replying.{HasContent, IsGivable, MayAnswer, phase_on, works_on}
-use Rattle.oc_deeds.specs.Rooms.{goes_on, is_told, moves, room, room_for}
+use Rattle.oc_deeds.specs.Rooms.{goes_on, is_told, moves, takes_room, room_for}
 use Rattle.oc_deeds.specs.Rooms as rooms
 use Rattle.oc_deeds.specs.Telling.{takes_in}
 use Rattle.oc_deeds.specs.Sends.{dials_at, dials_it, dials_next, sends}
 use Rattle.oc_deeds.specs.Settled.{Fits, IsSettled}
-use Rattle.oc_deeds.specs.Turns.{Means, MeansBack, Observation, brought, deals, happens, measures, next_peer, probes_it, quickened, takes_at, takes_due, takes_next, takes_one, ticked, ticks, ticks_and_sends, ticks_if, turn, dealt}
-use Rattle.oc_deeds.specs.Works.{client_input, connection_of, pending, place_on, work_on}
+use Rattle.oc_deeds.specs.Turns.{Means, MeansBack, Observation, takes_brought, deals, happens, measures, next_peer, probes_it, quickened, takes_at, takes_due, takes_next, takes_one, ticked, ticks, ticks_and_sends, ticks_if, turn, dealt}
+use Rattle.oc_deeds.specs.Works.{client_input, connection_of, pending, index_on, work_on}
 use Rattle.oc_deeds.specs.declared.came.Came.{Came}
 use Rattle.oc_deeds.specs.declared.came.Came.TheVariants as comes
 use Rattle.oc_deeds.specs.declared.choosing.TheConstants.{MAX_DIALS}
@@ -145,15 +145,15 @@ at_place : (ws : List Work) (o : Option ℕ) (w : Work) → element_at ws o ≡ 
 at_place ws None w is = let none : None ≡ Some w = is in absurd (cc none)
 at_place ws (Some i) w is = (i, is)
 
-pub has_room : (s : Setting) (made : List Call) (c now : ℕ) (a : Running) → IsSettled made a.works → IsOrderly s made (room c now s a) a
+pub has_room : (s : Setting) (made : List Call) (c now : ℕ) (a : Running) → IsSettled made a.works → IsOrderly s made (takes_room c now s a) a
 has_room s made c now a settled = by_work (work_on c a.works) refl
   where
-    by_work : (o : Option Work) → work_on c a.works ≡ o → IsOrderly s made (room_for (rooms.content_in o) now s a) a
+    by_work : (o : Option Work) → work_on c a.works ≡ o → IsOrderly s made (room_for (rooms.transfer_of o) now s a) a
     by_work None is = orderly_none s made a settled
     by_work (Some (works.Aside p)) is = orderly_none s made a settled
     by_work (Some (works.Waits w)) is = orderly_none s made a settled
     by_work (Some (works.Content p)) is =
-        let at = at_place a.works (place_on c a.works) (works.Content p) is in
+        let at = at_place a.works (index_on c a.works) (works.Content p) is in
         let here = alone made a.works (at.0) (works.Content p) (at.1) settled in
         going_on s made p now a (record { phase = here.0; works = inl (here.1) }) settled
 
@@ -321,7 +321,7 @@ no_fault s made peer None None median a settled = orderly_none s made a settled
 no_fault s made peer (Some probing) None median a settled = all_quiet s made _ a (tt, (tt, tt)) settled
 no_fault s made peer probing (Some fault) median a settled = all_quiet s made _ a (tt, tt) settled
 
-bringing : (s : Setting) (made : List Call) (input : Option Input) (a : Running) → IsSettled made a.works → IsOrderly s made (brought input s a) a
+bringing : (s : Setting) (made : List Call) (input : Option Input) (a : Running) → IsSettled made a.works → IsOrderly s made (takes_brought input s a) a
 bringing s made None a settled = orderly_none s made a settled
 bringing s made (Some i) a settled = all_quiet s made (takes_in i s a) a (tt, (tt, (tt, tt))) settled
 
@@ -495,14 +495,14 @@ taking_at None s made pace probing t a told settled = taking_next s made pace pr
 taking_at (Some place) s made pace probing t a told settled = taking_due s made pace place t.before t.seconds a settled
 
 -- what came or was due is dealt with in order
-dealt_with : (s : Setting) (made : List Call) (pace : Pace) (probing : Option Probing) (t : Observation) (a : Running) → IsToldAt (due_place a.works (shelf a.node.groups) t.before) t (made ++ (acts.Millis t.before ∷ []))
+dealt_with : (s : Setting) (made : List Call) (pace : Pace) (probing : Option Probing) (t : Observation) (a : Running) → IsToldAt (due_index a.works (shelf a.node.groups) t.before) t (made ++ (acts.Millis t.before ∷ []))
     → IsSettled made a.works → IsOrderly s made (dealt pace probing t s a) a
 dealt_with s made pace probing t a told settled =
     quiet_behind s made (Reads t.before) (takes_one pace probing t s a) a tt settled
-    (λ behind. taking_at (due_place a.works (shelf a.node.groups) t.before) s (made ++ (acts.Millis t.before ∷ [])) pace probing t a told behind)
+    (λ behind. taking_at (due_index a.works (shelf a.node.groups) t.before) s (made ++ (acts.Millis t.before ∷ [])) pace probing t a told behind)
 
 -- a turn does its deeds in order
-pub turning : (s : Setting) (made : List Call) (pace : Pace) (probing : Option Probing) (t : Observation) (a : Running) → IsToldAt (due_place a.works (shelf a.node.groups) t.before) t (made ++ (acts.Millis t.before ∷ []))
+pub turning : (s : Setting) (made : List Call) (pace : Pace) (probing : Option Probing) (t : Observation) (a : Running) → IsToldAt (due_index a.works (shelf a.node.groups) t.before) t (made ++ (acts.Millis t.before ∷ []))
     → IsSettled made a.works → IsOrderly s made (turn pace probing t s a) a
 turning s made pace probing t a told settled =
     let ds : List Deed = dealt pace probing t s a in

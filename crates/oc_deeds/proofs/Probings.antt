@@ -13,7 +13,7 @@ use Rattle.oc_deeds.specs.Lawful.{IsMadeFor}
 use Rattle.oc_deeds.specs.Measured.{IsMedianIn, IsMedianOf}
 use Rattle.oc_deeds.specs.Deeds.{Running, Setting}
 use Rattle.oc_base.specs.declared.limits.TheConstants.{MAX_RATE}
-use Rattle.oc_deeds.specs.Turns.{measured, takes_median, gauged, next_peer, probed, rotated, with_measure}
+use Rattle.oc_deeds.specs.Turns.{takes_measure, takes_median, gauged, next_peer, probed, rotated, with_measure}
 use Rattle.oc_deeds.specs.declared.came.Came.{Came}
 use Rattle.oc_deeds.specs.declared.came.Came.TheVariants as comes
 use Rattle.oc_deeds.specs.declared.dials.Dialling.{Dialling}
@@ -71,7 +71,7 @@ pub median_of : (o : Option Probing) (peer rate m : ℕ) → IsMedianIn o peer r
 median_of None peer rate m is = tt
 median_of (Some p) peer rate m is = is
 
-pub median_part : (o : Option Probing) (peer rate m : ℕ) (s : Setting) (a : Running) → IsMedianIn o peer rate (Some m) → takes_median o peer m s a ≡ measured peer (min m MAX_RATE) s a
+pub median_part : (o : Option Probing) (peer rate m : ℕ) (s : Setting) (a : Running) → IsMedianIn o peer rate (Some m) → takes_median o peer m s a ≡ takes_measure peer (min m MAX_RATE) s a
 median_part None peer rate m s a is = absurd cc
 median_part (Some p) peer rate m s a is = refl
 

@@ -22,7 +22,7 @@ use Rattle.oc_routes.specs.Inputs.{input_line}
 use Rattle.oc_routes.specs.declared.verdict.Refusal.{Refusal}
 use Rattle.oc_deeds.specs.Asks.{has_to_wait, obeys, refuses_or, replies, responds, takes_on, takes_up, waiting}
 use Rattle.oc_deeds.specs.Brief.{told_of}
-use Rattle.oc_deeds.specs.Choices.{due_place, has_room, next_to_dial, prospect_of, wait_for}
+use Rattle.oc_deeds.specs.Choices.{due_index, has_room, next_to_dial, prospect_of, wait_for}
 use Rattle.oc_deeds.specs.Deeds.{Accepts, BreaksOff, Deed, Dials, Drops, Gives, Keeps, LaysAside, Looks, Notes, Permits, Probes, Reads, Refuses, Replies, Rereads, Running, Says, Sees, Setting, Takes, Tells, Waits, after, after_all, back_to, inputs_of, line, lines, sender_of, taken_line, with_input}
 use Rattle.oc_config.specs.Settings.{Settings}
 use Rattle.oc_link.specs.declared.look.Look.{Look}
@@ -36,10 +36,10 @@ use Rattle.oc_deeds.specs.Pace.{has_passed, wait_until}
 use Rattle.oc_deeds.specs.Parts.{nothing, one, ◌>>◌}
 use Rattle.oc_deeds.specs.Recorded.{IsNext, RecordLine, input_in, inputs_in, line_of_next, record_line_text, record_lines, record_lines_of, record_text}
 use Rattle.oc_deeds.specs.Records.{told_ahead}
-use Rattle.oc_deeds.specs.Rooms.{content_in, goes_on, moves, room, room_for}
+use Rattle.oc_deeds.specs.Rooms.{transfer_of, goes_on, moves, takes_room, room_for}
 use Rattle.oc_deeds.specs.Sends.{dials_at, dials_it, dials_next, sends}
 use Rattle.oc_deeds.specs.Telling.{takes_in, takes_ahead}
-use Rattle.oc_deeds.specs.Turns.{Observation, brought, deals, happens, measures, next_peer, probes_it, quickened, takes_at, takes_due, ticked, ticks, ticks_and_sends, ticks_if, turn, dealt}
+use Rattle.oc_deeds.specs.Turns.{Observation, takes_brought, deals, happens, measures, next_peer, probes_it, quickened, takes_at, takes_due, ticked, ticks, ticks_and_sends, ticks_if, turn, dealt}
 use Rattle.oc_deeds.specs.Works.{client_input, pending, work_on}
 use Rattle.oc_deeds.specs.declared.came.Came.{Came}
 use Rattle.oc_deeds.specs.declared.came.Came.TheVariants as comes
@@ -280,7 +280,7 @@ module _ (s : Setting) (recorded : s.log ≡ logs.Record) where
   leads_moves p now prospects.Waits = (None, refl, refl)
   leads_moves p now prospects.Breaks = (None, refl, refl)
 
-  leads_room : (o : Option Work) (now : ℕ) (a : Running) → Whole (room_for (content_in o) now s a)
+  leads_room : (o : Option Work) (now : ℕ) (a : Running) → Whole (room_for (transfer_of o) now s a)
   leads_room None now a = refl
   leads_room (Some (works.Content p)) now a = leads_moves p now (prospect_of p (shelf a.node.groups) now)
   leads_room (Some (works.Aside p)) now a = refl
@@ -291,7 +291,7 @@ module _ (s : Setting) (recorded : s.log ≡ logs.Record) where
   leads_measures (Some probing) peer None median a = leads_taken _ [] refl
   leads_measures probing peer (Some fault) median a = (None, refl, refl)
 
-  leads_brought : (input : Option Input) (a : Running) → Whole (brought input s a)
+  leads_brought : (input : Option Input) (a : Running) → Whole (takes_brought input s a)
   leads_brought None a = refl
   leads_brought (Some i) a = leads_in i a
 
@@ -378,5 +378,5 @@ module _ (s : Setting) (recorded : s.log ≡ logs.Record) where
   pub leads_turn : (pace : Pace) (probing : Option Probing) (t : Observation) (a : Running) → Whole (turn pace probing t s a)
   leads_turn pace probing t a =
       let ds : List Deed = dealt pace probing t s a in
-      whole_then ds (looks_again t.look t.reread s (after_all ds a)) (None, refl, leads_place (due_place a.works (shelf a.node.groups) t.before) pace probing t a)
+      whole_then ds (looks_again t.look t.reread s (after_all ds a)) (None, refl, leads_place (due_index a.works (shelf a.node.groups) t.before) pace probing t a)
       (leads_looks t.look t.reread (after_all ds a))

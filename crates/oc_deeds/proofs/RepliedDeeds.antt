@@ -15,7 +15,7 @@ use Rattle.oc_link.specs.declared.event.LinkEvent.TheVariants as events
 use Rattle.oc_link.specs.declared.phase.Phase.{Phase}
 use Rattle.oc_link.specs.declared.phase.Phase.TheVariants.{Awaiting, Answering, Whole, Broken, Gone}
 use Rattle.oc_link.specs.declared.phase.Standing.{Standing}
-use Rattle.oc_routes.specs.Contents.{behind, owed, piece_of}
+use Rattle.oc_routes.specs.Contents.{rest_after, owed, piece_of}
 use Rattle.oc_routes.specs.declared.content.UnderWay.{UnderWay}
 use Rattle.oc_routes.specs.Refusals.{refusal_text}
 use Rattle.oc_routes.specs.declared.connections.TheConstants.{CONTINUE}
@@ -24,9 +24,9 @@ use Rattle.oc_deeds.proofs.Givings.{Holds, IsGiving, content_left, content_under
 use Rattle.oc_deeds.proofs.Grown.{Grows, grows_after, grows_all, grows_none, grows_then}
 use Rattle.oc_deeds.proofs.Replying.{first_at, left_on, other_left, over, permitted, phase_here, refused, rest_at, taken, taken_other, taken_out, text_given, text_other, waiting}
 use Rattle.oc_deeds.proofs.WorksOn.{other_pushed, other_without, own_pushed}
-use Rattle.oc_deeds.specs.Deeds.{Accepts, BreaksOff, Deed, Dials, Drops, Gives, Keeps, LaysAside, Looks, Notes, Permits, Probes, Reads, Refuses, Replies, Rereads, Running, Says, Sees, Setting, Takes, Tells, Waits, after, after_all, calls, calls_of, content_in, finish, first_piece, first_rest, keeps, piece, place_of, refuses, rest, takes_request, with_content}
-use Rattle.oc_deeds.specs.Replying.{HasContent, IsGivable, IsOrdered, MayAnswer, MayDo, replied, replies, phase_on, text_or_none, whole_reply, works_on}
-use Rattle.oc_deeds.specs.Works.{without}
+use Rattle.oc_deeds.specs.Deeds.{Accepts, BreaksOff, Deed, Dials, Drops, Gives, Keeps, LaysAside, Looks, Notes, Permits, Probes, Reads, Refuses, Replies, Rereads, Running, Says, Sees, Setting, Takes, Tells, Waits, after, after_all, calls, calls_of, content_in, finish, first_piece, first_rest, keeps, piece, transfer_for, refuses, rest, takes_request, with_content}
+use Rattle.oc_deeds.specs.Replying.{HasContent, IsGivable, IsOrdered, MayAnswer, MayDo, replied, replied_all, phase_on, text_or_none, whole_reply, works_on}
+use Rattle.oc_deeds.specs.Works.{without_work}
 use Rattle.oc_deeds.specs.declared.work.Pending.{Pending}
 use Rattle.oc_deeds.specs.declared.work.Transfer.{Transfer}
 use Rattle.oc_deeds.specs.declared.work.Waiting.{Waiting}
@@ -93,10 +93,10 @@ refuses_request c d count text a made later g w may h = by_test (d == c) refl
     by_test false apart = refused_other c d count text (standing_of c made) (works_on c a.works) a.node.groups later g w apart h
 
 breaks : (c d : ℕ) (a : Running) (made : List Call) (later : List Group) (g w : List ℕ) → Holds (phase_on c made) (works_on c a.works) a.node.groups later g w
-    → Behind c (acts.BreakOff d ∷ []) [] (standing_of c made) (works_on c (without d a.works)) a.node.groups later g w
+    → Behind c (acts.BreakOff d ∷ []) [] (standing_of c made) (works_on c (without_work d a.works)) a.node.groups later g w
 breaks c d a made later g w h = by_test (d == c) refl
   where
-    by_test : (b : Bool) → (d == c) ≡ b → Behind c (acts.BreakOff d ∷ []) [] (standing_of c made) (works_on c (without d a.works)) a.node.groups later g w
+    by_test : (b : Bool) → (d == c) ≡ b → Behind c (acts.BreakOff d ∷ []) [] (standing_of c made) (works_on c (without_work d a.works)) a.node.groups later g w
     by_test true own = rw own (over (phase_on c made) (works_on c a.works) a.node.groups later g w h)
     by_test false apart =
         rw apart
@@ -104,12 +104,12 @@ breaks c d a made later g w h = by_test (d == c) refl
         (holds_still (phase_on c made) (works_on c a.works) a.node.groups a.node.groups later g w (grows_none a.node.groups) h))
 
 drops : (c d : ℕ) (a : Running) (made : List Call) (later : List Group) (g w : List ℕ) → phase_on d made ≡ Gone → Holds (phase_on c made) (works_on c a.works) a.node.groups later g w
-    → Behind c [] [] (standing_of c made) (works_on c (without d a.works)) a.node.groups later g w
+    → Behind c [] [] (standing_of c made) (works_on c (without_work d a.works)) a.node.groups later g w
 drops c d a made later g w may h = by_test (d == c) refl
   where
-    by_test : (b : Bool) → (d == c) ≡ b → Behind c [] [] (standing_of c made) (works_on c (without d a.works)) a.node.groups later g w
+    by_test : (b : Bool) → (d == c) ≡ b → Behind c [] [] (standing_of c made) (works_on c (without_work d a.works)) a.node.groups later g w
     by_test true own =
-        subst (λ (x : Phase). Holds x (works_on c (without d a.works)) a.node.groups later (g ++ []) (w ++ [])) (sym (phase_here c d made Gone own may))
+        subst (λ (x : Phase). Holds x (works_on c (without_work d a.works)) a.node.groups later (g ++ []) (w ++ [])) (sym (phase_here c d made Gone own may))
         (over (phase_on c made) (works_on c a.works) a.node.groups later g w h)
     by_test false apart =
         subst (λ (ws : List Work). Holds (phase_on c made) ws a.node.groups later (g ++ []) (w ++ [])) (sym (other_without c d a.works apart))
@@ -130,7 +130,7 @@ content_is p ws work (inr is) one =
 
 -- what is given of a content that is under way here
 pub record IsUnderWay (c : ℕ) (p : Transfer) (a : Running) (later : List Group) (g w : List ℕ) : Type 0 where
-  pub none : works_on c (without p.connection a.works) ≡ []
+  pub none : works_on c (without_work p.connection a.works) ≡ []
   pub givable : IsGivable (Some p.content) a.node.groups
   pub left : w ≡ g ++ owed (Some p.content) later
 
@@ -152,47 +152,47 @@ under_way c p a made later g w own has h =
 
 gives : (c : ℕ) (p : Transfer) (t : ℕ) (a : Running) (made : List Call) (later : List Group) (g w : List ℕ) → Grows a.node.groups later → HasContent p made a.works → Holds (phase_on c made) (works_on c a.works) a.node.groups later g w
     → Behind c (acts.Give p.connection (piece p a.node.groups) ∷ finish p.connection p.keeps p.told (rest p t a.node.groups)) [] (standing_of c made)
-    (works_on c (with_content (rest p t a.node.groups) (without p.connection a.works))) a.node.groups later g w
+    (works_on c (with_content (rest p t a.node.groups) (without_work p.connection a.works))) a.node.groups later g w
 gives c p t a made later g w grows has h = by_test (p.connection == c) refl
   where
     left : Option Transfer
     left = rest p t a.node.groups
 
     by_test : (b : Bool) → (p.connection == c) ≡ b
-        → Behind c (acts.Give p.connection (piece p a.node.groups) ∷ finish p.connection p.keeps p.told left) [] (standing_of c made) (works_on c (with_content left (without p.connection a.works))) a.node.groups later g w
+        → Behind c (acts.Give p.connection (piece p a.node.groups) ∷ finish p.connection p.keeps p.told left) [] (standing_of c made) (works_on c (with_content left (without_work p.connection a.works))) a.node.groups later g w
     by_test true own =
         let u = under_way c p a made later g w own has h in
         let is : w ++ [] ≡ (g ++ piece p a.node.groups) ++ owed (content_left left) later =
         append-nil w ∙ (u.1).left ∙ ap (λ (x : List ℕ). g ++ x) (piece_given p t a.node.groups later grows (u.1).givable)
         ∙ sym (append_assoc g (piece p a.node.groups) (owed (content_left left) later)) in
-        text_given c p.connection (piece p a.node.groups) p.keeps p.told left (standing_of c made) (works_on c (with_content left (without p.connection a.works))) a.node.groups later g (w ++ []) own (u.0)
-        (left_on c (without p.connection a.works) left (u.1).none (rest_at true c p t (behind p.content (length (piece_of p.content a.node.groups))) own))
+        text_given c p.connection (piece p a.node.groups) p.keeps p.told left (standing_of c made) (works_on c (with_content left (without_work p.connection a.works))) a.node.groups later g (w ++ []) own (u.0)
+        (left_on c (without_work p.connection a.works) left (u.1).none (rest_at true c p t (rest_after p.content (length (piece_of p.content a.node.groups))) own))
         (rest_givable p t a.node.groups (u.1).givable) is
     by_test false apart =
-        let same : works_on c (with_content left (without p.connection a.works)) ≡ works_on c a.works =
-        other_left c (without p.connection a.works) left (rest_at false c p t (behind p.content (length (piece_of p.content a.node.groups))) apart) ∙ other_without c p.connection a.works apart in
-        text_other c p.connection (piece p a.node.groups) p.keeps p.told left (standing_of c made) (works_on c (with_content left (without p.connection a.works))) a.node.groups later g w apart
+        let same : works_on c (with_content left (without_work p.connection a.works)) ≡ works_on c a.works =
+        other_left c (without_work p.connection a.works) left (rest_at false c p t (rest_after p.content (length (piece_of p.content a.node.groups))) apart) ∙ other_without c p.connection a.works apart in
+        text_other c p.connection (piece p a.node.groups) p.keeps p.told left (standing_of c made) (works_on c (with_content left (without_work p.connection a.works))) a.node.groups later g w apart
         (subst (λ (ws : List Work). Holds (phase_on c made) ws a.node.groups later g w) (sym same) h)
 
 lays : (c : ℕ) (p : Transfer) (a : Running) (made : List Call) (later : List Group) (g w : List ℕ) → HasContent p made a.works → Holds (phase_on c made) (works_on c a.works) a.node.groups later g w
-    → Behind c [] [] (standing_of c made) (works_on c (without p.connection a.works ++ works.Aside p ∷ [])) a.node.groups later g w
+    → Behind c [] [] (standing_of c made) (works_on c (without_work p.connection a.works ++ works.Aside p ∷ [])) a.node.groups later g w
 lays c p a made later g w has h = by_test (p.connection == c) refl
   where
-    by_test : (b : Bool) → (p.connection == c) ≡ b → Behind c [] [] (standing_of c made) (works_on c (without p.connection a.works ++ works.Aside p ∷ [])) a.node.groups later g w
+    by_test : (b : Bool) → (p.connection == c) ≡ b → Behind c [] [] (standing_of c made) (works_on c (without_work p.connection a.works ++ works.Aside p ∷ [])) a.node.groups later g w
     by_test true own =
         let u = under_way c p a made later g w own has h in
-        let giving : IsGiving (works_on c (without p.connection a.works ++ works.Aside p ∷ [])) a.node.groups later g w = record {
+        let giving : IsGiving (works_on c (without_work p.connection a.works ++ works.Aside p ∷ [])) a.node.groups later g w = record {
           work = works.Aside p;
-          under_way = own_pushed c (without p.connection a.works) (works.Aside p) own ∙ ap (λ (x : List Work). x ++ works.Aside p ∷ []) (u.1).none;
+          under_way = own_pushed c (without_work p.connection a.works) (works.Aside p) own ∙ ap (λ (x : List Work). x ++ works.Aside p ∷ []) (u.1).none;
           givable = (u.1).givable;
           left = (u.1).left;
         } in
-        holds_still (phase_on c made) (works_on c (without p.connection a.works ++ works.Aside p ∷ [])) a.node.groups a.node.groups later g w (grows_none a.node.groups)
-        (subst (λ (x : Phase). Holds x (works_on c (without p.connection a.works ++ works.Aside p ∷ [])) a.node.groups later g w) (sym (u.0)) giving)
+        holds_still (phase_on c made) (works_on c (without_work p.connection a.works ++ works.Aside p ∷ [])) a.node.groups a.node.groups later g w (grows_none a.node.groups)
+        (subst (λ (x : Phase). Holds x (works_on c (without_work p.connection a.works ++ works.Aside p ∷ [])) a.node.groups later g w) (sym (u.0)) giving)
     by_test false apart =
-        let same : works_on c (without p.connection a.works ++ works.Aside p ∷ []) ≡ works_on c a.works =
-        other_pushed c (without p.connection a.works) (works.Aside p) apart ∙ other_without c p.connection a.works apart in
-        holds_still (phase_on c made) (works_on c (without p.connection a.works ++ works.Aside p ∷ [])) a.node.groups a.node.groups later g w (grows_none a.node.groups)
+        let same : works_on c (without_work p.connection a.works ++ works.Aside p ∷ []) ≡ works_on c a.works =
+        other_pushed c (without_work p.connection a.works) (works.Aside p) apart ∙ other_without c p.connection a.works apart in
+        holds_still (phase_on c made) (works_on c (without_work p.connection a.works ++ works.Aside p ∷ [])) a.node.groups a.node.groups later g w (grows_none a.node.groups)
         (subst (λ (ws : List Work). Holds (phase_on c made) ws a.node.groups later g w) (sym same) h)
 
 -- Requests that are answered
@@ -200,8 +200,8 @@ lays c p a made later g w has h = by_test (p.connection == c) refl
 -- what is given after a request
 abbrev texts : Pending → Response → ℕ → List Group → List Call
 texts r response t groups =
-    acts.Give r.connection (response.text ++ first_piece (place_of r response t) groups)
-    ∷ finish r.connection (keeps response.connection) r.told (first_rest (place_of r response t) t groups)
+    acts.Give r.connection (response.text ++ first_piece (transfer_for r response t) groups)
+    ∷ finish r.connection (keeps response.connection) r.told (first_rest (transfer_for r response t) t groups)
 
 -- after the request that was taken
 request_taken : (c : ℕ) (takes more : List Call) (st : Standing) (ws : List Work) (now later : List Group) (g w : List ℕ) → given c takes ≡ []
@@ -215,26 +215,26 @@ request_taken c takes more st ws now later g w none h =
 replies_request : (c : ℕ) (r : Pending) (response : Response) (t : ℕ) (a : Running) (made : List Call) (later : List Group) (g w : List ℕ) → Grows a.node.groups later
     → MayAnswer r.waited r.connection made a.works → IsGivable (content_in r.asked.operation response.content) a.node.groups → Holds (phase_on c made) (works_on c a.works) a.node.groups later g w
     → Behind c (takes_request r ++ texts r response t a.node.groups) (if r.connection == c then whole_reply r response later else []) (standing_of c made)
-    (works_on c (with_content (first_rest (place_of r response t) t a.node.groups) (without r.connection a.works))) a.node.groups later g w
+    (works_on c (with_content (first_rest (transfer_for r response t) t a.node.groups) (without_work r.connection a.works))) a.node.groups later g w
 replies_request c r response t a made later g w grows may there h = by_test (r.connection == c) refl
   where
     content : Option UnderWay
     content = content_in r.asked.operation response.content
 
     first : List ℕ
-    first = first_piece (place_of r response t) a.node.groups
+    first = first_piece (transfer_for r response t) a.node.groups
 
     left : Option Transfer
-    left = first_rest (place_of r response t) t a.node.groups
+    left = first_rest (transfer_for r response t) t a.node.groups
 
     ws : List Work
-    ws = works_on c (with_content left (without r.connection a.works))
+    ws = works_on c (with_content left (without_work r.connection a.works))
 
     by_test : (b : Bool) → (r.connection == c) ≡ b → Behind c (takes_request r ++ texts r response t a.node.groups) (if b then whole_reply r response later else []) (standing_of c made) ws a.node.groups later g w
     by_test true own =
         let here : MayAnswer r.waited c made a.works = subst (λ (x : ℕ). MayAnswer r.waited x made a.works) (eqb-true r.connection c own) may in
         let before = taken r c a made a.node.groups later g w r.waited refl own here h in
-        let none : works_on c (without r.connection a.works) ≡ [] = taken_out c r.connection a.works own ∙ before.1 in
+        let none : works_on c (without_work r.connection a.works) ≡ [] = taken_out c r.connection a.works own ∙ before.1 in
         let is : w ++ whole_reply r response later ≡ (g ++ (response.text ++ first)) ++ owed (content_left left) later =
         ap (λ (x : List ℕ). x ++ whole_reply r response later) (before.3)
         ∙ ap (λ (x : List ℕ). g ++ (response.text ++ x)) (first_given r response t content a.node.groups later grows there)
@@ -242,12 +242,12 @@ replies_request c r response t a made later g w grows may there h = by_test (r.c
         ∙ sym (append_assoc g (response.text ++ first) (owed (content_left left) later)) in
         request_taken c (takes_request r) (texts r response t a.node.groups) (standing_of c made) ws a.node.groups later g (w ++ whole_reply r response later) (before.2)
         (text_given c r.connection (response.text ++ first) (keeps response.connection) r.told left (stands_after c (takes_request r) (standing_of c made)) ws a.node.groups later g (w ++ whole_reply r response later) own (before.0)
-        (left_on c (without r.connection a.works) left none (first_at true c r response t content a.node.groups own))
+        (left_on c (without_work r.connection a.works) left none (first_at true c r response t content a.node.groups own))
         (first_givable r response t content a.node.groups there) is)
     by_test false apart =
         let before = taken_other r c (standing_of c made) r.waited refl apart in
         let same : ws ≡ works_on c a.works =
-        other_left c (without r.connection a.works) left (first_at false c r response t content a.node.groups apart) ∙ other_without c r.connection a.works apart in
+        other_left c (without_work r.connection a.works) left (first_at false c r response t content a.node.groups apart) ∙ other_without c r.connection a.works apart in
         request_taken c (takes_request r) (texts r response t a.node.groups) (standing_of c made) ws a.node.groups later g (w ++ []) (before.1)
         (subst (λ (x : Standing). Holds (stands_after c (texts r response t a.node.groups) x).phase ws a.node.groups later (g ++ given c (texts r response t a.node.groups)) (w ++ [])) (sym (before.0))
         (text_other c r.connection (response.text ++ first) (keeps response.connection) r.told left (standing_of c made) ws a.node.groups later g w apart
@@ -281,7 +281,7 @@ done s (Keeps why) c a made later g w grows may h = holds_still (phase_on c made
 
 all_done : (s : Setting) (ds : List Deed) (c : ℕ) (a : Running) (made : List Call) (later : List Group) (g w : List ℕ) → Grows (after_all ds a).node.groups later → IsOrdered s made ds a
     → Holds (phase_on c made) (works_on c a.works) a.node.groups later g w
-    → Behind c (calls_of s ds a) (replies c ds later) (standing_of c made) (works_on c (after_all ds a).works) (after_all ds a).node.groups later g w
+    → Behind c (calls_of s ds a) (replied_all c ds later) (standing_of c made) (works_on c (after_all ds a).works) (after_all ds a).node.groups later g w
 all_done s [] c a made later g w grows may h = holds_still (phase_on c made) (works_on c a.works) a.node.groups a.node.groups later g w (grows_none a.node.groups) h
 all_done s (d ∷ ds) c a made later g w grows may h =
     let onward : Running = after d a in
@@ -295,9 +295,9 @@ all_done s (d ∷ ds) c a made later g w grows may h =
     let end : stands_after c more (standing_of c (made ++ mine)) ≡ stands_after c (mine ++ more) (standing_of c made) =
     ap (λ (x : Standing). stands_after c more x) stands ∙ sym (stands-then c mine more (standing_of c made)) in
     let gave : (g ++ given c mine) ++ given c more ≡ g ++ given c (mine ++ more) = append_assoc g (given c mine) (given c more) ∙ ap (λ (x : List ℕ). g ++ x) (sym (given-then c mine more)) in
-    let owes : (w ++ replied c d later) ++ replies c ds later ≡ w ++ (replied c d later ++ replies c ds later) = append_assoc w (replied c d later) (replies c ds later) in
-    subst (λ (x : Standing). Holds x.phase (works_on c (after_all ds onward).works) (after_all ds onward).node.groups later (g ++ given c (mine ++ more)) (w ++ (replied c d later ++ replies c ds later))) end
-    (subst (λ (x : List ℕ). Holds (stands_after c more (standing_of c (made ++ mine))).phase (works_on c (after_all ds onward).works) (after_all ds onward).node.groups later x (w ++ (replied c d later ++ replies c ds later))) gave
+    let owes : (w ++ replied c d later) ++ replied_all c ds later ≡ w ++ (replied c d later ++ replied_all c ds later) = append_assoc w (replied c d later) (replied_all c ds later) in
+    subst (λ (x : Standing). Holds x.phase (works_on c (after_all ds onward).works) (after_all ds onward).node.groups later (g ++ given c (mine ++ more)) (w ++ (replied c d later ++ replied_all c ds later))) end
+    (subst (λ (x : List ℕ). Holds (stands_after c more (standing_of c (made ++ mine))).phase (works_on c (after_all ds onward).works) (after_all ds onward).node.groups later x (w ++ (replied c d later ++ replied_all c ds later))) gave
     (subst (λ (x : List ℕ). Holds (stands_after c more (standing_of c (made ++ mine))).phase (works_on c (after_all ds onward).works) (after_all ds onward).node.groups later ((g ++ given c mine) ++ given c more) x) owes next))
 
 -- From nothing under way
@@ -310,17 +310,17 @@ begun_holds Broken ws now later none idle = ([], refl)
 begun_holds Gone ws now later none idle = ([], refl)
 
 run_holds : (s : Setting) (made : List Call) (ds : List Deed) (a : Running) (c : ℕ) → a.works ≡ [] → (phase_on c made ≡ Answering → ⊥) → IsOrdered s made ds a
-    → Behind c (calls_of s ds a) (replies c ds (after_all ds a).node.groups) (standing_of c made) (works_on c (after_all ds a).works) (after_all ds a).node.groups (after_all ds a).node.groups [] []
+    → Behind c (calls_of s ds a) (replied_all c ds (after_all ds a).node.groups) (standing_of c made) (works_on c (after_all ds a).works) (after_all ds a).node.groups (after_all ds a).node.groups [] []
 run_holds s made ds a c none idle ordered =
     all_done s ds c a made (after_all ds a).node.groups [] [] (grows_none (after_all ds a).node.groups) ordered
     (begun_holds (phase_on c made) (works_on c a.works) a.node.groups (after_all ds a).node.groups (ap (works_on c) none) idle)
 
 -- each connection was given a beginning of its replies
 pub given_front : (s : Setting) (made : List Call) (ds : List Deed) (a : Running) (c : ℕ) → a.works ≡ [] → (phase_on c made ≡ Answering → ⊥) → IsOrdered s made ds a
-    → IsFront (given c (calls_of s ds a)) (replies c ds (after_all ds a).node.groups)
+    → IsFront (given c (calls_of s ds a)) (replied_all c ds (after_all ds a).node.groups)
 given_front s made ds a c none idle ordered =
     front_of (stands_after c (calls_of s ds a) (standing_of c made)).phase (works_on c (after_all ds a).works) (after_all ds a).node.groups (after_all ds a).node.groups
-    (given c (calls_of s ds a)) (replies c ds (after_all ds a).node.groups) (run_holds s made ds a c none idle ordered)
+    (given c (calls_of s ds a)) (replied_all c ds (after_all ds a).node.groups) (run_holds s made ds a c none idle ordered)
 
 whole_at : (phase : Phase) (ws : List Work) (now later : List Group) (g w : List ℕ) → (phase ≡ Awaiting) ⊎ (phase ≡ Whole) → Holds phase ws now later g w → g ≡ w
 whole_at phase ws now later g w (inl is) h =
@@ -333,9 +333,9 @@ whole_at phase ws now later g w (inr is) h =
 -- and all of them where none is under way and it was not cut off
 pub given_whole : (s : Setting) (made : List Call) (ds : List Deed) (a : Running) (c : ℕ) → a.works ≡ [] → (phase_on c made ≡ Answering → ⊥) → IsOrdered s made ds a
     → (phase_on c (made ++ calls_of s ds a) ≡ Awaiting) ⊎ (phase_on c (made ++ calls_of s ds a) ≡ Whole)
-    → given c (calls_of s ds a) ≡ replies c ds (after_all ds a).node.groups
+    → given c (calls_of s ds a) ≡ replied_all c ds (after_all ds a).node.groups
 given_whole s made ds a c none idle ordered ended =
     whole_at (phase_on c (made ++ calls_of s ds a)) (works_on c (after_all ds a).works) (after_all ds a).node.groups (after_all ds a).node.groups
-    (given c (calls_of s ds a)) (replies c ds (after_all ds a).node.groups) ended
-    (subst (λ (x : Standing). Holds x.phase (works_on c (after_all ds a).works) (after_all ds a).node.groups (after_all ds a).node.groups (given c (calls_of s ds a)) (replies c ds (after_all ds a).node.groups))
+    (given c (calls_of s ds a)) (replied_all c ds (after_all ds a).node.groups) ended
+    (subst (λ (x : Standing). Holds x.phase (works_on c (after_all ds a).works) (after_all ds a).node.groups (after_all ds a).node.groups (given c (calls_of s ds a)) (replied_all c ds (after_all ds a).node.groups))
     (sym (stands-then c made (calls_of s ds a) untouched)) (run_holds s made ds a c none idle ordered))

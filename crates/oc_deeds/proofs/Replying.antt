@@ -13,7 +13,7 @@ use Rattle.oc_link.specs.declared.call.Call.TheVariants as acts
 use Rattle.oc_link.specs.declared.phase.Phase.{Phase}
 use Rattle.oc_link.specs.declared.phase.Phase.TheVariants.{Awaiting, Answering}
 use Rattle.oc_link.specs.declared.phase.Standing.{Standing}
-use Rattle.oc_routes.specs.Contents.{behind, owed, piece_of}
+use Rattle.oc_routes.specs.Contents.{rest_after, owed, piece_of}
 use Rattle.oc_routes.specs.declared.content.UnderWay.{UnderWay}
 use Rattle.oc_routes.specs.declared.connections.TheConstants.{CONTINUE}
 use Rattle.oc_routes.specs.declared.response.Response.{Response}
@@ -22,7 +22,7 @@ use Rattle.oc_deeds.proofs.Grown.{grows_none}
 use Rattle.oc_deeds.proofs.WorksOn.{other_pushed, own_pushed, own_without}
 use Rattle.oc_deeds.specs.Deeds.{Running, finish, first_rest, keeps, refuses, takes_request, with_content}
 use Rattle.oc_deeds.specs.Replying.{IsGivable, MayAnswer, phase_on, text_or_none, works_on}
-use Rattle.oc_deeds.specs.Works.{without}
+use Rattle.oc_deeds.specs.Works.{without_work}
 use Rattle.oc_deeds.specs.declared.work.Pending.{Pending}
 use Rattle.oc_deeds.specs.declared.work.Transfer.{Transfer}
 use Rattle.oc_deeds.specs.declared.work.Waiting.{Waiting}
@@ -106,7 +106,7 @@ pub first_at : (b : Bool) (c : ℕ) (r : Pending) (response : Response) (t : ℕ
 first_at b c r response t None now is = tt
 first_at b c r response t (Some u) now is =
     let p : Transfer = record { connection = r.connection; content = u; keeps = keeps response.connection; told = r.told; since = t } in
-    rest_at b c p t (behind u (length (piece_of u now))) is
+    rest_at b c p t (rest_after u (length (piece_of u now))) is
 
 -- what is under way on a connection after a piece
 pub left_on : (c : ℕ) (ws : List Work) (left : Option Transfer) → works_on c ws ≡ [] → IsAt true c left → works_on c (with_content left ws) ≡ works_left left
@@ -118,8 +118,8 @@ other_left c ws None apart = refl
 other_left c ws (Some p) apart = other_pushed c ws (works.Content p) apart
 
 -- the work of this connection is taken out
-pub taken_out : (c d : ℕ) (ws : List Work) → (d == c) ≡ true → works_on c (without d ws) ≡ drop 1 (works_on c ws)
-taken_out c d ws own = ap (λ (x : ℕ). works_on c (without x ws)) (eqb-true d c own) ∙ own_without c ws
+pub taken_out : (c d : ℕ) (ws : List Work) → (d == c) ≡ true → works_on c (without_work d ws) ≡ drop 1 (works_on c ws)
+taken_out c d ws own = ap (λ (x : ℕ). works_on c (without_work x ws)) (eqb-true d c own) ∙ own_without c ws
 
 finish_gives : (c d : ℕ) (keep watched : Bool) (left : Option Transfer) → given c (finish d keep watched left) ≡ []
 finish_gives c d keep watched None = refl

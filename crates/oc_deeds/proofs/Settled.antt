@@ -10,14 +10,14 @@ use Rattle.oc_link.specs.declared.call.Call.TheVariants as acts
 use Rattle.oc_link.specs.declared.phase.Phase.{Phase}
 use Rattle.oc_link.specs.declared.phase.Phase.TheVariants.{Awaiting, Answering, Whole, Broken, Gone}
 use Rattle.oc_link.specs.declared.phase.Standing.{Standing}
-use Rattle.oc_routes.specs.Contents.{behind, piece_of}
+use Rattle.oc_routes.specs.Contents.{rest_after, piece_of}
 use Rattle.oc_routes.specs.Refusals.{refusal_text}
 use Rattle.oc_routes.specs.declared.verdict.Refusal.{Refusal}
 use Rattle.oc_routes.specs.declared.response.Response.{Response}
 use Rattle.oc_deeds.proofs.Givings.{works_left}
 use Rattle.oc_deeds.proofs.Replying.{first_at, left_on, other_left, phase_here, rest_at, taken_other, taken_out}
 use Rattle.oc_deeds.proofs.WorksOn.{other_pushed, other_without, own_pushed}
-use Rattle.oc_deeds.specs.Deeds.{Accepts, BreaksOff, Deed, Dials, Drops, Gives, Keeps, LaysAside, Looks, Notes, Permits, Probes, Reads, Refuses, Replies, Rereads, Running, Says, Sees, Setting, Takes, Tells, Waits, after, after_all, calls, calls_of, content_in, finish, first_piece, first_rest, keeps, piece, place_of, refuses, rest, takes_request, with_content}
+use Rattle.oc_deeds.specs.Deeds.{Accepts, BreaksOff, Deed, Dials, Drops, Gives, Keeps, LaysAside, Looks, Notes, Permits, Probes, Reads, Refuses, Replies, Rereads, Running, Says, Sees, Setting, Takes, Tells, Waits, after, after_all, calls, calls_of, content_in, finish, first_piece, first_rest, keeps, piece, transfer_for, refuses, rest, takes_request, with_content}
 use Rattle.oc_config.specs.Settings.{Settings}
 use Rattle.oc_link.specs.declared.look.Look.{Look}
 use Rattle.oc_updown.specs.declared.measure_lines.Measure.{Measure}
@@ -28,7 +28,7 @@ use Rattle.oc_deeds.specs.declared.reread.Reread.TheVariants as rereads
 use Rattle.oc_deeds.specs.declared.unfit.Unfit.{Unfit}
 use Rattle.oc_deeds.specs.Replying.{HasContent, IsGivable, IsOrdered, MayAnswer, MayDo, phase_on, works_on}
 use Rattle.oc_deeds.specs.Settled.{Fits, IsSettled}
-use Rattle.oc_deeds.specs.Works.{without}
+use Rattle.oc_deeds.specs.Works.{without_work}
 use Rattle.oc_deeds.specs.declared.work.Pending.{Pending}
 use Rattle.oc_deeds.specs.declared.work.Transfer.{Transfer}
 use Rattle.oc_deeds.specs.declared.work.Waiting.{Waiting}
@@ -100,10 +100,10 @@ none_on : (c d : ℕ) (made : List Call) (ws : List Work) → (d == c) ≡ true 
 none_on c d made ws own may settled = subst (λ (x : Phase). Fits x (works_on c ws)) (phase_here c d made Awaiting own may) (settled c)
 
 -- all but one
-none_left : (c d : ℕ) (made : List Call) (ws : List Work) → (d == c) ≡ true → IsSettled made ws → works_on c (without d ws) ≡ []
+none_left : (c d : ℕ) (made : List Call) (ws : List Work) → (d == c) ≡ true → IsSettled made ws → works_on c (without_work d ws) ≡ []
 none_left c d made ws own settled = taken_out c d ws own ∙ one_at_most (phase_on c made) (works_on c ws) (settled c)
 
-other_still : (c d : ℕ) (phase : Phase) (ws : List Work) → (d == c) ≡ false → Fits phase (works_on c ws) → Fits phase (works_on c (without d ws))
+other_still : (c d : ℕ) (phase : Phase) (ws : List Work) → (d == c) ≡ false → Fits phase (works_on c ws) → Fits phase (works_on c (without_work d ws))
 other_still c d phase ws apart fits = subst (λ (x : List Work). Fits phase x) (sym (other_without c d ws apart)) fits
 
 -- Deeds that touch no connection
@@ -152,7 +152,7 @@ quiet_behind s made (Drops c told) ds a quiet settled onward = absurd quiet
 pub all_quiet : (s : Setting) (made : List Call) (ds : List Deed) (a : Running) → AllQuiet ds → IsSettled made a.works → IsOrderly s made ds a
 all_quiet s made [] a quiet settled = orderly_none s made a settled
 all_quiet s made (d ∷ ds) a quiet settled =
-    quiet_behind s made d ds a (quiet.0) settled (λ behind. all_quiet s (made ++ calls s d a) ds (after d a) (quiet.1) behind)
+    quiet_behind s made d ds a (quiet.0) settled (λ settled_after. all_quiet s (made ++ calls s d a) ds (after d a) (quiet.1) settled_after)
 
 -- those by which a configuration that was read again is gone by
 quiet_measures : (ms : List Measure) (s : Setting) (a : Running) → AllQuiet (takes_measures ms s a)
@@ -207,9 +207,9 @@ refuses_request s made d count refusal a may settled =
 
 pub breaks : (s : Setting) (made : List Call) (d : ℕ) (a : Running) → IsSettled made a.works → IsOrderly s made (BreaksOff d ∷ []) a
 breaks s made d a settled =
-    orderly_one s made (BreaksOff d) a tt (settled_by made (acts.BreakOff d ∷ []) (without d a.works) (λ c. by_test c (d == c) refl))
+    orderly_one s made (BreaksOff d) a tt (settled_by made (acts.BreakOff d ∷ []) (without_work d a.works) (λ c. by_test c (d == c) refl))
   where
-    by_test : (c : ℕ) (b : Bool) → (d == c) ≡ b → Fits (stands_after c (acts.BreakOff d ∷ []) (standing_of c made)).phase (works_on c (without d a.works))
+    by_test : (c : ℕ) (b : Bool) → (d == c) ≡ b → Fits (stands_after c (acts.BreakOff d ∷ []) (standing_of c made)).phase (works_on c (without_work d a.works))
     by_test c true own = rw own (none_left c d made a.works own settled)
     by_test c false apart = rw apart (other_still c d (phase_on c made) a.works apart (settled c))
 
@@ -221,11 +221,11 @@ pub record IsLeft (d : ℕ) (made : List Call) (ws : List Work) : Type 0 where
 
 pub drops : (s : Setting) (made : List Call) (d : ℕ) (told : Bool) (a : Running) → IsLeft d made a.works → IsOrderly s made (Drops d told ∷ []) a
 drops s made d told a left =
-    orderly_one s made (Drops d told) a left.phase (settled_by made [] (without d a.works) (λ c. by_test c (d == c) refl))
+    orderly_one s made (Drops d told) a left.phase (settled_by made [] (without_work d a.works) (λ c. by_test c (d == c) refl))
   where
-    by_test : (c : ℕ) (b : Bool) → (d == c) ≡ b → Fits (phase_on c made) (works_on c (without d a.works))
+    by_test : (c : ℕ) (b : Bool) → (d == c) ≡ b → Fits (phase_on c made) (works_on c (without_work d a.works))
     by_test c true own =
-        subst (λ (x : Phase). Fits x (works_on c (without d a.works))) (sym (phase_here c d made Gone own left.phase))
+        subst (λ (x : Phase). Fits x (works_on c (without_work d a.works))) (sym (phase_here c d made Gone own left.phase))
         (taken_out c d a.works own ∙ subst (λ (x : ℕ). drop 1 (works_on x a.works) ≡ []) (eqb-true d c own) left.one)
     by_test c false apart = other_still c d (phase_on c made) a.works apart (left.others c apart)
 
@@ -249,31 +249,31 @@ text_other c d text keep watched (Some p) st ws apart fits = rw apart fits
 
 pub gives : (s : Setting) (made : List Call) (p : Transfer) (t : ℕ) (a : Running) → HasContent p made a.works → IsSettled made a.works → IsOrderly s made (Gives p t ∷ []) a
 gives s made p t a has settled =
-    orderly_one s made (Gives p t) a has (settled_by made (calls s (Gives p t) a) (with_content left (without p.connection a.works)) (λ c. by_test c (p.connection == c) refl))
+    orderly_one s made (Gives p t) a has (settled_by made (calls s (Gives p t) a) (with_content left (without_work p.connection a.works)) (λ c. by_test c (p.connection == c) refl))
   where
     left : Option Transfer
     left = rest p t a.node.groups
 
     by_test : (c : ℕ) (b : Bool) → (p.connection == c) ≡ b
-        → Fits (stands_after c (acts.Give p.connection (piece p a.node.groups) ∷ finish p.connection p.keeps p.told left) (standing_of c made)).phase (works_on c (with_content left (without p.connection a.works)))
+        → Fits (stands_after c (acts.Give p.connection (piece p a.node.groups) ∷ finish p.connection p.keeps p.told left) (standing_of c made)).phase (works_on c (with_content left (without_work p.connection a.works)))
     by_test c true own =
-        text_given c p.connection (piece p a.node.groups) p.keeps p.told left (standing_of c made) (works_on c (with_content left (without p.connection a.works))) own (phase_here c p.connection made Answering own has.phase)
-        (left_on c (without p.connection a.works) left (none_left c p.connection made a.works own settled) (rest_at true c p t (behind p.content (length (piece_of p.content a.node.groups))) own))
+        text_given c p.connection (piece p a.node.groups) p.keeps p.told left (standing_of c made) (works_on c (with_content left (without_work p.connection a.works))) own (phase_here c p.connection made Answering own has.phase)
+        (left_on c (without_work p.connection a.works) left (none_left c p.connection made a.works own settled) (rest_at true c p t (rest_after p.content (length (piece_of p.content a.node.groups))) own))
     by_test c false apart =
-        text_other c p.connection (piece p a.node.groups) p.keeps p.told left (standing_of c made) (works_on c (with_content left (without p.connection a.works))) apart
+        text_other c p.connection (piece p a.node.groups) p.keeps p.told left (standing_of c made) (works_on c (with_content left (without_work p.connection a.works))) apart
         (subst (λ (ws : List Work). Fits (phase_on c made) ws)
-        (sym (other_left c (without p.connection a.works) left (rest_at false c p t (behind p.content (length (piece_of p.content a.node.groups))) apart) ∙ other_without c p.connection a.works apart)) (settled c))
+        (sym (other_left c (without_work p.connection a.works) left (rest_at false c p t (rest_after p.content (length (piece_of p.content a.node.groups))) apart) ∙ other_without c p.connection a.works apart)) (settled c))
 
 pub lays : (s : Setting) (made : List Call) (p : Transfer) (a : Running) → HasContent p made a.works → IsSettled made a.works → IsOrderly s made (LaysAside p ∷ []) a
 lays s made p a has settled =
-    orderly_one s made (LaysAside p) a has (settled_by made [] (without p.connection a.works ++ works.Aside p ∷ []) (λ c. by_test c (p.connection == c) refl))
+    orderly_one s made (LaysAside p) a has (settled_by made [] (without_work p.connection a.works ++ works.Aside p ∷ []) (λ c. by_test c (p.connection == c) refl))
   where
-    by_test : (c : ℕ) (b : Bool) → (p.connection == c) ≡ b → Fits (phase_on c made) (works_on c (without p.connection a.works ++ works.Aside p ∷ []))
+    by_test : (c : ℕ) (b : Bool) → (p.connection == c) ≡ b → Fits (phase_on c made) (works_on c (without_work p.connection a.works ++ works.Aside p ∷ []))
     by_test c true own =
-        subst (λ (x : Phase). Fits x (works_on c (without p.connection a.works ++ works.Aside p ∷ []))) (sym (phase_here c p.connection made Answering own has.phase))
-        (works.Aside p, own_pushed c (without p.connection a.works) (works.Aside p) own ∙ ap (λ (x : List Work). x ++ works.Aside p ∷ []) (none_left c p.connection made a.works own settled))
+        subst (λ (x : Phase). Fits x (works_on c (without_work p.connection a.works ++ works.Aside p ∷ []))) (sym (phase_here c p.connection made Answering own has.phase))
+        (works.Aside p, own_pushed c (without_work p.connection a.works) (works.Aside p) own ∙ ap (λ (x : List Work). x ++ works.Aside p ∷ []) (none_left c p.connection made a.works own settled))
     by_test c false apart =
-        subst (λ (ws : List Work). Fits (phase_on c made) ws) (sym (other_pushed c (without p.connection a.works) (works.Aside p) apart ∙ other_without c p.connection a.works apart)) (settled c)
+        subst (λ (ws : List Work). Fits (phase_on c made) ws) (sym (other_pushed c (without_work p.connection a.works) (works.Aside p) apart ∙ other_without c p.connection a.works apart)) (settled c)
 
 -- Requests that are answered
 
@@ -287,28 +287,28 @@ pub replies_request : (s : Setting) (made : List Call) (r : Pending) (response :
     → IsGivable (content_in r.asked.operation response.content) a.node.groups → IsSettled made a.works → IsOrderly s made (Replies r response t ∷ []) a
 replies_request s made r response t a may there settled =
     orderly_one s made (Replies r response t) a (may, there)
-    (settled_by made (calls s (Replies r response t) a) (with_content left (without r.connection a.works))
-    (λ c. subst (λ (x : Standing). Fits x.phase (works_on c (with_content left (without r.connection a.works)))) (sym (stands-then c (takes_request r) texts (standing_of c made))) (by_test c (r.connection == c) refl)))
+    (settled_by made (calls s (Replies r response t) a) (with_content left (without_work r.connection a.works))
+    (λ c. subst (λ (x : Standing). Fits x.phase (works_on c (with_content left (without_work r.connection a.works)))) (sym (stands-then c (takes_request r) texts (standing_of c made))) (by_test c (r.connection == c) refl)))
   where
     left : Option Transfer
-    left = first_rest (place_of r response t) t a.node.groups
+    left = first_rest (transfer_for r response t) t a.node.groups
 
     first : List ℕ
-    first = first_piece (place_of r response t) a.node.groups
+    first = first_piece (transfer_for r response t) a.node.groups
 
     texts : List Call
     texts = acts.Give r.connection (response.text ++ first) ∷ finish r.connection (keeps response.connection) r.told left
 
     by_test : (c : ℕ) (b : Bool) → (r.connection == c) ≡ b
-        → Fits (stands_after c texts (stands_after c (takes_request r) (standing_of c made))).phase (works_on c (with_content left (without r.connection a.works)))
+        → Fits (stands_after c texts (stands_after c (takes_request r) (standing_of c made))).phase (works_on c (with_content left (without_work r.connection a.works)))
     by_test c true own =
         let here : MayAnswer r.waited c made a.works = subst (λ (x : ℕ). MayAnswer r.waited x made a.works) (eqb-true r.connection c own) may in
-        text_given c r.connection (response.text ++ first) (keeps response.connection) r.told left (stands_after c (takes_request r) (standing_of c made)) (works_on c (with_content left (without r.connection a.works))) own
+        text_given c r.connection (response.text ++ first) (keeps response.connection) r.told left (stands_after c (takes_request r) (standing_of c made)) (works_on c (with_content left (without_work r.connection a.works))) own
         (answering r c made a.works r.waited refl own here)
-        (left_on c (without r.connection a.works) left (none_left c r.connection made a.works own settled) (first_at true c r response t (content_in r.asked.operation response.content) a.node.groups own))
+        (left_on c (without_work r.connection a.works) left (none_left c r.connection made a.works own settled) (first_at true c r response t (content_in r.asked.operation response.content) a.node.groups own))
     by_test c false apart =
         let before = taken_other r c (standing_of c made) r.waited refl apart in
-        text_other c r.connection (response.text ++ first) (keeps response.connection) r.told left (stands_after c (takes_request r) (standing_of c made)) (works_on c (with_content left (without r.connection a.works))) apart
-        (subst (λ (x : Standing). Fits x.phase (works_on c (with_content left (without r.connection a.works)))) (sym (before.0))
+        text_other c r.connection (response.text ++ first) (keeps response.connection) r.told left (stands_after c (takes_request r) (standing_of c made)) (works_on c (with_content left (without_work r.connection a.works))) apart
+        (subst (λ (x : Standing). Fits x.phase (works_on c (with_content left (without_work r.connection a.works)))) (sym (before.0))
         (subst (λ (ws : List Work). Fits (phase_on c made) ws)
-        (sym (other_left c (without r.connection a.works) left (first_at false c r response t (content_in r.asked.operation response.content) a.node.groups apart) ∙ other_without c r.connection a.works apart)) (settled c)))
+        (sym (other_left c (without_work r.connection a.works) left (first_at false c r response t (content_in r.asked.operation response.content) a.node.groups apart) ∙ other_without c r.connection a.works apart)) (settled c)))

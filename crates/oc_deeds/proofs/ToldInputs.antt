@@ -7,16 +7,16 @@ use Rattle.oc_model.specs.declared.mode.Mode.{Mode}
 use Rattle.oc_model.specs.Node.{Control, Node}
 use Rattle.oc_model.specs.Step.{step}
 use Rattle.oc_deeds.specs.Brief.{asked_line, at_stake, lost_lines, moved_line, told_input, told_of}
-use Rattle.oc_deeds.specs.Telling.{IsBefore, told_behind}
+use Rattle.oc_deeds.specs.Telling.{IsBefore, told_after}
 use Rattle.oc_deeds.specs.declared.brief.Before.{Before}
 use Rattle.oc_deeds.specs.declared.log.Log.{Log}
 use Rattle.oc_deeds.specs.declared.log.Log.TheVariants as logs
 
 -- what is told by what was known before an input is what is told of it
 pub told_same : (log : Log) (n : Node) (x : Control) (i : Input) (before : Option Before) (answer : Answer) → IsBefore log n.control i before → x ≡ (step n i).node.control → answer ≡ (step n i).answer
-    → told_behind before x answer ≡ told_of log n i
-told_same logs.Inputs n x i before answer known is says = ap (λ (o : Option Before). told_behind o x answer) known
-told_same logs.Record n x i before answer known is says = ap (λ (o : Option Before). told_behind o x answer) known
+    → told_after before x answer ≡ told_of log n i
+told_same logs.Inputs n x i before answer known is says = ap (λ (o : Option Before). told_after o x answer) known
+told_same logs.Record n x i before answer known is says = ap (λ (o : Option Before). told_after o x answer) known
 told_same logs.Brief n x i None answer known is says = absurd known
 told_same logs.Brief n x i (Some b) answer known is says =
     ap (λ (t : List ℕ). asked_line t answer ++ lost_lines x b.leased.items ++ moved_line b.mode x) known.told

@@ -8,7 +8,7 @@ use Rattle.std.proofs.lemmas.List.{append-nil}
 use Rattle.std.proofs.lemmas.List.Elements.{filter-append}
 use Rattle.oc_routes.specs.Elements.{without_at}
 use Rattle.oc_deeds.specs.Replying.{works_on}
-use Rattle.oc_deeds.specs.Works.{connection_of, without}
+use Rattle.oc_deeds.specs.Works.{connection_of, without_work}
 use Rattle.oc_deeds.specs.declared.work.Work.{Work}
 
 abbrev pub is_on : ℕ → Work → Bool
@@ -79,11 +79,11 @@ other_dropped c d (w ∷ ws) apart = by_test (other_dropped c d ws apart) (is_on
     by_test behind false is = ap (λ (x : List Work). cond (is_on c w) (w ∷ x) x) behind
 
 -- the first one of a connection is taken out
-pub own_without : (c : ℕ) (ws : List Work) → works_on c (without c ws) ≡ drop 1 (works_on c ws)
+pub own_without : (c : ℕ) (ws : List Work) → works_on c (without_work c ws) ≡ drop 1 (works_on c ws)
 own_without c ws = ap (works_on c) (removed (is_on c) ws) ∙ own_dropped c ws
 
 -- one of another connection is taken out
-pub other_without : (c d : ℕ) (ws : List Work) → (d == c) ≡ false → works_on c (without d ws) ≡ works_on c ws
+pub other_without : (c d : ℕ) (ws : List Work) → (d == c) ≡ false → works_on c (without_work d ws) ≡ works_on c ws
 other_without c d ws apart = ap (works_on c) (removed (is_on d) ws) ∙ other_dropped c d ws apart
 
 -- one more

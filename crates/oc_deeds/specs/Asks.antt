@@ -103,11 +103,15 @@ due_of (Some (works.Content p)) = dues.Nothing
 due_of (Some (works.Aside p)) = dues.Aside p
 due_of (Some (works.Waits w)) = dues.Waits (pending w.connection w.request (is_some (client_input w.request.asked.operation w.request.asked.hint)) true)
 
+-- a client that waits is answered
+abbrev pub wakes : Pending → ℕ → Part
+wakes r now = responds r (client_input r.asked.operation r.asked.hint) now
+
 -- a content goes on, and a client that waits is answered
 abbrev pub taken_up : Due → ℕ → Part
 taken_up dues.Nothing now = nothing
 taken_up (dues.Aside p) now = goes_on p now
-taken_up (dues.Waits r) now = responds r (client_input r.asked.operation r.asked.hint) now
+taken_up (dues.Waits r) now = wakes r now
 
 -- some work that is due is taken up
 abbrev pub takes_up : Option Work → ℕ → Part

@@ -46,9 +46,9 @@ is_work_due lines now (works.Content p) = false
 is_work_due lines now (works.Aside p) = not (is_waiting (prospect_of p lines now))
 is_work_due lines now (works.Waits w) = is_over w.request.asked.operation w.since lines now
 
--- the place of the oldest work that is due by itself
-abbrev pub due_place : List Work → List Shelf → ℕ → Option ℕ
-due_place ws lines now = position (is_work_due lines now) ws
+-- the index of the oldest work that is due by itself
+abbrev pub due_index : List Work → List Shelf → ℕ → Option ℕ
+due_index ws lines now = position (is_work_due lines now) ws
 
 -- Waits
 
@@ -88,11 +88,11 @@ holds_up m (errands.Probe peer since) = false
 abbrev pub is_held_up : List Dialling → Message → Bool
 is_held_up ds m = list_any (λ d. holds_up m d.errand) ds
 
--- the place of the first of these that is not held up
+-- the index of the first of these that is not held up
 abbrev pub first_free : List Message → List Dialling → Option ℕ
 first_free ms ds = position (λ m. not (is_held_up ds m)) ms
 
--- the place of the oldest message that may be dialled
+-- the index of the oldest message that may be dialled
 abbrev pub next_to_dial : List Message → List Dialling → Option ℕ
 next_to_dial ms ds = if has_room ds then first_free ms ds else None
 

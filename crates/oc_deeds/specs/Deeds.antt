@@ -15,7 +15,7 @@ use Rattle.oc_model.specs.declared.input.Input.TheVariants.{Delivered}
 use Rattle.oc_model.specs.declared.message.Message.{Message}
 use Rattle.oc_model.specs.Node.{Node}
 use Rattle.oc_model.specs.Step.{step}
-use Rattle.oc_routes.specs.Contents.{begun, behind, piece_of, piece_text}
+use Rattle.oc_routes.specs.Contents.{begun, rest_after, piece_of, piece_text}
 use Rattle.oc_routes.specs.declared.content.UnderWay.{UnderWay}
 use Rattle.oc_routes.specs.Inputs.{input_line}
 use Rattle.oc_routes.specs.Refusals.{refusal_text, why_text}
@@ -32,7 +32,7 @@ use Rattle.oc_wire.specs.Macs.{request_of}
 use Rattle.oc_deeds.specs.Dials.{brings, dialling}
 use Rattle.oc_deeds.specs.Dials as dials
 use Rattle.oc_deeds.specs.Outboxes.{with_messages}
-use Rattle.oc_deeds.specs.Works.{without}
+use Rattle.oc_deeds.specs.Works.{without_work}
 use Rattle.oc_deeds.specs.declared.dials.Dialling.{Dialling}
 use Rattle.oc_deeds.specs.declared.dials.Errand.{Errand}
 use Rattle.oc_deeds.specs.declared.dials.Errand.TheVariants as errands
@@ -151,11 +151,11 @@ abbrev pub piece : Transfer → List Group → List ℕ
 piece p groups = piece_text p.content (piece_of p.content groups)
 
 -- the content after it, if anything is left
-abbrev pub place_behind : Transfer → ℕ → ℕ → Option Transfer
-place_behind p now count = option_map (λ (u : UnderWay). record p { content = u; since = now }) (behind p.content count)
+abbrev pub transfer_after : Transfer → ℕ → ℕ → Option Transfer
+transfer_after p now count = option_map (λ (u : UnderWay). record p { content = u; since = now }) (rest_after p.content count)
 
 abbrev pub rest : Transfer → ℕ → List Group → Option Transfer
-rest p now groups = place_behind p now (length (piece_of p.content groups))
+rest p now groups = transfer_after p now (length (piece_of p.content groups))
 
 abbrev pub keeps : Persistence → Bool
 keeps Keep = true
@@ -173,9 +173,9 @@ abbrev pub content_in : Operation → Option GroupRange → Option UnderWay
 content_in (asks.Client group area start manner) range = content_at group range
 content_in asked range = None
 
--- the place from which it is given
-abbrev pub place_of : Pending → Response → ℕ → Option Transfer
-place_of r response now = option_map (λ (u : UnderWay). record {
+-- how it is given, from its beginning on
+abbrev pub transfer_for : Pending → Response → ℕ → Option Transfer
+transfer_for r response now = option_map (λ (u : UnderWay). record {
   connection = r.connection;
   content = u;
   keeps = keeps response.connection;
@@ -221,9 +221,9 @@ with_content None ws = ws
 with_content (Some p) ws = ws ++ works.Content p ∷ []
 
 -- a dial whose reply came is over
-abbrev pub dials_behind : LinkEvent → List Dialling → List Dialling
-dials_behind (events.Reply d coming) ds = dials.without d ds
-dials_behind e ds = ds
+abbrev pub dials_after : LinkEvent → List Dialling → List Dialling
+dials_after (events.Reply d coming) ds = dials.without_dial d ds
+dials_after e ds = ds
 
 -- for what the dial was made whose reply an event is
 abbrev pub errand_in : LinkEvent → List Dialling → Option Errand
@@ -231,16 +231,16 @@ errand_in (events.Reply d coming) ds = dials.errand_of d ds
 errand_in e ds = None
 
 abbrev pub after : Deed → Running → Running
-after (Sees e wait bytes) a = record a { dials = dials_behind e a.dials }
+after (Sees e wait bytes) a = record a { dials = dials_after e a.dials }
 after (Takes i) a = took i (λ sends. sends) a
 after (Accepts i) a = took i (for_outbox i) a
 after (Waits w) a = record a { works = a.works ++ works.Waits w ∷ [] }
 after (Replies r response now) a =
-    record a { works = with_content (first_rest (place_of r response now) now a.node.groups) (without r.connection a.works) }
-after (BreaksOff c) a = record a { works = without c a.works }
-after (Gives p now) a = record a { works = with_content (rest p now a.node.groups) (without p.connection a.works) }
-after (LaysAside p) a = record a { works = without p.connection a.works ++ works.Aside p ∷ [] }
-after (Drops c told) a = record a { works = without c a.works }
+    record a { works = with_content (first_rest (transfer_for r response now) now a.node.groups) (without_work r.connection a.works) }
+after (BreaksOff c) a = record a { works = without_work c a.works }
+after (Gives p now) a = record a { works = with_content (rest p now a.node.groups) (without_work p.connection a.works) }
+after (LaysAside p) a = record a { works = without_work p.connection a.works ++ works.Aside p ∷ [] }
+after (Drops c told) a = record a { works = without_work c a.works }
 after (Dials place m d) a = record a { outbox = remove a.outbox place; dials = a.dials ++ dialling d (brings m) ∷ [] }
 after (Probes peer d now) a = record a { dials = a.dials ++ dialling d (errands.Probe peer now) ∷ [] }
 after (Rereads config) a = record a { config = config }
@@ -270,8 +270,8 @@ calls s (Permits c) a = acts.Give c CONTINUE.now ∷ []
 calls s (Waits w) a = acts.Take w.connection w.request.count ∷ []
 calls s (Replies r response now) a =
     takes_request r
-    ++ acts.Give r.connection (response.text ++ first_piece (place_of r response now) a.node.groups)
-    ∷ finish r.connection (keeps response.connection) r.told (first_rest (place_of r response now) now a.node.groups)
+    ++ acts.Give r.connection (response.text ++ first_piece (transfer_for r response now) a.node.groups)
+    ∷ finish r.connection (keeps response.connection) r.told (first_rest (transfer_for r response now) now a.node.groups)
 calls s (Refuses c count refusal) a = refuses c count (refusal_text refusal)
 calls s (BreaksOff c) a = acts.BreakOff c ∷ []
 calls s (Gives p now) a = acts.Give p.connection (piece p a.node.groups) ∷ finish p.connection p.keeps p.told (rest p now a.node.groups)
@@ -297,10 +297,10 @@ calls_of s [] a = []
 calls_of s (d ∷ ds) a = calls s d a ++ calls_of s ds (after d a)
 
 -- the input of a deed, if it takes one
-abbrev pub input_of : Deed → Option Input
-input_of (Takes i) = Some i
-input_of (Accepts i) = Some i
-input_of d = None
+abbrev pub deed_input : Deed → Option Input
+deed_input (Takes i) = Some i
+deed_input (Accepts i) = Some i
+deed_input d = None
 
 abbrev pub with_input : Option Input → List Input → List Input
 with_input None is = is
@@ -309,7 +309,7 @@ with_input (Some i) is = i ∷ is
 -- the inputs that were taken, in their order
 abbrev pub inputs_of : List Deed → List Input
 inputs_of [] = []
-inputs_of (d ∷ ds) = with_input (input_of d) (inputs_of ds)
+inputs_of (d ∷ ds) = with_input (deed_input d) (inputs_of ds)
 
 -- the configuration of a deed that goes on by another one
 abbrev pub reread_of : Deed → Option Settings

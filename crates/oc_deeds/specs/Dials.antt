@@ -9,17 +9,17 @@ use Rattle.oc_deeds.specs.declared.dials.Dialling.{Dialling}
 use Rattle.oc_deeds.specs.declared.dials.Errand.{Errand}
 use Rattle.oc_deeds.specs.declared.dials.Errand.TheVariants as errands
 
--- the place of the dial of this number
-abbrev pub place_of : ℕ → List Dialling → Option ℕ
-place_of dial ds = position (λ d. d.dial == dial) ds
+-- the index of the dial of this number
+abbrev pub index_of : ℕ → List Dialling → Option ℕ
+index_of dial ds = position (λ d. d.dial == dial) ds
 
 -- for what the dial of this number was made
 abbrev pub errand_of : ℕ → List Dialling → Option Errand
-errand_of dial ds = option_map (λ (d : Dialling). d.errand) (element_at ds (place_of dial ds))
+errand_of dial ds = option_map (λ (d : Dialling). d.errand) (element_at ds (index_of dial ds))
 
 -- all else
-abbrev pub without : ℕ → List Dialling → List Dialling
-without dial ds = without_at ds (place_of dial ds)
+abbrev pub without_dial : ℕ → List Dialling → List Dialling
+without_dial dial ds = without_at ds (index_of dial ds)
 
 -- a dial of this number
 abbrev pub dialling : ℕ → Errand → Dialling

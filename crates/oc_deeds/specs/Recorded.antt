@@ -5,7 +5,7 @@ use Rattle.oc_model.specs.declared.input.Input.{Input}
 use Rattle.oc_model.specs.Node.{Node}
 use Rattle.oc_routes.specs.Inputs.{input_line}
 use Rattle.oc_routes.specs.Refusals.{why_text}
-use Rattle.oc_deeds.specs.Deeds.{Accepts, Deed, Drops, Notes, Refuses, Setting, Takes, input_of, inputs_of, lines, note_line, with_input}
+use Rattle.oc_deeds.specs.Deeds.{Accepts, Deed, Drops, Notes, Refuses, Setting, Takes, deed_input, inputs_of, lines, note_line, with_input}
 use Rattle.oc_deeds.specs.Records.{record_head}
 use Rattle.oc_deeds.specs.declared.log.Log.TheVariants.{Record}
 
@@ -59,7 +59,7 @@ line_of_next (Some i) = Taken i ∷ []
 abbrev pub IsNext : Option Input → List Deed → Type 0
 IsNext None ds = Unit {0}
 IsNext (Some i) [] = ⊥
-IsNext (Some i) (d ∷ ds) = input_of d ≡ Some i
+IsNext (Some i) (d ∷ ds) = deed_input d ≡ Some i
 
 -- After the beginning of a record come the lines of these deeds, and perhaps the line of one more input, which the deeds after it begin with.
 pub record IsRecorded (s : Setting) (head : List ℕ) (deeds behind : List Deed) : Type 0 where

@@ -9,7 +9,7 @@ use Rattle.oc_routes.specs.declared.manner.Manner.TheVariants.{Follow}
 use Rattle.oc_routes.specs.declared.routes.Operation.TheVariants as asks
 use Rattle.oc_deeds.specs.Deeds.{Accepts, BreaksOff, Deed, Gives, Permits, Replies, Running, Setting, after_all, calls_of}
 use Rattle.oc_deeds.specs.Examples.{two_nodes}
-use Rattle.oc_deeds.specs.Replying.{IsOrdered, replies}
+use Rattle.oc_deeds.specs.Replying.{IsOrdered, replied_all}
 use Rattle.oc_deeds.specs.declared.log.Log.TheVariants.{Inputs}
 use Rattle.oc_deeds.specs.declared.work.Transfer.{Transfer}
 
@@ -49,7 +49,7 @@ abbrev is_given : ℕ → List Deed → List ℕ → Type 0
 is_given c deeds text = given c (calls_of node_one deeds holds_three) ≡ text
 
 abbrev is_owed : ℕ → List Deed → List ℕ → Type 0
-is_owed c deeds text = replies c deeds (after_all deeds holds_three).node.groups ≡ text
+is_owed c deeds text = replied_all c deeds (after_all deeds holds_three).node.groups ≡ text
 
 pub record AreReplied : Type 0 where
   pub ordered : IsOrdered node_one [] six holds_three

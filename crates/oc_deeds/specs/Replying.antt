@@ -1,6 +1,5 @@
 -- What each connection is given over a list of deeds: the replies to its requests.
 use Rattle.std.specs.Prelude.{◌≡◌, ◌⊎◌, ℕ, ◌==◌, Bool, true, false, if◌then◌else◌, Option, None, Some, List, [], ◌∷◌, ◌++◌, filter}
-use Rattle.oc_base.specs.Groups.{shelf}
 use Rattle.oc_base.specs.declared.group.Group.{Group}
 use Rattle.oc_link.specs.Stands.{standing_of}
 use Rattle.oc_link.specs.declared.call.Call.{Call}
@@ -9,15 +8,13 @@ use Rattle.oc_link.specs.declared.phase.Phase.TheVariants.{Awaiting, Answering, 
 use Rattle.oc_model.specs.declared.answer.Answer.{Answer}
 use Rattle.oc_routes.specs.Contents.{IsThere, owed}
 use Rattle.oc_routes.specs.Routes.{response_for}
-use Rattle.oc_routes.specs.Waits.{holding, holding_of}
 use Rattle.oc_routes.specs.declared.content.UnderWay.{UnderWay}
 use Rattle.oc_routes.specs.declared.hint.Hint.{Hint}
-use Rattle.oc_routes.specs.declared.holding.Holding.{Holding}
 use Rattle.oc_routes.specs.Refusals.{refusal_text}
 use Rattle.oc_routes.specs.declared.connections.TheConstants.{CONTINUE}
 use Rattle.oc_routes.specs.declared.response.Response.{Response}
 use Rattle.oc_routes.specs.declared.routes.Operation.{Operation}
-use Rattle.oc_routes.specs.declared.routes.Operation.TheVariants as asks
+use Rattle.oc_deeds.specs.Asks.{holding_for}
 use Rattle.oc_deeds.specs.Deeds.{Deed, Permits, Waits, Replies, Refuses, Gives, LaysAside, Drops, Running, Setting, after, calls, content_in}
 use Rattle.oc_deeds.specs.Works.{connection_of}
 use Rattle.oc_deeds.specs.declared.work.Pending.{Pending}
@@ -84,16 +81,11 @@ replied c (Refuses d count refusal) groups = if d == c then text_or_none (refusa
 replied c d groups = []
 
 -- by one deed after another
-abbrev pub replies : ℕ → List Deed → List Group → List ℕ
-replies c [] groups = []
-replies c (d ∷ ds) groups = replied c d groups ++ replies c ds groups
+abbrev pub replied_all : ℕ → List Deed → List Group → List ℕ
+replied_all c [] groups = []
+replied_all c (d ∷ ds) groups = replied c d groups ++ replied_all c ds groups
 
 -- Replies to clients
-
--- what a node with these groups holds of the group that is asked for
-abbrev pub holding_for : Operation → List Group → Holding
-holding_for (asks.Client group area start manner) groups = holding group (shelf groups)
-holding_for operation groups = holding_of None
 
 -- the content that a client is given by such a node for this answer of its step
 abbrev pub client_content : Operation → Hint → Bool → Answer → List Group → List (Option (List ℕ)) → Option UnderWay

@@ -25,17 +25,17 @@ abbrev pub goes_on : Transfer → ℕ → Part
 goes_on p now s a = moves p now (prospect_of p (shelf a.node.groups) now)
 
 -- the content that some work gives
-abbrev pub content_in : Option Work → Option Transfer
-content_in (Some (works.Content p)) = Some p
-content_in other = None
+abbrev pub transfer_of : Option Work → Option Transfer
+transfer_of (Some (works.Content p)) = Some p
+transfer_of other = None
 
 abbrev pub room_for : Option Transfer → ℕ → Part
 room_for None now = nothing
 room_for (Some p) now = goes_on p now
 
 -- there is room for more of the content on the connection c
-abbrev pub room : ℕ → ℕ → Part
-room c now s a = room_for (content_in (work_on c a.works)) now s a
+abbrev pub takes_room : ℕ → ℕ → Part
+takes_room c now s a = room_for (transfer_of (work_on c a.works)) now s a
 
 -- Connections that are over
 
@@ -46,5 +46,5 @@ is_told (Some (works.Content p)) = p.told
 is_told (Some (works.Aside p)) = p.told
 is_told (Some (works.Waits w)) = false
 
-abbrev pub gone : ℕ → Loss → Part
-gone c loss s a = Drops c (is_failure loss && is_told (work_on c a.works)) ∷ []
+abbrev pub takes_loss : ℕ → Loss → Part
+takes_loss c loss s a = Drops c (is_failure loss && is_told (work_on c a.works)) ∷ []

@@ -6,7 +6,7 @@ use Rattle.oc_link.specs.declared.call.Call.{Call}
 use Rattle.oc_link.specs.declared.phase.Phase.{Phase}
 use Rattle.oc_link.specs.declared.phase.Phase.TheVariants.{Answering, Awaiting, Whole}
 use Rattle.oc_deeds.specs.Deeds.{Deed, Running, Setting, after_all, calls_of}
-use Rattle.oc_deeds.specs.Replying.{IsOrdered, phase_on, replies, works_on}
+use Rattle.oc_deeds.specs.Replying.{IsOrdered, phase_on, replied_all, works_on}
 use Rattle.oc_deeds.specs.declared.work.Work.{Work}
 
 -- on a connection at this phase one work is under way where a reply is, and else none
@@ -23,5 +23,5 @@ IsSettled made ws = (c : ℕ) → Fits (phase_on c made) (works_on c ws)
 pub record AreServed (s : Setting) (made later : List Call) (deeds : List Deed) (a : Running) : Type 0 where
   pub calls : later ≡ made ++ calls_of s deeds a
   pub ordered : IsOrdered s made deeds a
-  pub front : (c : ℕ) → IsFront (given c (calls_of s deeds a)) (replies c deeds (after_all deeds a).node.groups)
-  pub whole : (c : ℕ) → (phase_on c later ≡ Awaiting) ⊎ (phase_on c later ≡ Whole) → given c (calls_of s deeds a) ≡ replies c deeds (after_all deeds a).node.groups
+  pub front : (c : ℕ) → IsFront (given c (calls_of s deeds a)) (replied_all c deeds (after_all deeds a).node.groups)
+  pub whole : (c : ℕ) → (phase_on c later ≡ Awaiting) ⊎ (phase_on c later ≡ Whole) → given c (calls_of s deeds a) ≡ replied_all c deeds (after_all deeds a).node.groups

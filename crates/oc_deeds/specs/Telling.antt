@@ -50,10 +50,10 @@ IsBefore logs.Brief n i None = ⊥
 IsBefore logs.Brief n i (Some b) = IsNoted n i b
 
 -- what is told by that, of a node that is so after the input and answered so
-abbrev pub told_behind : Option Before → Control → Answer → List ℕ
-told_behind None n answer = []
-told_behind (Some b) n answer = asked_line b.told.items answer ++ lost_lines n b.leased.items ++ moved_line b.mode n
+abbrev pub told_after : Option Before → Control → Answer → List ℕ
+told_after None n answer = []
+told_after (Some b) n answer = asked_line b.told.items answer ++ lost_lines n b.leased.items ++ moved_line b.mode n
 
 -- and it is said
 abbrev pub says_after : Option Before → Answer → Part
-says_after before answer s a = Says (told_behind before a.node.control answer) ∷ []
+says_after before answer s a = Says (told_after before a.node.control answer) ∷ []

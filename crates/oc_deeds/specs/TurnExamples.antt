@@ -16,13 +16,13 @@ use Rattle.oc_routes.specs.declared.verdict.Verdict.TheVariants as verdicts
 use Rattle.oc_routes.specs.declared.manner.Manner.TheVariants.{Follow}
 use Rattle.oc_routes.specs.declared.routes.Operation.TheVariants as asks
 use Rattle.oc_deeds.specs.Asks.{obeys, waiting}
-use Rattle.oc_deeds.specs.Choices.{due_place, free_number, next_to_dial, wait_for}
+use Rattle.oc_deeds.specs.Choices.{due_index, free_number, next_to_dial, wait_for}
 use Rattle.oc_deeds.specs.Deeds.{Accepts, BreaksOff, Drops, Gives, Keeps, LaysAside, Looks, Permits, Reads, Rereads, Running, Says, Sees, Setting, Takes, Tells, Waits, after_all}
 use Rattle.oc_deeds.specs.Dials.{dialling}
 use Rattle.oc_deeds.specs.Examples.{two_nodes}
 use Rattle.oc_deeds.specs.Pace.{first_pace}
 use Rattle.oc_deeds.specs.Rereading.{MeansLook, looks_again}
-use Rattle.oc_deeds.specs.Rooms.{gone, room}
+use Rattle.oc_deeds.specs.Rooms.{takes_loss, takes_room}
 use Rattle.oc_deeds.specs.Turns.{Observation, ticks, turn}
 use Rattle.oc_deeds.specs.declared.came.Came.TheVariants as comes
 use Rattle.oc_deeds.specs.declared.dials.Errand.TheVariants as errands
@@ -91,17 +91,17 @@ elsewhere = record two_nodes { addresses = None ∷ Some (codes "b:2") ∷ [] }
 
 pub record AreTurns : Type 0 where
   -- a content is given what is there, and is laid aside until there is more
-  pub gives : room 8 9 example (held (works.Content (place 0) ∷ [])) ≡ Gives (place 0) 9 ∷ []
-  pub lays_aside : room 8 9 example (held (works.Content (place 3) ∷ [])) ≡ LaysAside (place 3) ∷ []
-  pub breaks : room 8 30005 example (held (works.Content (place 3) ∷ [])) ≡ BreaksOff 8 ∷ []
-  pub no_content : room 7 9 example (held (works.Content (place 3) ∷ [])) ≡ []
+  pub gives : takes_room 8 9 example (held (works.Content (place 0) ∷ [])) ≡ Gives (place 0) 9 ∷ []
+  pub lays_aside : takes_room 8 9 example (held (works.Content (place 3) ∷ [])) ≡ LaysAside (place 3) ∷ []
+  pub breaks : takes_room 8 30005 example (held (works.Content (place 3) ∷ [])) ≡ BreaksOff 8 ∷ []
+  pub no_content : takes_room 7 9 example (held (works.Content (place 3) ∷ [])) ≡ []
   -- a connection that failed is told of, and one that gave way is not
-  pub failed : gone 8 losses.Failed example (started (works.Content (place 0) ∷ [])) ≡ Drops 8 true ∷ []
-  pub gave_way : gone 8 losses.GaveWay example (started (works.Content (place 0) ∷ [])) ≡ Drops 8 false ∷ []
+  pub failed : takes_loss 8 losses.Failed example (started (works.Content (place 0) ∷ [])) ≡ Drops 8 true ∷ []
+  pub gave_way : takes_loss 8 losses.GaveWay example (started (works.Content (place 0) ∷ [])) ≡ Drops 8 false ∷ []
   -- a content laid aside is due when its group has grown, and after its time
-  pub not_due : due_place (works.Aside (place 3) ∷ []) (shelf_line 3) 100 ≡ None
-  pub grown : due_place (works.Aside (place 3) ∷ []) (shelf_line 4) 100 ≡ Some 0
-  pub late : due_place (works.Content (place 0) ∷ works.Aside (place 3) ∷ []) (shelf_line 3) 30005 ≡ Some 1
+  pub not_due : due_index (works.Aside (place 3) ∷ []) (shelf_line 3) 100 ≡ None
+  pub grown : due_index (works.Aside (place 3) ∷ []) (shelf_line 4) 100 ≡ Some 0
+  pub late : due_index (works.Content (place 0) ∷ works.Aside (place 3) ∷ []) (shelf_line 3) 30005 ≡ Some 1
   -- how long a turn waits
   pub first_wait : wait_for (first_pace false 1000) [] 5 ≡ 0
   pub tick_wait : wait_for ticked_once (works.Aside (place 3) ∷ []) 10 ≡ 90

@@ -22,13 +22,13 @@ use Rattle.oc_routes.specs.Verdicts.{IsVerdict, NodeTerms, terms_of}
 use Rattle.oc_routes.specs.declared.verdict.Verdict.{Verdict}
 use Rattle.oc_deeds.specs.Asks.{obeys, takes_up}
 use Rattle.oc_deeds.specs.Brought.{HadMemory, IsReading, comes_back}
-use Rattle.oc_deeds.specs.Choices.{due_place, free_number, wait_for}
-use Rattle.oc_deeds.specs.Deeds.{Notes, Probes, Reads, Running, Sees, Setting, Tells, dials_behind}
+use Rattle.oc_deeds.specs.Choices.{due_index, free_number, wait_for}
+use Rattle.oc_deeds.specs.Deeds.{Notes, Probes, Reads, Running, Sees, Setting, Tells, dials_after}
 use Rattle.oc_deeds.specs.Hurries.{came_hurries}
 use Rattle.oc_deeds.specs.Pace.{has_passed, hurried, looked, wait_until}
 use Rattle.oc_deeds.specs.Parts.{Part, nothing, one, ◌>>◌}
 use Rattle.oc_deeds.specs.Rereading.{looks_again}
-use Rattle.oc_deeds.specs.Rooms.{gone, room}
+use Rattle.oc_deeds.specs.Rooms.{takes_loss, takes_room}
 use Rattle.oc_deeds.specs.Sends.{sends}
 use Rattle.oc_deeds.specs.Telling.{takes_ahead, takes_in}
 use Rattle.oc_deeds.specs.declared.came.Came.{Came}
@@ -94,13 +94,13 @@ abbrev pub notes_fault : ℕ → ProbeFault → Part
 notes_fault peer fault s a = Notes (probe_note peer fault) ∷ []
 
 -- a rate is taken with the hops of the last record; nothing is told after it
-abbrev pub measured : ℕ → ℕ → Part
-measured peer rate s a = takes_ahead (inputs.Measured peer rate (reading_of a.node.control.kept.measures peer).hops) s a
+abbrev pub takes_measure : ℕ → ℕ → Part
+takes_measure peer rate s a = takes_ahead (inputs.Measured peer rate (reading_of a.node.control.kept.measures peer).hops) s a
 
 -- the median of a peer is taken, if it is measured at all
 abbrev pub takes_median : Option Probing → ℕ → ℕ → Part
 takes_median None peer median = nothing
-takes_median (Some probing) peer median = measured peer (min median MAX_RATE)
+takes_median (Some probing) peer median = takes_measure peer (min median MAX_RATE)
 
 -- what was measured is taken, or a line tells why there is nothing
 abbrev pub measures : Option Probing → ℕ → Option ProbeFault → ℕ → Part
@@ -123,16 +123,16 @@ probes_next probing started s a = probes_it (next_peer probing a.dials) started 
 -- What is done
 
 -- the input that results from a message's reply is taken
-abbrev pub brought : Option Input → Part
-brought None s a = []
-brought (Some i) s a = takes_in i s a
+abbrev pub takes_brought : Option Input → Part
+takes_brought None s a = []
+takes_brought (Some i) s a = takes_in i s a
 
 -- what is done with what came: at this time, with the median of the rates of a peer that was probed, and the time when a probe begins
 abbrev pub happens : Option Probing → Came → ℕ → ℕ → ℕ → Part
 happens probing (comes.Request c count verdict) now median started = obeys c count verdict now
-happens probing (comes.Room c) now median started = room c now
-happens probing (comes.Gone c loss) now median started = gone c loss
-happens probing (comes.Reply input taken) now median started = brought input
+happens probing (comes.Room c) now median started = takes_room c now
+happens probing (comes.Gone c loss) now median started = takes_loss c loss
+happens probing (comes.Reply input taken) now median started = takes_brought input
 happens probing (comes.Probed peer since fault) now median started = measures probing peer fault median
 happens probing comes.Nothing now median started = probes_next probing started
 
@@ -177,7 +177,7 @@ takes_at None pace probing t s a = takes_next pace probing t s a
 takes_at (Some place) pace probing t s a = takes_due pace (slice_get a.works place) t.before t.seconds s a
 
 abbrev pub takes_one : Pace → Option Probing → Observation → Part
-takes_one pace probing t s a = takes_at (due_place a.works (shelf a.node.groups) t.before) pace probing t s a
+takes_one pace probing t s a = takes_at (due_index a.works (shelf a.node.groups) t.before) pace probing t s a
 
 -- what came or was due is dealt with
 abbrev pub dealt : Pace → Option Probing → Observation → Part
@@ -193,9 +193,9 @@ abbrev pub paced : Pace → ℕ → ℕ → Pace
 paced pace now seconds = if wait_until pace now == 0 then looked now seconds pace else pace
 
 -- the pace after a turn in which the work at this place was due, or none was
-abbrev pub pace_behind : Option ℕ → Pace → Observation → Node → Pace
-pace_behind None pace t n = paced (quickened (came_hurries t.came n) pace) t.now t.seconds
-pace_behind (Some place) pace t n = paced pace t.before t.seconds
+abbrev pub pace_after : Option ℕ → Pace → Observation → Node → Pace
+pace_after None pace t n = paced (quickened (came_hurries t.came n) pace) t.now t.seconds
+pace_after (Some place) pace t n = paced pace t.before t.seconds
 
 -- with another rate of a peer
 abbrev pub with_measure : ℕ → ℕ → Probing → Probing
@@ -216,6 +216,6 @@ probed (comes.Probed peer since fault) now ds p = gauged fault peer (rate_of sin
 probed comes.Nothing now ds p = option_map (rotated ds) p
 probed came now ds p = p
 
-abbrev pub probing_behind : Option ℕ → Observation → List Dialling → Option Probing → Option Probing
-probing_behind None t ds p = probed t.came t.now (dials_behind t.event ds) p
-probing_behind (Some place) t ds p = p
+abbrev pub probing_after : Option ℕ → Observation → List Dialling → Option Probing → Option Probing
+probing_after None t ds p = probed t.came t.now (dials_after t.event ds) p
+probing_after (Some place) t ds p = p

@@ -18,17 +18,17 @@ connection_of (works.Content p) = p.connection
 connection_of (works.Aside p) = p.connection
 connection_of (works.Waits w) = w.connection
 
--- the place of what is under way on the connection c
-abbrev pub place_on : ℕ → List Work → Option ℕ
-place_on c ws = position (λ w. connection_of w == c) ws
+-- the index of what is under way on the connection c
+abbrev pub index_on : ℕ → List Work → Option ℕ
+index_on c ws = position (λ w. connection_of w == c) ws
 
 -- what is under way on the connection c
 abbrev pub work_on : ℕ → List Work → Option Work
-work_on c ws = element_at ws (place_on c ws)
+work_on c ws = element_at ws (index_on c ws)
 
 -- all else
-abbrev pub without : ℕ → List Work → List Work
-without c ws = without_at ws (place_on c ws)
+abbrev pub without_work : ℕ → List Work → List Work
+without_work c ws = without_at ws (index_on c ws)
 
 -- Requests that wait
 

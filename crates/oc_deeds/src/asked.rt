@@ -37,7 +37,7 @@ pub fn waiting(connection: ConnectionId, request: Request, now: u64) -> Waiting
 }
 
 /// What the node holds of the group that was asked for.
-pub fn holding_for(operation: &Operation, shelf: &[Shelf]) -> Holding
+pub fn holding_in(operation: &Operation, shelf: &[Shelf]) -> Holding
     ensures { result ≡ holding_in operation.now shelf.now }
 {
     match operation {

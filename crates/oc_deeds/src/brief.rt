@@ -2,7 +2,7 @@
 
 ghost use Rattle.std.specs.Prelude.{◌≡◌, ◌++◌, IfOk, OnOk, Some, codes, decimal};
 ghost use Rattle.oc_deeds.specs.Brief.{asked_line, at_stake, has_lease, is_still, lost_line, lost_lines, moved_line, place_line, ranked, told_answer, told_input};
-ghost use Rattle.oc_deeds.specs.Telling.{IsBefore, IsNoted, told_behind};
+ghost use Rattle.oc_deeds.specs.Telling.{IsBefore, IsNoted, told_after};
 
 use crate::log::Log;
 use oc_base::{Child, GroupName, Memory, NodeId, Rank, put, put_with_number};
@@ -107,24 +107,24 @@ fn at_stake(alloc: Global, node: &Node, input: &Input) -> Result<Vec<Child>, Mem
 // After it
 
 /// What is told of an input that was taken, by what was known before it. `Memory` where it runs out.
-pub fn behind(
+pub fn told_after(
     alloc: Global,
     before: &Option<Before>,
     node: &Node,
     answer: Answer,
 ) -> Result<Vec<u8>, Memory>
-    ensures { IfOk result (λ text. text.items ≡ told_behind before.now node.now.control answer) }
+    ensures { IfOk result (λ text. text.items ≡ told_after before.now node.now.control answer) }
 {
     let mut text = Vec::new(alloc);
     if let Some(before) = before {
-        put_behind(&mut text, before, node, answer)?;
+        put_told_after(&mut text, before, node, answer)?;
     }
     Ok(text)
 }
 
 /// Puts what is told of an input that was taken, by what was known before it.
-fn put_behind(out: &mut Vec<u8>, before: &Before, node: &Node, answer: Answer) -> Result<(), Memory>
-    ensures { OnOk result (out.new.items ≡ out.old.items ++ told_behind (Some before.now) node.now.control answer) }
+fn put_told_after(out: &mut Vec<u8>, before: &Before, node: &Node, answer: Answer) -> Result<(), Memory>
+    ensures { OnOk result (out.new.items ≡ out.old.items ++ told_after (Some before.now) node.now.control answer) }
 {
     put_asked(out, &before.told, answer)?;
     put_lost(out, &before.leased, node)?;

@@ -1,7 +1,7 @@
 //! What is due by itself, for how long a turn may wait, and what may be dialled.
 
 ghost use Rattle.std.specs.Prelude.{◌≡◌, ◌<◌, IfSome, length};
-ghost use Rattle.oc_deeds.specs.Choices.{due_place, first_free, free_number, has_number, has_room, holds_up, is_held_up, is_over, is_work_due, next_to_dial, prospect_of, shorter, wait_for};
+ghost use Rattle.oc_deeds.specs.Choices.{due_index, first_free, free_number, has_number, has_room, holds_up, is_held_up, is_over, is_work_due, next_to_dial, prospect_of, shorter, wait_for};
 ghost use Rattle.oc_deeds.specs.Choices as choices;
 
 use crate::dials::{Dialling, Errand};
@@ -20,20 +20,20 @@ pub const MAX_DIALS: usize = 32;
 /// How many of them may be others than those that ask for content.
 pub const MAX_OTHER_DIALS: usize = 16;
 
-/// The place of the oldest work that is due by itself at this time, in milliseconds.
-pub fn due_place(works: &[Work], shelf: &[Shelf], now: u64) -> Option<usize>
-    ensures { result ≡ due_place works.now shelf.now now }
+/// The index of the oldest work that is due by itself at this time, in milliseconds.
+pub fn due_index(works: &[Work], shelf: &[Shelf], now: u64) -> Option<usize>
+    ensures { result ≡ due_index works.now shelf.now now }
 {
-    works.iter().position(|work| is_due(work, shelf, now))
+    works.iter().position(|work| is_work_due(work, shelf, now))
 }
 
 /// Whether some work is due by itself.
-fn is_due(work: &Work, shelf: &[Shelf], now: u64) -> bool
+fn is_work_due(work: &Work, shelf: &[Shelf], now: u64) -> bool
     ensures { result ≡ is_work_due shelf.now now work.now }
 {
     match work {
         Work::Content(_) => false,
-        Work::Aside(place) => prospect_of(place, shelf, now) != Prospect::Waits,
+        Work::Aside(transfer) => prospect_of(transfer, shelf, now) != Prospect::Waits,
         Work::Waits(waiting) => is_over(waiting, shelf, now),
     }
 }
@@ -56,13 +56,13 @@ fn is_over(waiting: &Waiting, shelf: &[Shelf], now: u64) -> bool
 }
 
 /// What becomes of a content at this time, in milliseconds.
-pub fn prospect_of(place: &Transfer, shelf: &[Shelf], now: u64) -> Prospect
-    ensures { result ≡ prospect_of place.now shelf.now now }
+pub fn prospect_of(transfer: &Transfer, shelf: &[Shelf], now: u64) -> Prospect
+    ensures { result ≡ prospect_of transfer.now shelf.now now }
 {
-    let holding = Holding::in_shelf(shelf, &place.content.group);
-    place
+    let holding = Holding::in_shelf(shelf, &transfer.content.group);
+    transfer
         .content
-        .prospect(holding, now.saturating_sub(place.since))
+        .prospect(holding, now.saturating_sub(transfer.since))
 }
 
 /// For how many milliseconds a turn may wait at this time, in milliseconds: until a tick or some work is due.
@@ -78,15 +78,15 @@ fn shorter(least: u64, work: &Work, now: u64) -> u64
 {
     match work {
         Work::Content(_) => least,
-        Work::Aside(place) => least.min(millis_left(IDLE_MILLIS, place.since, now)),
+        Work::Aside(transfer) => least.min(millis_left(IDLE_MILLIS, transfer.since, now)),
         Work::Waits(waiting) => least.min(millis_left(FOLLOW_MILLIS, waiting.since, now)),
     }
 }
 
-/// The place of the oldest message that may be dialled.
+/// The index of the oldest message that may be dialled.
 pub fn next_to_dial(outbox: &Outbox, dials: &[Dialling]) -> Option<usize>
-    ensures place { result ≡ next_to_dial outbox.now dials.now }
-    ensures within { IfSome result (λ place. place < length outbox.now) }
+    ensures index { result ≡ next_to_dial outbox.now dials.now }
+    ensures within { IfSome result (λ index. index < length outbox.now) }
 {
     if has_room(dials) {
         first_free(outbox.messages(), dials)
@@ -95,10 +95,10 @@ pub fn next_to_dial(outbox: &Outbox, dials: &[Dialling]) -> Option<usize>
     }
 }
 
-/// The place of the first message that is not held up.
+/// The index of the first message that is not held up.
 fn first_free(messages: &VecDeque<Message>, dials: &[Dialling]) -> Option<usize>
-    ensures place { result ≡ first_free messages.now.items dials.now }
-    ensures within { IfSome result (λ place. place < length messages.now.items) }
+    ensures index { result ≡ first_free messages.now.items dials.now }
+    ensures within { IfSome result (λ index. index < length messages.now.items) }
 {
     messages
         .iter()
@@ -109,12 +109,12 @@ fn first_free(messages: &VecDeque<Message>, dials: &[Dialling]) -> Option<usize>
 fn has_room(dials: &[Dialling]) -> bool
     ensures { result ≡ has_room dials.now }
 {
-    let others = dials.iter().filter(|dialling| !asks(dialling)).count();
+    let others = dials.iter().filter(|dialling| !asks_content(dialling)).count();
     dials.len() < MAX_DIALS && others < MAX_OTHER_DIALS
 }
 
 /// Whether a dial asks for content.
-fn asks(dialling: &Dialling) -> bool
+fn asks_content(dialling: &Dialling) -> bool
     ensures { result ≡ choices.asks_content dialling.now.errand }
 {
     match dialling.errand {

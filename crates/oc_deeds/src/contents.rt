@@ -1,10 +1,10 @@
-//! Contents under way: from which place they are given, and their bytes as they are sent.
+//! Contents under way: how they are given, and their bytes as they are sent.
 
 ghost use Rattle.std.specs.Prelude.{◌≡◌, ◌++◌, OnErr, OnOk, IfOk, List, ℕ, true};
 ghost use Rattle.oc_chunked.specs.Texts.{chunked_text};
 ghost use Rattle.oc_routes.specs.Contents.{ending, pieces};
 ghost use Rattle.oc_routes.specs.Contents as contents;
-ghost use Rattle.oc_deeds.specs.Deeds.{content_at, content_in, place_behind, with_content};
+ghost use Rattle.oc_deeds.specs.Deeds.{content_at, content_in, transfer_after, with_content};
 ghost use Rattle.oc_deeds.specs.Deeds as deeds;
 
 use crate::work::{Pending, Transfer, Work};
@@ -18,9 +18,9 @@ use std::alloc::Global;
 /// The end of a chunked text (RFC 9112, section 7.1).
 const LAST_CHUNK: &[u8] = b"0\r\n\r\n";
 
-/// The place from which the content of a response is given, if it has one. The time is in milliseconds.
-pub fn place_of(request: &Pending, response: &Response, now: u64) -> Option<Transfer>
-    ensures { result ≡ deeds.place_of request.now response.now now }
+/// The transfer of a response's content, if it has one. The time is in milliseconds.
+pub fn transfer_for(request: &Pending, response: &Response, now: u64) -> Option<Transfer>
+    ensures { result ≡ deeds.transfer_for request.now response.now now }
 {
     let content = content_in(&request.asked.operation, response.content)?;
     Some(Transfer {
@@ -74,16 +74,16 @@ pub fn keeps(connection: Persistence) -> bool
     }
 }
 
-/// The place after this many bytes more of its content, if anything is left. The time is in milliseconds.
-pub fn place_behind(place: &Transfer, count: usize, now: u64) -> Option<Transfer>
-    ensures { result ≡ place_behind place.now now count }
+/// The transfer after this many bytes more of its content, if anything is left. The time is in milliseconds.
+pub fn transfer_after(transfer: &Transfer, count: usize, now: u64) -> Option<Transfer>
+    ensures { result ≡ transfer_after transfer.now now count }
 {
-    let content = place.content.behind(count)?;
+    let content = transfer.content.rest_after(count)?;
     Some(Transfer {
-        connection: place.connection,
+        connection: transfer.connection,
         content,
-        keeps: place.keeps,
-        told: place.told,
+        keeps: transfer.keeps,
+        told: transfer.told,
         since: now,
     })
 }

@@ -1,6 +1,6 @@
 ghost use Rattle.std.specs.Prelude.{◌≡◌, ◌++◌, ◌∷◌, [], OnErr, OnOk};
-ghost use Rattle.oc_deeds.specs.Deeds.{dials_behind, errand_in};
-ghost use Rattle.oc_deeds.specs.Dials.{place_of};
+ghost use Rattle.oc_deeds.specs.Deeds.{dials_after, errand_in};
+ghost use Rattle.oc_deeds.specs.Dials.{index_of};
 
 use oc_base::{Memory, NodeId};
 use oc_link::{DialId, LinkEvent};
@@ -39,7 +39,7 @@ impl Model for Dials {
 }
 
 impl Dials {
-    ghost use Rattle.oc_deeds.specs.Dials.{dialling, errand_of, without};
+    ghost use Rattle.oc_deeds.specs.Dials.{dialling, errand_of, without_dial};
 
     /// No dial is under way.
     pub fn new(alloc: Global) -> Dials
@@ -62,10 +62,10 @@ impl Dials {
     /// Takes out the dial of this number, if it is under way.
     pub fn take(&mut self, dial: DialId) -> Option<Errand>
         ensures errand { result ≡ errand_of dial self.old }
-        ensures rest { self.new ≡ without dial self.old }
+        ensures rest { self.new ≡ without_dial dial self.old }
     {
-        match place_of(&self.list, dial) {
-            Some(place) => Some(self.list.remove(place).errand),
+        match index_of(&self.list, dial) {
+            Some(index) => Some(self.list.remove(index).errand),
             None => None,
         }
     }
@@ -78,9 +78,9 @@ impl Dials {
     }
 }
 
-/// The place of the dial of this number.
-fn place_of(dials: &[Dialling], dial: DialId) -> Option<usize>
-    ensures { result ≡ place_of dial dials.now }
+/// The index of the dial of this number.
+fn index_of(dials: &[Dialling], dial: DialId) -> Option<usize>
+    ensures { result ≡ index_of dial dials.now }
 {
     dials.iter().position(|dialling| dialling.dial == dial)
 }
@@ -88,7 +88,7 @@ fn place_of(dials: &[Dialling], dial: DialId) -> Option<usize>
 /// Takes out the dial whose reply an event is.
 pub fn errand_in(dials: &mut Dials, event: &LinkEvent) -> Option<Errand>
     ensures errand { result ≡ errand_in event.now dials.old }
-    ensures rest { dials.new ≡ dials_behind event.now dials.old }
+    ensures rest { dials.new ≡ dials_after event.now dials.old }
 {
     match event {
         LinkEvent::Reply(dial, _) => dials.take(*dial),

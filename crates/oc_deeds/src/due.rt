@@ -17,7 +17,7 @@ pub enum Due {
 }
 
 /// What is to be done with the work at an index.
-pub fn due_at(works: &[Work], index: usize) -> Due
+pub fn due_of(works: &[Work], index: usize) -> Due
     ensures { result ≡ due_of (slice_get works.now index) }
 {
     match works.get(index) {

@@ -17,7 +17,7 @@ ghost use Rattle.oc_routes.specs.declared.routes.Operation.TheVariants.{Client};
 ghost use Rattle.oc_deeds.specs.Deeds.{Deed, Running, Setting, after_all, calls_of};
 ghost use Rattle.oc_deeds.specs.Examples.{AreRuns};
 ghost use Rattle.oc_deeds.specs.ReplyExamples.{AreReplied};
-ghost use Rattle.oc_deeds.specs.Replying.{IsGivable, IsOrdered, client_content, replies, phase_on};
+ghost use Rattle.oc_deeds.specs.Replying.{IsGivable, IsOrdered, client_content, replied_all, phase_on};
 
 /// Worked examples of short runs come out as they should. They are computed.
 pub fn examples_compute()
@@ -30,11 +30,11 @@ pub fn examples_compute()
 pub fn connections_are_given_their_replies()
     ensures front { (s : Setting) (made : List Call) (deeds : List Deed) (a : Running) (c : ℕ)
         → a.works ≡ [] → phase_on c made ≢ Answering → IsOrdered s made deeds a
-        → IsFront (given c (calls_of s deeds a)) (replies c deeds (after_all deeds a).node.groups) }
+        → IsFront (given c (calls_of s deeds a)) (replied_all c deeds (after_all deeds a).node.groups) }
     ensures whole { (s : Setting) (made : List Call) (deeds : List Deed) (a : Running) (c : ℕ)
         → a.works ≡ [] → phase_on c made ≢ Answering → IsOrdered s made deeds a
         → (phase_on c (made ++ calls_of s deeds a) ≡ Awaiting) ⊎ (phase_on c (made ++ calls_of s deeds a) ≡ Whole)
-        → given c (calls_of s deeds a) ≡ replies c deeds (after_all deeds a).node.groups }
+        → given c (calls_of s deeds a) ≡ replied_all c deeds (after_all deeds a).node.groups }
     ensures examples { AreReplied }
 {}
 

@@ -55,7 +55,7 @@ mod works;
 pub use came::Came;
 pub use dials::{Dialling, Dials, Errand, errand_in};
 pub use doer::Doer;
-pub use due::{Due, due_at};
+pub use due::{Due, due_of};
 pub use ends::TurnEnd;
 pub use law::{
     connections_are_given_their_replies, examples_compute, what_is_given_in_chunks_is_there,

@@ -1,25 +1,25 @@
 //! What becomes of connections: room, loss, and contents that go on.
 
 ghost use Rattle.std.specs.Prelude.{IfErr, OnOk};
-ghost use Rattle.oc_deeds.specs.Rooms.{goes_on, gone, room};
+ghost use Rattle.oc_deeds.specs.Rooms.{goes_on, takes_loss, takes_room};
 
 use crate::choosing::prospect_of;
 use crate::doer::Doer;
 use crate::ends::TurnEnd;
-use crate::rooms::{content_on, is_told, tells};
+use crate::rooms::{transfer_of, is_told, tells};
 use crate::work::Transfer;
 use oc_link::{ConnectionId, Loss};
 use oc_routes::Prospect;
 
 /// A connection has room for more of its reply.
-pub fn has_room<W: Doer>(doer: &mut W, connection: ConnectionId, now: u64) -> Result<(), TurnEnd>
+pub fn takes_room<W: Doer>(doer: &mut W, connection: ConnectionId, now: u64) -> Result<(), TurnEnd>
     requires { W.serving doer.old }
-    ensures did { OnOk result (W.does (room connection now) doer.old doer.new) }
-    ensures breaks { IfErr result (λ end. W.stops end (room connection now) doer.old doer.new) }
+    ensures did { OnOk result (W.does (takes_room connection now) doer.old doer.new) }
+    ensures breaks { IfErr result (λ end. W.stops end (takes_room connection now) doer.old doer.new) }
 {
     W::parts_go_on();
     W::parts_stop();
-    match content_on(doer.works(), connection) {
+    match transfer_of(doer.works(), connection) {
         Some(transfer) => goes_on(doer, transfer, now),
         None => Ok(()),
     }
@@ -44,10 +44,10 @@ pub fn goes_on<W: Doer>(doer: &mut W, transfer: Transfer, now: u64) -> Result<()
 }
 
 /// A connection is over before its reply was sent whole.
-pub fn loses<W: Doer>(doer: &mut W, connection: ConnectionId, loss: Loss) -> Result<(), TurnEnd>
+pub fn takes_loss<W: Doer>(doer: &mut W, connection: ConnectionId, loss: Loss) -> Result<(), TurnEnd>
     requires { W.serving doer.old }
-    ensures did { OnOk result (W.does (gone connection loss) doer.old doer.new) }
-    ensures breaks { IfErr result (λ end. W.stops end (gone connection loss) doer.old doer.new) }
+    ensures did { OnOk result (W.does (takes_loss connection loss) doer.old doer.new) }
+    ensures breaks { IfErr result (λ end. W.stops end (takes_loss connection loss) doer.old doer.new) }
 {
     W::parts_go_on();
     W::parts_stop();

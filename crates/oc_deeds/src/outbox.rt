@@ -56,7 +56,7 @@ impl Outbox {
         ensures { self.new ≡ with_message self.old message }
     {
         match self.older_fetch(&message) {
-            Some(place) => self.messages[place] = message,
+            Some(index) => self.messages[index] = message,
             None => self.put_last(message),
         }
     }
@@ -98,12 +98,12 @@ impl Outbox {
     }
 
     /// Takes out the message at a place.
-    pub fn take(&mut self, place: usize) -> Option<Message>
-        requires { place < length self.old }
-        ensures message { result ≡ slice_get self.old place }
-        ensures rest { self.new ≡ remove self.old place }
+    pub fn take(&mut self, index: usize) -> Option<Message>
+        requires { index < length self.old }
+        ensures message { result ≡ slice_get self.old index }
+        ensures rest { self.new ≡ remove self.old index }
     {
-        self.messages.remove(place)
+        self.messages.remove(index)
     }
 }
 

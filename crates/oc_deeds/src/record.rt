@@ -15,7 +15,7 @@ use std::alloc::Global;
 
 /// What is told of a node that begins, which is among nodes of these areas and holds these groups. `Memory` where
 /// it runs out.
-pub fn first(
+pub fn told_first(
     alloc: Global,
     log: Log,
     node: &Node,

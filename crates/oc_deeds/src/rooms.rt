@@ -8,15 +8,15 @@ ghost use Rattle.oc_deeds.specs.Rooms as rooms;
 ghost use Rattle.oc_deeds.specs.Works.{work_on};
 
 use crate::work::{Transfer, Work};
-use crate::works::place_on;
+use crate::works::index_on;
 use oc_link::{ConnectionId, Loss};
 
 /// The content that is given on a connection.
-pub fn content_on(works: &[Work], connection: ConnectionId) -> Option<Transfer>
-    ensures { result ≡ rooms.content_in (work_on connection works.now) }
+pub fn transfer_of(works: &[Work], connection: ConnectionId) -> Option<Transfer>
+    ensures { result ≡ rooms.transfer_of (work_on connection works.now) }
 {
     match work_on(works, connection) {
-        Some(Work::Content(place)) => Some(*place),
+        Some(Work::Content(transfer)) => Some(*transfer),
         _ => None,
     }
 }
@@ -25,8 +25,8 @@ pub fn content_on(works: &[Work], connection: ConnectionId) -> Option<Transfer>
 fn work_on(works: &[Work], connection: ConnectionId) -> Option<&Work>
     ensures { option_copied result ≡ work_on connection works.now }
 {
-    match place_on(works, connection) {
-        Some(place) => works.get(place),
+    match index_on(works, connection) {
+        Some(index) => works.get(index),
         None => None,
     }
 }
@@ -38,7 +38,7 @@ pub fn is_told(works: &[Work], connection: ConnectionId) -> bool
 {
     match work_on(works, connection) {
         None => true,
-        Some(Work::Content(place) | Work::Aside(place)) => place.told,
+        Some(Work::Content(transfer) | Work::Aside(transfer)) => transfer.told,
         Some(Work::Waits(_)) => false,
     }
 }

@@ -4,14 +4,13 @@ ghost use Rattle.std.specs.Prelude.{◌≡◌, ℕ, IfErr, IfOk, IfSome, OnOk, S
 ghost use Rattle.oc_base.specs.Lawful.{IsNode, IsRate};
 ghost use Rattle.oc_model.specs.Lawful.{IsInput};
 ghost use Rattle.oc_routes.specs.Lawful.{IsAsked};
-ghost use Rattle.oc_deeds.specs.Asks.{taken_up, takes_up};
-ghost use Rattle.oc_deeds.specs.Turns.{brought, measured, notes_fault, probes_it, ticked, ticks_if};
+ghost use Rattle.oc_deeds.specs.Asks.{takes_up, wakes};
+ghost use Rattle.oc_deeds.specs.Turns.{takes_brought, takes_measure, notes_fault, probes_it, ticked, ticks_if};
 ghost use Rattle.oc_deeds.specs.Works.{client_input};
-ghost use Rattle.oc_deeds.specs.declared.due.Due.TheVariants as dues;
 
 use crate::choosing::free_number;
 use crate::doer::Doer;
-use crate::due::{Due, due_at};
+use crate::due::{Due, due_of};
 use crate::ends::TurnEnd;
 use crate::lines::probe_note;
 use crate::moving::goes_on;
@@ -32,7 +31,7 @@ pub fn takes_up<W: Doer>(doer: &mut W, index: usize, now: u64) -> Result<(), Tur
     W::parts_go_on();
     W::parts_stop();
     W::is_lawful();
-    match due_at(doer.works(), index) {
+    match due_of(doer.works(), index) {
         Due::Aside(transfer) => goes_on(doer, transfer, now),
         Due::Waits(pending) => wakes(doer, pending, now),
         Due::Nothing => Ok(()),
@@ -44,8 +43,8 @@ fn wakes<W: Doer>(doer: &mut W, pending: Pending, now: u64) -> Result<(), TurnEn
     requires serving { W.serving doer.old }
     requires asks { IsAsked pending.asked.operation }
     requires input { IfSome (client_input pending.asked.operation pending.asked.hint) (IsInput (W.running doer.old).node.control.nodes (W.running doer.old).node.control.me) }
-    ensures did { OnOk result (W.does (taken_up (dues.Waits pending) now) doer.old doer.new) }
-    ensures breaks { IfErr result (λ end. W.stops end (taken_up (dues.Waits pending) now) doer.old doer.new) }
+    ensures did { OnOk result (W.does (wakes pending now) doer.old doer.new) }
+    ensures breaks { IfErr result (λ end. W.stops end (wakes pending now) doer.old doer.new) }
 {
     W::parts_go_on();
     W::parts_stop();
@@ -59,8 +58,8 @@ fn wakes<W: Doer>(doer: &mut W, pending: Pending, now: u64) -> Result<(), TurnEn
 pub fn takes_brought<W: Doer>(doer: &mut W, input: Option<Input>) -> Result<(), TurnEnd>
     requires serving { W.serving doer.old }
     requires input { IfSome input (IsInput (W.running doer.old).node.control.nodes (W.running doer.old).node.control.me) }
-    ensures did { OnOk result (W.does (brought input) doer.old doer.new) }
-    ensures breaks { IfErr result (λ end. W.stops end (brought input) doer.old doer.new) }
+    ensures did { OnOk result (W.does (takes_brought input) doer.old doer.new) }
+    ensures breaks { IfErr result (λ end. W.stops end (takes_brought input) doer.old doer.new) }
 {
     W::parts_go_on();
     W::parts_stop();
@@ -75,8 +74,8 @@ pub fn takes_measure<W: Doer>(doer: &mut W, peer: NodeId, rate: u64) -> Result<(
     requires serving { W.serving doer.old }
     requires peer { IsNode (W.running doer.old).node.control.nodes peer }
     requires rate { IsRate rate }
-    ensures did { OnOk result (W.does (measured peer rate) doer.old doer.new) }
-    ensures breaks { IfErr result (λ end. W.stops end (measured peer rate) doer.old doer.new) }
+    ensures did { OnOk result (W.does (takes_measure peer rate) doer.old doer.new) }
+    ensures breaks { IfErr result (λ end. W.stops end (takes_measure peer rate) doer.old doer.new) }
 {
     W::parts_go_on();
     W::parts_stop();

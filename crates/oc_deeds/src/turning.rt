@@ -11,7 +11,7 @@ ghost use Rattle.oc_deeds.specs.declared.came.Came.TheVariants as comes;
 use crate::came::Came;
 use crate::doer::Doer;
 use crate::ends::TurnEnd;
-use crate::moving::{has_room, loses};
+use crate::moving::{takes_room, takes_loss};
 use crate::obeying::obeys;
 use crate::pace::{Pace, quickened};
 use crate::probing::{measured, next_peer};
@@ -89,11 +89,11 @@ fn happens<W: Doer>(
             verdict,
         } => obeys(doer, connection, count, verdict, now),
         Came::Room(connection) => {
-            has_room(doer, connection, now)?;
+            takes_room(doer, connection, now)?;
             Ok(false)
         }
         Came::Gone(connection, loss) => {
-            loses(doer, connection, loss)?;
+            takes_loss(doer, connection, loss)?;
             Ok(false)
         }
         Came::Reply { input, taken } => {

@@ -101,7 +101,7 @@ impl Work {
         ensures { result ≡ connection_of self.now }
     {
         match self {
-            Work::Content(place) | Work::Aside(place) => place.connection,
+            Work::Content(transfer) | Work::Aside(transfer) => transfer.connection,
             Work::Waits(waiting) => waiting.connection,
         }
     }

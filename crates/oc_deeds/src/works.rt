@@ -1,5 +1,5 @@
 ghost use Rattle.std.specs.Prelude.{◌≡◌, ◌++◌, ◌∷◌, [], OnErr, OnOk};
-ghost use Rattle.oc_deeds.specs.Works.{place_on};
+ghost use Rattle.oc_deeds.specs.Works.{index_on};
 
 use crate::work::Work;
 use oc_base::Memory;
@@ -23,7 +23,7 @@ impl Model for Works {
 }
 
 impl Works {
-    ghost use Rattle.oc_deeds.specs.Works.{work_on, without};
+    ghost use Rattle.oc_deeds.specs.Works.{work_on, without_work};
 
     /// Nothing is under way.
     pub fn new(alloc: Global) -> Works
@@ -46,10 +46,10 @@ impl Works {
     /// Takes out what is under way on a connection, if anything is.
     pub fn take(&mut self, connection: ConnectionId) -> Option<Work>
         ensures work { result ≡ work_on connection self.old }
-        ensures rest { self.new ≡ without connection self.old }
+        ensures rest { self.new ≡ without_work connection self.old }
     {
-        match place_on(&self.list, connection) {
-            Some(place) => Some(self.list.remove(place)),
+        match index_on(&self.list, connection) {
+            Some(index) => Some(self.list.remove(index)),
             None => None,
         }
     }
@@ -62,9 +62,9 @@ impl Works {
     }
 }
 
-/// The place of what is under way on a connection, if anything is.
-pub fn place_on(works: &[Work], connection: ConnectionId) -> Option<usize>
-    ensures { result ≡ place_on connection works.now }
+/// The index of what is under way on a connection, if anything is.
+pub fn index_on(works: &[Work], connection: ConnectionId) -> Option<usize>
+    ensures { result ≡ index_on connection works.now }
 {
     works
         .iter()

@@ -20,7 +20,7 @@ use Rattle.oc_schedule.proofs.ActsBack.{then}
 use Rattle.oc_schedule.proofs.FieldsBack.{decimal_word}
 use Rattle.oc_schedule.proofs.LineBack.{AreWords}
 use Rattle.oc_schedule.proofs.Readback.{area_back, chunk_back, sizes_back}
-use Rattle.oc_schedule.specs.Lines.{area_in, area_words, chunk_in, chunk_words, header_in, header_words, opening_in, with_sizes}
+use Rattle.oc_schedule.specs.Lines.{area_in, area_words, chunk_in, chunk_words, header_in, header_words, opening_in, header_without_areas}
 use Rattle.oc_schedule.specs.Printing.{areas_text}
 use Rattle.oc_schedule.specs.Texts.{line_text}
 use Rattle.oc_laws_records.proofs.Clear.{AreClear, IsClear, decimal_clear, letters_clear}
@@ -53,7 +53,7 @@ header_back : (h : Header) → IsHeader h → header_in (header_words h.nodes h.
 header_back h is =
     let numbers : opening_in (header_words h.nodes h.chain h.chunk) ≡ Ok (record { nodes = h.nodes; chain = h.chain; chunk = h.chunk }) =
     then (chunk_in (chunk_words h.chunk)) _ h.chunk _ (chunk_back h.chunk is.chunk is.fits) (sizes_back h.nodes h.chain h.chunk is.some is.few is.chain is.short is.within) in
-    ap (λ opening. with_fault causes.Header opening >>= λ sizes. Ok (with_sizes sizes)) numbers
+    ap (λ opening. with_fault causes.Header opening >>= λ sizes. Ok (header_without_areas sizes)) numbers
 
 agreed_back : (b : Bool) (h : Header) → agreed (header_before b h) (opened h) ≡ Ok (header_behind b h)
 agreed_back false h = refl

@@ -52,7 +52,7 @@ use Rattle.oc_deeds.specs.Records.{told_ahead}
 use Rattle.oc_deeds.specs.Rooms.{moves, room_for}
 use Rattle.oc_deeds.specs.Rooms as rooms
 use Rattle.oc_deeds.specs.Sends.{dials_at, dials_it, dials_next, sends}
-use Rattle.oc_deeds.specs.Turns.{Means, MeansBack, Observation, brought, deals, happens, measures, next_peer, probes_it, quickened, takes_at, takes_due, ticked, ticks, ticks_and_sends, ticks_if}
+use Rattle.oc_deeds.specs.Turns.{Means, MeansBack, Observation, takes_brought, deals, happens, measures, next_peer, probes_it, quickened, takes_at, takes_due, ticked, ticks, ticks_and_sends, ticks_if}
 use Rattle.oc_deeds.specs.Works.{client_input, pending, work_on}
 use Rattle.oc_deeds.specs.declared.came.Came.{Came}
 use Rattle.oc_deeds.specs.declared.came.Came.TheVariants as comes
@@ -65,8 +65,8 @@ use Rattle.oc_deeds.specs.declared.work.Transfer.{Transfer}
 use Rattle.oc_deeds.specs.declared.work.Work.{Work}
 use Rattle.oc_deeds.specs.declared.work.Work.TheVariants as works
 use Rattle.oc_service.proofs.BorneOut.{due_or_none, front_of_few}
-use Rattle.oc_service.specs.WhatNodeDoes.{Machine, begins, begun, behind_turn, due_at, node_behind, node_deeds, own_measure, own_measures, turn_deeds, turns_deeds}
-use Rattle.oc_service.specs.WhatNodeHears.{AreHeard, MayHear, calls_behind}
+use Rattle.oc_service.specs.WhatNodeDoes.{Machine, begins, begun, after_turn, due_at, machine_after, node_deeds, own_measure, own_measures, turn_deeds, turns_deeds}
+use Rattle.oc_service.specs.WhatNodeHears.{AreHeard, MayHear, calls_after}
 use Rattle.oc_updown.specs.declared.measure_lines.Measure.{Measure}
 use Rattle.oc_laws_records.specs.Kinds.{ArePlain, IsOfRecord, IsPlain}
 use Rattle.oc_laws_records.proofs.OneLine.{probe_one}
@@ -224,7 +224,7 @@ plain_moves p now prospects.Gives = (tt, tt)
 plain_moves p now prospects.Waits = (tt, tt)
 plain_moves p now prospects.Breaks = (tt, tt)
 
-plain_room : (o : Option Work) (now : ℕ) (s : Setting) (a : Running) → ArePlain (room_for (rooms.content_in o) now s a)
+plain_room : (o : Option Work) (now : ℕ) (s : Setting) (a : Running) → ArePlain (room_for (rooms.transfer_of o) now s a)
 plain_room None now s a = tt
 plain_room (Some (works.Content p)) now s a = plain_moves p now (prospect_of p (shelf a.node.groups) now)
 plain_room (Some (works.Aside p)) now s a = tt
@@ -235,7 +235,7 @@ plain_measures None peer None median s a = tt
 plain_measures (Some probing) peer None median s a = (tt, (tt, tt))
 plain_measures probing peer (Some fault) median s a = (probe_one peer fault, tt)
 
-plain_brought : (input : Option Input) (s : Setting) (a : Running) → IfSome input IsOfRecord → ArePlain (brought input s a)
+plain_brought : (input : Option Input) (s : Setting) (a : Running) → IfSome input IsOfRecord → ArePlain (takes_brought input s a)
 plain_brought None s a is = tt
 plain_brought (Some i) s a is = (tt, (is, (tt, tt)))
 
@@ -329,8 +329,8 @@ turn_plain terms calls s t m heard = turn_at terms calls (due_at t m) s t m hear
 turns_plain : (terms : NodeTerms) (calls : Option (List Call)) (s : Setting) (ts : List Observation) (m : Machine) → AreHeard s terms calls ts m → ArePlain (turns_deeds s ts m)
 turns_plain terms calls s [] m heard = tt
 turns_plain terms calls s (t ∷ ts) m heard =
-    plain_then (turn_deeds s t m) (turns_deeds s ts (behind_turn s t m)) (turn_plain terms calls s t m (heard.0))
-    (turns_plain terms (calls_behind s t m calls) s ts (behind_turn s t m) (heard.1))
+    plain_then (turn_deeds s t m) (turns_deeds s ts (after_turn s t m)) (turn_plain terms calls s t m (heard.0))
+    (turns_plain terms (calls_after s t m calls) s ts (after_turn s t m) (heard.1))
 
 -- All that a node does
 
@@ -361,30 +361,30 @@ module _ (s : Setting) (terms : NodeTerms) (calls : Option (List Call)) (ms : Li
   all = node_deeds s ms ts m
 
   abbrev turn : List Deed
-  turn = turn_deeds s last (node_behind s ms ts m)
+  turn = turn_deeds s last (machine_after s ms ts m)
 
   abbrev due : Option ℕ
-  due = due_at last (node_behind s ms ts m)
+  due = due_at last (machine_after s ms ts m)
 
   pub front_plain : (deeds behind : List Deed) (later : Option (List Call)) → all ++ turn ≡ deeds ++ behind
-      → (length deeds < length all + 3) ⊎ MayHear terms later due last (node_behind s ms ts m) → ArePlain deeds
+      → (length deeds < length all + 3) ⊎ MayHear terms later due last (machine_after s ms ts m) → ArePlain deeds
   front_plain deeds behind later cut last_heard = by_heard last_heard
     where
-      by_whole : MayHear terms later due last (node_behind s ms ts m) → ArePlain deeds
+      by_whole : MayHear terms later due last (machine_after s ms ts m) → ArePlain deeds
       by_whole heard_last =
           plain_front deeds behind (subst (λ (ds : List Deed). ArePlain ds) cut
-          (plain_then all turn (node_plain s terms calls ms ts m heard) (turn_plain terms later s last (node_behind s ms ts m) heard_last)))
+          (plain_then all turn (node_plain s terms calls ms ts m heard) (turn_plain terms later s last (machine_after s ms ts m) heard_last)))
 
       by_few : length deeds < length all + 3 → due ≡ None → ArePlain deeds
       by_few few none =
           let front = front_of_few deeds behind all turn 3 cut (omega (arith, few)) in
           plain_front deeds (front.0) (subst (λ (ds : List Deed). ArePlain ds) (front.1)
-          (plain_then all (take 3 turn) (node_plain s terms calls ms ts m heard) (plain_begin due s last (node_behind s ms ts m) none)))
+          (plain_then all (take 3 turn) (node_plain s terms calls ms ts m heard) (plain_begin due s last (machine_after s ms ts m) none)))
 
       by_due : length deeds < length all + 3 → (due ≡ None) ⊎ ((place : ℕ) × (due ≡ Some place)) → ArePlain deeds
       by_due few (inl none) = by_few few none
-      by_due few (inr there) = by_whole (subst (λ (o : Option ℕ). MayHear terms later o last (node_behind s ms ts m)) (sym (there.1)) tt)
+      by_due few (inr there) = by_whole (subst (λ (o : Option ℕ). MayHear terms later o last (machine_after s ms ts m)) (sym (there.1)) tt)
 
-      by_heard : (length deeds < length all + 3) ⊎ MayHear terms later due last (node_behind s ms ts m) → ArePlain deeds
+      by_heard : (length deeds < length all + 3) ⊎ MayHear terms later due last (machine_after s ms ts m) → ArePlain deeds
       by_heard (inl few) = by_due few (due_or_none due)
       by_heard (inr heard_last) = by_whole heard_last

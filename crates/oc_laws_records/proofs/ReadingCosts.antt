@@ -11,7 +11,7 @@ use Rattle.oc_model.specs.declared.event.Event.TheVariants.{Up}
 use Rattle.oc_model.specs.Node.{Header}
 use Rattle.oc_schedule.proofs.Ranges.{area_range, header_range}
 use Rattle.oc_schedule.proofs.Steps.{behind_guard, chosen, steps, within_guard}
-use Rattle.oc_schedule.specs.Lines.{area_in, area_words, event_words, header_in, header_words, node_alone_in, opening_in, with_sizes}
+use Rattle.oc_schedule.specs.Lines.{area_in, area_words, event_words, header_in, header_words, node_alone_in, opening_in, header_without_areas}
 use Rattle.oc_merge.specs.declared.fault.Cause.TheVariants.{Said, Areas}
 use Rattle.oc_merge.specs.declared.fault.Most.TheVariants as limits
 use Rattle.oc_merge.specs.declared.fault.RecordsFault.TheVariants.{Limit, Line}
@@ -84,7 +84,7 @@ module _ (price : ℕ → ℕ) (nodes : ℕ) where
 header_areas : (price : ℕ → ℕ) (ws : List (List ℕ)) (h : Header) → header_in ws ≡ Ok h → areas_cost price 1 h.areas ≡ 0
 header_areas price ws h is =
     steps (with_fault causes.Header (opening_in ws)) _ _ is λ sizes is_sizes end.
-    let same : with_sizes sizes ≡ h = cc end in
+    let same : header_without_areas sizes ≡ h = cc end in
     subst (λ (k : Header). areas_cost price 1 k.areas ≡ 0) same (zeros_cost price 1 sizes.nodes)
 
 -- the first header stays

@@ -9,7 +9,7 @@ use Rattle.oc_laws_world.specs.Merges.{Entry, Starts, Takes}
 use Rattle.oc_laws_world.specs.Missed.{Finds, Tells, without_missed}
 use Rattle.oc_laws_world.specs.Missed as missed
 use Rattle.oc_merge.specs.declared.told.Told.{Told}
-use Rattle.oc_merge.specs.Recorded.{entry_of, found_behind, is_missed, message_of, message_or_none, own_there, picked}
+use Rattle.oc_merge.specs.Recorded.{entry_of, found_after, is_missed, message_of, message_or_none, own_there, picked}
 use Rattle.oc_model.specs.declared.input.Input.{Input}
 use Rattle.oc_model.specs.declared.input.Input.TheVariants as inputs
 use Rattle.oc_model.specs.declared.message.Message.{Message}
@@ -23,7 +23,7 @@ use Rattle.oc_laws_records.specs.Stories.{IsStoryOf, IsToldOf, told_of}
 use Rattle.oc_laws_records.proofs.There.{AreReadBack, runs_entries}
 
 -- after an input no start comes next
-found_none : (i : Input) (ts : List Told) → found_behind (told_input i ∷ ts) ≡ None
+found_none : (i : Input) (ts : List Told) → found_after (told_input i ∷ ts) ≡ None
 found_none (inputs.Tick t) ts = refl
 found_none inputs.CheckNow ts = refl
 found_none (inputs.Relocate p) ts = refl
@@ -37,7 +37,7 @@ found_none (inputs.Delivered m) ts = refl
 
 module _ (digest : Node → List ℕ) (nodes x : ℕ) (back : AreReadBack nodes) where
   -- both say of the same inputs that they were missed
-  same_missed : (n : Node) (i : Input) (ms : List missed.Told) → is_missed digest n i (found_behind (map told_of ms)) ≡ missed.is_missed digest n i ms
+  same_missed : (n : Node) (i : Input) (ms : List missed.Told) → is_missed digest n i (found_after (map told_of ms)) ≡ missed.is_missed digest n i ms
   same_missed n i [] = refl
   same_missed n i (Tells j ∷ ms) = ap (is_missed digest n i) (found_none j (map told_of ms))
   same_missed n i (Finds d ∷ ms) =
@@ -53,7 +53,7 @@ module _ (digest : Node → List ℕ) (nodes x : ℕ) (back : AreReadBack nodes)
       picked (if b then false ∷ own_there digest nodes x n (map told_of ms) else true ∷ own_there digest nodes x (step n i).node (map told_of ms)) (e ∷ map (entry_of nodes) (map told_of ms))
 
   input_left : (n : Node) (i : Input) (ms : List missed.Told) → left n ms ≡ without_missed digest n ms → left (step n i).node ms ≡ without_missed digest (step n i).node ms
-      → either (is_missed digest n i (found_behind (map told_of ms))) n i (Takes i) ms ≡ without_missed digest n (Tells i ∷ ms)
+      → either (is_missed digest n i (found_after (map told_of ms))) n i (Takes i) ms ≡ without_missed digest n (Tells i ∷ ms)
   input_left n i ms without with_it = ap (λ b. either b n i (Takes i) ms) (same_missed n i ms) ∙ by_test (missed.is_missed digest n i ms) where
     by_test : (b : Bool) → either b n i (Takes i) ms ≡ (if b then without_missed digest n ms else Takes i ∷ without_missed digest (step n i).node ms)
     by_test true = without
@@ -62,7 +62,7 @@ module _ (digest : Node → List ℕ) (nodes x : ℕ) (back : AreReadBack nodes)
   -- where the message m came
   abbrev message_flags : Node → List missed.Told → Message → List Bool
   message_flags n ms m =
-      if is_missed digest n (inputs.Delivered m) (found_behind (map told_of ms)) then false ∷ own_there digest nodes x n (map told_of ms)
+      if is_missed digest n (inputs.Delivered m) (found_after (map told_of ms)) then false ∷ own_there digest nodes x n (map told_of ms)
       else true ∷ own_there digest nodes x (step n (inputs.Delivered m)).node (map told_of ms)
 
   abbrev message_left : Node → List missed.Told → Message → List Entry

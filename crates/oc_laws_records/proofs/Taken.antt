@@ -24,7 +24,7 @@ use Rattle.oc_deeds.specs.declared.ends.TurnEnd.{TurnEnd}
 use Rattle.oc_deeds.specs.declared.log.Log.TheVariants.{Record}
 use Rattle.oc_service.specs.OnSite.{DidOn, StoppedOn, header_of_settings, heard_before, machine_on, setting_of, terms_in}
 use Rattle.oc_service.specs.WhatNodeDoes.{Machine, begun, own_measures, turns_deeds}
-use Rattle.oc_service.specs.WhatNodeHears.{all_calls_behind}
+use Rattle.oc_service.specs.WhatNodeHears.{all_calls_after}
 use Rattle.oc_service.specs.declared.running.Task.{Task}
 use Rattle.oc_routes.specs.Refusals.{why_text}
 use Rattle.oc_laws_records.specs.Kinds.{ArePlain, IsOfRecord}
@@ -158,4 +158,4 @@ module _ {D L K : Type 0} (view : D → DiskView) (story : L → Option (List Ca
       let m : Machine = machine_on view c task old in
       cut_run_of network s first refl refl node (d ∷ ds) (stopped.cut honest).behind (stopped.recorded honest log) stopped.within
       (front_plain s (terms_in c task.me) heard_from c.measures stopped.told stopped.last m (stopped.heard honest) (d ∷ ds) (stopped.cut honest).behind
-      (all_calls_behind s stopped.told (begun s c.measures m) heard_from) (stopped.cut honest).front (stopped.last_heard honest))
+      (all_calls_after s stopped.told (begun s c.measures m) heard_from) (stopped.cut honest).front (stopped.last_heard honest))

@@ -7,7 +7,7 @@ use Rattle.oc_merge.proofs.Own.{own-append, own_first}
 use Rattle.oc_merge.specs.declared.told.Told.{Told}
 use Rattle.oc_merge.specs.declared.told.Told.TheVariants.{Started, Came, Took}
 use Rattle.oc_merge.specs.declared.told.ToldLine.{ToldLine}
-use Rattle.oc_merge.specs.Recorded.{are_there, entry_of, found_behind, is_missed, is_there, message_of, message_or_none, own_there, own_told, picked, records_there}
+use Rattle.oc_merge.specs.Recorded.{are_there, entry_of, found_after, is_missed, is_there, message_of, message_or_none, own_there, own_told, picked, records_there}
 use Rattle.oc_merge.specs.Told.{Records}
 use Rattle.oc_model.specs.declared.input.Input.{Input}
 use Rattle.oc_model.specs.declared.input.Input.TheVariants as inputs
@@ -39,14 +39,14 @@ there_length : (digest : Node → List ℕ) (nodes x : ℕ) (n : Node) (ts : Lis
 there_length digest nodes x n [] = refl
 there_length digest nodes x n (Started files ∷ ts) = ap suc (there_length digest nodes x (restarted n) ts)
 there_length digest nodes x n (Took i ∷ ts) =
-    input_length digest nodes x n i ts (is_missed digest n i (found_behind ts)) (there_length digest nodes x n ts) (there_length digest nodes x (step n i).node ts)
+    input_length digest nodes x n i ts (is_missed digest n i (found_after ts)) (there_length digest nodes x n ts) (there_length digest nodes x (step n i).node ts)
 there_length digest nodes x n (Came bytes ∷ ts) = by_test ((message_of nodes bytes).to == x) (there_length digest nodes x n ts) (there_length digest nodes x (step n i).node ts) where
   i : Input
   i = inputs.Delivered (message_of nodes bytes)
 
   by_test : (b : Bool) → length (own_there digest nodes x n ts) ≡ length ts → length (own_there digest nodes x (step n i).node ts) ≡ length ts
-      → length (if b then (if is_missed digest n i (found_behind ts) then false ∷ own_there digest nodes x n ts else true ∷ own_there digest nodes x (step n i).node ts) else true ∷ map (λ t. true) ts) ≡ suc (length ts)
-  by_test true without with_it = input_length digest nodes x n i ts (is_missed digest n i (found_behind ts)) without with_it
+      → length (if b then (if is_missed digest n i (found_after ts) then false ∷ own_there digest nodes x n ts else true ∷ own_there digest nodes x (step n i).node ts) else true ∷ map (λ t. true) ts) ≡ suc (length ts)
+  by_test true without with_it = input_length digest nodes x n i ts (is_missed digest n i (found_after ts)) without with_it
   by_test false without with_it = ap suc (all_length ts)
 
 drop_at : (bs : List Bool) (k : ℕ) → k < length bs → drop k bs ≡ get_or bs k true ∷ drop (suc k) bs

@@ -26,7 +26,7 @@ use Rattle.oc_schedule.proofs.Steps.{behind_guard, steps, within_guard}
 use Rattle.oc_model.specs.declared.header.Sizes.{Sizes}
 use Rattle.oc_schedule.specs.Acts.{PublishesBytes, act_in, act_words, check_in, client_in, deliver_in, delivered_in, fail_in, measure_in, most_byte, move_in, pair_in, publish_in, pull_in, seal_in, tick_in, ticked_in}
 use Rattle.oc_schedule.specs.Fields.{bytes_in, bytes_text, group_in}
-use Rattle.oc_schedule.specs.Lines.{area_in, area_words, chunk_in, chunk_words, header_in, header_words, named_in, node_alone_in, opening_in, sizes_in, with_sizes}
+use Rattle.oc_schedule.specs.Lines.{area_in, area_words, chunk_in, chunk_words, header_in, header_words, named_in, node_alone_in, opening_in, sizes_in, header_without_areas}
 use Rattle.oc_wire.specs.MessageFaults.{of_field}
 use Rattle.oc_wire.specs.MessageReading.{decoded}
 use Rattle.oc_laws_records.proofs.Numbers.{number_back}
@@ -284,7 +284,7 @@ chunk_total (name ∷ fields) b h =
 pub header_total : (words : List (List ℕ)) (h : Header) → header_in words ≡ Ok h → (total (header_words h.nodes h.chain h.chunk) ≤ total words) × (crash_bytes ≤ total words)
 header_total words h is =
     steps (with_fault causes.Header (opening_in words)) _ _ is λ sizes is_sizes end.
-    let same : with_sizes sizes ≡ h = cc end in
+    let same : header_without_areas sizes ≡ h = cc end in
     steps (named_in (codes "overcast") words) _ _ (without_fault causes.Header (opening_in words) sizes is_sizes) λ version is_version then.
     steps (named_in (codes "nodes") version.1) _ _ then λ n is_nodes then.
     steps (named_in (codes "chain") n.1) _ _ then λ c is_chain then.

@@ -16,9 +16,9 @@ use Rattle.oc_model.specs.Step.{step}
 use Rattle.oc_merge.specs.declared.told.Told.{Told}
 use Rattle.oc_merge.specs.declared.told.Told.TheVariants.{Started, Came, Took}
 use Rattle.oc_merge.specs.declared.told.ToldLine.{ToldLine}
-use Rattle.oc_merge.specs.Folds.{AreFoldsAt, Behind, IsOfNetwork, behind_any, behind_either, behind_input, behind_line, nothing_more, there_from}
+use Rattle.oc_merge.specs.Folds.{AreFoldsAt, AfterLine, IsOfNetwork, after_any, after_either, after_input, after_line, nothing_more, there_from}
 use Rattle.oc_merge.specs.Heads.{AreNextPlaces, before_own}
-use Rattle.oc_merge.specs.Recorded.{are_there, found_behind, is_missed, is_there, message_of, no_message, own_there, own_told, picked}
+use Rattle.oc_merge.specs.Recorded.{are_there, found_after, is_missed, is_there, message_of, no_message, own_there, own_told, picked}
 use Rattle.oc_merge.specs.Told.{Records}
 use Rattle.oc_merge.proofs.Fronts.{drop_at_place}
 use Rattle.oc_merge.proofs.Going.{before_none, before_within}
@@ -32,42 +32,42 @@ use Rattle.oc_wire.specs.MessageReading.{Gives, decoded}
 -- One line
 
 -- where a start comes next, a node is as good as the one started again
-started_same : (digest : Node → List ℕ) (nodes x : ℕ) (n : Node) (ts : List Told) (digits : List ℕ) → found_behind ts ≡ Some digits → own_there digest nodes x n ts ≡ own_there digest nodes x (restarted n) ts
+started_same : (digest : Node → List ℕ) (nodes x : ℕ) (n : Node) (ts : List Told) (digits : List ℕ) → found_after ts ≡ Some digits → own_there digest nodes x n ts ≡ own_there digest nodes x (restarted n) ts
 started_same digest nodes x n [] digits e = absurd (cc e)
 started_same digest nodes x n (Started files ∷ ts) digits e = refl
 started_same digest nodes x n (Came bytes ∷ ts) digits e = absurd (cc e)
 started_same digest nodes x n (Took i ∷ ts) digits e = absurd (cc e)
 
-input_there : (digest : Node → List ℕ) (nodes x : ℕ) (n : Node) (i : Input) (ts : List Told) (found : Option (List ℕ)) → found_behind ts ≡ found
+input_there : (digest : Node → List ℕ) (nodes x : ℕ) (n : Node) (i : Input) (ts : List Told) (found : Option (List ℕ)) → found_after ts ≡ found
     → (if is_missed digest n i found then false ∷ own_there digest nodes x n ts else true ∷ own_there digest nodes x (step n i).node ts)
-    ≡ (behind_input digest n i found).there ∷ there_from digest nodes x (behind_input digest n i found).node ts
+    ≡ (after_input digest n i found).there ∷ there_from digest nodes x (after_input digest n i found).node ts
 input_there digest nodes x n i ts None e = refl
 input_there digest nodes x n i ts (Some digits) e = by_test (is_missed digest n i (Some digits)) where
   by_test : (b : Bool) → (if b then false ∷ own_there digest nodes x n ts else true ∷ own_there digest nodes x (step n i).node ts)
-      ≡ (behind_either b n (step n i).node).there
-      ∷ there_from digest nodes x (behind_either b n (step n i).node).node ts
+      ≡ (after_either b n (step n i).node).there
+      ∷ there_from digest nodes x (after_either b n (step n i).node).node ts
   by_test true = ap (λ bs. false ∷ bs) (started_same digest nodes x n ts digits e)
   by_test false = refl
 
 line_there : (digest : Node → List ℕ) (nodes x : ℕ) (n : Node) (t : Told) (ts : List Told)
-    → own_there digest nodes x n (t ∷ ts) ≡ (behind_line digest nodes x n t (found_behind ts)).there ∷ there_from digest nodes x (behind_line digest nodes x n t (found_behind ts)).node ts
+    → own_there digest nodes x n (t ∷ ts) ≡ (after_line digest nodes x n t (found_after ts)).there ∷ there_from digest nodes x (after_line digest nodes x n t (found_after ts)).node ts
 line_there digest nodes x n (Started files) ts = refl
-line_there digest nodes x n (Took i) ts = input_there digest nodes x n i ts (found_behind ts) refl
+line_there digest nodes x n (Took i) ts = input_there digest nodes x n i ts (found_after ts) refl
 line_there digest nodes x n (Came bytes) ts = by_test ((message_of nodes bytes).to == x) where
   found : Option (List ℕ)
-  found = found_behind ts
+  found = found_after ts
 
   i : Input
   i = Delivered (message_of nodes bytes)
 
   by_test : (b : Bool) → (if b then (if is_missed digest n i found then false ∷ own_there digest nodes x n ts else true ∷ own_there digest nodes x (step n i).node ts) else true ∷ map (λ t. true) ts)
-      ≡ (if b then behind_input digest n i found else nothing_more).there
-      ∷ there_from digest nodes x (if b then behind_input digest n i found else nothing_more).node ts
+      ≡ (if b then after_input digest n i found else nothing_more).there
+      ∷ there_from digest nodes x (if b then after_input digest n i found else nothing_more).node ts
   by_test true = input_there digest nodes x n i ts found refl
   by_test false = refl
 
 any_there : (digest : Node → List ℕ) (nodes x : ℕ) (n : Option Node) (t : Told) (ts : List Told)
-    → there_from digest nodes x n (t ∷ ts) ≡ (behind_any digest nodes x n t (found_behind ts)).there ∷ there_from digest nodes x (behind_any digest nodes x n t (found_behind ts)).node ts
+    → there_from digest nodes x n (t ∷ ts) ≡ (after_any digest nodes x n t (found_after ts)).there ∷ there_from digest nodes x (after_any digest nodes x n t (found_after ts)).node ts
 any_there digest nodes x None t ts = refl
 any_there digest nodes x (Some n) t ts = line_there digest nodes x n t ts
 
@@ -78,18 +78,18 @@ step_network nodes x n i of =
     let same : IsSame n.control (step n i).node.control = (writes n.control (shelf n.groups) i).same in
     (same.nodes ∙ of.0, same.me ∙ of.1)
 
-input_network : (digest : Node → List ℕ) (nodes x : ℕ) (n : Node) (i : Input) (found : Option (List ℕ)) → IsOfNetwork nodes x (Some n) → IsOfNetwork nodes x (behind_input digest n i found).node
+input_network : (digest : Node → List ℕ) (nodes x : ℕ) (n : Node) (i : Input) (found : Option (List ℕ)) → IsOfNetwork nodes x (Some n) → IsOfNetwork nodes x (after_input digest n i found).node
 input_network digest nodes x n i found of = by_test (is_missed digest n i found) where
-  by_test : (b : Bool) → IsOfNetwork nodes x (behind_either b n (step n i).node).node
+  by_test : (b : Bool) → IsOfNetwork nodes x (after_either b n (step n i).node).node
   by_test true = of
   by_test false = step_network nodes x n i of
 
-any_network : (digest : Node → List ℕ) (nodes x : ℕ) (n : Option Node) (t : Told) (found : Option (List ℕ)) → IsOfNetwork nodes x n → IsOfNetwork nodes x (behind_any digest nodes x n t found).node
+any_network : (digest : Node → List ℕ) (nodes x : ℕ) (n : Option Node) (t : Told) (found : Option (List ℕ)) → IsOfNetwork nodes x n → IsOfNetwork nodes x (after_any digest nodes x n t found).node
 any_network digest nodes x None t found of = tt
 any_network digest nodes x (Some n) (Started files) found of = of
 any_network digest nodes x (Some n) (Took i) found of = input_network digest nodes x n i found of
 any_network digest nodes x (Some n) (Came bytes) found of = by_test ((message_of nodes bytes).to == x) where
-  by_test : (b : Bool) → IsOfNetwork nodes x (if b then behind_input digest n (Delivered (message_of nodes bytes)) found else nothing_more).node
+  by_test : (b : Bool) → IsOfNetwork nodes x (if b then after_input digest n (Delivered (message_of nodes bytes)) found else nothing_more).node
   by_test true = input_network digest nodes x n (Delivered (message_of nodes bytes)) found of
   by_test false = tt
 
@@ -135,8 +135,8 @@ own_there_take x (k ∷ ks) (suc p) l at apart = by_test (k.node == x) (own_ther
 -- Folds
 
 module _ {A : Type 0} (node : A → Node) (digest : Node → List ℕ) (r : Records) (p : ℕ) (folds : List (Option A)) (at : AreFoldsAt node digest r p folds) (l : ToldLine) (there : slice_get r.lines p ≡ Some l) (is : IsNode r.header.nodes l.node) where
-  abbrev behind : Behind
-  behind = behind_any digest r.header.nodes l.node (option_map node (get_or folds (l.node - 1) None)) l.told (found_behind (own_told l.node (drop (suc p) r.lines)))
+  abbrev behind : AfterLine
+  behind = after_any digest r.header.nodes l.node (option_map node (get_or folds (l.node - 1) None)) l.told (found_after (own_told l.node (drop (suc p) r.lines)))
 
   split : drop (length (own_told l.node (take p r.lines))) (own_there digest r.header.nodes l.node (new_node r.header l.node) (own_told l.node r.lines))
       ≡ behind.there ∷ there_from digest r.header.nodes l.node behind.node (own_told l.node (drop (suc p) r.lines))
@@ -168,7 +168,7 @@ module _ {A : Type 0} (node : A → Node) (digest : Node → List ℕ) (r : Reco
     own x among = ⊎_elim here others (cases_eq l.node x) where
       at_own : IsOfNetwork r.header.nodes l.node (option_map node (get_or (slice_set folds (l.node - 1) next) (l.node - 1) None))
       at_own = subst (IsOfNetwork r.header.nodes l.node) (sym (ap (option_map node) here_is ∙ of))
-          (any_network digest r.header.nodes l.node (option_map node (get_or folds (l.node - 1) None)) l.told (found_behind (own_told l.node (drop (suc p) r.lines))) (at.own l.node is))
+          (any_network digest r.header.nodes l.node (option_map node (get_or folds (l.node - 1) None)) l.told (found_after (own_told l.node (drop (suc p) r.lines))) (at.own l.node is))
 
       here : l.node ≡ x → IsOfNetwork r.header.nodes x (option_map node (get_or (slice_set folds (l.node - 1) next) (x - 1) None))
       here same = subst (λ (y : ℕ). IsOfNetwork r.header.nodes y (option_map node (get_or (slice_set folds (l.node - 1) next) (y - 1) None))) same at_own
@@ -267,26 +267,26 @@ module _ (ls : List ToldLine) (next : List ℕ) (are : AreNextPlaces ls next) (p
   next_own = ap (own_told x) (sym joined) ∙ own_behind x (drop (p + 1) ls)
 
 -- a start that tells no files is passed
-pub next_start : (ls : List ToldLine) (p : ℕ) (l : ToldLine) (x : ℕ) → slice_get ls p ≡ Some l → l.node ≡ x → l.told ≡ Started None → found_behind (own_told x (drop (p + 1) ls)) ≡ found_behind (own_told x (drop p ls))
+pub next_start : (ls : List ToldLine) (p : ℕ) (l : ToldLine) (x : ℕ) → slice_get ls p ≡ Some l → l.node ≡ x → l.told ≡ Started None → found_after (own_told x (drop (p + 1) ls)) ≡ found_after (own_told x (drop p ls))
 next_start ls p l x there is told =
     let index : p + 1 ≡ suc p = omega arith in
-    ap (λ q. found_behind (own_told x (drop q ls))) index
-    ∙ (sym (ap (λ (t : Told). found_behind (t ∷ own_told x (drop (suc p) ls))) told)
-    ∙ sym (ap (λ (ks : List ToldLine). found_behind (own_told x ks)) (drop_at_place ls p l there) ∙ ap found_behind (own_first x l (drop (suc p) ls) is)))
+    ap (λ q. found_after (own_told x (drop q ls))) index
+    ∙ (sym (ap (λ (t : Told). found_after (t ∷ own_told x (drop (suc p) ls))) told)
+    ∙ sym (ap (λ (ks : List ToldLine). found_after (own_told x ks)) (drop_at_place ls p l there) ∙ ap found_after (own_first x l (drop (suc p) ls) is)))
 
 -- Bytes that are no message
 
-strange_behind : (nodes x : ℕ) (bytes : List ℕ) (b : Behind) → 1 ≤ x → message_of nodes bytes ≡ no_message → (if (message_of nodes bytes).to == x then b else nothing_more) ≡ nothing_more
+strange_behind : (nodes x : ℕ) (bytes : List ℕ) (b : AfterLine) → 1 ≤ x → message_of nodes bytes ≡ no_message → (if (message_of nodes bytes).to == x then b else nothing_more) ≡ nothing_more
 strange_behind nodes x bytes b some none =
     let zero_is : (message_of nodes bytes).to ≡ 0 = ap (λ (m : Message). m.to) none in
     let apart : (message_of nodes bytes).to ≡ x → ⊥ = λ e. absurd (omega (arith, some, zero_is, e)) in
     ap (λ c. if c then b else nothing_more) (ne_eqb (message_of nodes bytes).to x apart)
 
-pub fault_behind : {X E : Type 0} (view : X → Behind) (r : Result X E) (digest : Node → List ℕ) (nodes x : ℕ) (n : Node) (bytes : List ℕ) (found : Option (List ℕ)) (fault : WireFault) → 1 ≤ x → Gives (Err fault) (decoded nodes bytes)
-    → IfOk r (λ k. view k ≡ nothing_more) → OnOk r (fault ≡ faults.Memory → ⊥) → IfOk r (λ k. view k ≡ behind_line digest nodes x n (Came bytes) found)
+pub fault_behind : {X E : Type 0} (view : X → AfterLine) (r : Result X E) (digest : Node → List ℕ) (nodes x : ℕ) (n : Node) (bytes : List ℕ) (found : Option (List ℕ)) (fault : WireFault) → 1 ≤ x → Gives (Err fault) (decoded nodes bytes)
+    → IfOk r (λ k. view k ≡ nothing_more) → OnOk r (fault ≡ faults.Memory → ⊥) → IfOk r (λ k. view k ≡ after_line digest nodes x n (Came bytes) found)
 fault_behind view (Err e) digest nodes x n bytes found fault some gives lost other = tt
 fault_behind view (Ok k) digest nodes x n bytes found fault some gives lost other =
-    lost ∙ sym (strange_behind nodes x bytes (behind_input digest n (Delivered (message_of nodes bytes)) found) some (strange_bytes nodes bytes fault gives other))
+    lost ∙ sym (strange_behind nodes x bytes (after_input digest n (Delivered (message_of nodes bytes)) found) some (strange_bytes nodes bytes fault gives other))
 
 -- Flags of lines
 
@@ -326,8 +326,8 @@ module _ {A : Type 0} (node : A → Node) (digest : Node → List ℕ) (r : Reco
   place_next : p + 1 ≡ suc p
   place_next = omega arith
 
-  behind_of : Option A → Behind
-  behind_of o = behind_any digest r.header.nodes l.node (option_map node o) l.told (found_behind (own_told l.node (drop (suc p) r.lines)))
+  behind_of : Option A → AfterLine
+  behind_of o = after_any digest r.header.nodes l.node (option_map node o) l.told (found_after (own_told l.node (drop (suc p) r.lines)))
 
   fold_at : (o next : Option A) → get_or folds i d ≡ o → option_map node next ≡ (behind_of o).node → AreFoldsAt node digest r (p + 1) (slice_set folds i next)
   unfolding behind_of
@@ -348,17 +348,17 @@ module _ {A : Type 0} (node : A → Node) (digest : Node → List ℕ) (r : Reco
   unfolding behind_of
   lost_on next none same = fold_at None next none (ap (option_map node) same)
 
-  module _ (one : A) (some : get_or folds i d ≡ Some one) (b : Behind) (of : b ≡ behind_line digest r.header.nodes l.node (node one) l.told (found_behind (own_told l.node (drop (p + 1) r.lines)))) where
+  module _ (one : A) (some : get_or folds i d ≡ Some one) (b : AfterLine) (of : b ≡ after_line digest r.header.nodes l.node (node one) l.told (found_after (own_told l.node (drop (p + 1) r.lines)))) where
     b_is : b ≡ behind_of (Some one)
     unfolding behind_of
-    b_is = of ∙ ap (λ q. behind_line digest r.header.nodes l.node (node one) l.told (found_behind (own_told l.node (drop q r.lines)))) place_next
+    b_is = of ∙ ap (λ q. after_line digest r.header.nodes l.node (node one) l.told (found_after (own_told l.node (drop q r.lines)))) place_next
 
     pub taken_there : b.there ≡ is_there digest r p l
-    taken_there = ap (λ (k : Behind). k.there) b_is ∙ sym (there_at (Some one) some)
+    taken_there = ap (λ (k : AfterLine). k.there) b_is ∙ sym (there_at (Some one) some)
 
     pub taken_on : (before next : Option A) → option_map node next ≡ b.node → AreFoldsAt node digest r (p + 1) (slice_set (slice_set folds i before) i next)
     taken_on before next same =
-        subst (AreFoldsAt node digest r (p + 1)) (sym (set_again folds i before next)) (fold_at (Some one) next some (same ∙ ap (λ (k : Behind). k.node) b_is))
+        subst (AreFoldsAt node digest r (p + 1)) (sym (set_again folds i before next)) (fold_at (Some one) next some (same ∙ ap (λ (k : AfterLine). k.node) b_is))
 
 -- the result of giving a slice back
 pub given_back : {A : Type 0} (xs ys : List A) (n : ℕ) → n ≡ length xs → take n (xs ++ ys) ≡ xs

@@ -16,7 +16,7 @@ use Rattle.oc_merge.specs.declared.told.Told.TheVariants.{Started, Came, Took}
 use Rattle.oc_merge.specs.declared.told.ToldLine.{ToldLine}
 use Rattle.oc_merge.specs.declared.way.Way.{Way}
 use Rattle.oc_merge.specs.declared.way.Way.TheVariants.{Start, Number, Input}
-use Rattle.oc_merge.specs.Heads.{before_own, AreHeads, AreHeadsIn, AreSamePlaces, CanGo, HasWay, HaveWaysBut, IsHeadOf, IsLookedAt, IsOnTheWay, IsWay, IsWayAt, LooksAgain, head_of, is_message_there, is_waiting, lines_left, no_head, placed, receivers_behind}
+use Rattle.oc_merge.specs.Heads.{before_own, AreHeads, AreHeadsIn, AreSamePlaces, CanGo, HasWay, HaveWaysBut, IsHeadOf, IsLookedAt, IsOnTheWay, IsWay, IsWayAt, LooksAgain, head_of, is_message_there, is_waiting, lines_left, no_head, placed, receivers_after}
 use Rattle.oc_merge.specs.Merging.{IsFirstOf}
 use Rattle.oc_merge.specs.Recorded.{are_files, message_of, own_told}
 use Rattle.oc_merge.specs.Told.{Records}
@@ -215,13 +215,13 @@ receivers_suc (m ∷ ms) zero to within all = ap (λ y. y ∷ map (λ k. k.to) m
 receivers_suc (m ∷ ms) (suc k) to within all = receivers_suc ms k to (omega (arith, within)) all
 
 -- the next of those to whom messages are
-pub receivers_more : (net : List Message) (k to : ℕ) → k < length net → ((m : Message) → message_at net (k + 1) ≡ Some m → m.to ≡ to) → receivers_behind k net ≡ to ∷ receivers_behind (k + 1) net
+pub receivers_more : (net : List Message) (k to : ℕ) → k < length net → ((m : Message) → message_at net (k + 1) ≡ Some m → m.to ≡ to) → receivers_after k net ≡ to ∷ receivers_after (k + 1) net
 receivers_more net k to within all =
     let index : k + 1 ≡ suc k = omega arith in
     receivers_suc net k to within (λ m there. all m (ap (message_at net) index ∙ there)) ∙ ap (λ q. to ∷ map (λ m. m.to) (drop q net)) (sym index)
 
 -- one receiver is looked at
 pub receiver_on : (digest : Node → List ℕ) (r : Records) (w : World) (hs bs : List Head) (k to : ℕ) → k < length w.net → ((m : Message) → message_at w.net (k + 1) ≡ Some m → m.to ≡ to) → LooksAgain digest r w to hs bs → IsNode r.header.nodes to → length hs ≡ r.header.nodes
-    → HaveWaysBut digest r w hs (receivers_behind k w.net) → HaveWaysBut digest r w bs (receivers_behind (k + 1) w.net)
+    → HaveWaysBut digest r w hs (receivers_after k w.net) → HaveWaysBut digest r w bs (receivers_after (k + 1) w.net)
 receiver_on digest r w hs bs k to within all again is long but =
-    again_but digest r w to hs bs again is long (receivers_behind (k + 1) w.net) (subst (HaveWaysBut digest r w hs) (receivers_more w.net k to within all) but)
+    again_but digest r w to hs bs again is long (receivers_after (k + 1) w.net) (subst (HaveWaysBut digest r w hs) (receivers_more w.net k to within all) but)

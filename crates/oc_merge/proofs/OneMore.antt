@@ -19,7 +19,7 @@ use Rattle.oc_merge.specs.declared.choosing.Choice.{Choice}
 use Rattle.oc_merge.specs.declared.heads.Head.{Head}
 use Rattle.oc_merge.specs.declared.told.ToldLine.{ToldLine}
 use Rattle.oc_merge.specs.declared.way.Way.{Way}
-use Rattle.oc_merge.specs.Heads.{AreHeadsIn, CanGoAt, HasWay, HaveWays, HaveWaysBut, IsChosen, IsFirstChoice, IsFirstWay, IsLookedAt, IsOnTheWay, IsWay, IsWayAt, NoneGoBefore, head_of, is_waiting, no_head, receivers_behind}
+use Rattle.oc_merge.specs.Heads.{AreHeadsIn, CanGoAt, HasWay, HaveWays, HaveWaysBut, IsChosen, IsFirstChoice, IsFirstWay, IsLookedAt, IsOnTheWay, IsWay, IsWayAt, NoneGoBefore, head_of, is_waiting, no_head, receivers_after}
 use Rattle.oc_merge.specs.Told.{Records}
 use Rattle.oc_merge.proofs.Chosen.{world_is}
 use Rattle.oc_merge.proofs.Fronts.{own_up}
@@ -125,14 +125,14 @@ module _ (digest : Node → List ℕ) (r : Records) (w v : World) (heads mid bs 
       ∙ sym ((world_is digest r heads w before on).processes x among))
 
   abbrev Has : ℕ → Type 0
-  Has y = (IsAmong y (receivers_behind (length w.net) v.net) × (is_waiting r.lines (head_of bs y) ≡ true)) ⊎ HasWay digest r v y (head_of bs y)
+  Has y = (IsAmong y (receivers_after (length w.net) v.net) × (is_waiting r.lines (head_of bs y) ≡ true)) ⊎ HasWay digest r v y (head_of bs y)
 
-  pub ways_behind : HaveWaysBut digest r v bs (receivers_behind (length w.net) v.net)
+  pub ways_behind : HaveWaysBut digest r v bs (receivers_after (length w.net) v.net)
   ways_behind x among = ⊎_elim here there (cases_eq l.node x) where
     news : IsLater w v
     news = subst (IsLater w) (sym leads) (net_after w es)
 
-    receivers_are : receivers_behind (length w.net) v.net ≡ map (λ m. m.to) news.0
+    receivers_are : receivers_after (length w.net) v.net ≡ map (λ m. m.to) news.0
     receivers_are = ap (λ (ms : List Message). map (λ m. m.to) (drop (length w.net) ms)) news.1 ∙ ap (map (λ m. m.to)) (behind_all w.net news.0)
 
     here : l.node ≡ x → Has x
@@ -146,5 +146,5 @@ module _ (digest : Node → List ℕ) (r : Records) (w v : World) (heads mid bs 
         ∙ (ap (λ (hs : List Head). head_of hs x) moved ∙ get_or-set_other heads (l.node - 1) (x - 1) h no_head others) in
         let same : process v x ≡ process w x = process_stays x among apart in
         let later = way_later digest r.header.nodes w v x news.0 (ap (λ (p : Process). p.node) same) (ap (λ (p : Process). p.up) same) news.1 (slice_get r.lines (head_of heads x).place) (head_of heads x).way (way_of_head digest r w heads before on ways x among) in
-        subst (λ (k : Head). (IsAmong x (receivers_behind (length w.net) v.net) × (is_waiting r.lines k ≡ true)) ⊎ HasWay digest r v x k) (sym stays)
+        subst (λ (k : Head). (IsAmong x (receivers_after (length w.net) v.net) × (is_waiting r.lines k ≡ true)) ⊎ HasWay digest r v x k) (sym stays)
         (subst (λ (ys : List ℕ). (IsAmong x ys × (is_waiting r.lines (head_of heads x) ≡ true)) ⊎ HasWay digest r v x (head_of heads x)) (sym receivers_are) later)

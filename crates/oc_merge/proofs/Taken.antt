@@ -10,7 +10,7 @@ use Rattle.oc_merge.specs.declared.heads.Head.{Head}
 use Rattle.oc_merge.specs.declared.merge_end.MergeEnd.{MergeEnd}
 use Rattle.oc_merge.specs.declared.told.ToldLine.{ToldLine}
 use Rattle.oc_merge.specs.Ends.{EndsAt, IsFirstAtHeads, StandsFirst}
-use Rattle.oc_merge.specs.Heads.{AreNextPlaces, HaveWays, HaveWaysBut, IsChosen, IsFirstChoice, IsFirstWay, IsLookedAt, IsOnTheWay, IsTaken, IsWay, before_own, head_of, lines_left, no_head, receivers_behind}
+use Rattle.oc_merge.specs.Heads.{AreNextPlaces, HaveWays, HaveWaysBut, IsChosen, IsFirstChoice, IsFirstWay, IsLookedAt, IsOnTheWay, IsTaken, IsWay, before_own, head_of, lines_left, no_head, receivers_after}
 use Rattle.oc_merge.specs.Merging.{DeliverFirst, IsMergeOf}
 use Rattle.oc_merge.specs.Recorded.{line_of}
 use Rattle.oc_merge.specs.Records.{AreRecords, IsLine}
@@ -70,7 +70,7 @@ module _ (digest : Node → List ℕ) (r : Records) (heads : List Head) (w : Wor
           let later : (get_or heads (line.node - 1) no_head).place < h.place = omega (arith, line_head, place_is) in
           left_fewer (length r.lines) heads (line.node - 1) h (omega (arith, line_lawful.0.0, line_lawful.0.1, on.heads_are.all)) here later
 
-      pub ways_but : (bs : List Head) → IsLookedAt digest r v line.node (slice_set heads (line.node - 1) h) bs → HaveWaysBut digest r v bs (receivers_behind (length w.net) v.net)
+      pub ways_but : (bs : List Head) → IsLookedAt digest r v line.node (slice_set heads (line.node - 1) h) bs → HaveWaysBut digest r v bs (receivers_after (length w.net) v.net)
       ways_but bs at =
           let at_told : IsLookedAt digest r v chosen.told.node (slice_set heads (chosen.told.node - 1) h) bs = subst (λ (l : ToldLine). IsLookedAt digest r v l.node (slice_set heads (l.node - 1) h) bs) line_is at in
           ways_behind digest r w v heads (slice_set heads (chosen.told.node - 1) h) bs before after on ways next_on.0 (line_of r.header.nodes chosen.told) next_on.1
@@ -80,7 +80,7 @@ module _ (digest : Node → List ℕ) (r : Records) (heads : List Head) (w : Wor
 pub record IsMoved (digest : Node → List ℕ) (r : Records) (heads mid : List Head) (w v : World) (x sent : ℕ) (after : List Event) : Type 0 where
   pub on : IsOnTheWay digest r mid v after
   pub fewer : lines_left (length r.lines) mid < lines_left (length r.lines) heads
-  pub ways : (bs : List Head) → IsLookedAt digest r v x mid bs → HaveWaysBut digest r v bs (receivers_behind sent v.net)
+  pub ways : (bs : List Head) → IsLookedAt digest r v x mid bs → HaveWaysBut digest r v bs (receivers_after sent v.net)
 
 pub moved : (digest : Node → List ℕ) (r : Records) (heads : List Head) (w : World) (before : List Event) (on : IsOnTheWay digest r heads w before) (lawful : AreRecords r) (ways : HaveWays digest r w heads) (c : Choice) (first : IsFirstWay heads (length heads) c)
     → (line : ToldLine) (read : line ≡ get_or r.lines c.place line) (next : List ℕ) (are : AreNextPlaces r.lines next) (v : World) (after : List Event) (count : ℕ) → count ≡ r.header.nodes → IsTaken count w line v before after

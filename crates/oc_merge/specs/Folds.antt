@@ -12,32 +12,32 @@ use Rattle.oc_merge.specs.Told.{Records}
 -- Each node after its own lines, up to an index among all lines.
 
 -- the node after a line, none where nothing more is found, and whether the line is there
-pub record Behind : Type 0 where
+pub record AfterLine : Type 0 where
   pub node : Option Node
   pub there : Bool
 
-abbrev pub nothing_more : Behind
+abbrev pub nothing_more : AfterLine
 nothing_more = record { node = None; there = true }
 
 -- after an input that was missed, as the start that comes next finds the node, or taken
-abbrev pub behind_either : Bool → Node → Node → Behind
-behind_either true before after = record { node = Some (restarted before); there = false }
-behind_either false before after = record { node = Some after; there = true }
+abbrev pub after_either : Bool → Node → Node → AfterLine
+after_either true before after = record { node = Some (restarted before); there = false }
+after_either false before after = record { node = Some after; there = true }
 
-abbrev pub behind_input : (Node → List ℕ) → Node → Input → Option (List ℕ) → Behind
-behind_input digest n i found = behind_either (is_missed digest n i found) n (step n i).node
+abbrev pub after_input : (Node → List ℕ) → Node → Input → Option (List ℕ) → AfterLine
+after_input digest n i found = after_either (is_missed digest n i found) n (step n i).node
 
 -- after a line of x, where the first start after it finds these files
-abbrev pub behind_line : (Node → List ℕ) → ℕ → ℕ → Node → Told → Option (List ℕ) → Behind
-behind_line digest nodes x n (Started files) found = record { node = Some (restarted n); there = true }
-behind_line digest nodes x n (Came bytes) found =
-    if (message_of nodes bytes).to == x then behind_input digest n (Delivered (message_of nodes bytes)) found else nothing_more
-behind_line digest nodes x n (Took i) found = behind_input digest n i found
+abbrev pub after_line : (Node → List ℕ) → ℕ → ℕ → Node → Told → Option (List ℕ) → AfterLine
+after_line digest nodes x n (Started files) found = record { node = Some (restarted n); there = true }
+after_line digest nodes x n (Came bytes) found =
+    if (message_of nodes bytes).to == x then after_input digest n (Delivered (message_of nodes bytes)) found else nothing_more
+after_line digest nodes x n (Took i) found = after_input digest n i found
 
 -- the same, where nothing may be found any more
-abbrev pub behind_any : (Node → List ℕ) → ℕ → ℕ → Option Node → Told → Option (List ℕ) → Behind
-behind_any digest nodes x None t found = nothing_more
-behind_any digest nodes x (Some n) t found = behind_line digest nodes x n t found
+abbrev pub after_any : (Node → List ℕ) → ℕ → ℕ → Option Node → Told → Option (List ℕ) → AfterLine
+after_any digest nodes x None t found = nothing_more
+after_any digest nodes x (Some n) t found = after_line digest nodes x n t found
 
 -- whether each of these lines of x is there, from the node on
 abbrev pub there_from : (Node → List ℕ) → ℕ → ℕ → Option Node → List Told → List Bool

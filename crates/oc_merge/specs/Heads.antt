@@ -162,8 +162,8 @@ abbrev pub AreSamePlaces : List Head → List Head → Type 0
 AreSamePlaces before after = map placed after ≡ map placed before
 
 -- the receivers of the messages after the first `sent`
-abbrev pub receivers_behind : ℕ → List Message → List ℕ
-receivers_behind sent net = map (λ m. m.to) (drop sent net)
+abbrev pub receivers_after : ℕ → List Message → List ℕ
+receivers_after sent net = map (λ m. m.to) (drop sent net)
 
 -- Of the heads before `upto` that have a way, the one with the first line
 

@@ -8,7 +8,7 @@ pub mod Examples
 pub mod Records
 pub mod Recorded
 pub mod Folds
-pub mod BehindView
+pub mod AfterLineView
 pub mod Merging
 pub mod Heads
 pub mod Ends

@@ -64,10 +64,10 @@ recorded digest r = record { header = r.header; lines = map (line_of r.header.no
 -- Lines of inputs that were not taken
 
 -- the digits of the files that the first start after it finds, where it tells them
-abbrev pub found_behind : List Told → Option (List ℕ)
-found_behind (Started None ∷ ts) = found_behind ts
-found_behind (Started (Some digits) ∷ ts) = Some digits
-found_behind ts = None
+abbrev pub found_after : List Told → Option (List ℕ)
+found_after (Started None ∷ ts) = found_after ts
+found_after (Started (Some digits) ∷ ts) = Some digits
+found_after ts = None
 
 -- whether an input of the node n was not taken: the next start finds the files without it, and not
 -- those with it
@@ -82,11 +82,11 @@ own_there digest nodes x n [] = []
 own_there digest nodes x n (Started files ∷ ts) = true ∷ own_there digest nodes x (restarted n) ts
 own_there digest nodes x n (Came bytes ∷ ts) =
     if (message_of nodes bytes).to == x then (
-    if is_missed digest n (Delivered (message_of nodes bytes)) (found_behind ts) then false ∷ own_there digest nodes x n ts
+    if is_missed digest n (Delivered (message_of nodes bytes)) (found_after ts) then false ∷ own_there digest nodes x n ts
     else true ∷ own_there digest nodes x (step n (Delivered (message_of nodes bytes))).node ts
     ) else true ∷ map (λ t. true) ts
 own_there digest nodes x n (Took i ∷ ts) =
-    if is_missed digest n i (found_behind ts) then false ∷ own_there digest nodes x n ts else true ∷ own_there digest nodes x (step n i).node ts
+    if is_missed digest n i (found_after ts) then false ∷ own_there digest nodes x n ts else true ∷ own_there digest nodes x (step n i).node ts
 
 -- whether the line at this place is there
 abbrev pub is_there : (Node → List ℕ) → Records → ℕ → ToldLine → Bool

@@ -4,7 +4,7 @@ ghost use Rattle.std.specs.Prelude.{◌≡◌, Some, [], IfOk, OnOk, length, sli
 ghost use Rattle.oc_base.specs.Lawful.{IsNode};
 ghost use Rattle.oc_model.specs.World.{ids, is_up, new_world};
 ghost use Rattle.oc_merge.specs.declared.told.ToldLine.{ToldLine};
-ghost use Rattle.oc_merge.specs.Heads.{is_waiting, AreHeads, AreHeadsIn, ArePlacesFrom, AreSamePlaces, HaveWays, HaveWaysBut, IsLookedAt, IsWayAt, LooksAgain, receivers_behind};
+ghost use Rattle.oc_merge.specs.Heads.{is_waiting, AreHeads, AreHeadsIn, ArePlacesFrom, AreSamePlaces, HaveWays, HaveWaysBut, IsLookedAt, IsWayAt, LooksAgain, receivers_after};
 ghost use Rattle.oc_merge.specs.Records.{AreRecords};
 
 use crate::nodes::Nodes;
@@ -140,7 +140,7 @@ pub(crate) fn look_at_receivers<N: Nodes>(
 ) -> Result<(), Memory>
     requires records { AreRecords records.now }
     requires heads { AreHeadsIn (N.world nodes.now) records.now heads.old.items }
-    requires ways { HaveWaysBut N.digest records.now (N.world nodes.now) heads.old.items (receivers_behind sent (N.world nodes.now).net) }
+    requires ways { HaveWaysBut N.digest records.now (N.world nodes.now) heads.old.items (receivers_after sent (N.world nodes.now).net) }
     ensures places { OnOk result (AreSamePlaces heads.old.items heads.new.items) }
     ensures ways { OnOk result (HaveWays N.digest records.now (N.world nodes.now) heads.new.items) }
 {

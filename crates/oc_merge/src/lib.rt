@@ -19,7 +19,7 @@
 #![tactic(auto)]
 
 mod alone;
-mod behind;
+mod after_line;
 mod choosing;
 mod fault;
 mod heads;

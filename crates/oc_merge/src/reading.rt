@@ -2,7 +2,7 @@
 
 ghost use Rattle.std.specs.Prelude.{◌≡◌, ◌≤◌, ◌∷◌, Ok, Some, OnOk, IfOk, length};
 ghost use Rattle.oc_base.specs.Words.{words};
-ghost use Rattle.oc_schedule.specs.Lines.{with_sizes};
+ghost use Rattle.oc_schedule.specs.Lines.{header_without_areas};
 ghost use Rattle.oc_merge.specs.declared.fault.Cause.TheVariants.{Said};
 ghost use Rattle.oc_merge.specs.declared.fault.RecordsFault.TheVariants.{Line};
 ghost use Rattle.oc_merge.specs.declared.fault.TheConstants.{MAX_RECORD_LINES};
@@ -61,7 +61,7 @@ fn agreed(
     header: Option<Header>,
     sizes: Sizes,
 ) -> Result<Header, RecordsFault>
-    ensures said { Gives result (at_line number (because (agreed header (with_sizes sizes)))) }
+    ensures said { Gives result (at_line number (because (agreed header (header_without_areas sizes)))) }
     ensures nodes { IfOk result (λ found. found.nodes ≡ sizes.nodes) }
 {
     match header {

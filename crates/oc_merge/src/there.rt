@@ -4,17 +4,17 @@ ghost use Rattle.std.specs.Prelude.{◌≡◌, ◌+◌, ◌<◌, ◌≤◌, if�
 ghost use Rattle.oc_base.specs.Lawful.{IsNode};
 ghost use Rattle.oc_model.specs.Lawful.{IsInput};
 ghost use Rattle.oc_model.specs.Step.{step};
-ghost use Rattle.oc_merge.specs.BehindView.{view_of};
-ghost use Rattle.oc_merge.specs.Folds.{AreFoldsAt, IsOfNetwork, behind_any, behind_input, behind_line, nothing_more};
+ghost use Rattle.oc_merge.specs.AfterLineView.{view_of};
+ghost use Rattle.oc_merge.specs.Folds.{AreFoldsAt, IsOfNetwork, after_any, after_input, after_line, nothing_more};
 ghost use Rattle.oc_merge.specs.Heads.{AreNextPlaces};
-ghost use Rattle.oc_merge.specs.Recorded.{are_there, found_behind, is_there, own_told, picked, records_there};
+ghost use Rattle.oc_merge.specs.Recorded.{are_there, found_after, is_there, own_told, picked, records_there};
 ghost use Rattle.oc_merge.specs.Records.{AreRecords, IsLine};
 ghost use Rattle.oc_merge.specs.declared.told.ToldLine.{ToldLine as Line};
 ghost use Rattle.oc_merge.specs.declared.told.Told.TheVariants.{Came};
 ghost use Rattle.oc_wire.specs.declared.fault.WireFault.TheVariants.{Memory as NoMemory};
 
 use crate::alone::Alone;
-use crate::behind::Behind;
+use crate::after_line::AfterLine;
 use crate::places::find_places;
 use crate::records::Records;
 use crate::told::{Told, ToldLine};
@@ -24,10 +24,10 @@ use oc_wire::{WireFault, decode};
 use std::alloc::Global;
 
 /// The digits of the files that the first start after a line finds, if its record tells them.
-fn found_behind<'a>(lines: &'a [ToldLine], next: &[usize], place: usize) -> Option<&'a [u8]>
+fn found_after<'a>(lines: &'a [ToldLine], next: &[usize], place: usize) -> Option<&'a [u8]>
     requires next { AreNextPlaces lines.now next.now }
     requires place { place < length lines.now }
-    ensures { (l : Line) → slice_get lines.now place ≡ Some l → option_map (λ digits. digits.now) result ≡ found_behind (own_told l.node (drop (place + 1) lines.now)) }
+    ensures { (l : Line) → slice_get lines.now place ≡ Some l → option_map (λ digits. digits.now) result ≡ found_after (own_told l.node (drop (place + 1) lines.now)) }
 {
     let mut behind = next[place];
     'starts: while behind < lines.len() {
@@ -41,39 +41,39 @@ fn found_behind<'a>(lines: &'a [ToldLine], next: &[usize], place: usize) -> Opti
 }
 
 /// The node after an input that was taken.
-fn behind_taken<A: Alone>(one: A, input: &Input) -> Result<Behind<A>, Memory>
+fn after_taken<A: Alone>(one: A, input: &Input) -> Result<AfterLine<A>, Memory>
     requires { IsInput (A.node one).control.nodes (A.node one).control.me input.now }
     ensures { IfOk result (λ behind. view_of A.node behind ≡ record { node = Some (step (A.node one) input.now).node; there = true }) }
 {
     let mut one = one;
     one.take(input)?;
-    Ok(Behind {
+    Ok(AfterLine {
         node: Some(one),
         there: true,
     })
 }
 
 /// The node after an input, given the files that the first start after the line finds.
-fn behind_input<A: Alone>(one: A, input: &Input, found: Option<&[u8]>) -> Result<Behind<A>, Memory>
+fn after_input<A: Alone>(one: A, input: &Input, found: Option<&[u8]>) -> Result<AfterLine<A>, Memory>
     requires { IsInput (A.node one).control.nodes (A.node one).control.me input.now }
-    ensures { IfOk result (λ behind. view_of A.node behind ≡ behind_input A.digest (A.node one) input.now (option_map (λ digits. digits.now) found.entry)) }
+    ensures { IfOk result (λ behind. view_of A.node behind ≡ after_input A.digest (A.node one) input.now (option_map (λ digits. digits.now) found.entry)) }
 {
     let Some(digits) = found else {
-        return behind_taken(one, input);
+        return after_taken(one, input);
     };
     if digits != one.files()?.items() {
-        return behind_taken(one, input);
+        return after_taken(one, input);
     }
     let without = one.restarted()?;
     let mut with = one;
     with.take(input)?;
     if digits == with.files()?.items() {
-        Ok(Behind {
+        Ok(AfterLine {
             node: Some(with),
             there: true,
         })
     } else {
-        Ok(Behind {
+        Ok(AfterLine {
             node: Some(without),
             there: false,
         })
@@ -81,70 +81,70 @@ fn behind_input<A: Alone>(one: A, input: &Input, found: Option<&[u8]>) -> Result
 }
 
 /// The node after a line that leaves its state unknown.
-fn behind_lost<A: Alone>() -> Behind<A>
+fn after_lost<A: Alone>() -> AfterLine<A>
     ensures { view_of A.node result ≡ nothing_more }
 {
-    Behind {
+    AfterLine {
         node: None,
         there: true,
     }
 }
 
 /// The node after a message with these bytes.
-fn behind_message<A: Alone>(
+fn after_message<A: Alone>(
     alloc: Global,
     one: A,
     nodes: u32,
     me: NodeId,
     bytes: &[u8],
     found: Option<&[u8]>,
-) -> Result<Behind<A>, Memory>
+) -> Result<AfterLine<A>, Memory>
     requires one { IsOfNetwork nodes me (Some (A.node one)) }
     requires me { IsNode nodes me }
-    ensures { IfOk result (λ behind. view_of A.node behind ≡ behind_line A.digest nodes me (A.node one) (Came bytes.now) (option_map (λ digits. digits.now) found.entry)) }
+    ensures { IfOk result (λ behind. view_of A.node behind ≡ after_line A.digest nodes me (A.node one) (Came bytes.now) (option_map (λ digits. digits.now) found.entry)) }
 {
     match decode(alloc, bytes, nodes) {
         Ok(message) => {
             if message.to == me {
-                behind_input(one, &Input::Delivered(message), found)
+                after_input(one, &Input::Delivered(message), found)
             } else {
-                Ok(behind_lost())
+                Ok(after_lost())
             }
         }
-        Err(fault) => behind_fault(fault),
+        Err(fault) => after_fault(fault),
     }
 }
 
 /// The node after bytes that are no message.
-fn behind_fault<A: Alone>(fault: WireFault) -> Result<Behind<A>, Memory>
+fn after_fault<A: Alone>(fault: WireFault) -> Result<AfterLine<A>, Memory>
     ensures lost { IfOk result (λ behind. view_of A.node behind ≡ nothing_more) }
     ensures other { OnOk result (fault ≡ NoMemory → ⊥) }
 {
     match fault {
         WireFault::Memory => Err(Memory),
-        _ => Ok(behind_lost()),
+        _ => Ok(after_lost()),
     }
 }
 
 /// The node after a line.
-fn behind_line<A: Alone>(
+fn after_line<A: Alone>(
     alloc: Global,
     one: A,
     nodes: u32,
     line: &ToldLine,
     found: Option<&[u8]>,
-) -> Result<Behind<A>, Memory>
+) -> Result<AfterLine<A>, Memory>
     requires one { IsOfNetwork nodes line.now.node (Some (A.node one)) }
     requires line { IsLine nodes line.now }
-    ensures { IfOk result (λ behind. view_of A.node behind ≡ behind_line A.digest nodes line.now.node (A.node one) line.now.told (option_map (λ digits. digits.now) found.entry)) }
+    ensures { IfOk result (λ behind. view_of A.node behind ≡ after_line A.digest nodes line.now.node (A.node one) line.now.told (option_map (λ digits. digits.now) found.entry)) }
 {
     match &line.told {
-        Told::Started(_) => Ok(Behind {
+        Told::Started(_) => Ok(AfterLine {
             node: Some(one.restarted()?),
             there: true,
         }),
-        Told::Came(bytes) => behind_message(alloc, one, nodes, line.node, bytes.items(), found),
-        Told::Took(input) => behind_input(one, input, found),
+        Told::Came(bytes) => after_message(alloc, one, nodes, line.node, bytes.items(), found),
+        Told::Took(input) => after_input(one, input, found),
     }
 }
 
@@ -168,8 +168,8 @@ fn fold_line<A: Alone>(
     let Some(one) = folds[at].take() else {
         return Ok(true);
     };
-    let found = found_behind(&records.lines, next, place);
-    let behind = behind_line(alloc, one, records.nodes(), line, found)?;
+    let found = found_after(&records.lines, next, place);
+    let behind = after_line(alloc, one, records.nodes(), line, found)?;
     folds[at] = behind.node;
     Ok(behind.there)
 }

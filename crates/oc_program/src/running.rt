@@ -15,7 +15,7 @@ ghost use Rattle.oc_commands.specs.Run.{Happened, IsNoNode, IsWrittenOrCut};
 ghost use Rattle.oc_commands.specs.Telling.{at_error};
 ghost use Rattle.oc_program.specs.Seen.{seen};
 ghost use Rattle.oc_program.specs.StatusFor.{StatusFor};
-ghost use Rattle.oc_words.specs.Requests.{IsMember};
+ghost use Rattle.oc_words.specs.Requests.{IsCheckedNode};
 ghost use Rattle.oc_words.specs.Status.{number_of};
 ghost use Rattle.oc_words.specs.Words.{Answers, IsPlain, IsRequest, asked, texts_of};
 
@@ -30,7 +30,7 @@ use oc_io::{Disk, Sink, Source};
 use oc_link::{Dialler, Link};
 use oc_replay::Stage;
 use oc_service::Site;
-use oc_words::{Download, Invocation, Member, Name, Service, Upload, WordsFault, read_words};
+use oc_words::{Download, Invocation, CheckedNode, Name, Service, Upload, WordsFault, read_words};
 use std::alloc::Global;
 
 /// Runs the program: performs the request of the words, from the input to the output, over the
@@ -223,10 +223,10 @@ fn serve<S: Source, K: Sink, E: Sink, T: Stage, D: Disk, L: Dialler, N: Link, P:
 /// Shows the files of a node.
 fn check<S: Source, K: Sink, E: Sink, T: Stage, D: Disk, L: Dialler, N: Link, P: Pause>(
     alloc: Global,
-    member: Member,
+    member: CheckedNode,
     outside: Outside<S, K, E, T, D, L, N, P>,
 ) -> (CheckEnd, Outside<S, K, E, T, D, L, N, P>)
-    requires { IsMember member }
+    requires { IsCheckedNode member }
     ensures happened { HappenedAtCheck
         (at_files D.view (disks_in outside.files) (disks_in result.1.files))
         (at_sink K.takes K.fails K.faults outside.output result.1.output) (sizes_of member) member.id result.0 }

@@ -131,7 +131,7 @@ fn play<K: Sink, T: Stage>(
 {
     let header = &schedule.header;
     stage.open(header)?;
-    tell(
+    write_run(
         alloc,
         sink,
         stage,
@@ -143,7 +143,7 @@ fn play<K: Sink, T: Stage>(
 
 /// Plays each event once on the stage, in order, and writes the report of the run or its summary,
 /// in which each of `nodes` nodes is counted.
-fn tell<K: Sink, T: Stage>(
+fn write_run<K: Sink, T: Stage>(
     alloc: Global,
     sink: &mut K,
     stage: &mut T,

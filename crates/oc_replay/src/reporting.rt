@@ -58,7 +58,7 @@ pub(crate) fn report<K: Sink, T: Stage>(
     let mut out = Vec::new(alloc);
     let mut sent = 0;
     for place in 0..events.len() {
-        sent = tell_at(&mut out, stage, events, place, place as u64 + 1)?;
+        sent = report_event_at(&mut out, stage, events, place, place as u64 + 1)?;
         pass_on(sink, &mut out)?;
     }
     write_last(sink, &mut out, events.len() as u64, sent)
@@ -66,7 +66,7 @@ pub(crate) fn report<K: Sink, T: Stage>(
 
 /// Plays the event at an index, which has this number, on the stage, appends its report, and gives
 /// the number of messages sent so far.
-fn tell_at<T: Stage>(
+fn report_event_at<T: Stage>(
     out: &mut Vec<u8>,
     stage: &mut T,
     events: &EventList,
@@ -82,7 +82,7 @@ fn tell_at<T: Stage>(
     ensures sent { IfOk result (λ sent. sent ≡ length (T.world stage.new).net) }
 {
     let event = events.event(place);
-    let sent = tell(out, stage, number, event.get());
+    let sent = report_event(out, stage, number, event.get());
     // Dropped by a call, the event costs one proof; out of scope it costs one for each kind.
     drop(event);
     sent
@@ -90,7 +90,7 @@ fn tell_at<T: Stage>(
 
 /// Plays the event of this number on the stage, appends its report, and gives the number of
 /// messages sent so far.
-fn tell<T: Stage>(
+fn report_event<T: Stage>(
     out: &mut Vec<u8>,
     stage: &mut T,
     number: u64,

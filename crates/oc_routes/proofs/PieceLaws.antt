@@ -7,7 +7,7 @@ use Rattle.oc_base.specs.Groups.{bytes_of}
 use Rattle.oc_base.specs.declared.group.Group.{Group}
 use Rattle.oc_chunked.specs.Texts.{end_written}
 use Rattle.oc_routes.specs.declared.response.GroupRange.{GroupRange}
-use Rattle.oc_routes.specs.Contents.{IsThere, begun, behind, coded, ending, is_last, owed, owed_of, part_of, piece_of, piece_text, pieces}
+use Rattle.oc_routes.specs.Contents.{IsThere, begun, rest_after, coded, ending, is_last, owed, owed_of, part_of, piece_of, piece_text, pieces}
 use Rattle.oc_routes.specs.declared.content.UnderWay.{UnderWay}
 use Rattle.oc_routes.specs.declared.content.TheConstants.{PIECE_BYTES}
 use Rattle.oc_routes.proofs.Chunks.{chunks, chunks_append}
@@ -63,7 +63,7 @@ next_piece true bytes piece rest is long =
 next_piece false bytes piece rest is long = is ∙ ap (λ (x : List ℕ). x ++ rest) (sym (append-nil piece))
 
 -- what is owed is the text of the next piece and what is owed after it
-pub piece_owed : (u : UnderWay) (ks : List Group) → IsThere u ks → owed_of u ks ≡ piece_text u (piece_of u ks) ++ owed (behind u (length (piece_of u ks))) ks
+pub piece_owed : (u : UnderWay) (ks : List Group) → IsThere u ks → owed_of u ks ≡ piece_text u (piece_of u ks) ++ owed (rest_after u (length (piece_of u ks))) ks
 piece_owed u ks fits = by_test (leb_tells u.end (u.at + length piece))
   where
     piece : List ℕ
@@ -73,7 +73,7 @@ piece_owed u ks fits = by_test (leb_tells u.end (u.at + length piece))
     long = part_length u.group u.at (min PIECE_BYTES (u.end - u.at)) ks (omega (arith, fits))
 
     by_test : ((is_last u (length piece) ≡ true) × (u.end ≤ u.at + length piece)) ⊎ ((is_last u (length piece) ≡ false) × (u.at + length piece < u.end))
-        → owed_of u ks ≡ piece_text u piece ++ owed (behind u (length piece)) ks
+        → owed_of u ks ≡ piece_text u piece ++ owed (rest_after u (length piece)) ks
     by_test (inl last) =
         let all : u.end - u.at ≡ min PIECE_BYTES (u.end - u.at) = omega (arith, long, last.1) in
         rw (last.0) (last_piece u.chunked (part_of u.group u.at (u.end - u.at) ks) piece (ap (λ (n : ℕ). part_of u.group u.at n ks) all))
@@ -153,11 +153,11 @@ plain_piece true bytes piece rest plain is = absurd (false≢true (sym plain))
 plain_piece false bytes piece rest plain is = is ∙ ap (λ (x : List ℕ). x ++ rest) (sym (append-nil piece))
 
 plain_owed : (u : UnderWay) (now later : List Group) (more : List ℕ) → u.chunked ≡ false → bytes_of u.group later ≡ bytes_of u.group now ++ more
-    → owed_of u later ≡ piece_text u (piece_of u now) ++ owed (behind u (length (piece_of u now))) later
+    → owed_of u later ≡ piece_text u (piece_of u now) ++ owed (rest_after u (length (piece_of u now))) later
 plain_owed u now later more plain grown = by_test (leb_tells u.end (u.at + length (piece_of u now)))
   where
     by_test : ((is_last u (length (piece_of u now)) ≡ true) × (u.end ≤ u.at + length (piece_of u now))) ⊎ ((is_last u (length (piece_of u now)) ≡ false) × (u.at + length (piece_of u now) < u.end))
-        → owed_of u later ≡ piece_text u (piece_of u now) ++ owed (behind u (length (piece_of u now))) later
+        → owed_of u later ≡ piece_text u (piece_of u now) ++ owed (rest_after u (length (piece_of u now))) later
     by_test (inl last) =
         let none : u.end - (u.at + length (piece_of u now)) ≡ 0 = omega (arith, last.1) in
         rw (last.0) (last_piece u.chunked (part_of u.group u.at (u.end - u.at) later) (piece_of u now)
@@ -168,19 +168,19 @@ plain_owed u now later more plain grown = by_test (leb_tells u.end (u.at + lengt
         rw (rest.0) (plain_piece u.chunked (part_of u.group u.at (u.end - u.at) later) (piece_of u now) (part_of u.group (u.at + length (piece_of u now)) (u.end - (u.at + length (piece_of u now))) later) plain (split_grown u now later more grown))
 
 chunked_owed : (u : UnderWay) (now later : List Group) (more : List ℕ) → IsThere u now → bytes_of u.group later ≡ bytes_of u.group now ++ more
-    → owed_of u later ≡ piece_text u (piece_of u now) ++ owed (behind u (length (piece_of u now))) later
+    → owed_of u later ≡ piece_text u (piece_of u now) ++ owed (rest_after u (length (piece_of u now))) later
 chunked_owed u now later more there grown =
     let long : length (bytes_of u.group later) ≡ length (bytes_of u.group now) + length more = ap (λ (x : List ℕ). length x) grown ∙ length-append (bytes_of u.group now) more in
     let same : piece_of u later ≡ piece_of u now = part_grown u.group u.at (min PIECE_BYTES (u.end - u.at)) now later more (omega (arith, there)) grown in
     piece_owed u later (omega (arith, there, long))
-    ∙ ap (λ (x : List ℕ). piece_text u x ++ owed (behind u (length x)) later) same
+    ∙ ap (λ (x : List ℕ). piece_text u x ++ owed (rest_after u (length x)) later) same
 
 -- whatever the group becomes, what is owed of it is the piece of now and what is owed after that
 pub owed_then : (u : UnderWay) (now later : List Group) (more : List ℕ) → (u.chunked ≡ true → IsThere u now) → bytes_of u.group later ≡ bytes_of u.group now ++ more
-    → owed_of u later ≡ piece_text u (piece_of u now) ++ owed (behind u (length (piece_of u now))) later
+    → owed_of u later ≡ piece_text u (piece_of u now) ++ owed (rest_after u (length (piece_of u now))) later
 owed_then u now later more there grown = by_coding u.chunked refl
   where
-    by_coding : (chunked : Bool) → u.chunked ≡ chunked → owed_of u later ≡ piece_text u (piece_of u now) ++ owed (behind u (length (piece_of u now))) later
+    by_coding : (chunked : Bool) → u.chunked ≡ chunked → owed_of u later ≡ piece_text u (piece_of u now) ++ owed (rest_after u (length (piece_of u now))) later
     by_coding true is = chunked_owed u now later more (there is) grown
     by_coding false is = plain_owed u now later more is grown
 

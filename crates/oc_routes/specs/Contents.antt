@@ -47,8 +47,8 @@ abbrev pub is_last : UnderWay → ℕ → Bool
 is_last u count = nat_le u.end (u.at + count)
 
 -- what is under way after `count` bytes more
-abbrev pub behind : UnderWay → ℕ → Option UnderWay
-behind u count = if is_last u count then None else Some (record u { at = u.at + count })
+abbrev pub rest_after : UnderWay → ℕ → Option UnderWay
+rest_after u count = if is_last u count then None else Some (record u { at = u.at + count })
 
 -- what ends a reply, which goes with its last piece
 abbrev pub ending : Bool → Bool → List ℕ

@@ -28,7 +28,7 @@ use Rattle.oc_routes.specs.declared.response.GroupRange.{GroupRange}
 use Rattle.oc_routes.specs.declared.response.Response.{Response}
 use Rattle.oc_routes.specs.Conditions.{unmet}
 use Rattle.oc_routes.specs.Examples.{closed, closes, lines, plain_text, rejoin_bytes, says}
-use Rattle.oc_routes.specs.Contents.{behind, owed, piece_of, piece_text}
+use Rattle.oc_routes.specs.Contents.{rest_after, owed, piece_of, piece_text}
 use Rattle.oc_routes.specs.Hints.{asked_with_hint, hint_in}
 use Rattle.oc_routes.specs.Shown.{location_of, told_text}
 use Rattle.oc_routes.specs.Verdicts.{NodeTerms, arrival, after_head, refuse, terms_of, unfinished}
@@ -160,7 +160,7 @@ abbrev first_piece : UnderWay → List ℕ
 first_piece u = piece_text u (piece_of u groups)
 
 abbrev after_piece : UnderWay → Option UnderWay
-after_piece u = behind u (length (piece_of u groups))
+after_piece u = rest_after u (length (piece_of u groups))
 
 -- what is given of a content
 pub record ArePieces : Type 0 where

@@ -1,5 +1,5 @@
 ghost use Rattle.std.specs.Prelude.{◌≡◌, ◌+◌, ◌≤◌};
-ghost use Rattle.oc_routes.specs.Contents.{begun, behind, is_last};
+ghost use Rattle.oc_routes.specs.Contents.{begun, rest_after, is_last};
 
 use crate::GroupRange;
 use oc_base::GroupName;
@@ -41,8 +41,8 @@ impl UnderWay {
     }
 
     /// What is under way after `count` bytes more; `None` where all of it was given.
-    pub fn behind(self, count: usize) -> Option<UnderWay>
-        ensures { result ≡ behind self count }
+    pub fn rest_after(self, count: usize) -> Option<UnderWay>
+        ensures { result ≡ rest_after self count }
     {
         if self.is_last(count) {
             return None;

@@ -9,7 +9,7 @@ ghost use Rattle.oc_link.specs.declared.event.Coming.{Coming};
 ghost use Rattle.oc_link.specs.declared.event.Coming.TheVariants.{Open};
 ghost use Rattle.oc_policy.specs.Keys.{Keyring};
 ghost use Rattle.oc_routes.specs.Conditions.{unmet_at};
-ghost use Rattle.oc_routes.specs.Contents.{IsThere, begun, behind, coded, owed, owed_of, part_of, piece_of, piece_text};
+ghost use Rattle.oc_routes.specs.Contents.{IsThere, begun, rest_after, coded, owed, owed_of, part_of, piece_of, piece_text};
 ghost use Rattle.oc_routes.specs.ReplyExamples.{AreConditions, AreHinted, AreJudged, ArePieces, AreShown, AreWaiting};
 ghost use Rattle.oc_routes.specs.Macs.{HaveMac};
 ghost use Rattle.oc_routes.specs.Refusals.{refusing};
@@ -60,7 +60,7 @@ pub fn pieces_are_the_content()
     ensures begun { (group : List ℕ) (content : GroupRange) (groups : List Group)
         → owed (Some (begun group content)) groups ≡ coded content.chunked (part_of group content.start content.count groups) }
     ensures piece { (u : UnderWay) (groups : List Group) → IsThere u groups
-        → owed (Some u) groups ≡ piece_text u (piece_of u groups) ++ owed (behind u (length (piece_of u groups))) groups }
+        → owed (Some u) groups ≡ piece_text u (piece_of u groups) ++ owed (rest_after u (length (piece_of u groups))) groups }
     ensures stays { (u : UnderWay) (old new : List Group) (more : List ℕ) → IsThere u old → bytes_of u.group new ≡ bytes_of u.group old ++ more
         → owed (Some u) new ≡ owed (Some u) old }
 {}
@@ -75,7 +75,7 @@ pub fn pieces_follow_one_another()
         → bytes_of group new ≡ bytes_of group old ++ more → part_of group start (at - start) new ≡ part_of group start (at - start) old }
     ensures told { (u : UnderWay) (now later : List Group) (more : List ℕ) → (u.chunked ≡ true → IsThere u now)
         → bytes_of u.group later ≡ bytes_of u.group now ++ more
-        → owed (Some u) later ≡ piece_text u (piece_of u now) ++ owed (behind u (length (piece_of u now))) later }
+        → owed (Some u) later ≡ piece_text u (piece_of u now) ++ owed (rest_after u (length (piece_of u now))) later }
 {}
 
 /// A content under way waits exactly where its group has nothing new for it, is open, and its time has not passed,

@@ -16,7 +16,7 @@ use Rattle.oc_base.specs.Words.{one, two, number_in, node_in}
 use Rattle.oc_base.specs.declared.limits.TheConstants.{MAX_AREA, MAX_NODES, MAX_CHAIN, MAX_CHUNK_BYTES, USUAL_CHUNK_BYTES}
 use Rattle.oc_model.specs.declared.header.Sizes.{Sizes}
 use Rattle.oc_schedule.specs.Acts.{act_in, most_byte}
-use Rattle.oc_schedule.specs.Lines.{with_sizes, sizes_in, named_in, chunk_in, opening_in, header_in, area_in, first_three, node_alone_in, up_in, crash_in, held_in, show_in, alone, stop_in, act_alone_in, event_in, most_calls}
+use Rattle.oc_schedule.specs.Lines.{header_without_areas, sizes_in, named_in, chunk_in, opening_in, header_in, area_in, first_three, node_alone_in, up_in, crash_in, held_in, show_in, alone, stop_in, act_alone_in, event_in, most_calls}
 use Rattle.oc_base.specs.Steps.{with_fault}
 use Rattle.oc_schedule.specs.Script.{published_by}
 
@@ -31,7 +31,7 @@ set_keeps_areas [] i a all small = tt
 set_keeps_areas (x ∷ areas) zero a all small = (small, all.1)
 set_keeps_areas (x ∷ areas) (suc i) a all small = (all.0, set_keeps_areas areas i a all.1 small)
 
-sizes_range : (n c : List ℕ) (chunk : ℕ) (sizes : Sizes) → 1 ≤ chunk → chunk ≤ MAX_CHUNK_BYTES → sizes_in n c chunk ≡ Ok sizes → IsHeader (with_sizes sizes)
+sizes_range : (n c : List ℕ) (chunk : ℕ) (sizes : Sizes) → 1 ≤ chunk → chunk ≤ MAX_CHUNK_BYTES → sizes_in n c chunk ≡ Ok sizes → IsHeader (header_without_areas sizes)
 sizes_range n c chunk sizes some fits h =
     steps (number_in 1 MAX_NODES n) _ _ h λ nodes is_nodes then.
     steps (number_in 1 (min MAX_CHAIN nodes) c) _ _ then λ chain is_chain end.
@@ -39,7 +39,7 @@ sizes_range n c chunk sizes some fits h =
     let b = number_range 1 (min MAX_CHAIN nodes) c chain is_chain in
     let made : Sizes = record { nodes = nodes; chain = chain; chunk = chunk } in
     let same : made ≡ sizes = cc end in
-    subst (λ (s : Sizes). IsHeader (with_sizes s)) same
+    subst (λ (s : Sizes). IsHeader (header_without_areas s)) same
     (record { some = a.0; few = a.1; chain = b.0; short = omega arith; within = omega arith; chunk = some; fits = fits; areas = length-replicate nodes 0; bytes = zeros_are_areas nodes })
 
 -- what a chunk's number is
@@ -49,7 +49,7 @@ chunk_range (name ∷ fields) chunk h =
     steps (one fields) _ _ h λ b is_one then.
     number_range 1 MAX_CHUNK_BYTES b chunk (within_guard (bytes_eq name (codes "chunk")) causes.Word _ chunk then).1
 
-opening_range : (words : List (List ℕ)) (sizes : Sizes) → opening_in words ≡ Ok sizes → IsHeader (with_sizes sizes)
+opening_range : (words : List (List ℕ)) (sizes : Sizes) → opening_in words ≡ Ok sizes → IsHeader (header_without_areas sizes)
 opening_range words sizes h =
     steps (named_in (codes "overcast") words) _ _ h λ version is_version then.
     steps (named_in (codes "nodes") version.1) _ _ then λ n is_nodes then.
@@ -66,7 +66,7 @@ without_fault fault (Err e) y h = absurd (cc h)
 pub header_range : (words : List (List ℕ)) (h : Header) → header_in words ≡ Ok h → IsHeader h
 header_range words h is =
     steps (with_fault causes.Header (opening_in words)) _ _ is λ sizes first_script end.
-    let same : with_sizes sizes ≡ h = cc end in
+    let same : header_without_areas sizes ≡ h = cc end in
     subst IsHeader same (opening_range words sizes (without_fault causes.Header (opening_in words) sizes first_script))
 
 -- so is the area of a node

@@ -27,7 +27,7 @@ use Rattle.oc_schedule.specs.declared.scale.Scale.{Scale}
 use Rattle.oc_schedule.specs.declared.scale.Scale.TheVariants.{Usual, Large}
 use Rattle.oc_schedule.specs.Limits.{most_of}
 use Rattle.oc_schedule.specs.Acts.{bytes_of_act, most_byte}
-use Rattle.oc_schedule.specs.Lines.{area_in, area_words, event_fields, event_in, event_word, event_words, chunk_in, chunk_words, header_words, opening_in, sizes_in, with_sizes}
+use Rattle.oc_schedule.specs.Lines.{area_in, area_words, event_fields, event_in, event_word, event_words, chunk_in, chunk_words, header_words, opening_in, sizes_in, header_without_areas}
 use Rattle.oc_schedule.specs.Texts.{line_text, spaced}
 use Rattle.oc_schedule.specs.Printing.{IsOfBytes, IsPrintable, area_lines, areas_text, events_text, script_text}
 use Rattle.oc_schedule.specs.Reading.{at_line}
@@ -182,7 +182,7 @@ opening_back n c b some few one short within chunk fits = then (chunk_in (chunk_
 header_says : (scale : Scale) (n c b : ℕ) → 1 ≤ n → n ≤ MAX_NODES → 1 ≤ c → c ≤ MAX_CHAIN → c ≤ n → 1 ≤ b → b ≤ MAX_CHUNK_BYTES →
     script_after scale None (codes "overcast") (codes "1" ∷ codes "nodes" ∷ decimal n ∷ codes "chain" ∷ decimal c ∷ chunk_words b) ≡ Ok (opened n c b (replicate n 0))
 header_says scale n c b some few one short within chunk fits =
-    ap (λ opening. (with_fault causes.Header opening >>= λ sizes. Ok (with_sizes sizes)) >>= λ header. Ok (record { header = header; events = [] }))
+    ap (λ opening. (with_fault causes.Header opening >>= λ sizes. Ok (header_without_areas sizes)) >>= λ header. Ok (record { header = header; events = [] }))
     (opening_back n c b some few one short within chunk fits)
 
 -- All of it

@@ -41,14 +41,14 @@ opening_in words = do
   if bytes_eq version (codes "1") then sizes_in n c chunk else Err causes.Word
 
 -- a header with these numbers, where areas are 0
-abbrev pub with_sizes : Sizes → Header
-with_sizes s = record { nodes = s.nodes; chain = s.chain; chunk = s.chunk; areas = replicate s.nodes 0 }
+abbrev pub header_without_areas : Sizes → Header
+header_without_areas s = record { nodes = s.nodes; chain = s.chain; chunk = s.chunk; areas = replicate s.nodes 0 }
 
 -- the header, each fault of which is `header`
 abbrev pub header_in : List (List ℕ) → Result Header Why
 header_in words = do
   sizes ← with_fault causes.Header (opening_in words)
-  Ok (with_sizes sizes)
+  Ok (header_without_areas sizes)
 
 -- the words of a chunk's number, unless it is the usual one
 abbrev pub chunk_words : ℕ → List (List ℕ)

@@ -4,7 +4,7 @@ use Rattle.oc_keep.specs.Trials.{after_inputs}
 use Rattle.oc_model.specs.declared.input.Input.{Input}
 use Rattle.oc_model.specs.Node.{Node}
 use Rattle.oc_model.specs.Step.{step}
-use Rattle.oc_deeds.specs.Deeds.{Deed, Running, after, after_all, input_of, inputs_of, with_input}
+use Rattle.oc_deeds.specs.Deeds.{Deed, Running, after, after_all, deed_input, inputs_of, with_input}
 use Rattle.oc_deeds.specs.Deeds as deeds
 use Rattle.oc_server.proofs.Moments.{taken_first}
 
@@ -14,7 +14,7 @@ fold_append n [] js = refl
 fold_append n (i ∷ is) js = fold_append (step n i).node is js
 
 -- the node after a deed
-node_behind : (d : Deed) (a : Running) → (after d a).node ≡ after_inputs a.node (with_input (input_of d) [])
+node_behind : (d : Deed) (a : Running) → (after d a).node ≡ after_inputs a.node (with_input (deed_input d) [])
 node_behind (deeds.Sees e wait bytes) a = refl
 node_behind (deeds.Reads t) a = refl
 node_behind (deeds.Tells t) a = refl
@@ -40,4 +40,4 @@ node_behind (deeds.Keeps why) a = refl
 pub nodes_behind : (ds : List Deed) (a : Running) → (after_all ds a).node ≡ after_inputs a.node (inputs_of ds)
 nodes_behind [] a = refl
 nodes_behind (d ∷ ds) a =
-    nodes_behind ds (after d a) ∙ ap (λ (n : Node). after_inputs n (inputs_of ds)) (node_behind d a) ∙ sym (taken_first a.node (input_of d) (inputs_of ds))
+    nodes_behind ds (after d a) ∙ ap (λ (n : Node). after_inputs n (inputs_of ds)) (node_behind d a) ∙ sym (taken_first a.node (deed_input d) (inputs_of ds))

@@ -11,12 +11,12 @@ use Rattle.oc_keep.specs.KeptView.{IsHonest}
 use Rattle.oc_probe.specs.declared.probing.Probing.{Probing}
 use Rattle.oc_deeds.specs.Deeds.{Running, Setting, calls_of}
 use Rattle.oc_deeds.specs.Rereading.{MeansLook, last_read, looks_again, probing_by}
-use Rattle.oc_deeds.specs.Turns.{Observation, dealt, probing_behind, turn}
+use Rattle.oc_deeds.specs.Turns.{Observation, dealt, probing_after, turn}
 use Rattle.oc_deeds.specs.declared.ends.TurnEnd.{TurnEnd}
 use Rattle.oc_deeds.specs.declared.reread.Reread.TheVariants as rereads
 use Rattle.oc_server.specs.Parts.{Does, Stops}
-use Rattle.oc_server.specs.Runs.{CouldCome, HandleStops, Handled, IsLent, LookAgainStops, LooksAgain, MayRead, TurnStops, Turned, behind_reading, config_at_look, due_in}
-use Rattle.oc_server.specs.Scenes.{BreaksBehind, running, setting}
+use Rattle.oc_server.specs.Runs.{CouldCome, HandleStops, Handled, IsLent, LookAgainStops, LooksAgain, MayRead, TurnStops, Turned, after_reading, config_at_look, due_in}
+use Rattle.oc_server.specs.Scenes.{BreaksAfter, running, setting}
 use Rattle.oc_server.specs.declared.server.Server.{Server}
 use Rattle.oc_server.specs.declared.turns.Turns.{Turns}
 use Rattle.oc_server.proofs.Parts.{behind_part, does_then, stops_behind, stops_in}
@@ -41,8 +41,8 @@ module _ {D L K : Type 0} (view : D → DiskView) (takes fails : K → List ℕ 
       → MayRead story due old at t → MayRead story due old new t
   read_on None old at new t more adds read = record {
     lent = read.lent;
-    is_lent = lent_on (behind_reading t.before (story old.server.link)) (story at.link) (story new.link) t.event t.bytes read.lent more adds read.is_lent;
-    could = could_on (behind_reading t.before (story old.server.link)) (story at.link) (story new.link) t.event more adds read.could;
+    is_lent = lent_on (after_reading t.before (story old.server.link)) (story at.link) (story new.link) t.event t.bytes read.lent more adds read.is_lent;
+    could = could_on (after_reading t.before (story old.server.link)) (story at.link) (story new.link) t.event more adds read.could;
     means = read.means;
     measured = read.measured;
   }
@@ -128,7 +128,7 @@ module _ {D L K : Type 0} (view : D → DiskView) (takes fails : K → List ℕ 
         as_told None read = record { lent = read.lent; is_lent = read.is_lent; could = read.could; means = read.means; measured = read.measured }
         as_told (Some place) read = tt
 
-        made : BreaksBehind view takes fails faults story counts end stopped.stops.deeds stopped.stops.under at.server new.server → IsHonest view at.server.kept
+        made : BreaksAfter view takes fails faults story counts end stopped.stops.deeds stopped.stops.under at.server new.server → IsHonest view at.server.kept
             → AddsAll (calls_of (setting at.server) stopped.stops.deeds (running at.server)) (story at.server.link) (story new.server.link)
         made (x, did, breaks) honest =
             subst (λ (z : Option (List Call)). AddsAll (calls_of (setting at.server) stopped.stops.deeds (running at.server)) (story at.server.link) z) (sym breaks.told) (did.done honest).calls

@@ -5,7 +5,7 @@ use Rattle.oc_keep.specs.Files.{Disks, AllGoOn, AlwaysLeaves, SameDurable}
 use Rattle.oc_keep.specs.Trials.{after_inputs}
 use Rattle.oc_model.specs.declared.input.Input.{Input}
 use Rattle.oc_model.specs.Node.{Header, Node}
-use Rattle.oc_deeds.specs.Deeds.{Deed, input_of, inputs_of, with_input}
+use Rattle.oc_deeds.specs.Deeds.{Deed, deed_input, inputs_of, with_input}
 use Rattle.oc_server.specs.Looks.{LooksOn}
 use Rattle.oc_server.specs.Moments.{AtEachPrefix, TakesOne, node_after}
 
@@ -32,7 +32,7 @@ module _ {D : Type 0} (view : D → DiskView) (h : Header) (me : ℕ) where
     prefix_none n d e s t looks same = (looks.0, looks.1, same)
 
     -- one deed after looks
-    pub prefix_one : (x : Deed) (n : Node) (d at e : Disks D) (s t : K) → (k : ℕ) × LooksOn view h me n k d at → TakesOne view h me (input_of x) n at e → takes s (says x) t
+    pub prefix_one : (x : Deed) (n : Node) (d at e : Disks D) (s t : K) → (k : ℕ) × LooksOn view h me n k d at → TakesOne view h me (deed_input x) n at e → takes s (says x) t
         → AtEachPrefix view h me takes says (x ∷ []) n d s e t
     prefix_one x n d at e s t looks taken text = (looks.0, at, e, t, looks.1, taken, text, (0, refl, refl))
 
@@ -59,5 +59,5 @@ module _ {D : Type 0} (view : D → DiskView) (h : Header) (me : ℕ) where
       taken,
       text,
       prefix_then xs es (node_after x n) next e f v t u rest
-          (subst (λ (m : Node). AtEachPrefix view h me takes says es m e t f u) (taken_first n (input_of x) (inputs_of xs)) second),
+          (subst (λ (m : Node). AtEachPrefix view h me takes says es m e t f u) (taken_first n (deed_input x) (inputs_of xs)) second),
     )

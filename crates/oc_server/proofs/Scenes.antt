@@ -23,7 +23,7 @@ use Rattle.oc_deeds.specs.Deeds.{Deed, Running, Setting, after_all, calls_of, co
 use Rattle.oc_server.specs.Looks.{Renews}
 use Rattle.oc_server.specs.Moments.{AtEachPrefix}
 use Rattle.oc_deeds.specs.Done.{AreDone}
-use Rattle.oc_server.specs.Scenes.{Breaks, BreaksBehind, Did, HasCause, IsServing, KeepsAll, LeavesAt, LeavesUnder, WritesAt, running, setting}
+use Rattle.oc_server.specs.Scenes.{Breaks, BreaksAfter, Did, HasCause, IsServing, KeepsAll, LeavesAt, LeavesUnder, WritesAt, running, setting}
 use Rattle.oc_deeds.specs.Lawful.{IsPlaced}
 use Rattle.oc_deeds.specs.Under.{Under, Idle, Taking, Noting, under_line}
 use Rattle.oc_deeds.specs.declared.ends.TurnEnd.{TurnEnd}
@@ -138,17 +138,17 @@ module _ {D L K : Type 0} (view : D → DiskView) (takes fails : K → List ℕ 
 
   -- after one list of deeds
   pub breaks_behind : (ds : List Deed) (under : Under) (end : TurnEnd) (a b c : Server D L K)
-      → Did view takes faults story counts ds a b → Breaks view takes fails faults story counts end under b c → BreaksBehind view takes fails faults story counts end ds under a c
+      → Did view takes faults story counts ds a b → Breaks view takes fails faults story counts end under b c → BreaksAfter view takes fails faults story counts end ds under a c
   breaks_behind ds under end a b c did breaks = (b, did, breaks)
 
   -- after none
   pub breaks_first : (takes_nothing : (k : K) → takes k [] k) (under : Under) (end : TurnEnd) (a c : Server D L K)
-      → a.kept.closed ≡ false → Breaks view takes fails faults story counts end under a c → BreaksBehind view takes fails faults story counts end [] under a c
+      → a.kept.closed ≡ false → Breaks view takes fails faults story counts end under a c → BreaksAfter view takes fails faults story counts end [] under a c
   breaks_first takes_nothing under end a c is_open breaks = (a, did_none takes_nothing a is_open, breaks)
 
   -- after further ones
   pub breaks_then : (takes_then : (a b c : K) (x y : List ℕ) → takes a x b → takes b y c → takes a (x ++ y) c) (ds es : List Deed) (under : Under) (end : TurnEnd) (a b c : Server D L K)
-      → Did view takes faults story counts ds a b → BreaksBehind view takes fails faults story counts end es under b c → BreaksBehind view takes fails faults story counts end (ds ++ es) under a c
+      → Did view takes faults story counts ds a b → BreaksAfter view takes fails faults story counts end es under b c → BreaksAfter view takes fails faults story counts end (ds ++ es) under a c
   breaks_then takes_then ds es under end a b c did (at, more, breaks) = (at, did_then takes_then ds es a b at did more, breaks)
 
   -- What is left where it ended so after deeds
@@ -167,7 +167,7 @@ module _ {D L K : Type 0} (view : D → DiskView) (takes fails : K → List ℕ 
   leaves_of a b c end under n m same is leaves = under_of a b c Idle n m same is leaves
 
   -- every crash leaves the fold of the inputs that were taken, or with the one under way
-  pub broken_leaves : (ds : List Deed) (under : Under) (end : TurnEnd) (a c : Server D L K) → BreaksBehind view takes fails faults story counts end ds under a c
+  pub broken_leaves : (ds : List Deed) (under : Under) (end : TurnEnd) (a c : Server D L K) → BreaksAfter view takes fails faults story counts end ds under a c
       → IsHonest view a.kept → LeavesAt view a.kept c.kept end (after_inputs (node_of a.kept) (inputs_of ds)) under
   broken_leaves ds under end a c (b, did, breaks) honest =
       leaves_of a.kept b.kept c.kept end under (after_inputs (node_of a.kept) (inputs_of ds)) (node_of b.kept) did.same (did_node ds a b did honest) (breaks.leaves (still_honest ds a b did honest))
@@ -179,7 +179,7 @@ module _ {D L K : Type 0} (view : D → DiskView) (takes fails : K → List ℕ 
 
   -- the lines of the deeds were written, and where the output failed some prefix of the one under way
   pub broken_text : (takes_then : (a b c : K) (x y : List ℕ) → takes a x b → takes b y c → takes a (x ++ y) c) (takes_fails : (a b c : K) (x y : List ℕ) → takes a x b → fails b y c → fails a (x ++ y) c)
-      → (ds : List Deed) (under : Under) (end : TurnEnd) (a c : Server D L K) → BreaksBehind view takes fails faults story counts end ds under a c
+      → (ds : List Deed) (under : Under) (end : TurnEnd) (a c : Server D L K) → BreaksAfter view takes fails faults story counts end ds under a c
       → WritesAt takes fails a.sink c.sink end (lines (setting a) ds) (under_line (setting a) under)
   broken_text takes_then takes_fails ds under end a c (b, did, breaks) =
       write_then takes_then takes_fails a.sink b.sink c.sink end (lines (setting a) ds) (under_line (setting a) under) did.text
@@ -197,7 +197,7 @@ module _ {D L K : Type 0} (view : D → DiskView) (takes fails : K → List ℕ 
   cause_of a b c ends.Served under x y z p q r on few same cause = cause
 
   -- why it ended: a count rose, or a file is full
-  pub broken_cause : (ds : List Deed) (under : Under) (end : TurnEnd) (a c : Server D L K) → BreaksBehind view takes fails faults story counts end ds under a c
+  pub broken_cause : (ds : List Deed) (under : Under) (end : TurnEnd) (a c : Server D L K) → BreaksAfter view takes fails faults story counts end ds under a c
       → HasCause view faults end under a.kept c.kept a.sink c.sink (counts a.link) (counts c.link)
   broken_cause ds under end a c (b, did, breaks) =
       cause_of a.kept b.kept c.kept end under a.sink b.sink c.sink (counts a.link) (counts b.link) (counts c.link) did.goes_on did.no_fall (counts_listening ds (counts a.link) (counts b.link) did.counted) breaks.cause

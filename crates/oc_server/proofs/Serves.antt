@@ -5,7 +5,7 @@ use Rattle.oc_link.specs.declared.counts.LinkCounts.{LinkCounts}
 use Rattle.oc_io.specs.DiskView.{DiskView}
 use Rattle.oc_deeds.specs.Deeds.{Deed}
 use Rattle.oc_server.specs.Runs.{ServeEnds, Serves, ServesUpTo, Turned}
-use Rattle.oc_server.specs.Scenes.{BreaksBehind, Did, IsServing}
+use Rattle.oc_server.specs.Scenes.{BreaksAfter, Did, IsServing}
 use Rattle.oc_deeds.specs.Under.{Under}
 use Rattle.oc_deeds.specs.declared.ends.TurnEnd.{TurnEnd}
 use Rattle.oc_deeds.specs.declared.ends.TurnEnd.TheVariants as ends
@@ -44,7 +44,7 @@ module _ {D L K : Type 0} (view : D → DiskView) (takes fails : K → List ℕ 
   -- and where they ended early, the deeds after which they did
   pub up_to_broken : (takes_nothing : (k : K) → takes k [] k) (takes_then : (a b c : K) (x y : List ℕ) → takes a x b → takes b y c → takes a (x ++ y) c) (most : ℕ) (end : TurnEnd) (a c : Turns D L K)
       → IsServing a.server → ServesUpTo view takes fails faults story counts most end a c
-      → (deeds : List Deed) × (under : Under) × BreaksBehind view takes fails faults story counts end deeds under a.server c.server
+      → (deeds : List Deed) × (under : Under) × BreaksAfter view takes fails faults story counts end deeds under a.server c.server
   up_to_broken takes_nothing takes_then most end a c serving up =
       let done = serves_did takes_nothing takes_then up.done a up.at serving up.serves in
       let stops = up.stops.stops in

@@ -18,7 +18,7 @@ use Rattle.oc_model.specs.declared.message.Message.{Message}
 use Rattle.oc_model.specs.Node.{Node}
 use Rattle.std.specs.Prelude.{unwrap_or}
 use Rattle.oc_config.specs.Settings.{Settings}
-use Rattle.oc_deeds.specs.Deeds.{Deed, Rereads, Running, after, calls, finish, input_of, line, reread_line, reread_of, with_input}
+use Rattle.oc_deeds.specs.Deeds.{Deed, Rereads, Running, after, calls, finish, deed_input, line, reread_line, reread_of, with_input}
 use Rattle.oc_server.specs.Looks.{LooksOnly, LookStops}
 use Rattle.oc_server.specs.Moments.{TakesOne}
 use Rattle.oc_server.specs.Noting.{LineStops, NoteBreaks}
@@ -41,7 +41,7 @@ use Rattle.oc_server.proofs.Scenes.{done_none}
 module _ {D L K : Type 0} (view : D → DiskView) (takes fails : K → List ℕ → K → Type 0) (faults : K → ℕ) (story : L → Option (List Call)) (counts : L → LinkCounts) where
   -- One deed that takes no input
 
-  pub did_step : (d : Deed) (old new : Server D L K) → input_of d ≡ None → reread_of d ≡ None → new.config ≡ old.config → new.log ≡ old.log
+  pub did_step : (d : Deed) (old new : Server D L K) → deed_input d ≡ None → reread_of d ≡ None → new.config ≡ old.config → new.log ≡ old.log
       → takes old.sink (line (setting old) d) new.sink → NoFall (faults old.sink) (faults new.sink)
       → CountsAll (d ∷ []) (counts old.link) (counts new.link) → LooksOnly view old.kept new.kept → (IsLawful old → IsLawful new)
       → (IsHonest view old.kept → running new ≡ after d (running old))
@@ -71,7 +71,7 @@ module _ {D L K : Type 0} (view : D → DiskView) (takes fails : K → List ℕ 
   }
 
   -- one that changes what is under way and the link
-  pub did_works : (takes_nothing : (k : K) → takes k [] k) (d : Deed) (old : Server D L K) (ws : List Work) (link : L) → input_of d ≡ None → reread_of d ≡ None → line (setting old) d ≡ []
+  pub did_works : (takes_nothing : (k : K) → takes k [] k) (d : Deed) (old : Server D L K) (ws : List Work) (link : L) → deed_input d ≡ None → reread_of d ≡ None → line (setting old) d ≡ []
       → old.kept.closed ≡ false → CountsAll (d ∷ []) (counts old.link) (counts link)
       → (AllByRecursion (IsLawfulWork old.kept.node.control.nodes old.kept.node.control.me) old.works → AllByRecursion (IsLawfulWork old.kept.node.control.nodes old.kept.node.control.me) ws)
       → record (running old) { works = ws } ≡ after d (running old) → AddsAll (calls (setting old) d (running old)) (story old.link) (story link)
@@ -81,7 +81,7 @@ module _ {D L K : Type 0} (view : D → DiskView) (takes fails : K → List ℕ 
       counted (looks_none view old.kept is_open) (lawful_of old (record old { works = ws; link = link }) (record { me = refl; header = refl }) (λ all. all) lawful (λ all. all)) (λ honest. is) (λ honest. made)
 
   -- one that writes a line, and changes what is under way and the link
-  pub did_line : (d : Deed) (old : Server D L K) (sink : K) (ws : List Work) (link : L) → input_of d ≡ None → reread_of d ≡ None
+  pub did_line : (d : Deed) (old : Server D L K) (sink : K) (ws : List Work) (link : L) → deed_input d ≡ None → reread_of d ≡ None
       → old.kept.closed ≡ false → CountsAll (d ∷ []) (counts old.link) (counts link) → takes old.sink (line (setting old) d) sink → NoFall (faults old.sink) (faults sink)
       → (AllByRecursion (IsLawfulWork old.kept.node.control.nodes old.kept.node.control.me) old.works → AllByRecursion (IsLawfulWork old.kept.node.control.nodes old.kept.node.control.me) ws)
       → record (running old) { works = ws } ≡ after d (running old) → AddsAll (calls (setting old) d (running old)) (story old.link) (story link)
@@ -91,7 +91,7 @@ module _ {D L K : Type 0} (view : D → DiskView) (takes fails : K → List ℕ 
       (lawful_of old (record old { sink = sink; works = ws; link = link }) (record { me = refl; header = refl }) (λ all. all) lawful (λ all. all)) (λ honest. is) (λ honest. made)
 
   -- one after a look that changes what is under way and the link
-  pub did_given : (takes_nothing : (k : K) → takes k [] k) (d : Deed) (old : Server D L K) (kept : KeptView D) (ws left : List Work) (link : L) → input_of d ≡ None → reread_of d ≡ None → line (setting old) d ≡ []
+  pub did_given : (takes_nothing : (k : K) → takes k [] k) (d : Deed) (old : Server D L K) (kept : KeptView D) (ws left : List Work) (link : L) → deed_input d ≡ None → reread_of d ≡ None → line (setting old) d ≡ []
       → LooksOnly view old.kept kept → CountsAll (d ∷ []) (counts old.link) (counts link)
       → (AllByRecursion (IsLawfulWork old.kept.node.control.nodes old.kept.node.control.me) old.works → AllByRecursion (IsLawfulWork old.kept.node.control.nodes old.kept.node.control.me) ws)
       → after d (running old) ≡ record (running old) { works = left } → (IsHonest view old.kept → ws ≡ left)

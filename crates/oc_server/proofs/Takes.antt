@@ -29,7 +29,7 @@ use Rattle.oc_routes.specs.Inputs.{HasLine}
 use Rattle.oc_wire.specs.Spelling.{HasSpelling}
 use Rattle.std.specs.Prelude.{unwrap_or}
 use Rattle.oc_config.specs.Settings.{Settings}
-use Rattle.oc_deeds.specs.Deeds.{Accepts, Deed, Running, Takes, after, calls, for_outbox, input_of, line, reread_of, sender_of, taken_line, with_input}
+use Rattle.oc_deeds.specs.Deeds.{Accepts, Deed, Running, Takes, after, calls, for_outbox, deed_input, line, reread_of, sender_of, taken_line, with_input}
 use Rattle.oc_server.specs.Noting.{LineStops}
 use Rattle.oc_server.specs.Moments.{TakesOne}
 use Rattle.oc_deeds.specs.Outboxes.{with_messages}
@@ -103,7 +103,7 @@ module _ {D : Type 0} (view : D → DiskView) (law : Law view) (old new : KeptVi
 module _ {D L K : Type 0} (view : D → DiskView) (takes fails : K → List ℕ → K → Type 0) (faults : K → ℕ) (story : L → Option (List Call)) (counts : L → LinkCounts) where
   -- an input was taken with its line, and these of its messages went to the outbox
   did_input : (d : Deed) (i : Input) (outcome : OutcomeView) (kept : List Message → List Message) (old new : Server D L K)
-      → input_of d ≡ Some i → reread_of d ≡ None → line (setting old) d ≡ taken_line old.log old.kept.node.control.me i
+      → deed_input d ≡ Some i → reread_of d ≡ None → line (setting old) d ≡ taken_line old.log old.kept.node.control.me i
       → ((a : Running) → after d a ≡ record a { node = (step a.node i).node; outbox = with_messages a.outbox (kept (step a.node i).sends) }) → ((a : Running) → calls (setting old) d a ≡ [])
       → CountsAll (d ∷ []) (counts old.link) (counts old.link)
       → ((ms : List Message) → AreSendable old.kept.node.control.nodes ms → AreSendable old.kept.node.control.nodes (kept ms))

@@ -18,18 +18,18 @@ use Rattle.oc_probe.specs.declared.probing.Probing.{Probing}
 use Rattle.oc_routes.specs.Verdicts.{NodeTerms, terms_of}
 use Rattle.oc_base.specs.declared.shelf.Shelf.{Shelf}
 use Rattle.oc_model.specs.Node.{Header}
-use Rattle.oc_deeds.specs.Choices.{due_place, wait_for}
-use Rattle.oc_deeds.specs.Deeds.{Deed, Reads, Running, Sees, after_all, after, calls_of, config_behind, dials_behind, errand_in}
+use Rattle.oc_deeds.specs.Choices.{due_index, wait_for}
+use Rattle.oc_deeds.specs.Deeds.{Deed, Reads, Running, Sees, after_all, after, calls_of, config_behind, dials_after, errand_in}
 use Rattle.oc_server.specs.Looks.{Renews}
 use Rattle.oc_server.specs.Parts.{Does, Stops}
 use Rattle.oc_deeds.specs.Parts.{Part, one, ◌>>◌}
-use Rattle.oc_server.specs.Runs.{CouldCome, IsLent, IsRead, MayRead, behind_reading, due_in, lent_in, reads_by, NextStops, NextTaken, Handled, HandleStops}
+use Rattle.oc_server.specs.Runs.{CouldCome, IsLent, IsRead, MayRead, after_reading, due_in, lent_in, reads_by, NextStops, NextTaken, Handled, HandleStops}
 use Rattle.oc_deeds.specs.Measured.{IsMeasured}
 use Rattle.oc_deeds.specs.Served.{is_something, is_served}
 use Rattle.oc_server.specs.Scenes.{Breaks, Did, IsServing, running, setting}
 use Rattle.oc_deeds.specs.Under.{Idle}
 use Rattle.oc_deeds.specs.Hurries.{came_hurries}
-use Rattle.oc_deeds.specs.Turns.{Means, Observation, deals, quickened, takes_due, pace_behind, paced, probed, probing_behind, takes_at, takes_next, takes_one}
+use Rattle.oc_deeds.specs.Turns.{Means, Observation, deals, quickened, takes_due, pace_after, paced, probed, probing_after, takes_at, takes_next, takes_one}
 use Rattle.oc_deeds.specs.Turns as turns
 use Rattle.oc_deeds.specs.declared.reread.Reread.TheVariants as rereads
 use Rattle.oc_link.specs.declared.look.Look.TheVariants as looks
@@ -145,18 +145,18 @@ module _ {D L K : Type 0} (view : D → DiskView) (takes fails : K → List ℕ 
 
     -- the node when it was asked what is due
     pub due_then : (lines : List Shelf) → (IsHonest view b.kept → lines ≡ shelf (node_of b.kept).groups) → IsHonest view a.kept
-        → due_in a before ≡ due_place b.works lines before
+        → due_in a before ≡ due_index b.works lines before
     due_then lines held honest =
-        ap (λ (r : Running). due_place r.works (shelf r.node.groups) before) (sym (did.done honest).after)
-        ∙ ap (λ (ls : List Shelf). due_place b.works ls before) (sym (held (still_honest view takes fails faults story counts (Reads before ∷ []) a b did honest)))
+        ap (λ (r : Running). due_index r.works (shelf r.node.groups) before) (sym (did.done honest).after)
+        ∙ ap (λ (ls : List Shelf). due_index b.works ls before) (sym (held (still_honest view takes fails faults story counts (Reads before ∷ []) a b did honest)))
 
     -- what a turn does by what was due
     one_by : (due : Option ℕ) (pace : Pace) (probing : Option Probing) (t : Observation) → t.before ≡ before → (IsHonest view a.kept → due_in a before ≡ due) → IsHonest view a.kept
         → takes_at due pace probing t (setting b) (running b) ≡ takes_one pace probing t (setting b) (running b)
     one_by due pace probing t begins is honest =
         ap (λ (o : Option ℕ). takes_at o pace probing t (setting b) (running b))
-        (sym (is honest) ∙ ap (λ (r : Running). due_place r.works (shelf r.node.groups) before) (sym (did.done honest).after)
-        ∙ ap (λ (n : ℕ). due_place b.works (shelf (node_of b.kept).groups) n) (sym begins))
+        (sym (is honest) ∙ ap (λ (r : Running). due_index r.works (shelf r.node.groups) before) (sym (did.done honest).after)
+        ∙ ap (λ (n : ℕ). due_index b.works (shelf (node_of b.kept).groups) n) (sym begins))
 
     pub does_turn : (due : Option ℕ) (pace : Pace) (probing : Option Probing) (t : Observation) → t.before ≡ before → (IsHonest view a.kept → due_in a before ≡ due)
         → Does view takes faults story counts (takes_at due pace probing t) b c → Does view takes faults story counts (turns.dealt pace probing t) a c
@@ -173,14 +173,14 @@ module _ {D L K : Type 0} (view : D → DiskView) (takes fails : K → List ℕ 
 
     -- the story when the link was asked
     lent_then : (event : LinkEvent) (bytes lent : List ℕ) (more : List Call) (x y z : Option (List Call)) → AddsAll (acts.Millis before ∷ []) x y → AddsAll more y z
-        → IsLent y z event bytes lent → IsLent (behind_reading before x) z event bytes lent
+        → IsLent y z event bytes lent → IsLent (after_reading before x) z event bytes lent
     lent_then event bytes lent more None y z made behind is = tt
     lent_then event bytes lent more (Some calls) y None made behind is = tt
     lent_then event bytes lent more (Some calls) None (Some end) made behind is = absurd behind
     lent_then event bytes lent more (Some calls) (Some now) (Some end) made behind is =
         is ∙ ap (λ (cs : List Call). lent_in event bytes (cs ++ acts.Next event bytes ∷ [])) made
 
-    could_then : (event : LinkEvent) (more : List Call) (x y z : Option (List Call)) → AddsAll (acts.Millis before ∷ []) x y → AddsAll more y z → CouldCome y z event → CouldCome (behind_reading before x) z event
+    could_then : (event : LinkEvent) (more : List Call) (x y z : Option (List Call)) → AddsAll (acts.Millis before ∷ []) x y → AddsAll more y z → CouldCome y z event → CouldCome (after_reading before x) z event
     could_then event more None y z made behind could = tt
     could_then event more (Some calls) y None made behind could = tt
     could_then event more (Some calls) None (Some end) made behind could = absurd behind
@@ -310,8 +310,8 @@ module _ {D L K : Type 0} (view : D → DiskView) (takes fails : K → List ℕ 
             (record { deeds = does.deeds; did = does.did; are = does.are });
         read = λ honest. subst (λ (o : Option ℕ). MayRead story o old new.server (told_due seconds)) (sym (is honest)) tt;
         serves = λ honest. sym (ap (λ (o : Option ℕ). is_served o comes.Nothing) (is honest));
-        pace = λ honest. pace ∙ sym (ap (λ (o : Option ℕ). pace_behind o old.pace (told_due seconds) (node_of old.server.kept)) (is honest));
-        probing = λ honest. probing ∙ sym (ap (λ (o : Option ℕ). probing_behind o (told_due seconds) old.server.dials old.probing) (is honest));
+        pace = λ honest. pace ∙ sym (ap (λ (o : Option ℕ). pace_after o old.pace (told_due seconds) (node_of old.server.kept)) (is honest));
+        probing = λ honest. probing ∙ sym (ap (λ (o : Option ℕ). probing_after o (told_due seconds) old.server.dials old.probing) (is honest));
         reading = reading;
       }
 
@@ -331,7 +331,7 @@ module _ {D L K : Type 0} (view : D → DiskView) (takes fails : K → List ℕ 
       read_then t more begins honest behind read =
           subst (λ (n : ℕ). MayRead story (due_in old.server n) old new.server t) (sym begins)
           (subst (λ (o : Option ℕ). MayRead story o old new.server t) (sym (is honest))
-          (subst (λ (n : ℕ). IsRead old (behind_reading n (story old.server.link)) (story new.server.link) t) (sym begins) (record {
+          (subst (λ (n : ℕ). IsRead old (after_reading n (story old.server.link)) (story new.server.link) t) (sym begins) (record {
             lent = read.lent;
             is_lent = lent_then takes_then before old.server b new.server did t.event t.bytes read.lent more (story old.server.link) (story b.link) (story new.server.link) (did.done honest).calls behind read.is_lent;
             could = could_then takes_then before old.server b new.server did t.event more (story old.server.link) (story b.link) (story new.server.link) (did.done honest).calls behind read.could;
@@ -354,11 +354,11 @@ module _ {D L K : Type 0} (view : D → DiskView) (takes fails : K → List ℕ 
         pace = λ honest.
             taken.pace (b_honest honest)
             ∙ ap (λ (r : Running). paced (quickened (came_hurries taken.told.came r.node) old.pace) taken.told.now taken.told.seconds) (did.done honest).after
-            ∙ ap (λ (o : Option ℕ). pace_behind o old.pace taken.told (node_of old.server.kept)) (sym (due_told taken.told taken.begins honest));
+            ∙ ap (λ (o : Option ℕ). pace_after o old.pace taken.told (node_of old.server.kept)) (sym (due_told taken.told taken.begins honest));
         probing = λ honest.
             taken.probing (b_honest honest)
-            ∙ ap (λ (r : Running). probed taken.told.came taken.told.now (dials_behind taken.told.event r.dials) old.probing) (did.done honest).after
-            ∙ ap (λ (o : Option ℕ). probing_behind o taken.told old.server.dials old.probing) (sym (due_told taken.told taken.begins honest));
+            ∙ ap (λ (r : Running). probed taken.told.came taken.told.now (dials_after taken.told.event r.dials) old.probing) (did.done honest).after
+            ∙ ap (λ (o : Option ℕ). probing_after o taken.told old.server.dials old.probing) (sym (due_told taken.told taken.begins honest));
         reading = taken.reading;
       }
         where

@@ -13,7 +13,7 @@ use Rattle.oc_server.proofs.Scenes.{setting_stays, still_honest}
 use Rattle.oc_deeds.proofs.Settled.{IsOrderly, ordered_front, ordered_then, orderly_none, orderly_then}
 use Rattle.oc_deeds.specs.Deeds.{Deed, Running, Setting, after_all, calls_of, errand_in}
 use Rattle.oc_deeds.specs.Replying.{IsOrdered}
-use Rattle.oc_server.specs.Runs.{CouldCome, MayRead, ServeEnds, Serves, ServesUpTo, Turned, TurnStops, behind_reading, due_in, reads_by}
+use Rattle.oc_server.specs.Runs.{CouldCome, MayRead, ServeEnds, Serves, ServesUpTo, Turned, TurnStops, after_reading, due_in, reads_by}
 use Rattle.oc_server.specs.Scenes.{running, setting}
 use Rattle.oc_deeds.specs.Settled.{AreServed, IsSettled}
 use Rattle.oc_server.specs.Settled.{deeds_of, deeds_until, deeds_up_to}
@@ -35,8 +35,8 @@ module _ {D L K : Type 0} (view : D → DiskView) (takes fails : K → List ℕ 
     lent = read.lent;
     errand = errand_in t.event old.server.dials;
     means = read.means;
-    could = subst (λ (x : Option (List Call)). CouldCome (behind_reading t.before x) (Some later) t.event) before
-        (subst (λ (z : Option (List Call)). CouldCome (behind_reading t.before (story old.server.link)) z t.event) behind read.could);
+    could = subst (λ (x : Option (List Call)). CouldCome (after_reading t.before x) (Some later) t.event) before
+        (subst (λ (z : Option (List Call)). CouldCome (after_reading t.before (story old.server.link)) z t.event) behind read.could);
   }
 
   -- the deeds of a turn

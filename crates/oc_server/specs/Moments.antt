@@ -6,12 +6,12 @@ use Rattle.oc_keep.specs.Trials.{after_inputs}
 use Rattle.oc_model.specs.declared.input.Input.{Input}
 use Rattle.oc_model.specs.Node.{Header, Node}
 use Rattle.oc_model.specs.Step.{step}
-use Rattle.oc_deeds.specs.Deeds.{Deed, input_of, with_input}
+use Rattle.oc_deeds.specs.Deeds.{Deed, deed_input, with_input}
 use Rattle.oc_server.specs.Looks.{LooksOn, RunsSafely}
 
 -- the node after a deed
 abbrev pub node_after : Deed → Node → Node
-node_after x n = after_inputs n (with_input (input_of x) [])
+node_after x n = after_inputs n (with_input (deed_input x) [])
 
 -- the input of a deed was taken into the files, if it has one: every crash at any moment of that leaves the node before it or after it
 abbrev pub TakesOne : {D : Type 0} → (D → DiskView) → Header → ℕ → Option Input → Node → Disks D → Disks D → Type 0
@@ -24,5 +24,5 @@ TakesOne view h me (Some i) n d e = RunsSafely view h me d e (SameAsEither n (st
 abbrev pub AtEachPrefix : {D K : Type 0} → (D → DiskView) → Header → ℕ → (K → List ℕ → K → Type 0) → (Deed → List ℕ) → List Deed → Node → Disks D → K → Disks D → K → Type 0
 AtEachPrefix view h me takes says [] n d s e t = (k : ℕ) × LooksOn view h me n k d e × (t ≡ s)
 AtEachPrefix {D} {K} view h me takes says (x ∷ xs) n d s e t = (k : ℕ) × (at next : Disks D) × (u : K)
-    × LooksOn view h me n k d at × TakesOne view h me (input_of x) n at next × takes s (says x) u
+    × LooksOn view h me n k d at × TakesOne view h me (deed_input x) n at next × takes s (says x) u
     × AtEachPrefix view h me takes says xs (node_after x n) next u e t

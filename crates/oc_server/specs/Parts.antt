@@ -7,7 +7,7 @@ use Rattle.oc_keep.specs.KeptView.{IsHonest}
 use Rattle.oc_deeds.specs.Parts.{Part}
 use Rattle.oc_deeds.specs.Under.{Cuts, Under}
 use Rattle.oc_deeds.specs.Deeds.{Deed}
-use Rattle.oc_server.specs.Scenes.{BreaksBehind, Did, running, setting}
+use Rattle.oc_server.specs.Scenes.{BreaksAfter, Did, running, setting}
 use Rattle.oc_deeds.specs.Under.{Under}
 use Rattle.oc_deeds.specs.declared.ends.TurnEnd.{TurnEnd}
 use Rattle.oc_server.specs.declared.server.Server.{Server}
@@ -22,5 +22,5 @@ pub record Does {D L K : Type 0} (view : D → DiskView) (takes : K → List ℕ
 pub record Stops {D L K : Type 0} (view : D → DiskView) (takes fails : K → List ℕ → K → Type 0) (faults : K → ℕ) (story : L → Option (List Call)) (counts : L → LinkCounts) (end : TurnEnd) (part : Part) (old new : Server D L K) : Type 0 where
   pub deeds : List Deed
   pub under : Under
-  pub breaks : BreaksBehind view takes fails faults story counts end deeds under old new
+  pub breaks : BreaksAfter view takes fails faults story counts end deeds under old new
   pub cut : IsHonest view old.kept → Cuts (part (setting old) (running old)) deeds under

@@ -14,8 +14,8 @@ use Rattle.oc_keep.specs.KeptView.{IsHonest, node_of}
 use Rattle.oc_routes.specs.Verdicts.{NodeTerms}
 use Rattle.oc_deeds.specs.Measured.{IsMeasured}
 use Rattle.oc_deeds.specs.Served.{is_served, is_something}
-use Rattle.oc_deeds.specs.Choices.{due_place}
-use Rattle.oc_deeds.specs.Deeds.{after_all, dials_behind, errand_in}
+use Rattle.oc_deeds.specs.Choices.{due_index}
+use Rattle.oc_deeds.specs.Deeds.{after_all, dials_after, errand_in}
 use Rattle.oc_deeds.specs.Hurries.{came_hurries}
 use Rattle.oc_server.specs.Looks.{Renews}
 use Rattle.oc_server.specs.Parts.{Does, Stops}
@@ -25,7 +25,7 @@ use Rattle.oc_deeds.specs.declared.reread.Reread.{Reread}
 use Rattle.oc_deeds.specs.declared.reread.Reread.TheVariants as rereads
 use Rattle.oc_link.specs.declared.look.Look.{Look}
 use Rattle.oc_config.specs.Settings.{Settings}
-use Rattle.oc_deeds.specs.Turns.{Means, Observation, dealt, pace_behind, paced, probed, probing_behind, quickened, takes_next, terms_in, turn}
+use Rattle.oc_deeds.specs.Turns.{Means, Observation, dealt, pace_after, paced, probed, probing_after, quickened, takes_next, terms_in, turn}
 use Rattle.oc_deeds.specs.declared.ends.TurnEnd.{TurnEnd}
 use Rattle.oc_deeds.specs.declared.ends.TurnEnd.TheVariants as ends
 use Rattle.oc_server.specs.declared.server.Server.{Server}
@@ -37,7 +37,7 @@ reads_by s = terms_in (setting s) (running s)
 
 -- the place of the work that is due by itself when a turn begins
 abbrev pub due_in : {D L K : Type 0} → Server D L K → ℕ → Option ℕ
-due_in s before = due_place s.works (shelf (node_of s.kept).groups) before
+due_in s before = due_index s.works (shelf (node_of s.kept).groups) before
 
 -- What was read
 
@@ -65,12 +65,12 @@ pub record IsRead {D L K : Type 0} (old : Turns D L K) (asked now : Option (List
   pub measured : IsMeasured old.probing t.came t.now t.median
 
 -- the clock was read first
-abbrev pub behind_reading : ℕ → Option (List Call) → Option (List Call)
-behind_reading before story = option_map (λ calls. calls ++ acts.Millis before ∷ []) story
+abbrev pub after_reading : ℕ → Option (List Call) → Option (List Call)
+after_reading before story = option_map (λ calls. calls ++ acts.Millis before ∷ []) story
 
 -- it is so where nothing was due
 abbrev pub MayRead : {D L K : Type 0} → (L → Option (List Call)) → Option ℕ → Turns D L K → Server D L K → Observation → Type 0
-MayRead story None old new t = IsRead old (behind_reading t.before (story old.server.link)) (story new.link) t
+MayRead story None old new t = IsRead old (after_reading t.before (story old.server.link)) (story new.link) t
 MayRead story (Some place) old new t = Unit {0}
 
 -- One thing that happened
@@ -83,7 +83,7 @@ pub record NextTaken {D L K : Type 0} (view : D → DiskView) (takes : K → Lis
   pub read : IsHonest view old.server.kept → IsRead old (story old.server.link) (story new.server.link) told
   pub serves : served ≡ is_something told.came
   pub pace : IsHonest view old.server.kept → new.pace ≡ paced (quickened (came_hurries told.came (node_of old.server.kept)) old.pace) told.now told.seconds
-  pub probing : IsHonest view old.server.kept → new.probing ≡ probed told.came told.now (dials_behind told.event old.server.dials) old.probing
+  pub probing : IsHonest view old.server.kept → new.probing ≡ probed told.came told.now (dials_after told.event old.server.dials) old.probing
   pub reading : new.reading ≡ old.reading
 
 -- A front of that was done, and then it ended so. What came was read, where more was done than to ask for it.
@@ -102,8 +102,8 @@ pub record Handled {D L K : Type 0} (view : D → DiskView) (takes : K → List 
   pub does : Does view takes faults story counts (dealt old.pace old.probing told) old.server new.server
   pub read : IsHonest view old.server.kept → MayRead story (due_in old.server told.before) old new.server told
   pub serves : IsHonest view old.server.kept → served ≡ is_served (due_in old.server told.before) told.came
-  pub pace : IsHonest view old.server.kept → new.pace ≡ pace_behind (due_in old.server told.before) old.pace told (node_of old.server.kept)
-  pub probing : IsHonest view old.server.kept → new.probing ≡ probing_behind (due_in old.server told.before) told old.server.dials old.probing
+  pub pace : IsHonest view old.server.kept → new.pace ≡ pace_after (due_in old.server told.before) old.pace told (node_of old.server.kept)
+  pub probing : IsHonest view old.server.kept → new.probing ≡ probing_after (due_in old.server told.before) told old.server.dials old.probing
   pub reading : new.reading ≡ old.reading
 
 -- A front of that was done, and then it ended so. What came was read, where more was done than to ask for it.
@@ -145,9 +145,9 @@ pub record Turned {D L K : Type 0} (view : D → DiskView) (takes : K → List �
   pub read : IsHonest view old.server.kept → MayRead story (due_in old.server told.before) old new.server told
   pub again : MeansLook old.reading told.look told.reread
   pub serves : IsHonest view old.server.kept → served ≡ is_served (due_in old.server told.before) told.came
-  pub pace : IsHonest view old.server.kept → new.pace ≡ pace_behind (due_in old.server told.before) old.pace told (node_of old.server.kept)
+  pub pace : IsHonest view old.server.kept → new.pace ≡ pace_after (due_in old.server told.before) old.pace told (node_of old.server.kept)
   pub probing : IsHonest view old.server.kept
-      → new.probing ≡ probing_by (setting old.server).me (config_at_look old told) told.reread (probing_behind (due_in old.server told.before) told old.server.dials old.probing)
+      → new.probing ≡ probing_by (setting old.server).me (config_at_look old told) told.reread (probing_after (due_in old.server told.before) told old.server.dials old.probing)
   pub reading : new.reading ≡ last_read told.look old.reading
 
 -- A front of a turn was done, and then it ended so. What came was read, where more was done than to ask for it, and so was what the look gave, where

@@ -158,8 +158,8 @@ pub record Breaks {D L K : Type 0} (view : D → DiskView) (takes fails : K → 
   pub counted : CountsAt end (counts old.link) (counts new.link)
 
 -- These deeds were done, and then it ended so at once.
-abbrev pub BreaksBehind : {D L K : Type 0} → (D → DiskView) → (K → List ℕ → K → Type 0) → (K → List ℕ → K → Type 0) → (K → ℕ) → (L → Option (List Call)) → (L → LinkCounts) → TurnEnd → List Deed → Under → Server D L K → Server D L K → Type 0
-BreaksBehind {D} {L} {K} view takes fails faults story counts end deeds under old new = (at : Server D L K)
+abbrev pub BreaksAfter : {D L K : Type 0} → (D → DiskView) → (K → List ℕ → K → Type 0) → (K → List ℕ → K → Type 0) → (K → ℕ) → (L → Option (List Call)) → (L → LinkCounts) → TurnEnd → List Deed → Under → Server D L K → Server D L K → Type 0
+BreaksAfter {D} {L} {K} view takes fails faults story counts end deeds under old new = (at : Server D L K)
     × Did view takes faults story counts deeds old at × Breaks view takes fails faults story counts end under at new
 
 -- One input

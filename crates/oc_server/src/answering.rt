@@ -18,7 +18,7 @@ ghost use Rattle.oc_server.specs.Scenes.{running, setting};
 use crate::server::Server;
 use oc_base::Memory;
 use oc_config::Config;
-use oc_deeds::asked::{Accepted, holding_for};
+use oc_deeds::asked::{Accepted, holding_in};
 use oc_deeds::{Pending, TurnEnd, client_input};
 use oc_io::{Disk, Sink};
 use oc_keep::{Kept, ReadyError};
@@ -69,7 +69,7 @@ fn response_to(
     let answered = Answered {
         answer: accepted.answer,
         back: accepted.back.as_ref(),
-        holding: holding_for(&pending.asked.operation, seen.shelf),
+        holding: holding_in(&pending.asked.operation, seen.shelf),
         report: &report,
     };
     let network = Directory {

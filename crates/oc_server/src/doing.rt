@@ -14,8 +14,8 @@ use crate::taking::{keep, line_of};
 use oc_base::{NodeId, Shelf};
 use oc_config::Config;
 use oc_deeds::asked::{Accepted, held_back, sender_of};
-use oc_deeds::brief::{Before, behind};
-use oc_deeds::contents::{begin_rest, keeps, place_of};
+use oc_deeds::brief::{Before, told_after};
+use oc_deeds::contents::{begin_rest, keeps, transfer_for};
 use oc_deeds::lines::put_note;
 use oc_deeds::{
     Dialling, Doer, Errand, Log, Outbox, Pending, Transfer, TurnEnd, Unfit, Waiting, Work, put_all,
@@ -110,7 +110,7 @@ impl<D: Disk, L: Link, K: Sink> Doer for Server<D, L, K> {
 
     fn says_after(&mut self, before: Option<Before>, answer: Answer) -> Result<(), TurnEnd> {
         self.kept.recovers();
-        let text = behind(self.alloc, &before, self.kept.node(), answer)?;
+        let text = told_after(self.alloc, &before, self.kept.node(), answer)?;
         write_line(&mut self.sink, &text)
     }
 
@@ -136,8 +136,8 @@ impl<D: Disk, L: Link, K: Sink> Doer for Server<D, L, K> {
     fn replies(&mut self, pending: Pending, accepted: &Accepted, now: u64) -> Result<(), TurnEnd> {
         self.kept.recovers();
         let response = self.response_to(&pending, accepted)?;
-        let place = place_of(&pending, &response, now);
-        let piece = first_piece(self.alloc, &mut self.kept, &place, now)?;
+        let transfer = transfer_for(&pending, &response, now);
+        let piece = first_piece(self.alloc, &mut self.kept, &transfer, now)?;
         self.kept.recovers();
         let text = joined(self.alloc, response.text.items(), &piece.text)?;
         let _waited = self.works.take(pending.connection);

@@ -8,7 +8,7 @@ ghost use Rattle.oc_deeds.specs.Deeds.{finish, first_piece, first_rest, piece, r
 ghost use Rattle.oc_server.specs.Looks.{LooksOnly, LookStops};
 
 use oc_base::{GroupName, Memory, put};
-use oc_deeds::contents::{piece_text, place_behind};
+use oc_deeds::contents::{piece_text, transfer_after};
 use oc_deeds::{Pending, Transfer, TurnEnd};
 use oc_io::Disk;
 use oc_keep::{Kept, KeptRead};
@@ -75,17 +75,17 @@ pub(crate) fn whole<'a>(both: &'a Option<Vec<u8>>, first: &'a [u8]) -> &'a [u8]
 pub(crate) fn first_piece<D: Disk>(
     alloc: Global,
     kept: &mut Kept<D>,
-    place: &Option<Transfer>,
+    transfer: &Option<Transfer>,
     now: u64,
 ) -> Result<Piece, TurnEnd>
     requires { kept.old.closed ≡ false }
-    ensures text { IfOk result (λ next. IsHonest D.view kept.old → next.text.items ≡ first_piece place.now (node_of kept.old).groups) }
-    ensures rest { IfOk result (λ next. IsHonest D.view kept.old → next.rest ≡ first_rest place.now now (node_of kept.old).groups) }
+    ensures text { IfOk result (λ next. IsHonest D.view kept.old → next.text.items ≡ first_piece transfer.now (node_of kept.old).groups) }
+    ensures rest { IfOk result (λ next. IsHonest D.view kept.old → next.rest ≡ first_rest transfer.now now (node_of kept.old).groups) }
     ensures looks { OnOk result (LooksOnly D.view kept.old kept.new) }
     ensures stops { IfErr result (λ end. LookStops D.view end kept.old kept.new) }
 {
-    match place {
-        Some(place) => next_piece(alloc, kept, place, now),
+    match transfer {
+        Some(transfer) => next_piece(alloc, kept, transfer, now),
         None => Ok(Piece {
             text: Vec::new(alloc),
             rest: None,
@@ -97,20 +97,20 @@ pub(crate) fn first_piece<D: Disk>(
 pub(crate) fn next_piece<D: Disk>(
     alloc: Global,
     kept: &mut Kept<D>,
-    place: &Transfer,
+    transfer: &Transfer,
     now: u64,
 ) -> Result<Piece, TurnEnd>
     requires { kept.old.closed ≡ false }
-    ensures text { IfOk result (λ next. IsHonest D.view kept.old → next.text.items ≡ piece place.now (node_of kept.old).groups) }
-    ensures rest { IfOk result (λ next. IsHonest D.view kept.old → next.rest ≡ rest place.now now (node_of kept.old).groups) }
+    ensures text { IfOk result (λ next. IsHonest D.view kept.old → next.text.items ≡ piece transfer.now (node_of kept.old).groups) }
+    ensures rest { IfOk result (λ next. IsHonest D.view kept.old → next.rest ≡ rest transfer.now now (node_of kept.old).groups) }
     ensures looks { OnOk result (LooksOnly D.view kept.old kept.new) }
     ensures stops { IfErr result (λ end. LookStops D.view end kept.old kept.new) }
 {
     kept.recovers();
-    let bytes = read_next(alloc, kept, &place.content)?;
+    let bytes = read_next(alloc, kept, &transfer.content)?;
     kept.recovers();
-    let rest = place_behind(place, bytes.len(), now);
-    let text = piece_text(alloc, &place.content, bytes)?;
+    let rest = transfer_after(transfer, bytes.len(), now);
+    let text = piece_text(alloc, &transfer.content, bytes)?;
     Ok(Piece { text, rest })
 }
 

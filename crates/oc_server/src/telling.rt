@@ -15,7 +15,7 @@ use crate::server::Server;
 use crate::taking::line_ahead;
 use oc_config::Config;
 use oc_deeds::TurnEnd;
-use oc_deeds::record::first;
+use oc_deeds::record::told_first;
 use oc_io::{Disk, Sink};
 use oc_link::Link;
 use oc_model::Input;
@@ -53,7 +53,7 @@ impl<D: Disk, L: Link, K: Sink> Server<D, L, K> {
         ensures breaks { IfErr result (λ end. NoteBreaks D.view K.takes K.fails K.faults L.story L.counts end (told_first self.old.log self.old.kept.node.control self.old.kept.content.shelves) self.old self.new) }
     {
         self.kept.recovers();
-        let text = first(
+        let text = told_first(
             self.alloc,
             self.log,
             self.kept.node(),

@@ -4,7 +4,7 @@ ghost use Rattle.oc_server.specs.Runs.{HandleStops, Handled, LookAgainStops, Loo
 
 use crate::server::Server;
 use oc_base::Bytes;
-use oc_deeds::choosing::{due_place, wait_for};
+use oc_deeds::choosing::{due_index, wait_for};
 use oc_deeds::rereading::{goes_by, last_read};
 use oc_deeds::{Doer, Pace, TurnEnd, deals, takes_due};
 use oc_io::{Disk, Sink};
@@ -65,7 +65,7 @@ impl<D: Disk, L: Link, K: Sink> Turns<D, L, K> {
     {
         self.server.tidies()?;
         let before = self.server.millis();
-        match due_place(self.server.works.list(), self.server.kept.shelf(), before) {
+        match due_index(self.server.works.list(), self.server.kept.shelf(), before) {
             Some(index) => {
                 takes_due(&mut self.server, &mut self.pace, index, before)?;
                 Ok(true)

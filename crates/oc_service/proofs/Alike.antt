@@ -16,7 +16,7 @@ use Rattle.oc_routes.specs.Verdicts.{IsVerdict, NodeTerms, arrival}
 use Rattle.oc_routes.specs.declared.verdict.Verdict.{Verdict}
 use Rattle.oc_routes.specs.declared.verdict.Verdict.TheVariants as verdicts
 use Rattle.oc_routes.specs.Refusals.{refusal_text}
-use Rattle.oc_deeds.specs.Choices.{due_place, wait_for}
+use Rattle.oc_deeds.specs.Choices.{due_index, wait_for}
 use Rattle.oc_deeds.specs.Deeds.{Reads, Running, Sees, Setting, after, calls_of, refuses}
 use Rattle.oc_deeds.specs.Turns.{Means, Observation, takes_at, ticks_and_sends, turn}
 use Rattle.oc_deeds.specs.declared.came.Came.{Came}
@@ -68,7 +68,7 @@ alike_turn pace probing t a b bytes other d count more v w x y s r first second 
     subst (λ (p : Came). AreAlike s (turn pace probing (told_request t a bytes p) s r) (turn pace probing (told_request t b other y) s r) r) (sym first)
     (subst (λ (p : Came). AreAlike s (turn pace probing (told_request t a bytes (comes.Request d count v)) s r) (turn pace probing (told_request t b other p) s r) r) (sym second)
     (subst (λ (u : Verdict). AreAlike s (turn pace probing (told_request t a bytes (comes.Request d count v)) s r) (turn pace probing (told_request t b other (comes.Request d more u)) s r) r) same
-    (alike_at (due_place r.works (shelf r.node.groups) t.before) pace probing t a b bytes other d count more v s r)))
+    (alike_at (due_index r.works (shelf r.node.groups) t.before) pace probing t a b bytes other d count more v s r)))
 
 module _ (one : (t : NodeTerms) (a : Arrival) (bytes : List ℕ) (v w : Verdict) → IsVerdict t a bytes v → IsVerdict t a bytes w → v ≡ w) where
   -- the same bytes

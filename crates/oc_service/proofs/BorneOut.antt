@@ -49,17 +49,17 @@ use Rattle.oc_routes.specs.declared.routes.Operation.{Operation}
 use Rattle.oc_routes.specs.declared.routes.Operation.TheVariants as asks
 use Rattle.oc_deeds.specs.Asks.{has_to_wait, obeys, refuses_or, responds, takes_on, takes_up, waiting}
 use Rattle.oc_deeds.specs.Brought.{comes_back, fault_of, input_of}
-use Rattle.oc_deeds.specs.Choices.{due_place, next_to_dial, prospect_of, wait_for}
+use Rattle.oc_deeds.specs.Choices.{due_index, next_to_dial, prospect_of, wait_for}
 use Rattle.oc_deeds.specs.Deeds.{Deed, Drops, Reads, Refuses, Running, Says, Sees, Setting, Takes, Tells, Waits, after, after_all, errand_in}
 use Rattle.oc_deeds.specs.Hurries.{came_hurries}
 use Rattle.oc_deeds.specs.Pace.{has_passed, wait_until}
 use Rattle.oc_deeds.specs.Parts.{nothing, one, ◌>>◌}
 use Rattle.oc_deeds.specs.Records.{told_ahead}
-use Rattle.oc_deeds.specs.Rooms.{goes_on, is_told, moves, room, room_for}
+use Rattle.oc_deeds.specs.Rooms.{goes_on, is_told, moves, takes_room, room_for}
 use Rattle.oc_deeds.specs.Rooms as rooms
 use Rattle.oc_deeds.specs.Done.{CountsAll}
 use Rattle.oc_deeds.specs.Sends.{dials_at, dials_it, dials_next, sends}
-use Rattle.oc_deeds.specs.Turns.{Means, MeansBack, Observation, brought, deals, happens, measures, next_peer, probes_it, quickened, takes_at, takes_due, ticked, ticks, ticks_and_sends, ticks_if}
+use Rattle.oc_deeds.specs.Turns.{Means, MeansBack, Observation, takes_brought, deals, happens, measures, next_peer, probes_it, quickened, takes_at, takes_due, ticked, ticks, ticks_and_sends, ticks_if}
 use Rattle.oc_deeds.specs.Works.{client_input, pending, work_on}
 use Rattle.oc_deeds.specs.declared.came.Came.{Came}
 use Rattle.oc_deeds.specs.declared.came.Came.TheVariants as comes
@@ -74,8 +74,8 @@ use Rattle.oc_deeds.specs.declared.work.Work.TheVariants as works
 use Rattle.oc_updown.specs.declared.measure_lines.Measure.{Measure}
 use Rattle.oc_service.proofs.HeadFaults.{IsOther, IsSpared, body_spared, head_spared}
 use Rattle.oc_service.specs.Failures.{AreBorneOut, IsBorneOut, IsFailure, RiseForLines, RisesFor, told_last}
-use Rattle.oc_service.specs.WhatNodeDoes.{Machine, begins, begun, behind_turn, due_at, node_behind, node_deeds, own_measure, own_measures, turn_deeds, turns_deeds}
-use Rattle.oc_service.specs.WhatNodeHears.{AreHeard, MayHear, calls_behind}
+use Rattle.oc_service.specs.WhatNodeDoes.{Machine, begins, begun, after_turn, due_at, machine_after, node_deeds, own_measure, own_measures, turn_deeds, turns_deeds}
+use Rattle.oc_service.specs.WhatNodeHears.{AreHeard, MayHear, calls_after}
 
 -- Deeds that tell of no failure
 
@@ -283,7 +283,7 @@ mild_moves p now prospects.Gives = refl
 mild_moves p now prospects.Waits = refl
 mild_moves p now prospects.Breaks = refl
 
-mild_room : (o : Option Work) (now : ℕ) (s : Setting) (a : Running) → all_mild (room_for (rooms.content_in o) now s a) ≡ true
+mild_room : (o : Option Work) (now : ℕ) (s : Setting) (a : Running) → all_mild (room_for (rooms.transfer_of o) now s a) ≡ true
 mild_room None now s a = refl
 mild_room (Some (works.Content p)) now s a = mild_moves p now (prospect_of p (shelf a.node.groups) now)
 mild_room (Some (works.Aside p)) now s a = refl
@@ -299,7 +299,7 @@ mild_measures None peer None median s a = refl
 mild_measures (Some probing) peer None median s a = refl
 mild_measures probing peer (Some fault) median s a = refl
 
-mild_brought : (input : Option Input) (s : Setting) (a : Running) → all_mild (brought input s a) ≡ true
+mild_brought : (input : Option Input) (s : Setting) (a : Running) → all_mild (takes_brought input s a) ≡ true
 mild_brought None s a = refl
 mild_brought (Some i) s a = refl
 
@@ -310,7 +310,7 @@ mild_probe (Some peer) started s a = refl
 -- the reply on a dial
 back_borne : (t : NodeTerms) (event : LinkEvent) (errand : Errand) (reading : Result Reply HttpFault) (probing : Option Probing) (now median started : ℕ) (s : Setting) (a : Running)
     → AreBorneOut event (happens probing (comes_back t.me t.nodes t.keys errand reading) now median started s a)
-back_borne t event (errands.Message to fetch) reading probing now median started s a = borne_mild event (brought (input_of t.me t.nodes t.keys to reading) s a) (mild_brought (input_of t.me t.nodes t.keys to reading) s a)
+back_borne t event (errands.Message to fetch) reading probing now median started s a = borne_mild event (takes_brought (input_of t.me t.nodes t.keys to reading) s a) (mild_brought (input_of t.me t.nodes t.keys to reading) s a)
 back_borne t event (errands.Probe peer since) reading probing now median started s a = borne_mild event (measures probing peer (fault_of reading) median s a) (mild_measures probing peer (fault_of reading) median s a)
 
 nothing_borne : (event : LinkEvent) (probing : Option Probing) (now median started : ℕ) (s : Setting) (a : Running) → AreBorneOut event (happens probing comes.Nothing now median started s a)
@@ -331,7 +331,7 @@ happened t lent errand (events.Request x) came means probing now median started 
     (obeyed (events.Request x) x.connection (length lent) (means.0) now s a (read_fails t x lent (means.0) (means.1)))
 happened t lent errand (events.Room d) came means probing now median started s a =
     subst (λ (y : Came). AreBorneOut (events.Room d) (happens probing y now median started s a)) (sym means)
-    (borne_mild (events.Room d) (room d now s a) (mild_room (work_on d a.works) now s a))
+    (borne_mild (events.Room d) (takes_room d now s a) (mild_room (work_on d a.works) now s a))
 happened t lent errand (events.Gone d loss) came means probing now median started s a =
     subst (λ (y : Came). AreBorneOut (events.Gone d loss) (happens probing y now median started s a)) (sym means) (dropped d d loss (is_told (work_on d a.works)), tt)
 happened t lent errand (events.Reply d coming) came means probing now median started s a = back_means t (events.Reply d coming) lent errand coming came means probing now median started s a
@@ -374,8 +374,8 @@ turn_borne event terms calls s t m heard = turn_at event terms calls (due_at t m
 turns_borne : (event : LinkEvent) (terms : NodeTerms) (calls : Option (List Call)) (s : Setting) (ts : List Observation) (m : Machine) → AreHeard s terms calls ts m → AreBorneOut event (turns_deeds s ts m)
 turns_borne event terms calls s [] m heard = tt
 turns_borne event terms calls s (t ∷ ts) m heard =
-    borne_then event (turn_deeds s t m) (turns_deeds s ts (behind_turn s t m)) (turn_borne event terms calls s t m (heard.0))
-    (λ last. turns_borne last terms (calls_behind s t m calls) s ts (behind_turn s t m) (heard.1))
+    borne_then event (turn_deeds s t m) (turns_deeds s ts (after_turn s t m)) (turn_borne event terms calls s t m (heard.0))
+    (λ last. turns_borne last terms (calls_after s t m calls) s ts (after_turn s t m) (heard.1))
 
 -- All that a node does
 
@@ -435,21 +435,21 @@ module _ (event : LinkEvent) (terms : NodeTerms) (calls : Option (List Call)) (s
   all = node_deeds s ms ts m
 
   abbrev turn : List Deed
-  turn = turn_deeds s last (node_behind s ms ts m)
+  turn = turn_deeds s last (machine_after s ms ts m)
 
   -- after a turn that was heard
-  heard_borne : (later : Option (List Call)) → MayHear terms later (due_at last (node_behind s ms ts m)) last (node_behind s ms ts m) → AreBorneOut event (all ++ turn)
+  heard_borne : (later : Option (List Call)) → MayHear terms later (due_at last (machine_after s ms ts m)) last (machine_after s ms ts m) → AreBorneOut event (all ++ turn)
   heard_borne later last_heard =
-      borne_then event all turn (node_borne event terms calls s ms ts m heard) (λ x. turn_borne x terms later s last (node_behind s ms ts m) last_heard)
+      borne_then event all turn (node_borne event terms calls s ms ts m heard) (λ x. turn_borne x terms later s last (machine_after s ms ts m) last_heard)
 
   -- in the first three deeds of one in which nothing was due
-  begun_borne : due_at last (node_behind s ms ts m) ≡ None → AreBorneOut event (all ++ take 3 turn)
+  begun_borne : due_at last (machine_after s ms ts m) ≡ None → AreBorneOut event (all ++ take 3 turn)
   begun_borne none =
       borne_then event all (take 3 turn) (node_borne event terms calls s ms ts m heard)
-      (λ x. borne_mild x (take 3 turn) (mild_begin (due_at last (node_behind s ms ts m)) s last (node_behind s ms ts m) none))
+      (λ x. borne_mild x (take 3 turn) (mild_begin (due_at last (machine_after s ms ts m)) s last (machine_after s ms ts m) none))
 
   pub front_borne : (deeds behind : List Deed) (later : Option (List Call)) → all ++ turn ≡ deeds ++ behind
-      → (length deeds < length all + 3) ⊎ MayHear terms later (due_at last (node_behind s ms ts m)) last (node_behind s ms ts m) → AreBorneOut event (deeds ++ take 1 behind)
+      → (length deeds < length all + 3) ⊎ MayHear terms later (due_at last (machine_after s ms ts m)) last (machine_after s ms ts m) → AreBorneOut event (deeds ++ take 1 behind)
   front_borne deeds behind later cut last_heard = by_heard last_heard
     where
       split : all ++ turn ≡ (deeds ++ take 1 behind) ++ drop 1 behind
@@ -458,18 +458,18 @@ module _ (event : LinkEvent) (terms : NodeTerms) (calls : Option (List Call)) (s
       by_whole : AreBorneOut event (all ++ turn) → AreBorneOut event (deeds ++ take 1 behind)
       by_whole whole = borne_front event (deeds ++ take 1 behind) (drop 1 behind) (subst (λ (ds : List Deed). AreBorneOut event ds) split whole)
 
-      by_few : length deeds < length all + 3 → due_at last (node_behind s ms ts m) ≡ None → AreBorneOut event (deeds ++ take 1 behind)
+      by_few : length deeds < length all + 3 → due_at last (machine_after s ms ts m) ≡ None → AreBorneOut event (deeds ++ take 1 behind)
       by_few few none =
           let front = front_of_few (deeds ++ take 1 behind) (drop 1 behind) all turn 3 split (omega (arith, few, length-append deeds (take 1 behind), one_at_most behind)) in
           borne_front event (deeds ++ take 1 behind) (front.0) (subst (λ (ds : List Deed). AreBorneOut event ds) (front.1) (begun_borne none))
 
-      by_due : length deeds < length all + 3 → (due_at last (node_behind s ms ts m) ≡ None) ⊎ ((place : ℕ) × (due_at last (node_behind s ms ts m) ≡ Some place)) → AreBorneOut event (deeds ++ take 1 behind)
+      by_due : length deeds < length all + 3 → (due_at last (machine_after s ms ts m) ≡ None) ⊎ ((place : ℕ) × (due_at last (machine_after s ms ts m) ≡ Some place)) → AreBorneOut event (deeds ++ take 1 behind)
       by_due few (inl none) = by_few few none
       by_due few (inr due) =
-          by_whole (heard_borne later (subst (λ (o : Option ℕ). MayHear terms later o last (node_behind s ms ts m)) (sym (due.1)) tt))
+          by_whole (heard_borne later (subst (λ (o : Option ℕ). MayHear terms later o last (machine_after s ms ts m)) (sym (due.1)) tt))
 
-      by_heard : (length deeds < length all + 3) ⊎ MayHear terms later (due_at last (node_behind s ms ts m)) last (node_behind s ms ts m) → AreBorneOut event (deeds ++ take 1 behind)
-      by_heard (inl few) = by_due few (due_or_none (due_at last (node_behind s ms ts m)))
+      by_heard : (length deeds < length all + 3) ⊎ MayHear terms later (due_at last (machine_after s ms ts m)) last (machine_after s ms ts m) → AreBorneOut event (deeds ++ take 1 behind)
+      by_heard (inl few) = by_due few (due_or_none (due_at last (machine_after s ms ts m)))
       by_heard (inr heard_last) = by_whole (heard_borne later heard_last)
 
 -- By the counts of the link

@@ -21,8 +21,8 @@ use Rattle.oc_probe.specs.declared.probing.Probing.{Probing}
 use Rattle.oc_server.proofs.Parts.{behind_part}
 use Rattle.oc_server.proofs.Scenes.{did_none, did_then, setting_stays, still_honest}
 use Rattle.oc_service.specs.Running.{machine}
-use Rattle.oc_service.specs.WhatNodeDoes.{Machine, behind_turn, behind_turns, turn_deeds, turns_deeds}
-use Rattle.oc_service.specs.WhatNodeHears.{AreHeard, MayHear, all_calls_behind, calls_behind, until}
+use Rattle.oc_service.specs.WhatNodeDoes.{Machine, after_turn, after_turns, turn_deeds, turns_deeds}
+use Rattle.oc_service.specs.WhatNodeHears.{AreHeard, MayHear, all_calls_after, calls_after, until}
 use Rattle.oc_service.proofs.Stories.{Follows, follows_adds, follows_then, lent_until, until_then}
 
 abbrev pub machine_of : Running → Pace → Option Probing → Machine
@@ -44,11 +44,11 @@ module _ {D L K : Type 0} (view : D → DiskView) (takes fails : K → List ℕ 
     pub deeds : List Deed
     pub did : Did view takes faults story counts deeds old.server new.server
     pub are : IsHonest view old.server.kept → deeds ≡ turns_deeds (setting old.server) told (machine old)
-    pub behind : IsHonest view old.server.kept → machine new ≡ behind_turns (setting old.server) told (machine old)
+    pub behind : IsHonest view old.server.kept → machine new ≡ after_turns (setting old.server) told (machine old)
     pub heard : IsHonest view old.server.kept → (all : Option (List Call)) → Follows (story new.server.link) all
         → AreHeard (setting old.server) (reads_by old.server) (until (story old.server.link) all) told (machine old)
     pub calls : IsHonest view old.server.kept → (all : Option (List Call)) → Follows (story new.server.link) all
-        → until (story new.server.link) all ≡ all_calls_behind (setting old.server) told (machine old) (until (story old.server.link) all)
+        → until (story new.server.link) all ≡ all_calls_after (setting old.server) told (machine old) (until (story old.server.link) all)
 
   -- the event of a turn
   pub heard_at : (due : Option ℕ) (old : Turns D L K) (new : Server D L K) (t : Observation) (all : Option (List Call)) → Follows (story new.link) all
@@ -63,7 +63,7 @@ module _ {D L K : Type 0} (view : D → DiskView) (takes fails : K → List ℕ 
 
   -- the machine after a turn
   behind_one : {served : Bool} (old at : Turns D L K) → (turned : Turned view takes faults story counts served old at) → IsHonest view old.server.kept
-      → machine at ≡ behind_turn (setting old.server) turned.told (machine old)
+      → machine at ≡ after_turn (setting old.server) turned.told (machine old)
   behind_one old at turned honest =
       ap (λ (r : Running). machine_of r at.pace at.probing) (behind_part view takes fails faults story counts (turn old.pace old.probing turned.told) old.server at.server turned.does honest)
       ∙ ap₂ (λ (p : Pace) (q : Option Probing). machine_of (after_all (turn_deeds (setting old.server) turned.told (machine old)) (running old.server)) p q) (turned.pace honest) (turned.probing honest)
@@ -71,7 +71,7 @@ module _ {D L K : Type 0} (view : D → DiskView) (takes fails : K → List ℕ 
   -- the calls until the end of a turn
   calls_one : {served : Bool} (old at : Turns D L K) → (turned : Turned view takes faults story counts served old at) → IsHonest view old.server.kept
       → (all : Option (List Call)) → Follows (story at.server.link) all
-      → until (story at.server.link) all ≡ calls_behind (setting old.server) turned.told (machine old) (until (story old.server.link) all)
+      → until (story at.server.link) all ≡ calls_after (setting old.server) turned.told (machine old) (until (story old.server.link) all)
   calls_one old at turned honest all follows =
       until_then (calls_of (setting old.server) (turn_deeds (setting old.server) turned.told (machine old)) (running old.server)) (story old.server.link) (story at.server.link) all
       (subst (λ (ds : List Deed). AddsAll (calls_of (setting old.server) ds (running old.server)) (story old.server.link) (story at.server.link)) (turned.does.are honest) (turned.does.did.done honest).calls) follows
@@ -99,18 +99,18 @@ module _ {D L K : Type 0} (view : D → DiskView) (takes fails : K → List ℕ 
     are = λ honest.
         ap₂ (λ (x y : List Deed). x ++ y) (turned.does.are honest)
         (made.are (honest_at honest) ∙ ap₂ (λ (s : Setting) (m : Machine). turns_deeds s made.told m) setting_is (behind_one old at turned honest));
-    behind = λ honest. made.behind (honest_at honest) ∙ ap₂ (λ (s : Setting) (m : Machine). behind_turns s made.told m) setting_is (behind_one old at turned honest);
+    behind = λ honest. made.behind (honest_at honest) ∙ ap₂ (λ (s : Setting) (m : Machine). after_turns s made.told m) setting_is (behind_one old at turned honest);
     heard = λ honest all follows. (
       heard_at (due_in old.server turned.told.before) old at.server turned.told all (follows_at honest all follows) (turned.read honest),
-      subst (λ (calls : Option (List Call)). AreHeard (setting old.server) (reads_by old.server) calls made.told (behind_turn (setting old.server) turned.told (machine old))) (calls_one old at turned honest all (follows_at honest all follows))
+      subst (λ (calls : Option (List Call)). AreHeard (setting old.server) (reads_by old.server) calls made.told (after_turn (setting old.server) turned.told (machine old))) (calls_one old at turned honest all (follows_at honest all follows))
           (subst (λ (m : Machine). AreHeard (setting old.server) (reads_by old.server) (until (story at.server.link) all) made.told m) (behind_one old at turned honest)
           (subst (λ (terms : NodeTerms). AreHeard (setting old.server) terms (until (story at.server.link) all) made.told (machine at)) (reads_stay old.server at.server did.same did.config)
           (subst (λ (s : Setting). AreHeard s (reads_by at.server) (until (story at.server.link) all) made.told (machine at)) setting_is (made.heard (honest_at honest) all follows)))),
     );
     calls = λ honest all follows.
         made.calls (honest_at honest) all follows
-        ∙ ap₂ (λ (s : Setting) (m : Machine). all_calls_behind s made.told m (until (story at.server.link) all)) setting_is (behind_one old at turned honest)
-        ∙ ap (λ (calls : Option (List Call)). all_calls_behind (setting old.server) made.told (behind_turn (setting old.server) turned.told (machine old)) calls) (calls_one old at turned honest all (follows_at honest all follows));
+        ∙ ap₂ (λ (s : Setting) (m : Machine). all_calls_after s made.told m (until (story at.server.link) all)) setting_is (behind_one old at turned honest)
+        ∙ ap (λ (calls : Option (List Call)). all_calls_after (setting old.server) made.told (after_turn (setting old.server) turned.told (machine old)) calls) (calls_one old at turned honest all (follows_at honest all follows));
   } where
     did : Did view takes faults story counts turned.does.deeds old.server at.server
     did = turned.does.did

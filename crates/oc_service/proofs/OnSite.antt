@@ -28,7 +28,7 @@ use Rattle.oc_deeds.specs.Deeds.{Deed, Setting, calls_of, inputs_of, line, lines
 use Rattle.oc_server.specs.Moments.{AtEachPrefix}
 use Rattle.oc_deeds.specs.Under.{Cuts}
 use Rattle.oc_server.specs.Runs.{reads_by}
-use Rattle.oc_server.specs.Scenes.{BreaksBehind, Did, EndsOn, HasCause, LeavesAt, LeavesUnder, WritesAt, running, setting}
+use Rattle.oc_server.specs.Scenes.{BreaksAfter, Did, EndsOn, HasCause, LeavesAt, LeavesUnder, WritesAt, running, setting}
 use Rattle.oc_deeds.specs.Done.{CountsAll}
 use Rattle.oc_deeds.specs.Under.{Idle, Noting, Taking, Under, under_line}
 use Rattle.oc_deeds.specs.Turns.{Observation}
@@ -46,10 +46,10 @@ use Rattle.oc_service.specs.Loading.{IsLoaded}
 use Rattle.oc_service.specs.declared.site.Site.{Site}
 use Rattle.oc_service.proofs.Loaded.{loaded_machine}
 use Rattle.oc_service.specs.Running.{Halts, IsDeaf, Listens, RunEnds, Runs, machine}
-use Rattle.oc_service.specs.WhatNodeDoes.{Machine, begun, due_at, node_behind, node_deeds, turn_deeds}
+use Rattle.oc_service.specs.WhatNodeDoes.{Machine, begun, due_at, machine_after, node_deeds, turn_deeds}
 use Rattle.oc_service.specs.WhatNodeDoes as machines
 use Rattle.oc_service.specs.WhatNodeGives.{ServesFrom}
-use Rattle.oc_service.specs.WhatNodeHears.{AreHeard, MayHear, all_calls_behind, until}
+use Rattle.oc_service.specs.WhatNodeHears.{AreHeard, MayHear, all_calls_after, until}
 use Rattle.oc_service.specs.declared.running.NodeEnd.TheVariants.{Turned}
 use Rattle.oc_service.specs.declared.running.Task.{Task}
 use Rattle.oc_service.proofs.BorneOut.{front_borne, node_borne}
@@ -150,15 +150,15 @@ module _ {D L K : Type 0} (view : D → DiskView) (takes fails : K → List ℕ 
     abbrev Choice : List Observation → Observation → List Deed → Setting → NodeTerms → Machine → Option (List Call) → Type 0
     Choice told next deeds s terms y calls =
         (length deeds < length (node_deeds s c.measures told y) + 3)
-        ⊎ MayHear terms (all_calls_behind s told (begun s c.measures y) calls) (due_at next (node_behind s c.measures told y)) next (node_behind s c.measures told y)
+        ⊎ MayHear terms (all_calls_after s told (begun s c.measures y) calls) (due_at next (machine_after s c.measures told y)) next (machine_after s c.measures told y)
 
     last_on : AreHonest view d → (told : List Observation) (next : Observation) (deeds : List Deed) → Follows (story link) (story last.server.link)
         → (length deeds < length (node_deeds (setting first.server) c.measures told (machine first)) + 3)
-        ⊎ MayHear (reads_by first.server) (all_calls_behind (setting first.server) told (begun (setting first.server) c.measures (machine first)) (until (story link) (story last.server.link)))
-        (due_at next (node_behind (setting first.server) c.measures told (machine first))) next (node_behind (setting first.server) c.measures told (machine first))
+        ⊎ MayHear (reads_by first.server) (all_calls_after (setting first.server) told (begun (setting first.server) c.measures (machine first)) (until (story link) (story last.server.link)))
+        (due_at next (machine_after (setting first.server) c.measures told (machine first))) next (machine_after (setting first.server) c.measures told (machine first))
         → (length deeds < length (node_deeds (setting_of c task) c.measures told m) + 3)
-        ⊎ MayHear (terms_in c me) (all_calls_behind (setting_of c task) told (begun (setting_of c task) c.measures m) (heard_before c me (story first.server.link) (story last.server.link)))
-        (due_at next (node_behind (setting_of c task) c.measures told m)) next (node_behind (setting_of c task) c.measures told m)
+        ⊎ MayHear (terms_in c me) (all_calls_after (setting_of c task) told (begun (setting_of c task) c.measures m) (heard_before c me (story first.server.link) (story last.server.link)))
+        (due_at next (machine_after (setting_of c task) c.measures told m)) next (machine_after (setting_of c task) c.measures told m)
     last_on honest told next deeds follows heard =
         subst (λ (calls : Option (List Call)). Choice told next deeds (setting_of c task) (terms_in c me) m calls) (heard_is (story last.server.link) follows)
         (subst (λ (x : Machine). Choice told next deeds (setting_of c task) (terms_in c me) x (until (story link) (story last.server.link))) (begins honest)
@@ -264,7 +264,7 @@ module _ {D L K : Type 0} (view : D → DiskView) (takes fails : K → List ℕ 
       n = after_inputs at_first_node (inputs_of deeds)
 
       -- a file is full for the input under way at a node that nothing changed
-      full_on : (i : Input) → BreaksBehind view takes fails faults story counts ends.Full deeds (Taking i) l last.server → IsFullFor view i n d e
+      full_on : (i : Input) → BreaksAfter view takes fails faults story counts ends.Full deeds (Taking i) l last.server → IsFullFor view i n d e
       full_on i (at, did, breaks) = λ honest.
           let before = all_honest view (disks_of first.server.kept) (disks_of at.kept) did.goes_on (honest_kept honest) in
           subst (λ (x : Node). IsFullOn view e x i)
@@ -275,7 +275,7 @@ module _ {D L K : Type 0} (view : D → DiskView) (takes fails : K → List ℕ 
             unchanged : (a b : KeptView D) → IsHonest view a → ChangesNothing view a b → node_of b ≡ node_of a
             unchanged a b honest same = ap₂ (λ (x : Control) (y : List (List ℕ)). record { control = x; groups = groups_in y }) same.control (same.content.journal.frames honest.content)
 
-      cause_on : (end : TurnEnd) (u : Under) → BreaksBehind view takes fails faults story counts end deeds u l last.server
+      cause_on : (end : TurnEnd) (u : Under) → BreaksAfter view takes fails faults story counts end deeds u l last.server
           → HasCause view faults end u first.server.kept last.server.kept first.server.sink last.server.sink (counts link) (counts last.server.link)
           → HasCauseOn view end u n d e (counts first.server.link) (counts last.server.link)
       cause_on ends.Disk u breaks cause = one_rose_after view d (disks_of first.server.kept) e safely.goes_on cause
@@ -287,33 +287,33 @@ module _ {D L K : Type 0} (view : D → DiskView) (takes fails : K → List ℕ 
       cause_on ends.Served u breaks cause = cause
       cause_on ends.Memory u breaks cause = tt
 
-      goes_on_all : (end : TurnEnd) → BreaksBehind view takes fails faults story counts end deeds under l last.server → AllGoOn view d e
+      goes_on_all : (end : TurnEnd) → BreaksAfter view takes fails faults story counts end deeds under l last.server → AllGoOn view d e
       goes_on_all end (at, did, breaks) =
           all_go_on_then view d (disks_of first.server.kept) e safely.goes_on
           (all_go_on_then view (disks_of first.server.kept) (disks_of at.kept) e did.goes_on breaks.goes_on)
 
-      within_all : (end : TurnEnd) → BreaksBehind view takes fails faults story counts end deeds under l last.server → AllByRecursion (IsWithin h.nodes me) (inputs_of deeds)
+      within_all : (end : TurnEnd) → BreaksAfter view takes fails faults story counts end deeds under l last.server → AllByRecursion (IsWithin h.nodes me) (inputs_of deeds)
       within_all end (at, did, breaks) = within_on deeds at did
 
-      counted_all : (end : TurnEnd) → BreaksBehind view takes fails faults story counts end deeds under l last.server → CountsUntil end deeds (counts first.server.link) (counts last.server.link)
+      counted_all : (end : TurnEnd) → BreaksAfter view takes fails faults story counts end deeds under l last.server → CountsUntil end deeds (counts first.server.link) (counts last.server.link)
       counted_all end (at, did, breaks) = (counts at.link, subst (λ (x : LinkCounts). CountsAll deeds x (counts at.link)) listens.counted did.counted, breaks.counted)
 
-      moments_all : (end : TurnEnd) (breaks : BreaksBehind view takes fails faults story counts end deeds under l last.server) → AreHonest view d
+      moments_all : (end : TurnEnd) (breaks : BreaksAfter view takes fails faults story counts end deeds under l last.server) → AreHonest view d
           → AlwaysRecovers view h me takes (line (setting_of c task)) deeds under d e first.server.sink breaks.0.sink
       moments_all end (at, did, breaks) honest =
           moments_on honest deeds at did under (breaks.moments (still_honest view takes fails faults story counts deeds l at did (honest_kept honest)))
 
       -- the bytes written after the deeds
-      rest_on : (end : TurnEnd) (breaks : BreaksBehind view takes fails faults story counts end deeds under l last.server) → WritesAt takes fails breaks.0.sink last.server.sink end [] (under_line (setting_of c task) under)
+      rest_on : (end : TurnEnd) (breaks : BreaksAfter view takes fails faults story counts end deeds under l last.server) → WritesAt takes fails breaks.0.sink last.server.sink end [] (under_line (setting_of c task) under)
       rest_on end (at, did, breaks) =
           subst (λ (x : Setting). WritesAt takes fails at.sink last.server.sink end [] (under_line x under)) (setting_stays view takes fails faults story counts l at did.same did.log ∙ setting_is) breaks.text
 
-      adds_all : (end : TurnEnd) → BreaksBehind view takes fails faults story counts end deeds under l last.server → AreHonest view d
+      adds_all : (end : TurnEnd) → BreaksAfter view takes fails faults story counts end deeds under l last.server → AreHonest view d
           → AddsAll (calls_of (setting l) deeds (running l)) (story link) (story last.server.link)
       adds_all end (at, did, breaks) honest =
           subst (λ (y : Option (List Call)). AddsAll (calls_of (setting l) deeds (running l)) (story link) y) (sym breaks.told) (did.done (honest_kept honest)).calls
 
-      writes_on : (end : TurnEnd) → BreaksBehind view takes fails faults story counts end deeds under l last.server
+      writes_on : (end : TurnEnd) → BreaksAfter view takes fails faults story counts end deeds under l last.server
           → Writes (λ text. takes first.server.sink text last.server.sink) (λ text. fails first.server.sink text last.server.sink × Rose (faults first.server.sink) (faults last.server.sink)) (setting_of c task) end deeds under
       writes_on end breaks =
           by_end end (broken_cause view takes fails faults story counts deeds under end l last.server breaks)
@@ -345,12 +345,12 @@ module _ {D L K : Type 0} (view : D → DiskView) (takes fails : K → List ℕ 
   halts_on end r =
       let link = r.listening.link in
       let listens = subst (λ (x : Server D L K). Listens story counts first.server x) r.listens.rest r.listens in
-      let breaks = subst (λ (x : Server D L K). BreaksBehind view takes fails faults story counts end r.deeds r.under x last.server) r.listens.rest r.breaks in
+      let breaks = subst (λ (x : Server D L K). BreaksAfter view takes fails faults story counts end r.deeds r.under x last.server) r.listens.rest r.breaks in
       let l = listening_by link in
       let follows = λ (honest : AreHonest view d). follows_adds (calls_of (setting l) r.deeds (running l)) (story link) (story last.server.link) (adds_all link listens r.deeds r.under end breaks honest) in
       let cut = λ (honest : AreHonest view d).
-      subst (λ (x : Machine). Cuts (node_deeds (setting_of c task) c.measures r.told x ++ turn_deeds (setting_of c task) r.last (node_behind (setting_of c task) c.measures r.told x)) r.deeds r.under) (begins honest)
-      (subst (λ (x : Setting). Cuts (node_deeds x c.measures r.told (machine first) ++ turn_deeds x r.last (node_behind x c.measures r.told (machine first))) r.deeds r.under) setting_is (r.cut (honest_kept honest))) in (
+      subst (λ (x : Machine). Cuts (node_deeds (setting_of c task) c.measures r.told x ++ turn_deeds (setting_of c task) r.last (machine_after (setting_of c task) c.measures r.told x)) r.deeds r.under) (begins honest)
+      (subst (λ (x : Setting). Cuts (node_deeds x c.measures r.told (machine first) ++ turn_deeds x r.last (machine_after x c.measures r.told (machine first))) r.deeds r.under) setting_is (r.cut (honest_kept honest))) in (
         r.deeds,
         r.under,
         writes_on link listens r.deeds r.under end breaks,
@@ -369,7 +369,7 @@ module _ {D L K : Type 0} (view : D → DiskView) (takes fails : K → List ℕ 
           failures = λ honest.
               front_borne Quiet (terms_in c me) (heard_before c me (story first.server.link) (story last.server.link)) (setting_of c task) c.measures r.told r.last m
               (heard_on link listens honest r.told (follows honest) (r.heard (honest_kept honest))) r.deeds (cut honest).behind
-              (all_calls_behind (setting_of c task) r.told (begun (setting_of c task) c.measures m) (heard_before c me (story first.server.link) (story last.server.link))) (cut honest).front
+              (all_calls_after (setting_of c task) r.told (begun (setting_of c task) c.measures m) (heard_before c me (story first.server.link) (story last.server.link))) (cut honest).front
               (last_on link listens honest r.told r.last r.deeds (follows honest) (r.last_heard (honest_kept honest)));
           recorded = λ honest. cut_record (setting_of c task) c.measures r.told r.last m r.deeds r.under (cut honest);
           within = within_all link listens r.deeds r.under end breaks;

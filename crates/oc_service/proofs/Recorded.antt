@@ -16,7 +16,7 @@ use Rattle.oc_deeds.specs.declared.log.Log.{Log}
 use Rattle.oc_deeds.specs.declared.log.Log.TheVariants as logs
 use Rattle.oc_deeds.proofs.Recorded.{Leads, inputs_told, leads_front, leads_taken, leads_text, leads_then, leads_turn, next_of}
 use Rattle.oc_updown.specs.declared.measure_lines.Measure.{Measure}
-use Rattle.oc_service.specs.WhatNodeDoes.{Machine, begins, begun, behind_turn, node_behind, node_deeds, own_measure, own_measures, turn_deeds, turns_deeds}
+use Rattle.oc_service.specs.WhatNodeDoes.{Machine, begins, begun, after_turn, machine_after, node_deeds, own_measure, own_measures, turn_deeds, turns_deeds}
 
 module _ (s : Setting) (recorded : s.log ≡ logs.Record) where
   abbrev Whole : List Deed → Type 0
@@ -33,7 +33,7 @@ module _ (s : Setting) (recorded : s.log ≡ logs.Record) where
   turns_whole : (ts : List Observation) (m : Machine) → Whole (turns_deeds s ts m)
   turns_whole [] m = refl
   turns_whole (t ∷ ts) m =
-      leads_then s None None None (turn_deeds s t m) (turns_deeds s ts (behind_turn s t m)) (leads_turn s recorded m.pace m.probing t m.running) (turns_whole ts (behind_turn s t m))
+      leads_then s None None None (turn_deeds s t m) (turns_deeds s ts (after_turn s t m)) (leads_turn s recorded m.pace m.probing t m.running) (turns_whole ts (after_turn s t m))
 
   -- all that is done after the beginning
   abbrev rest : List Measure → List Observation → Machine → List Deed
@@ -73,9 +73,9 @@ node_record s ms ts m deeds are =
 
 -- a front of them, and of one more turn
 pub cut_record : (s : Setting) (ms : List Measure) (ts : List Observation) (last : Observation) (m : Machine) (deeds : List Deed) (under : Under)
-    → (cut : Cuts (node_deeds s ms ts m ++ turn_deeds s last (node_behind s ms ts m)) deeds under) → IsRecordOf s m.running.node deeds cut.behind
+    → (cut : Cuts (node_deeds s ms ts m ++ turn_deeds s last (machine_after s ms ts m)) deeds under) → IsRecordOf s m.running.node deeds cut.behind
 cut_record s ms ts last m deeds under cut =
-    let behind : Machine = node_behind s ms ts m in
+    let behind : Machine = machine_after s ms ts m in
     let own : List Deed = own_measures s ms ++ turns_deeds s ts (begun s ms m) in
     front_record s m.running.node (own ++ turn_deeds s last behind) deeds cut.behind
     (λ recorded. leads_then s None None None own (turn_deeds s last behind) (rest_whole s recorded ms ts m) (leads_turn s recorded behind.pace behind.probing last behind.running)) cut.front

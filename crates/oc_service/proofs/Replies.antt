@@ -26,7 +26,7 @@ use Rattle.oc_deeds.specs.Settled.{AreServed, Fits, IsSettled}
 use Rattle.oc_deeds.specs.Turns.{Observation}
 use Rattle.oc_deeds.specs.declared.work.Work.{Work}
 use Rattle.oc_updown.specs.declared.measure_lines.Measure.{Measure}
-use Rattle.oc_service.specs.WhatNodeDoes.{Machine, begins, begun, behind_turn, behind_turns, node_behind, node_deeds, own_measure, own_measures, turn_deeds, turns_deeds}
+use Rattle.oc_service.specs.WhatNodeDoes.{Machine, begins, begun, after_turn, after_turns, machine_after, node_deeds, own_measure, own_measures, turn_deeds, turns_deeds}
 use Rattle.oc_service.specs.WhatNodeGives.{ServesFrom}
 use Rattle.oc_service.specs.WhatNodeHears.{until}
 use Rattle.oc_service.proofs.Stories.{Follows}
@@ -158,8 +158,8 @@ turn_answered answer back s t m = turn_answers m.pace m.probing t s m.running
 turns_answered : (answer : Answer) (back : Option Message) (s : Setting) (ts : List Observation) (m : Machine) → AreAnsweredBy answer back s (turns_deeds s ts m) m.running
 turns_answered answer back s [] m = tt
 turns_answered answer back s (t ∷ ts) m =
-    answered_then answer back s (turn_deeds s t m) (turns_deeds s ts (behind_turn s t m)) m.running (turn_answered answer back s t m)
-    (λ p q. turns_answered p q s ts (behind_turn s t m))
+    answered_then answer back s (turn_deeds s t m) (turns_deeds s ts (after_turn s t m)) m.running (turn_answered answer back s t m)
+    (λ p q. turns_answered p q s ts (after_turn s t m))
 
 begins_answered : (answer : Answer) (back : Option Message) (s : Setting) (ms : List Measure) (n : Node) (a : Running) → AreAnsweredBy answer back s (begins s ms n) a
 begins_answered answer back s ms n a = (tt, own_answered answer back s ms a)
@@ -170,18 +170,18 @@ node_answered s ms ts m =
     (λ p q. turns_answered p q s ts (begun s ms m))
 
 -- the node after turns is the one after their deeds
-turns_behind : (s : Setting) (ts : List Observation) (m : Machine) → (behind_turns s ts m).running ≡ after_all (turns_deeds s ts m) m.running
+turns_behind : (s : Setting) (ts : List Observation) (m : Machine) → (after_turns s ts m).running ≡ after_all (turns_deeds s ts m) m.running
 turns_behind s [] m = refl
-turns_behind s (t ∷ ts) m = turns_behind s ts (behind_turn s t m) ∙ sym (after_append (turn_deeds s t m) (turns_deeds s ts (behind_turn s t m)) m.running)
+turns_behind s (t ∷ ts) m = turns_behind s ts (after_turn s t m) ∙ sym (after_append (turn_deeds s t m) (turns_deeds s ts (after_turn s t m)) m.running)
 
-pub node_behind_deeds : (s : Setting) (ms : List Measure) (ts : List Observation) (m : Machine) → (node_behind s ms ts m).running ≡ after_all (node_deeds s ms ts m) m.running
+pub node_behind_deeds : (s : Setting) (ms : List Measure) (ts : List Observation) (m : Machine) → (machine_after s ms ts m).running ≡ after_all (node_deeds s ms ts m) m.running
 node_behind_deeds s ms ts m = turns_behind s ts (begun s ms m) ∙ sym (after_append (begins s ms m.running.node) (turns_deeds s ts (begun s ms m)) m.running)
 
 -- a front of all that is done, and of one more turn
 pub front_answered : (s : Setting) (ms : List Measure) (ts : List Observation) (last : Observation) (m : Machine) (deeds : List Deed) (under : Under)
-    → Cuts (node_deeds s ms ts m ++ turn_deeds s last (node_behind s ms ts m)) deeds under → AreAnswered s deeds m.running
+    → Cuts (node_deeds s ms ts m ++ turn_deeds s last (machine_after s ms ts m)) deeds under → AreAnswered s deeds m.running
 front_answered s ms ts last m deeds under cut =
     answered_front answers.Ok None s deeds cut.behind m.running
     (subst (λ (ds : List Deed). AreAnswered s ds m.running) cut.front
-    (answered_then answers.Ok None s (node_deeds s ms ts m) (turn_deeds s last (node_behind s ms ts m)) m.running (node_answered s ms ts m)
-    (λ p q. subst (λ (r : Running). AreAnsweredBy p q s (turn_deeds s last (node_behind s ms ts m)) r) (node_behind_deeds s ms ts m) (turn_answered p q s last (node_behind s ms ts m)))))
+    (answered_then answers.Ok None s (node_deeds s ms ts m) (turn_deeds s last (machine_after s ms ts m)) m.running (node_answered s ms ts m)
+    (λ p q. subst (λ (r : Running). AreAnsweredBy p q s (turn_deeds s last (machine_after s ms ts m)) r) (node_behind_deeds s ms ts m) (turn_answered p q s last (machine_after s ms ts m)))))

@@ -19,7 +19,7 @@ use Rattle.oc_deeds.specs.Under.{Cuts}
 use Rattle.oc_server.specs.Parts.{Stops}
 use Rattle.oc_deeds.specs.Records.{told_ahead}
 use Rattle.oc_server.specs.Runs.{MayRead, ServeEnds, ServesUpTo, TurnStops, due_in, reads_by}
-use Rattle.oc_server.specs.Scenes.{BreaksBehind, Did, running, setting}
+use Rattle.oc_server.specs.Scenes.{BreaksAfter, Did, running, setting}
 use Rattle.oc_deeds.specs.Settled.{AreServed, IsSettled}
 use Rattle.oc_server.specs.Settled.{deeds_until, deeds_up_to}
 use Rattle.oc_deeds.specs.Turns.{Observation}
@@ -35,9 +35,9 @@ use Rattle.oc_deeds.proofs.Cuts.{cuts_behind, cuts_more}
 use Rattle.oc_server.proofs.Scenes.{breaks_then, did_then, setting_stays, still_honest}
 use Rattle.oc_service.specs.Measuring.{begins_with}
 use Rattle.oc_service.specs.Running.{Halts, Listens, RunEnds, Runs, machine}
-use Rattle.oc_service.specs.WhatNodeDoes.{Machine, begins, begins_on, begun, behind_turns, due_at, node_behind, node_deeds, own_measure, own_measures, turn_deeds, turns_deeds}
+use Rattle.oc_service.specs.WhatNodeDoes.{Machine, begins, begins_on, begun, after_turns, due_at, machine_after, node_deeds, own_measure, own_measures, turn_deeds, turns_deeds}
 use Rattle.oc_service.specs.WhatNodeGives.{ServesFrom}
-use Rattle.oc_service.specs.WhatNodeHears.{AreHeard, MayHear, all_calls_behind, until}
+use Rattle.oc_service.specs.WhatNodeHears.{AreHeard, MayHear, all_calls_after, until}
 use Rattle.oc_service.proofs.Machines.{Made, heard_at, machine_of, made, made_deeds, reads_stay}
 use Rattle.oc_service.proofs.Replies.{begins_quiet, begins_works, serves_behind, serves_front}
 use Rattle.oc_service.proofs.Stories.{Follows, follows_adds, follows_self, follows_then, until_then}
@@ -161,8 +161,8 @@ module _ {D L K : Type 0} (view : D → DiskView) (takes fails : K → List ℕ 
           (turns.are (honest_at honest) ∙ ap₂ (λ (x : Setting) (y : Machine). turns_deeds x turns.told y) setting_at (machine_at honest))
           ∙ ap (λ (ds : List Deed). ds ++ turns_deeds s turns.told m) (own_is honest)
 
-      machine_last : IsHonest view old.server.kept → machine last ≡ node_behind s old.server.config.measures turns.told (machine old)
-      machine_last honest = turns.behind (honest_at honest) ∙ ap₂ (λ (x : Setting) (y : Machine). behind_turns x turns.told y) setting_at (machine_at honest)
+      machine_last : IsHonest view old.server.kept → machine last ≡ machine_after s old.server.config.measures turns.told (machine old)
+      machine_last honest = turns.behind (honest_at honest) ∙ ap₂ (λ (x : Setting) (y : Machine). after_turns x turns.told y) setting_at (machine_at honest)
 
       -- the story at the beginning of the turns
       follows_at : IsHonest view old.server.kept → (all : Option (List Call)) → Follows (story last.server.link) all → Follows (story at.link) all
@@ -179,11 +179,11 @@ module _ {D L K : Type 0} (view : D → DiskView) (takes fails : K → List ℕ 
           (turns.heard (honest_at honest) all follows))))
 
       calls_last : IsHonest view old.server.kept → (all : Option (List Call)) → Follows (story last.server.link) all
-          → until (story last.server.link) all ≡ all_calls_behind s turns.told m (until (story listening.link) all)
+          → until (story last.server.link) all ≡ all_calls_after s turns.told m (until (story listening.link) all)
       calls_last honest all follows =
           turns.calls (honest_at honest) all follows
-          ∙ ap₂ (λ (x : Setting) (y : Machine). all_calls_behind x turns.told y (until (story at.link) all)) setting_at (machine_at honest)
-          ∙ ap (λ (calls : Option (List Call)). all_calls_behind s turns.told m calls) (calls_at honest all (follows_at honest all follows))
+          ∙ ap₂ (λ (x : Setting) (y : Machine). all_calls_after x turns.told y (until (story at.link) all)) setting_at (machine_at honest)
+          ∙ ap (λ (calls : Option (List Call)). all_calls_after s turns.told m calls) (calls_at honest all (follows_at honest all follows))
 
       follows_made : IsHonest view old.server.kept → Follows (story at.link) (story last.server.link)
       follows_made honest = follows_at honest (story last.server.link) (follows_self (story last.server.link))
@@ -219,7 +219,7 @@ module _ {D L K : Type 0} (view : D → DiskView) (takes fails : K → List ℕ 
         terms_last = reads_stay at last.server turns.did.same turns.did.config ∙ terms_at
 
         abbrev behind : Machine
-        behind = node_behind s old.server.config.measures turns.told (machine old)
+        behind = machine_after s old.server.config.measures turns.told (machine old)
 
         abbrev whole : List Deed
         whole = node_deeds s old.server.config.measures turns.told (machine old)
@@ -235,19 +235,19 @@ module _ {D L K : Type 0} (view : D → DiskView) (takes fails : K → List ℕ 
         -- the story is told until then where it is told now
         follows_last : IsHonest view old.server.kept → Follows (story last.server.link) (story new.server.link)
         follows_last honest = follows_broken turn_stops.stops.breaks where
-          follows_broken : BreaksBehind view takes fails faults story counts end stop_deeds turn_stops.stops.under last.server new.server → Follows (story last.server.link) (story new.server.link)
+          follows_broken : BreaksAfter view takes fails faults story counts end stop_deeds turn_stops.stops.under last.server new.server → Follows (story last.server.link) (story new.server.link)
           follows_broken (x, did, breaks) =
               subst (λ (y : Option (List Call)). Follows (story last.server.link) y) (sym breaks.told)
               (follows_adds (calls_of (setting last.server) stop_deeds (running last.server)) (story last.server.link) (story x.link) (did.done (honest_last honest)).calls)
 
         last_heard : IsHonest view old.server.kept
-            → (length (all_deeds ++ stop_deeds) < length whole + 3) ⊎ MayHear terms (all_calls_behind s turns.told m (until (story listening.link) (story new.server.link))) (due_at last_told behind) last_told behind
+            → (length (all_deeds ++ stop_deeds) < length whole + 3) ⊎ MayHear terms (all_calls_after s turns.told m (until (story listening.link) (story new.server.link))) (due_at last_told behind) last_told behind
         last_heard honest = by_read (turn_stops.read (honest_last honest)) where
           heard_now : (due : Option ℕ) → MayRead story due last new.server last_told → MayHear (reads_by last.server) (until (story last.server.link) (story new.server.link)) due last_told (machine last)
           heard_now due read = heard_at view takes fails faults story counts takes_nothing takes_then due last new.server last_told (story new.server.link) (follows_self (story new.server.link)) read
 
           by_read : (length stop_deeds < 3) ⊎ MayRead story (due_in last.server last_told.before) last new.server last_told
-              → (length (all_deeds ++ stop_deeds) < length whole + 3) ⊎ MayHear terms (all_calls_behind s turns.told m (until (story listening.link) (story new.server.link))) (due_at last_told behind) last_told behind
+              → (length (all_deeds ++ stop_deeds) < length whole + 3) ⊎ MayHear terms (all_calls_after s turns.told m (until (story listening.link) (story new.server.link))) (due_at last_told behind) last_told behind
           by_read (inl short) = inl (omega (arith, length-append all_deeds stop_deeds, ap length (deeds_are honest), short))
           by_read (inr read) = inr
               (subst (λ (calls : Option (List Call)). MayHear terms calls (due_at last_told behind) last_told behind) (calls_last honest (story new.server.link) (follows_last honest))
@@ -304,7 +304,7 @@ module _ {D L K : Type 0} (view : D → DiskView) (takes fails : K → List ℕ 
 
     calls_stopped : IsHonest view old.server.kept → AddsAll (calls_of s stops.deeds (running old.server)) (story listening.link) (story new.server.link)
     calls_stopped honest = by_breaks stops.breaks where
-      by_breaks : BreaksBehind view takes fails faults story counts end stops.deeds stops.under listening new.server → AddsAll (calls_of s stops.deeds (running old.server)) (story listening.link) (story new.server.link)
+      by_breaks : BreaksAfter view takes fails faults story counts end stops.deeds stops.under listening new.server → AddsAll (calls_of s stops.deeds (running old.server)) (story listening.link) (story new.server.link)
       by_breaks (x, did, breaks) =
           subst (λ (y : Option (List Call)). AddsAll (calls_of s stops.deeds (running old.server)) (story listening.link) y) (sym breaks.told)
           (subst (λ (r : Running). AddsAll (calls_of s stops.deeds r) (story listening.link) (story x.link)) listening_running
@@ -321,7 +321,7 @@ module _ {D L K : Type 0} (view : D → DiskView) (takes fails : K → List ℕ 
       few = inr front;
       breaks = stops.breaks;
       cut = λ honest.
-          cuts_more (own_told ++ []) (turn_deeds s no_told (node_behind s old.server.config.measures [] (machine old))) stops.deeds stops.under
+          cuts_more (own_told ++ []) (turn_deeds s no_told (machine_after s old.server.config.measures [] (machine old))) stops.deeds stops.under
           (cuts_more own_told [] stops.deeds stops.under (front honest));
       heard = λ honest. tt;
       last_heard = λ honest. inl (omega (arith, ap length (front honest).front, length-append stops.deeds (front honest).behind, length-append own_told []));

@@ -4,7 +4,7 @@ use Rattle.std.specs.Option.{option_map}
 use Rattle.oc_link.specs.Told.{AddsAll, Told as ToldBy}
 use Rattle.oc_link.specs.declared.call.Call.{Call}
 use Rattle.oc_link.specs.declared.event.LinkEvent.{LinkEvent}
-use Rattle.oc_server.specs.Runs.{IsLent, behind_reading}
+use Rattle.oc_server.specs.Runs.{IsLent, after_reading}
 use Rattle.oc_service.specs.WhatNodeHears.{until}
 
 -- a link that still tells its story told it before
@@ -38,7 +38,7 @@ until_then cs (Some p) (Some q) (Some all) adds follows = ap Some adds
 
 -- the bytes lent, by the calls until then
 pub lent_until : (before : ℕ) (x y all : Option (List Call)) (event : LinkEvent) (bytes lent : List ℕ) → Follows y all
-    → IsLent (behind_reading before x) y event bytes lent → IsLent (behind_reading before (until x all)) (until x all) event bytes lent
+    → IsLent (after_reading before x) y event bytes lent → IsLent (after_reading before (until x all)) (until x all) event bytes lent
 lent_until before None y None event bytes lent follows is = tt
 lent_until before None y (Some all) event bytes lent follows is = tt
 lent_until before (Some p) y None event bytes lent follows is = tt

@@ -38,9 +38,9 @@ use Rattle.oc_deeds.specs.declared.ends.TurnEnd.{TurnEnd}
 use Rattle.oc_deeds.specs.declared.ends.TurnEnd.TheVariants as ends
 use Rattle.oc_service.specs.AtAnyMoment.{AlwaysRecovers}
 use Rattle.oc_service.specs.Failures.{AreBorneOut}
-use Rattle.oc_service.specs.WhatNodeDoes.{Machine, at_first, begins, begun, due_at, node_behind, node_deeds, turn_deeds}
+use Rattle.oc_service.specs.WhatNodeDoes.{Machine, at_first, begins, begun, due_at, machine_after, node_deeds, turn_deeds}
 use Rattle.oc_service.specs.WhatNodeGives.{GivesReplies}
-use Rattle.oc_service.specs.WhatNodeHears.{AreHeard, MayHear, MayReread, all_calls_behind, until}
+use Rattle.oc_service.specs.WhatNodeHears.{AreHeard, MayHear, MayReread, all_calls_after, until}
 use Rattle.oc_service.specs.declared.running.NodeEnd.{NodeEnd}
 use Rattle.oc_service.specs.declared.running.NodeEnd.TheVariants.{Load, Turned}
 use Rattle.oc_service.specs.declared.running.Task.{Task}
@@ -144,15 +144,15 @@ pub record StoppedOn {D L K : Type 0} (view : D → DiskView) (story : L → Opt
   -- fewer turns than it was asked for come before the last one, or it ended before the first
   pub few : (length told < task.turns) ⊎ (AreHonest view old → Cuts (begins (setting_of task) c.measures (first_node view (header_of_settings c) task.me old)) deeds under)
   pub cut : AreHonest view old
-      → Cuts (node_deeds (setting_of task) c.measures told (machine_on view c task old) ++ turn_deeds (setting_of task) last (node_behind (setting_of task) c.measures told (machine_on view c task old))) deeds under
+      → Cuts (node_deeds (setting_of task) c.measures told (machine_on view c task old) ++ turn_deeds (setting_of task) last (machine_after (setting_of task) c.measures told (machine_on view c task old))) deeds under
   pub heard : AreHonest view old
       → AreHeard (setting_of task) (heard_before c task.me (story link) (story after)) told (begun (setting_of task) c.measures (machine_on view c task old))
   pub last_heard : AreHonest view old
       → (length deeds < length (node_deeds (setting_of task) c.measures told (machine_on view c task old)) + 3)
-      ⊎ MayHear (terms_in (setting_of task) (node_behind (setting_of task) c.measures told (machine_on view c task old)).running)
-      (all_calls_behind (setting_of task) told (begun (setting_of task) c.measures (machine_on view c task old)) (heard_before c task.me (story link) (story after)))
-      (due_at last (node_behind (setting_of task) c.measures told (machine_on view c task old))) last (node_behind (setting_of task) c.measures told (machine_on view c task old))
-  pub last_reread : AreHonest view old → MayReread last (node_behind (setting_of task) c.measures told (machine_on view c task old))
+      ⊎ MayHear (terms_in (setting_of task) (machine_after (setting_of task) c.measures told (machine_on view c task old)).running)
+      (all_calls_after (setting_of task) told (begun (setting_of task) c.measures (machine_on view c task old)) (heard_before c task.me (story link) (story after)))
+      (due_at last (machine_after (setting_of task) c.measures told (machine_on view c task old))) last (machine_after (setting_of task) c.measures told (machine_on view c task old))
+  pub last_reread : AreHonest view old → MayReread last (machine_after (setting_of task) c.measures told (machine_on view c task old))
   pub calls : AreHonest view old → AddsAll (node_calls c task deeds (machine_on view c task old)) (story link) (story after)
   pub replies : AreHonest view old → GivesReplies (setting_of task) deeds (machine_on view c task old).running (heard_before c task.me (story link) (story after)) (story after)
   pub failures : (honest : AreHonest view old) → AreBorneOut Quiet (deeds ++ take 1 (cut honest).behind)

@@ -10,16 +10,16 @@ use Rattle.oc_keep.specs.KeptView.{IsHonest, node_of}
 use Rattle.oc_routes.specs.Responses.{address_of}
 use Rattle.oc_deeds.specs.Deeds.{Deed}
 use Rattle.oc_deeds.specs.Under.{Cuts}
-use Rattle.oc_server.specs.Scenes.{BreaksBehind, Did, running, setting}
+use Rattle.oc_server.specs.Scenes.{BreaksAfter, Did, running, setting}
 use Rattle.oc_deeds.specs.Under.{Under}
 use Rattle.oc_deeds.specs.Turns.{Observation, terms_in}
 use Rattle.oc_deeds.specs.declared.ends.TurnEnd.{TurnEnd}
 use Rattle.oc_deeds.specs.declared.ends.TurnEnd.TheVariants as ends
 use Rattle.oc_server.specs.declared.server.Server.{Server}
 use Rattle.oc_server.specs.declared.turns.Turns.{Turns}
-use Rattle.oc_service.specs.WhatNodeDoes.{Machine, begins, begun, due_at, node_behind, node_deeds, turn_deeds}
+use Rattle.oc_service.specs.WhatNodeDoes.{Machine, begins, begun, due_at, machine_after, node_deeds, turn_deeds}
 use Rattle.oc_service.specs.WhatNodeGives.{ServesFrom}
-use Rattle.oc_service.specs.WhatNodeHears.{AreHeard, MayHear, MayReread, all_calls_behind, until}
+use Rattle.oc_service.specs.WhatNodeHears.{AreHeard, MayHear, MayReread, all_calls_after, until}
 
 -- a running node as the machine
 abbrev pub machine : {D L K : Type 0} → Turns D L K → Machine
@@ -62,17 +62,17 @@ pub record Halts {D L K : Type 0} (view : D → DiskView) (takes fails : K → L
   pub under : Under
   -- fewer turns than `most` come before the last one, or it ended before the first
   pub few : (length told < most) ⊎ (IsHonest view old.server.kept → Cuts (begins (setting old.server) old.server.config.measures (node_of old.server.kept)) deeds under)
-  pub breaks : BreaksBehind view takes fails faults story counts end deeds under listening new.server
+  pub breaks : BreaksAfter view takes fails faults story counts end deeds under listening new.server
   pub cut : IsHonest view old.server.kept
-      → Cuts (node_deeds (setting old.server) old.server.config.measures told (machine old) ++ turn_deeds (setting old.server) last (node_behind (setting old.server) old.server.config.measures told (machine old))) deeds under
+      → Cuts (node_deeds (setting old.server) old.server.config.measures told (machine old) ++ turn_deeds (setting old.server) last (machine_after (setting old.server) old.server.config.measures told (machine old))) deeds under
   pub heard : IsHonest view old.server.kept
       → AreHeard (setting old.server) (until (story listening.link) (story new.server.link)) told (begun (setting old.server) old.server.config.measures (machine old))
   pub last_heard : IsHonest view old.server.kept
       → (length deeds < length (node_deeds (setting old.server) old.server.config.measures told (machine old)) + 3)
-      ⊎ MayHear (terms_in (setting old.server) (node_behind (setting old.server) old.server.config.measures told (machine old)).running)
-      (all_calls_behind (setting old.server) told (begun (setting old.server) old.server.config.measures (machine old)) (until (story listening.link) (story new.server.link)))
-      (due_at last (node_behind (setting old.server) old.server.config.measures told (machine old))) last (node_behind (setting old.server) old.server.config.measures told (machine old))
-  pub last_reread : IsHonest view old.server.kept → MayReread last (node_behind (setting old.server) old.server.config.measures told (machine old))
+      ⊎ MayHear (terms_in (setting old.server) (machine_after (setting old.server) old.server.config.measures told (machine old)).running)
+      (all_calls_after (setting old.server) told (begun (setting old.server) old.server.config.measures (machine old)) (until (story listening.link) (story new.server.link)))
+      (due_at last (machine_after (setting old.server) old.server.config.measures told (machine old))) last (machine_after (setting old.server) old.server.config.measures told (machine old))
+  pub last_reread : IsHonest view old.server.kept → MayReread last (machine_after (setting old.server) old.server.config.measures told (machine old))
   pub serves : IsHonest view old.server.kept → old.server.works ≡ [] → ServesFrom (setting old.server) deeds (running old.server) (story listening.link) (story new.server.link)
 
 -- the run of a loaded node

@@ -9,12 +9,12 @@ use Rattle.oc_config.specs.Settings.{Settings}
 use Rattle.oc_model.specs.Node.{Control, Node}
 use Rattle.oc_probe.specs.declared.probing.Probing.{Probing}
 use Rattle.oc_deeds.specs.Brief.{told_first}
-use Rattle.oc_deeds.specs.Choices.{due_place}
+use Rattle.oc_deeds.specs.Choices.{due_index}
 use Rattle.oc_deeds.specs.Deeds.{Deed, Running, Says, Setting, Takes, after_all}
 use Rattle.oc_deeds.specs.Pace.{first_pace}
 use Rattle.oc_deeds.specs.Records.{told_ahead}
 use Rattle.oc_deeds.specs.Rereading.{last_read, probing_by}
-use Rattle.oc_deeds.specs.Turns.{Observation, dealt, pace_behind, probing_behind, turn}
+use Rattle.oc_deeds.specs.Turns.{Observation, dealt, pace_after, probing_after, turn}
 use Rattle.oc_deeds.specs.declared.pace.Pace.{Pace}
 use Rattle.oc_updown.specs.declared.measure_lines.Measure.{Measure}
 
@@ -60,32 +60,32 @@ abbrev pub turn_deeds : Setting → Observation → Machine → List Deed
 turn_deeds s t m = turn m.pace m.probing t s m.running
 
 abbrev pub due_at : Observation → Machine → Option ℕ
-due_at t m = due_place m.running.works (shelf m.running.node.groups) t.before
+due_at t m = due_index m.running.works (shelf m.running.node.groups) t.before
 
 -- the configuration that it goes by when it looks for a new one
 abbrev pub config_at_look : Setting → Observation → Machine → Settings
 config_at_look s t m = (after_all (dealt m.pace m.probing t s m.running) m.running).config
 
-abbrev pub behind_turn : Setting → Observation → Machine → Machine
-behind_turn s t m = record {
+abbrev pub after_turn : Setting → Observation → Machine → Machine
+after_turn s t m = record {
   running = after_all (turn_deeds s t m) m.running;
-  pace = pace_behind (due_at t m) m.pace t m.running.node;
-  probing = probing_by s.me (config_at_look s t m) t.reread (probing_behind (due_at t m) t m.running.dials m.probing);
+  pace = pace_after (due_at t m) m.pace t m.running.node;
+  probing = probing_by s.me (config_at_look s t m) t.reread (probing_after (due_at t m) t m.running.dials m.probing);
   reading = last_read t.look m.reading;
 }
 
 -- turn after turn
 abbrev pub turns_deeds : Setting → List Observation → Machine → List Deed
 turns_deeds s [] m = []
-turns_deeds s (t ∷ ts) m = turn_deeds s t m ++ turns_deeds s ts (behind_turn s t m)
+turns_deeds s (t ∷ ts) m = turn_deeds s t m ++ turns_deeds s ts (after_turn s t m)
 
-abbrev pub behind_turns : Setting → List Observation → Machine → Machine
-behind_turns s [] m = m
-behind_turns s (t ∷ ts) m = behind_turns s ts (behind_turn s t m)
+abbrev pub after_turns : Setting → List Observation → Machine → Machine
+after_turns s [] m = m
+after_turns s (t ∷ ts) m = after_turns s ts (after_turn s t m)
 
 -- All deeds of a node: it begins, and turns.
 abbrev pub node_deeds : Setting → List Measure → List Observation → Machine → List Deed
 node_deeds s ms ts m = begins s ms m.running.node ++ turns_deeds s ts (begun s ms m)
 
-abbrev pub node_behind : Setting → List Measure → List Observation → Machine → Machine
-node_behind s ms ts m = behind_turns s ts (begun s ms m)
+abbrev pub machine_after : Setting → List Measure → List Observation → Machine → Machine
+machine_after s ms ts m = after_turns s ts (begun s ms m)

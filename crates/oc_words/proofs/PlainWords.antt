@@ -19,12 +19,12 @@ use Rattle.oc_base.specs.declared.why.Why.{Why}
 use Rattle.oc_base.specs.declared.why.Why.TheVariants.{Number, Range, Word}
 use Rattle.oc_words.specs.Arguments.{IsNoFlag}
 use Rattle.oc_words.specs.Command.{bare_command, check_shape, command, gen_shape, get_shape, node_shape, put_shape, replay_shape, rules_shape}
-use Rattle.oc_words.specs.Requests.{download_in, id_in, log_by, member_in, sample_in, service_in, start_in, times_in, turns_in}
+use Rattle.oc_words.specs.Requests.{download_in, id_in, log_by, checked_node_in, sample_in, service_in, start_in, times_in, turns_in}
 use Rattle.oc_words.specs.Words.{IsPlain, plain_replay, plain_summary, plain_large, plain_large_file, plain_merge, plain_file, plain_gen, plain_endless, plain_placed, plain_node, plain_probing, plain_logging, plain_check, plain_configured, plain_configured_there, plain_checked, plain_get, plain_follow, plain_from, plain_get_as, plain_get_told, plain_put, plain_append, plain_resume, plain_seal, plain_append_seal, plain_resume_seal, plain_live, plain_append_live, plain_put_as, plain_put_told, plain_rules, plain_listed, plain_version}
 use Rattle.oc_words.specs.Words.{asked, asked_by, asking, check_at, check_in, node_at, put_at, request_by, verdict_among, verdict_of}
 use Rattle.oc_words.specs.declared.request.Download.{Download}
 use Rattle.oc_words.specs.declared.request.LogWord.TheVariants.{Inputs, Record, Brief}
-use Rattle.oc_words.specs.declared.request.Member.{Member}
+use Rattle.oc_words.specs.declared.request.CheckedNode.{CheckedNode}
 use Rattle.oc_words.specs.declared.request.Onto.TheVariants.{New, Append, Resume}
 use Rattle.oc_words.specs.declared.request.Invocation.{Invocation}
 use Rattle.oc_words.specs.declared.request.Invocation.TheVariants.{Replay, Merge, Gen, Get, Rules, Version}
@@ -67,7 +67,7 @@ asked_by_gen seed nodes events s n e =
     row_asks (codes "gen") (built_of gen_shape) (free seed ∷ free nodes ∷ free events ∷ []) (s, (n, (e, tt))) refl refl refl
 
 pub asked_by_check : (id nodes chain : Text) → IsNoFlag id → IsNoFlag nodes → IsNoFlag chain
-    → asked (codes "check" ∷ id ∷ nodes ∷ chain ∷ []) ≡ result_ok (asking (check_at None) (member_in id nodes chain))
+    → asked (codes "check" ∷ id ∷ nodes ∷ chain ∷ []) ≡ result_ok (asking (check_at None) (checked_node_in id nodes chain))
 unfolding command clap_on_literals
 asked_by_check id nodes chain i n c =
     row_asks (codes "check") (built_of check_shape) (free id ∷ free nodes ∷ free chain ∷ []) (i, (n, (c, tt))) refl refl refl
@@ -220,7 +220,7 @@ asked_by_placed id config folder i c f =
     row_asks (codes "node") (built_of node_shape) (free id ∷ fixed (codes "--config") ∷ free config ∷ fixed (codes "--dir") ∷ free folder ∷ []) (i, (tt, (c, (tt, (f, tt))))) refl refl refl
 
 pub asked_by_checked : (id nodes chain folder : Text) → IsNoFlag id → IsNoFlag nodes → IsNoFlag chain → IsNoFlag folder
-    → asked (codes "check" ∷ id ∷ nodes ∷ chain ∷ codes "--dir" ∷ folder ∷ []) ≡ result_ok (asking (check_at (Some folder)) (member_in id nodes chain))
+    → asked (codes "check" ∷ id ∷ nodes ∷ chain ∷ codes "--dir" ∷ folder ∷ []) ≡ result_ok (asking (check_at (Some folder)) (checked_node_in id nodes chain))
 unfolding command clap_on_literals
 asked_by_checked id nodes chain folder i n c f =
     row_asks (codes "check") (built_of check_shape) (free id ∷ free nodes ∷ free chain ∷ fixed (codes "--dir") ∷ free folder ∷ []) (i, (n, (c, (tt, (f, tt))))) refl refl refl
@@ -326,7 +326,7 @@ turns_word id turns probes log service is =
     let (b, second, last) = both_gave (turns_in (Some turns)) _ service rest in
     no_flag _ _ turns b second
 
-member_words : (id nodes chain : Text) (member : Member) → member_in id nodes chain ≡ Ok member
+member_words : (id nodes chain : Text) (member : CheckedNode) → checked_node_in id nodes chain ≡ Ok member
     → IsNoFlag id × IsNoFlag nodes × IsNoFlag chain
 member_words id nodes chain member is =
     let (a, first, rest) = both_gave (number_in 1 MAX_NODES nodes) _ member is in

@@ -6,9 +6,9 @@ use Rattle.clap.specs.Words.{Row, Text, first_of}
 use Rattle.oc_base.specs.Steps.{◌>>=◌}
 use Rattle.oc_base.specs.declared.why.Why.{Why}
 use Rattle.oc_base.specs.declared.why.Why.TheVariants.{Count}
-use Rattle.oc_words.specs.Requests.{download_in, member_without, onto_in, replay_in, sample_in, service_in}
+use Rattle.oc_words.specs.Requests.{download_in, checked_node_without, onto_in, replay_in, sample_in, service_in}
 use Rattle.oc_words.specs.declared.request.Download.{Download}
-use Rattle.oc_words.specs.declared.request.Member.{Member}
+use Rattle.oc_words.specs.declared.request.CheckedNode.{CheckedNode}
 use Rattle.oc_words.specs.declared.request.Paths.{Paths}
 use Rattle.oc_words.specs.declared.request.Invocation.{Invocation}
 use Rattle.oc_words.specs.declared.request.Sample.{Sample}
@@ -50,8 +50,8 @@ abbrev pub paths_of : List Row → Paths
 paths_of rows = record { config = first_of (codes "config") rows; folder = first_of (codes "dir") rows }
 
 -- the request of the arguments of `check`, with its id and the number of nodes
-abbrev pub member_of : Text → Text → List Row → Result Member Why
-member_of id nodes rows = member_without id nodes (first_of (codes "CHAIN") rows) (first_of (codes "config") rows)
+abbrev pub checked_node_of : Text → Text → List Row → Result CheckedNode Why
+checked_node_of id nodes rows = checked_node_without id nodes (first_of (codes "CHAIN") rows) (first_of (codes "config") rows)
 
 -- the request of the arguments of `get`
 abbrev pub download_of : List Row → Result Download Why

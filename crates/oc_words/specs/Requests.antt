@@ -12,7 +12,7 @@ use Rattle.oc_words.specs.declared.request.Invocation.{Invocation}
 use Rattle.oc_words.specs.declared.request.Invocation.TheVariants.{Replay}
 use Rattle.oc_words.specs.declared.request.LogWord.{LogWord}
 use Rattle.oc_words.specs.declared.request.LogWord.TheVariants.{Inputs, Record, Brief}
-use Rattle.oc_words.specs.declared.request.Member.{Member}
+use Rattle.oc_words.specs.declared.request.CheckedNode.{CheckedNode}
 use Rattle.oc_words.specs.declared.request.Onto.{Onto}
 use Rattle.oc_words.specs.declared.request.Onto.TheVariants.{New, Append, Resume}
 use Rattle.oc_words.specs.declared.request.Sample.{Sample}
@@ -80,21 +80,21 @@ IsService s = (s.turns ≤ MAX_TURNS) ⊎ (s.turns ≡ ENDLESS)
 -- ---- `check ID`, `check ID NODES CHAIN`
 
 -- a number of nodes, a chain of some of them, and the id of one
-abbrev pub member_in : List ℕ → List ℕ → List ℕ → Result Member Why
-member_in id_word nodes_word chain_word = do
+abbrev pub checked_node_in : List ℕ → List ℕ → List ℕ → Result CheckedNode Why
+checked_node_in id_word nodes_word chain_word = do
   nodes ← number_in 1 MAX_NODES nodes_word
   chain ← number_in 1 (min nodes MAX_CHAIN) chain_word
   id ← number_in 1 nodes id_word
   Ok (record { id = id; nodes = nodes; chain = chain })
 
 -- a number of nodes has a length of the chain after it, and no configuration
-abbrev pub member_without : List ℕ → List ℕ → Option (List ℕ) → Option (List ℕ) → Result Member Why
-member_without id nodes chain (Some config) = Err Count
-member_without id nodes None None = Err Count
-member_without id nodes (Some chain) None = member_in id nodes chain
+abbrev pub checked_node_without : List ℕ → List ℕ → Option (List ℕ) → Option (List ℕ) → Result CheckedNode Why
+checked_node_without id nodes chain (Some config) = Err Count
+checked_node_without id nodes None None = Err Count
+checked_node_without id nodes (Some chain) None = checked_node_in id nodes chain
 
 -- the numbers are within their ranges
-pub record IsMember (m : Member) : Type 0 where
+pub record IsCheckedNode (m : CheckedNode) : Type 0 where
   pub some : 1 ≤ m.id
   pub within : m.id ≤ m.nodes
   pub few : m.nodes ≤ MAX_NODES

@@ -9,11 +9,11 @@ use Rattle.clap.specs.declared.error.kind.ErrorKind.TheVariants.{DisplayHelp, Di
 use Rattle.oc_base.specs.Steps.{◌>>=◌}
 use Rattle.oc_base.specs.declared.why.Why.{Why}
 use Rattle.oc_base.specs.declared.why.Why.TheVariants.{Count}
-use Rattle.oc_words.specs.Requests.{IsDownload, IsMember, IsSample, IsService, download_in, id_in, member_in, sample_in, service_in}
-use Rattle.oc_words.specs.Arguments.{IsNoFlag, download_of, member_of, paths_of, replay_of, sample_of, service_of, upload_of, word_of}
+use Rattle.oc_words.specs.Requests.{IsDownload, IsCheckedNode, IsSample, IsService, download_in, id_in, checked_node_in, sample_in, service_in}
+use Rattle.oc_words.specs.Arguments.{IsNoFlag, download_of, checked_node_of, paths_of, replay_of, sample_of, service_of, upload_of, word_of}
 use Rattle.oc_words.specs.Command.{command}
 use Rattle.oc_words.specs.declared.request.Download.{Download}
-use Rattle.oc_words.specs.declared.request.Member.{Member}
+use Rattle.oc_words.specs.declared.request.CheckedNode.{CheckedNode}
 use Rattle.oc_words.specs.declared.request.Onto.{Onto}
 use Rattle.oc_words.specs.declared.request.Invocation.{Invocation}
 use Rattle.oc_words.specs.declared.request.Invocation.TheVariants.{Replay, Merge, Gen, Node, Check, CheckConfigured, Get, Put, Rules, Help, Version}
@@ -60,7 +60,7 @@ abbrev pub node_at : Option Text → Option Text → Service → Invocation
 node_at config folder service = Node service (record { config = config; folder = folder })
 
 -- a check of a node with files in this folder
-abbrev pub check_at : Option Text → Member → Invocation
+abbrev pub check_at : Option Text → CheckedNode → Invocation
 check_at folder member = Check member folder
 
 -- a check of a node of the configuration in this file
@@ -78,7 +78,7 @@ node_of rows = asking (node_at (first_of (codes "config") rows) (first_of (codes
 
 -- the request of `check` with an id and the number of nodes
 abbrev pub check_by_numbers : Text → Text → List Row → Result Invocation Why
-check_by_numbers id nodes rows = asking (check_at (first_of (codes "dir") rows)) (member_of id nodes rows)
+check_by_numbers id nodes rows = asking (check_at (first_of (codes "dir") rows)) (checked_node_of id nodes rows)
 
 -- the request of `check` with an id alone
 abbrev pub check_by_config : Text → List Row → Result Invocation Why
@@ -160,15 +160,15 @@ pub data IsPlain (words : List Text) : Type 0 where
       → service_in id (Some turns) true None ≡ Ok service → IsPlain words
   plain_logging : (id log : Text) (service : Service) → words ≡ codes "node" ∷ id ∷ codes "--log" ∷ log ∷ []
       → IsNoFlag log → service_in id None false (Some log) ≡ Ok service → IsPlain words
-  plain_check : (id nodes chain : Text) (member : Member) → words ≡ codes "check" ∷ id ∷ nodes ∷ chain ∷ []
-      → member_in id nodes chain ≡ Ok member → IsPlain words
+  plain_check : (id nodes chain : Text) (member : CheckedNode) → words ≡ codes "check" ∷ id ∷ nodes ∷ chain ∷ []
+      → checked_node_in id nodes chain ≡ Ok member → IsPlain words
   plain_configured : (id : Text) (number : ℕ) → words ≡ codes "check" ∷ id ∷ [] → id_in id ≡ Ok number → IsPlain words
   plain_configured_there : (id config folder : Text) (number : ℕ)
       → words ≡ codes "check" ∷ id ∷ codes "--config" ∷ config ∷ codes "--dir" ∷ folder ∷ []
       → IsNoFlag config → IsNoFlag folder → id_in id ≡ Ok number → IsPlain words
-  plain_checked : (id nodes chain folder : Text) (member : Member)
+  plain_checked : (id nodes chain folder : Text) (member : CheckedNode)
       → words ≡ codes "check" ∷ id ∷ nodes ∷ chain ∷ codes "--dir" ∷ folder ∷ []
-      → IsNoFlag folder → member_in id nodes chain ≡ Ok member → IsPlain words
+      → IsNoFlag folder → checked_node_in id nodes chain ≡ Ok member → IsPlain words
   plain_get : (url : Text) → words ≡ codes "get" ∷ url ∷ [] → IsNoFlag url → IsPlain words
   plain_follow : (url times : Text) (download : Download) → words ≡ codes "get" ∷ url ∷ codes "--follow" ∷ times ∷ []
       → IsNoFlag url → download_in url (Some times) None None false ≡ Ok download → IsPlain words
@@ -208,6 +208,6 @@ abbrev pub IsRequest : Invocation → Type 0
 IsRequest (Replay large summary file) = large ≡ true → summary ≡ true
 IsRequest (Gen sample) = IsSample sample
 IsRequest (Node service paths) = IsService service
-IsRequest (Check member folder) = IsMember member
+IsRequest (Check member folder) = IsCheckedNode member
 IsRequest (Get download) = IsDownload download
 IsRequest request = Unit {0}

@@ -1,10 +1,10 @@
 //! The numbers of a request, parsed from words.
 ghost use Rattle.std.specs.Prelude.{◌≡◌, ◌≤◌, ◌⊎◌, IfOk, option_map};
-ghost use Rattle.oc_words.specs.Requests.{IsMember, IsSample, IsService, IsStart, IsTimes, id_in, log_by, log_in, member_in, member_without};
+ghost use Rattle.oc_words.specs.Requests.{IsCheckedNode, IsSample, IsService, IsStart, IsTimes, id_in, log_by, log_in, checked_node_in, checked_node_without};
 ghost use Rattle.oc_words.specs.Requests.{onto_in, sample_in, service_in, start_in, times_in, turns_in};
 
 use crate::request::{
-    ENDLESS, LogWord, MAX_EVENTS, MAX_FOLLOWED, MAX_TURNS, Member, Onto, Sample, Service,
+    ENDLESS, LogWord, MAX_EVENTS, MAX_FOLLOWED, MAX_TURNS, CheckedNode, Onto, Sample, Service,
 };
 use oc_base::words::number;
 use oc_base::{MAX_CHAIN, MAX_NODES, MAX_START, Why};
@@ -87,33 +87,33 @@ pub(crate) fn id_in(word: &str) -> Result<u64, Why>
 
 /// The node given by an id and a number of nodes. They need a length of the chain, and then no
 /// configuration is read.
-pub(crate) fn member_without(
+pub(crate) fn checked_node_without(
     id: &str,
     nodes: &str,
     chain: Option<&str>,
     config: Option<&str>,
-) -> Result<Member, Why>
-    ensures said { result ≡ member_without id.now nodes.now (option_map (λ word. word.now) chain.entry) (option_map (λ word. word.now) config.entry) }
-    ensures range { IfOk result IsMember }
+) -> Result<CheckedNode, Why>
+    ensures said { result ≡ checked_node_without id.now nodes.now (option_map (λ word. word.now) chain.entry) (option_map (λ word. word.now) config.entry) }
+    ensures range { IfOk result IsCheckedNode }
 {
     match config {
         Some(_) => Err(Why::Count),
         None => match chain {
-            Some(chain) => member_in(id, nodes, chain),
+            Some(chain) => checked_node_in(id, nodes, chain),
             None => Err(Why::Count),
         },
     }
 }
 
 /// The node given by three words.
-fn member_in(id: &str, nodes: &str, chain: &str) -> Result<Member, Why>
-    ensures said { result ≡ member_in id.now nodes.now chain.now }
-    ensures range { IfOk result IsMember }
+fn checked_node_in(id: &str, nodes: &str, chain: &str) -> Result<CheckedNode, Why>
+    ensures said { result ≡ checked_node_in id.now nodes.now chain.now }
+    ensures range { IfOk result IsCheckedNode }
 {
     let nodes = number(nodes.as_bytes(), 1, u64::from(MAX_NODES))?;
     let chain = number(chain.as_bytes(), 1, nodes.min(u64::from(MAX_CHAIN)))?;
     let id = number(id.as_bytes(), 1, nodes)?;
-    Ok(Member {
+    Ok(CheckedNode {
         id: id as u32,
         nodes: nodes as u32,
         chain: chain as u32,

@@ -2,14 +2,14 @@
 ghost use Rattle.std.specs.Prelude.{◌≡◌, IfOk};
 ghost use Rattle.std.specs.Result.{result_ok};
 ghost use Rattle.clap.specs.Words.{found_of, rows_of};
-ghost use Rattle.oc_words.specs.Requests.{IsDownload, IsMember, IsSample, IsService};
-ghost use Rattle.oc_words.specs.Arguments.{download_of, member_of, paths_of, replay_of, sample_of, service_of, upload_of};
+ghost use Rattle.oc_words.specs.Requests.{IsDownload, IsCheckedNode, IsSample, IsService};
+ghost use Rattle.oc_words.specs.Arguments.{download_of, checked_node_of, paths_of, replay_of, sample_of, service_of, upload_of};
 ghost use Rattle.oc_words.specs.Words.{Answers, IsRequest};
 
 use crate::arguments::{copied, given, is_flagged, word};
-use crate::parsing::{member_without, onto_in, sample_in, service_in, start_in, times_in};
+use crate::parsing::{checked_node_without, onto_in, sample_in, service_in, start_in, times_in};
 use crate::words::WordsFault;
-use crate::{Download, Invocation, Member, Name, Paths, Sample, Service, Upload};
+use crate::{Download, Invocation, CheckedNode, Name, Paths, Sample, Service, Upload};
 use clap::ArgMatches;
 use oc_base::Why;
 use std::alloc::{AllocError, Global};
@@ -64,12 +64,12 @@ pub(crate) fn replay_of(alloc: Global, matches: &ArgMatches<'_>) -> Result<Invoc
 }
 
 /// The node given by the arguments of `check`, with its id and the number of nodes.
-pub(crate) fn member_of(matches: &ArgMatches<'_>, id: &str, nodes: &str) -> Result<Member, Why>
-    ensures said { result ≡ member_of id.now nodes.now (rows_of (found_of matches.now)) }
-    ensures range { IfOk result IsMember }
+pub(crate) fn checked_node_of(matches: &ArgMatches<'_>, id: &str, nodes: &str) -> Result<CheckedNode, Why>
+    ensures said { result ≡ checked_node_of id.now nodes.now (rows_of (found_of matches.now)) }
+    ensures range { IfOk result IsCheckedNode }
 {
     let chain = given(matches, "CHAIN");
-    member_without(id, nodes, chain, given(matches, "config"))
+    checked_node_without(id, nodes, chain, given(matches, "config"))
 }
 
 /// The download given by the arguments of `get`.

@@ -32,7 +32,7 @@ pub enum Invocation {
     /// Runs a node.
     Node(Service, Paths),
     /// Shows the recovery of a node's files in this folder, or in the present one.
-    Check(Member, Option<Name>),
+    Check(CheckedNode, Option<Name>),
     /// Shows the recovery of the files of the node with this id, one of a configuration. The id is
     /// any number.
     CheckConfigured(u64, Paths),
@@ -185,7 +185,7 @@ pub enum LogWord {
 
 /// The node to be checked by `check`: one of a network.
 #[derive(Clone, Copy, Debug, PartialEq, Eq)]
-pub struct Member {
+pub struct CheckedNode {
     /// The id, from 1 to the number of nodes.
     pub id: u32,
     /// The number of nodes, from 1 to 1,024.

@@ -4,7 +4,7 @@ ghost use Rattle.std.specs.Result.{result_ok};
 ghost use Rattle.clap.specs.Words.{Text, found_of, rows_of, subcommand_rows_of};
 ghost use Rattle.oc_words.specs.Arguments.{IsNoFlag};
 ghost use Rattle.oc_words.specs.declared.request.Onto.TheVariants.{New, Append, Resume};
-ghost use Rattle.oc_words.specs.Requests.{download_in, id_in, member_in, sample_in, service_in};
+ghost use Rattle.oc_words.specs.Requests.{download_in, id_in, checked_node_in, sample_in, service_in};
 ghost use Rattle.oc_words.specs.Words.{Answers, IsPlain, IsRequest, asked, asked_by, asking, check_at, check_by_config, check_by_numbers, check_in, check_of, get_of, node_at, node_of};
 ghost use Rattle.oc_words.specs.Words.{other_by, put_at, put_of, request_by, request_of, texts_of, verdict_by};
 
@@ -13,7 +13,7 @@ use crate::arguments::{copied, given, word};
 use crate::command::command;
 use crate::parsing::id_in;
 use crate::reading::{
-    download_of, member_of, paths_of, replay_of, sample_of, service_of, upload_of,
+    download_of, checked_node_of, paths_of, replay_of, sample_of, service_of, upload_of,
 };
 use clap::ArgMatches;
 use clap::error::ErrorKind;
@@ -172,7 +172,7 @@ fn check_by_numbers(
     ensures answers { Answers (result_ok (check_by_numbers id.now nodes.now (rows_of (found_of arguments.now)))) result }
     ensures range { IfOk result IsRequest }
 {
-    let member = member_of(arguments, id, nodes)?;
+    let member = checked_node_of(arguments, id, nodes)?;
     Ok(Invocation::Check(member, copied(alloc, arguments, "dir")?))
 }
 
@@ -220,7 +220,7 @@ pub fn rows_ask()
         ≡ result_ok (asking (node_at None None) (service_in id (Some turns) true None)) }
     ensures checking { (id nodes chain : Text) → IsNoFlag id → IsNoFlag nodes → IsNoFlag chain
         → asked (codes "check" ∷ id ∷ nodes ∷ chain ∷ [])
-        ≡ result_ok (asking (check_at None) (member_in id nodes chain)) }
+        ≡ result_ok (asking (check_at None) (checked_node_in id nodes chain)) }
     ensures getting { (url : Text) → IsNoFlag url
         → asked (codes "get" ∷ url ∷ [])
         ≡ result_ok (asking Invocation.Get (download_in url None None None false)) }
@@ -251,7 +251,7 @@ pub fn places_ask()
         ≡ result_ok (asking (check_in (Some config) (Some folder)) (id_in id)) }
     ensures checking_numbers { (id nodes chain folder : Text) → IsNoFlag id → IsNoFlag nodes → IsNoFlag chain → IsNoFlag folder
         → asked (codes "check" ∷ id ∷ nodes ∷ chain ∷ codes "--dir" ∷ folder ∷ [])
-        ≡ result_ok (asking (check_at (Some folder)) (member_in id nodes chain)) }
+        ≡ result_ok (asking (check_at (Some folder)) (checked_node_in id nodes chain)) }
 
     // A number of nodes needs a length of the chain after it, and excludes a configuration.
     ensures unchained { (id nodes : Text) → IsNoFlag id → IsNoFlag nodes → asked (codes "check" ∷ id ∷ nodes ∷ []) ≡ None }

@@ -98,7 +98,7 @@ fn place_in(
     match known_of(pools[pool].bytes.items(), start, bytes) {
         None => Ok(None),
         Some(known) => {
-            put_behind(pools, pool, &bytes[known..])?;
+            add_bytes(pools, pool, &bytes[known..])?;
             Ok(Some(PoolPart {
                 pool,
                 start,
@@ -132,7 +132,7 @@ fn found(pools: &[Pool], group: &GroupName) -> Option<usize>
 }
 
 /// Appends bytes to a pool.
-fn put_behind(pools: &mut [Pool], at: usize, more: &[u8]) -> Result<(), Memory>
+fn add_bytes(pools: &mut [Pool], at: usize, more: &[u8]) -> Result<(), Memory>
     requires { at < length pools.old }
     ensures ok { OnOk result (contents pools.new ≡ slice_set (contents pools.old) at (get_or (contents pools.old) at [] ++ more.now)) }
     ensures err { OnErr result (contents pools.new ≡ contents pools.old) }

@@ -1,6 +1,6 @@
 use Rattle.std.proofs.Common.{ap, subst, rules}
 use Rattle.std.proofs.lemmas.Result.{IfErr-weaker, IfOk-weaker}
-use Rattle.oc_commands.specs.Checks.{header_without_areas}
+use Rattle.oc_schedule.specs.Lines.{header_without_areas}
 use Rattle.oc_keep.specs.Errors.{cause_of}
 use Rattle.oc_keep.specs.Files.{disks_in}
 use Rattle.oc_keep.specs.KeptView.{header}

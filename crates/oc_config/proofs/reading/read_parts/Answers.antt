@@ -9,9 +9,9 @@ returns-clause-lawful c =
     let split = c.in_ok-split.ensures in
     let greatest = c.greatest_of-greatest.ensures in
     lawful _ c.greatest_of-greatest.result tables c.in_ok-places.places.items (record {
-      chain = c.requires.common.chain;
-      chunk = c.requires.common.chunk;
-      keys = c.requires.common.keys;
+      chain = c.requires.network.chain;
+      chunk = c.requires.network.chunk;
+      keys = c.requires.network.keys;
       count = greatest.range;
       within = omega (arith, c.in_ok-check_chain.ensures.within);
       nodes = c.in_ok-places.ensures;

@@ -25,7 +25,7 @@ messages-preserved g c =
     let far = m.invariant.far in
     let b = g.W.Doer.running m.doer in
     let may : next_to_dial b.outbox b.dials ≡ Some place =
-    sym (c.next_to_dial.ensures.place ∙ ap (λ (ms : List Message). next_to_dial ms c.dials_made.result.now) c.outbox.ensures ∙ ap (λ (ds : List Dialling). next_to_dial b.outbox ds) c.dials_made.ensures) ∙ c.in-Some.is in
+    sym (c.next_to_dial.ensures.index ∙ ap (λ (ms : List Message). next_to_dial ms c.dials_made.result.now) c.outbox.ensures ∙ ap (λ (ds : List Dialling). next_to_dial b.outbox ds) c.dials_made.ensures) ∙ c.in-Some.is in
     let free : number ≡ free_number b.dials = search rules in
     let within : place < length b.outbox = search rules in
     let left : MAX_DIALS - m.done ≡ suc (MAX_DIALS - (m.done + 1)) = omega arith in
@@ -45,7 +45,7 @@ returns-in-None-clause-did g c =
     let far = m.invariant.far in
     let b = g.W.Doer.running m.doer in
     let none : next_to_dial b.outbox b.dials ≡ None =
-    sym (c.next_to_dial.ensures.place ∙ ap (λ (ms : List Message). next_to_dial ms c.dials_made.result.now) c.outbox.ensures ∙ ap (λ (ds : List Dialling). next_to_dial b.outbox ds) c.dials_made.ensures) ∙ c.in-None.is in
+    sym (c.next_to_dial.ensures.index ∙ ap (λ (ms : List Message). next_to_dial ms c.dials_made.result.now) c.outbox.ensures ∙ ap (λ (ds : List Dialling). next_to_dial b.outbox ds) c.dials_made.ensures) ∙ c.in-None.is in
     c.parts_go_on.ensures.as_same far.0 (sends MAX_DIALS) s m.doer
     (λ honest. sym (whole_last (MAX_DIALS - m.done) (far.0 (g.W.Doer.setting s) (g.W.Doer.running s)) (g.W.Doer.setting s) (g.W.Doer.running s) b (c.parts_go_on.ensures.leaves far.0 s m.doer far.1 honest) none (far.2 honest)))
     far.1
@@ -61,7 +61,7 @@ returns-in_err-dials-in-Some-clause-breaks g c =
     let far = m.invariant.far in
     let b = g.W.Doer.running m.doer in
     let may : next_to_dial b.outbox b.dials ≡ Some place =
-    sym (c.next_to_dial.ensures.place ∙ ap (λ (ms : List Message). next_to_dial ms c.dials_made.result.now) c.outbox.ensures ∙ ap (λ (ds : List Dialling). next_to_dial b.outbox ds) c.dials_made.ensures) ∙ c.in-Some.is in
+    sym (c.next_to_dial.ensures.index ∙ ap (λ (ms : List Message). next_to_dial ms c.dials_made.result.now) c.outbox.ensures ∙ ap (λ (ds : List Dialling). next_to_dial b.outbox ds) c.dials_made.ensures) ∙ c.in-Some.is in
     let free : number ≡ free_number b.dials = search rules in
     let within : place < length b.outbox = search rules in
     let left : MAX_DIALS - m.done ≡ suc (MAX_DIALS - (m.done + 1)) = omega arith in

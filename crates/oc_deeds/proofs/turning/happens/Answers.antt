@@ -3,9 +3,9 @@ use Rattle.std.proofs.lemmas.Result.{err_from_is_err_and}
 use Rattle.oc_deeds.specs.Asks.{obeys}
 use Rattle.oc_deeds.specs.Hurries.{came_hurries}
 use Rattle.oc_deeds.specs.Lawful.{IsLawfulCame}
-use Rattle.oc_deeds.specs.Rooms.{gone, room}
+use Rattle.oc_deeds.specs.Rooms.{takes_loss, takes_room}
 use Rattle.oc_deeds.specs.Measured.{IsMeasured}
-use Rattle.oc_deeds.specs.Turns.{brought, happens, measures, probed, probes_next}
+use Rattle.oc_deeds.specs.Turns.{takes_brought, happens, measures, probed, probes_next}
 use Rattle.oc_deeds.specs.declared.came.Came.{Came}
 use Rattle.oc_deeds.proofs.Results.{done_then, err_then, ok_then}
 use Rattle.oc_deeds.proofs.turning.happens.Goals as goal
@@ -42,67 +42,67 @@ returns-in-Request-clause-breaks g c =
 pub returns-in-Request-clause-probing : goal.returns-in-Request-clause-probing
 returns-in-Request-clause-probing g c = sym (ap (λ (x : Came). probed x c.args.now (g.W.Doer.running c.args.doer.now).dials c.args.probing.now) c.in-Request.is)
 
-pub returns-in_ok-has_room-in-Room-clause-did : goal.returns-in_ok-has_room-in-Room-clause-did
-returns-in_ok-has_room-in-Room-clause-did g c =
+pub returns-in_ok-takes_room-in-Room-clause-did : goal.returns-in_ok-takes_room-in-Room-clause-did
+returns-in_ok-takes_room-in-Room-clause-did g c =
     let s = c.args.doer.now in
-    let does = c.in_ok-has_room-in-Room.ensures.did in (
+    let does = c.in_ok-takes_room-in-Room.ensures.did in (
       0,
       0,
       subst (λ (x : Came). IsMeasured c.args.probing.now x c.args.now 0) (sym c.in-Room.is) tt,
-      c.parts_go_on.ensures.as_same (room c.in-Room.connection c.args.now) (happens c.args.probing.now c.args.came c.args.now 0 0) s c.has_room.new.doer (λ honest. ap (λ (x : Came). happens c.args.probing.now x c.args.now 0 0 (g.W.Doer.setting s) (g.W.Doer.running s)) c.in-Room.is) does,
+      c.parts_go_on.ensures.as_same (takes_room c.in-Room.connection c.args.now) (happens c.args.probing.now c.args.came c.args.now 0 0) s c.takes_room.new.doer (λ honest. ap (λ (x : Came). happens c.args.probing.now x c.args.now 0 0 (g.W.Doer.setting s) (g.W.Doer.running s)) c.in-Room.is) does,
     )
 
-pub returns-in_ok-has_room-in-Room-clause-hurries : goal.returns-in_ok-has_room-in-Room-clause-hurries
-returns-in_ok-has_room-in-Room-clause-hurries g c = λ honest. sym (ap (λ (x : Came). came_hurries x (g.W.Doer.running c.args.doer.now).node) c.in-Room.is)
+pub returns-in_ok-takes_room-in-Room-clause-hurries : goal.returns-in_ok-takes_room-in-Room-clause-hurries
+returns-in_ok-takes_room-in-Room-clause-hurries g c = λ honest. sym (ap (λ (x : Came). came_hurries x (g.W.Doer.running c.args.doer.now).node) c.in-Room.is)
 
-pub returns-in_ok-has_room-in-Room-clause-probing : goal.returns-in_ok-has_room-in-Room-clause-probing
-returns-in_ok-has_room-in-Room-clause-probing g c = sym (ap (λ (x : Came). probed x c.args.now (g.W.Doer.running c.args.doer.now).dials c.args.probing.now) c.in-Room.is)
+pub returns-in_ok-takes_room-in-Room-clause-probing : goal.returns-in_ok-takes_room-in-Room-clause-probing
+returns-in_ok-takes_room-in-Room-clause-probing g c = sym (ap (λ (x : Came). probed x c.args.now (g.W.Doer.running c.args.doer.now).dials c.args.probing.now) c.in-Room.is)
 
-pub returns-in_err-has_room-in-Room-clause-breaks : goal.returns-in_err-has_room-in-Room-clause-breaks
-returns-in_err-has_room-in-Room-clause-breaks g c =
+pub returns-in_err-takes_room-in-Room-clause-breaks : goal.returns-in_err-takes_room-in-Room-clause-breaks
+returns-in_err-takes_room-in-Room-clause-breaks g c =
     let p = err_from_is_err_and c.from_residual.result c.from_residual.ensures.1 in
     let s = c.args.doer.now in
-    let stops = c.in_err-has_room-in-Room.ensures.breaks in
+    let stops = c.in_err-takes_room-in-Room.ensures.breaks in
     rw (p.1, p.2) (
       0,
       0,
       subst (λ (x : Came). IsMeasured c.args.probing.now x c.args.now 0) (sym c.in-Room.is) tt,
-      c.parts_stop.ensures.as_same c.in_err-has_room-in-Room.field-0.0 (room c.in-Room.connection c.args.now) (happens c.args.probing.now c.args.came c.args.now 0 0) s c.has_room.new.doer (λ honest. ap (λ (x : Came). happens c.args.probing.now x c.args.now 0 0 (g.W.Doer.setting s) (g.W.Doer.running s)) c.in-Room.is) stops,
+      c.parts_stop.ensures.as_same c.in_err-takes_room-in-Room.field-0.0 (takes_room c.in-Room.connection c.args.now) (happens c.args.probing.now c.args.came c.args.now 0 0) s c.takes_room.new.doer (λ honest. ap (λ (x : Came). happens c.args.probing.now x c.args.now 0 0 (g.W.Doer.setting s) (g.W.Doer.running s)) c.in-Room.is) stops,
     )
 
-pub returns-in_err-has_room-in-Room-clause-probing : goal.returns-in_err-has_room-in-Room-clause-probing
-returns-in_err-has_room-in-Room-clause-probing g c = sym (ap (λ (x : Came). probed x c.args.now (g.W.Doer.running c.args.doer.now).dials c.args.probing.now) c.in-Room.is)
+pub returns-in_err-takes_room-in-Room-clause-probing : goal.returns-in_err-takes_room-in-Room-clause-probing
+returns-in_err-takes_room-in-Room-clause-probing g c = sym (ap (λ (x : Came). probed x c.args.now (g.W.Doer.running c.args.doer.now).dials c.args.probing.now) c.in-Room.is)
 
-pub returns-in_ok-loses-in-Gone-clause-did : goal.returns-in_ok-loses-in-Gone-clause-did
-returns-in_ok-loses-in-Gone-clause-did g c =
+pub returns-in_ok-takes_loss-in-Gone-clause-did : goal.returns-in_ok-takes_loss-in-Gone-clause-did
+returns-in_ok-takes_loss-in-Gone-clause-did g c =
     let s = c.args.doer.now in
-    let does = c.in_ok-loses-in-Gone.ensures.did in (
+    let does = c.in_ok-takes_loss-in-Gone.ensures.did in (
       0,
       0,
       subst (λ (x : Came). IsMeasured c.args.probing.now x c.args.now 0) (sym c.in-Gone.is) tt,
-      c.parts_go_on.ensures.as_same (gone c.in-Gone.connection c.in-Gone.loss) (happens c.args.probing.now c.args.came c.args.now 0 0) s c.loses.new.doer (λ honest. ap (λ (x : Came). happens c.args.probing.now x c.args.now 0 0 (g.W.Doer.setting s) (g.W.Doer.running s)) c.in-Gone.is) does,
+      c.parts_go_on.ensures.as_same (takes_loss c.in-Gone.connection c.in-Gone.loss) (happens c.args.probing.now c.args.came c.args.now 0 0) s c.takes_loss.new.doer (λ honest. ap (λ (x : Came). happens c.args.probing.now x c.args.now 0 0 (g.W.Doer.setting s) (g.W.Doer.running s)) c.in-Gone.is) does,
     )
 
-pub returns-in_ok-loses-in-Gone-clause-hurries : goal.returns-in_ok-loses-in-Gone-clause-hurries
-returns-in_ok-loses-in-Gone-clause-hurries g c = λ honest. sym (ap (λ (x : Came). came_hurries x (g.W.Doer.running c.args.doer.now).node) c.in-Gone.is)
+pub returns-in_ok-takes_loss-in-Gone-clause-hurries : goal.returns-in_ok-takes_loss-in-Gone-clause-hurries
+returns-in_ok-takes_loss-in-Gone-clause-hurries g c = λ honest. sym (ap (λ (x : Came). came_hurries x (g.W.Doer.running c.args.doer.now).node) c.in-Gone.is)
 
-pub returns-in_ok-loses-in-Gone-clause-probing : goal.returns-in_ok-loses-in-Gone-clause-probing
-returns-in_ok-loses-in-Gone-clause-probing g c = sym (ap (λ (x : Came). probed x c.args.now (g.W.Doer.running c.args.doer.now).dials c.args.probing.now) c.in-Gone.is)
+pub returns-in_ok-takes_loss-in-Gone-clause-probing : goal.returns-in_ok-takes_loss-in-Gone-clause-probing
+returns-in_ok-takes_loss-in-Gone-clause-probing g c = sym (ap (λ (x : Came). probed x c.args.now (g.W.Doer.running c.args.doer.now).dials c.args.probing.now) c.in-Gone.is)
 
-pub returns-in_err-loses-in-Gone-clause-breaks : goal.returns-in_err-loses-in-Gone-clause-breaks
-returns-in_err-loses-in-Gone-clause-breaks g c =
-    let p = err_from_is_err_and c.from_residual-in_err-loses-in-Gone.result c.from_residual-in_err-loses-in-Gone.ensures.1 in
+pub returns-in_err-takes_loss-in-Gone-clause-breaks : goal.returns-in_err-takes_loss-in-Gone-clause-breaks
+returns-in_err-takes_loss-in-Gone-clause-breaks g c =
+    let p = err_from_is_err_and c.from_residual-in_err-takes_loss-in-Gone.result c.from_residual-in_err-takes_loss-in-Gone.ensures.1 in
     let s = c.args.doer.now in
-    let stops = c.in_err-loses-in-Gone.ensures.breaks in
+    let stops = c.in_err-takes_loss-in-Gone.ensures.breaks in
     rw (p.1, p.2) (
       0,
       0,
       subst (λ (x : Came). IsMeasured c.args.probing.now x c.args.now 0) (sym c.in-Gone.is) tt,
-      c.parts_stop.ensures.as_same c.in_err-loses-in-Gone.field-0.0 (gone c.in-Gone.connection c.in-Gone.loss) (happens c.args.probing.now c.args.came c.args.now 0 0) s c.loses.new.doer (λ honest. ap (λ (x : Came). happens c.args.probing.now x c.args.now 0 0 (g.W.Doer.setting s) (g.W.Doer.running s)) c.in-Gone.is) stops,
+      c.parts_stop.ensures.as_same c.in_err-takes_loss-in-Gone.field-0.0 (takes_loss c.in-Gone.connection c.in-Gone.loss) (happens c.args.probing.now c.args.came c.args.now 0 0) s c.takes_loss.new.doer (λ honest. ap (λ (x : Came). happens c.args.probing.now x c.args.now 0 0 (g.W.Doer.setting s) (g.W.Doer.running s)) c.in-Gone.is) stops,
     )
 
-pub returns-in_err-loses-in-Gone-clause-probing : goal.returns-in_err-loses-in-Gone-clause-probing
-returns-in_err-loses-in-Gone-clause-probing g c = sym (ap (λ (x : Came). probed x c.args.now (g.W.Doer.running c.args.doer.now).dials c.args.probing.now) c.in-Gone.is)
+pub returns-in_err-takes_loss-in-Gone-clause-probing : goal.returns-in_err-takes_loss-in-Gone-clause-probing
+returns-in_err-takes_loss-in-Gone-clause-probing g c = sym (ap (λ (x : Came). probed x c.args.now (g.W.Doer.running c.args.doer.now).dials c.args.probing.now) c.in-Gone.is)
 
 pub returns-in_ok-takes_brought-in-Reply-clause-did : goal.returns-in_ok-takes_brought-in-Reply-clause-did
 returns-in_ok-takes_brought-in-Reply-clause-did g c =
@@ -111,7 +111,7 @@ returns-in_ok-takes_brought-in-Reply-clause-did g c =
       0,
       0,
       subst (λ (x : Came). IsMeasured c.args.probing.now x c.args.now 0) (sym c.in-Reply.is) tt,
-      c.parts_go_on.ensures.as_same (brought c.in-Reply.input) (happens c.args.probing.now c.args.came c.args.now 0 0) s c.takes_brought.new.doer (λ honest. ap (λ (x : Came). happens c.args.probing.now x c.args.now 0 0 (g.W.Doer.setting s) (g.W.Doer.running s)) c.in-Reply.is) does,
+      c.parts_go_on.ensures.as_same (takes_brought c.in-Reply.input) (happens c.args.probing.now c.args.came c.args.now 0 0) s c.takes_brought.new.doer (λ honest. ap (λ (x : Came). happens c.args.probing.now x c.args.now 0 0 (g.W.Doer.setting s) (g.W.Doer.running s)) c.in-Reply.is) does,
     )
 
 pub returns-in_ok-takes_brought-in-Reply-clause-hurries : goal.returns-in_ok-takes_brought-in-Reply-clause-hurries
@@ -129,7 +129,7 @@ returns-in_err-takes_brought-in-Reply-clause-breaks g c =
       0,
       0,
       subst (λ (x : Came). IsMeasured c.args.probing.now x c.args.now 0) (sym c.in-Reply.is) tt,
-      c.parts_stop.ensures.as_same c.in_err-takes_brought-in-Reply.field-0.0 (brought c.in-Reply.input) (happens c.args.probing.now c.args.came c.args.now 0 0) s c.takes_brought.new.doer (λ honest. ap (λ (x : Came). happens c.args.probing.now x c.args.now 0 0 (g.W.Doer.setting s) (g.W.Doer.running s)) c.in-Reply.is) stops,
+      c.parts_stop.ensures.as_same c.in_err-takes_brought-in-Reply.field-0.0 (takes_brought c.in-Reply.input) (happens c.args.probing.now c.args.came c.args.now 0 0) s c.takes_brought.new.doer (λ honest. ap (λ (x : Came). happens c.args.probing.now x c.args.now 0 0 (g.W.Doer.setting s) (g.W.Doer.running s)) c.in-Reply.is) stops,
     )
 
 pub returns-in_err-takes_brought-in-Reply-clause-probing : goal.returns-in_err-takes_brought-in-Reply-clause-probing

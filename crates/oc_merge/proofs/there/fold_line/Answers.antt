@@ -1,9 +1,9 @@
 use Rattle.std.proofs.Common.{◌≡◌, ℕ, ◌+◌, ◌-◌, Some, option_map, List, drop, get_or, slice_get, Bor, refl, ap, sym, subst, ◌∙◌}
 use Rattle.oc_base.specs.Lawful.{IsNode}
 use Rattle.oc_merge.specs.declared.told.ToldLine.{ToldLine}
-use Rattle.oc_merge.specs.BehindView.{view_of}
-use Rattle.oc_merge.specs.Folds.{behind_line}
-use Rattle.oc_merge.specs.Recorded.{found_behind, own_told}
+use Rattle.oc_merge.specs.AfterLineView.{view_of}
+use Rattle.oc_merge.specs.Folds.{after_line}
+use Rattle.oc_merge.specs.Recorded.{found_after, own_told}
 use Rattle.oc_merge.specs.Records.{IsLine}
 use Rattle.oc_merge.specs.Told.{Records}
 use Rattle.oc_merge.proofs.Chosen.{all_at}
@@ -46,15 +46,15 @@ returns-clause-there g c = λ l there.
     let digest = g.A.Alone.digest in
     let lines_are : c.deref.result.now ≡ r.lines = c.deref.ensures.value ∙ ap (λ (q : Records). q.lines) c.records.view_is in
     let nodes_are : c.nodes.result ≡ r.header.nodes = c.nodes.ensures in
-    let digits = option_map {T = Bor (List ℕ)} {U = List ℕ} (λ digits. digits.now) c.found_behind-found.result in
-    let found_is : digits ≡ found_behind (own_told l.node (drop (c.args.place + 1) r.lines)) =
-    subst (λ (ls : List ToldLine). (k : ToldLine) → slice_get ls c.args.place ≡ Some k → digits ≡ found_behind (own_told k.node (drop (c.args.place + 1) ls))) lines_are c.found_behind-found.ensures l there in
+    let digits = option_map {T = Bor (List ℕ)} {U = List ℕ} (λ digits. digits.now) c.found_after-found.result in
+    let found_is : digits ≡ found_after (own_told l.node (drop (c.args.place + 1) r.lines)) =
+    subst (λ (ls : List ToldLine). (k : ToldLine) → slice_get ls c.args.place ≡ Some k → digits ≡ found_after (own_told k.node (drop (c.args.place + 1) ls))) lines_are c.found_after-found.ensures l there in
     let b = view_of node c.in_ok-behind.behind in
-    let of : b ≡ behind_line digest r.header.nodes l.node (node c.in-Some.one) l.told (found_behind (own_told l.node (drop (c.args.place + 1) r.lines))) =
+    let of : b ≡ after_line digest r.header.nodes l.node (node c.in-Some.one) l.told (found_after (own_told l.node (drop (c.args.place + 1) r.lines))) =
     c.in_ok-behind.ensures
-    ∙ (ap (λ (k : ToldLine). behind_line digest c.nodes.result k.node (node c.in-Some.one) k.told digits) same
-    ∙ (ap (λ n. behind_line digest n l.node (node c.in-Some.one) l.told digits) nodes_are
-    ∙ ap (behind_line digest r.header.nodes l.node (node c.in-Some.one) l.told) found_is)) in
+    ∙ (ap (λ (k : ToldLine). after_line digest c.nodes.result k.node (node c.in-Some.one) k.told digits) same
+    ∙ (ap (λ n. after_line digest n l.node (node c.in-Some.one) l.told digits) nodes_are
+    ∙ ap (after_line digest r.header.nodes l.node (node c.in-Some.one) l.told) found_is)) in
     taken_there g.A.Alone.node g.A.Alone.digest r c.args.place c.args.folds.now c.requires.folds l there is c.index-at.result c.index-folds-at.result index c.in-Some.one (sym c.take.ensures.value ∙ c.in-Some.is) b of
 
 pub returns-clause-folds : goal.returns-clause-folds
@@ -72,13 +72,13 @@ returns-clause-folds g c =
     let digest = g.A.Alone.digest in
     let lines_are : c.deref.result.now ≡ r.lines = c.deref.ensures.value ∙ ap (λ (q : Records). q.lines) c.records.view_is in
     let nodes_are : c.nodes.result ≡ r.header.nodes = c.nodes.ensures in
-    let digits = option_map {T = Bor (List ℕ)} {U = List ℕ} (λ digits. digits.now) c.found_behind-found.result in
-    let found_is : digits ≡ found_behind (own_told l.node (drop (c.args.place + 1) r.lines)) =
-    subst (λ (ls : List ToldLine). (k : ToldLine) → slice_get ls c.args.place ≡ Some k → digits ≡ found_behind (own_told k.node (drop (c.args.place + 1) ls))) lines_are c.found_behind-found.ensures l there in
+    let digits = option_map {T = Bor (List ℕ)} {U = List ℕ} (λ digits. digits.now) c.found_after-found.result in
+    let found_is : digits ≡ found_after (own_told l.node (drop (c.args.place + 1) r.lines)) =
+    subst (λ (ls : List ToldLine). (k : ToldLine) → slice_get ls c.args.place ≡ Some k → digits ≡ found_after (own_told k.node (drop (c.args.place + 1) ls))) lines_are c.found_after-found.ensures l there in
     let b = view_of node c.in_ok-behind.behind in
-    let of : b ≡ behind_line digest r.header.nodes l.node (node c.in-Some.one) l.told (found_behind (own_told l.node (drop (c.args.place + 1) r.lines))) =
+    let of : b ≡ after_line digest r.header.nodes l.node (node c.in-Some.one) l.told (found_after (own_told l.node (drop (c.args.place + 1) r.lines))) =
     c.in_ok-behind.ensures
-    ∙ (ap (λ (k : ToldLine). behind_line digest c.nodes.result k.node (node c.in-Some.one) k.told digits) same
-    ∙ (ap (λ n. behind_line digest n l.node (node c.in-Some.one) l.told digits) nodes_are
-    ∙ ap (behind_line digest r.header.nodes l.node (node c.in-Some.one) l.told) found_is)) in
+    ∙ (ap (λ (k : ToldLine). after_line digest c.nodes.result k.node (node c.in-Some.one) k.told digits) same
+    ∙ (ap (λ n. after_line digest n l.node (node c.in-Some.one) l.told digits) nodes_are
+    ∙ ap (after_line digest r.header.nodes l.node (node c.in-Some.one) l.told) found_is)) in
     taken_on g.A.Alone.node g.A.Alone.digest r c.args.place c.args.folds.now c.requires.folds l there is c.index-at.result c.index-folds-at.result index c.in-Some.one (sym c.take.ensures.value ∙ c.in-Some.is) b of c.take.new.self c.in_ok-behind.behind.node refl

@@ -23,13 +23,13 @@ loop-place-init g c =
     }
 
 -- the event is within its ranges, and leaves the clocks their time
-pub tell_at-requires-clause-event : goal.tell_at-requires-clause-event
-tell_at-requires-clause-event g c = λ e is.
+pub report_event_at-requires-clause-event : goal.report_event_at-requires-clause-event
+report_event_at-requires-clause-event g c = λ e is.
     let stage = g.T.Stage in
     (next_given (stage.world c.args.stage.now) c.args.events.now c.requires (stage.world c.loop-place.stage) e c.loop-place.place (omega (arith, c.loop-place-test.true, c.len-place-end.ensures)) (as_found c.args.events.now c.loop-place.place e is) c.loop-place.invariant.way).event
 
-pub tell_at-requires-clause-time : goal.tell_at-requires-clause-time
-tell_at-requires-clause-time g c = λ e is.
+pub report_event_at-requires-clause-time : goal.report_event_at-requires-clause-time
+report_event_at-requires-clause-time g c = λ e is.
     let stage = g.T.Stage in
     (next_given (stage.world c.args.stage.now) c.args.events.now c.requires (stage.world c.loop-place.stage) e c.loop-place.place (omega (arith, c.loop-place-test.true, c.len-place-end.ensures)) (as_found c.args.events.now c.loop-place.place e is) c.loop-place.invariant.way).time
 
@@ -45,11 +45,11 @@ loop-place-preserved g c =
     let here = found events place within in
     let opened = stage.world c.args.stage.now in
     let world = stage.world c.loop-place.stage in
-    let next = stage.world c.tell_at.new.stage in
+    let next = stage.world c.report_event_at.new.stage in
     let text = run_text opened events in
-    let written = written-next takes c.args.sink.now c.loop-place.sink c.loop-place.out.items c.tell_at.new.out.items text place world next events event within (as_read events place within) (c.in_ok-sent.ensures.world event here) (c.in_ok-sent.ensures.text event here) c.loop-place.invariant.written in
+    let written = written-next takes c.args.sink.now c.loop-place.sink c.loop-place.out.items c.report_event_at.new.out.items text place world next events event within (as_read events place within) (c.in_ok-sent.ensures.world event here) (c.in_ok-sent.ensures.text event here) c.loop-place.invariant.written in
     record {
-      written = passes takes g.met.K.Sink.takes_then c.args.sink.now c.loop-place.sink c.pass_on.new.sink c.tell_at.new.out.items c.pass_on.new.out.items (told_from (place + 1) next (drop (place + 1) events)) text c.in_ok-pass_on.ensures.passed written;
+      written = passes takes g.met.K.Sink.takes_then c.args.sink.now c.loop-place.sink c.pass_on.new.sink c.report_event_at.new.out.items c.pass_on.new.out.items (told_from (place + 1) next (drop (place + 1) events)) text c.in_ok-pass_on.ensures.passed written;
       way = goes_on opened events c.requires world next event place within (as_read events place within) (c.in_ok-sent.ensures.world event here) c.loop-place.invariant.way;
       sent = c.in_ok-sent.ensures.sent;
       count = omega (arith, c.in_ok-pass_on.ensures.count);
@@ -69,10 +69,10 @@ returns-in_err-pass_on-clause-failed g c = λ _.
     let event = event_at events place in
     let within : place < length events = omega (arith, c.loop-place-test.true, c.len-place-end.ensures) in
     let here = found events place within in
-    let next = stage.world c.tell_at.new.stage in
+    let next = stage.world c.report_event_at.new.stage in
     let text = run_text (stage.world c.args.stage.now) events in
-    let written = written-next takes c.args.sink.now c.loop-place.sink c.loop-place.out.items c.tell_at.new.out.items text place (stage.world c.loop-place.stage) next events event within (as_read events place within) (c.in_ok-sent.ensures.world event here) (c.in_ok-sent.ensures.text event here) c.loop-place.invariant.written in
-    fails_on takes g.K.Sink.fails g.met.K.Sink.takes_fails c.args.sink.now c.loop-place.sink c.pass_on.new.sink c.tell_at.new.out.items (told_from (place + 1) next (drop (place + 1) events)) text written c.in_err-pass_on.ensures.failed
+    let written = written-next takes c.args.sink.now c.loop-place.sink c.loop-place.out.items c.report_event_at.new.out.items text place (stage.world c.loop-place.stage) next events event within (as_read events place within) (c.in_ok-sent.ensures.world event here) (c.in_ok-sent.ensures.text event here) c.loop-place.invariant.written in
+    fails_on takes g.K.Sink.fails g.met.K.Sink.takes_fails c.args.sink.now c.loop-place.sink c.pass_on.new.sink c.report_event_at.new.out.items (told_from (place + 1) next (drop (place + 1) events)) text written c.in_err-pass_on.ensures.failed
 
 pub returns-in_err-pass_on-clause-stopped : goal.returns-in_err-pass_on-clause-stopped
 returns-in_err-pass_on-clause-stopped g c = λ _.
@@ -81,7 +81,7 @@ returns-in_err-pass_on-clause-stopped g c = λ _.
     let place = c.loop-place.place in
     let event = event_at events place in
     let within : place < length events = omega (arith, c.loop-place-test.true, c.len-place-end.ensures) in
-    (place + 1, after-take place (stage.world c.args.stage.now) (stage.world c.loop-place.stage) (stage.world c.tell_at.new.stage) events event within (as_read events place within) (c.in_ok-sent.ensures.world event (found events place within)) c.loop-place.invariant.way.played)
+    (place + 1, after-take place (stage.world c.args.stage.now) (stage.world c.loop-place.stage) (stage.world c.report_event_at.new.stage) events event within (as_read events place within) (c.in_ok-sent.ensures.world event (found events place within)) c.loop-place.invariant.way.played)
 
 -- the same in the last part, with which all is written
 pub returns-clause-failed : goal.returns-clause-failed

@@ -4,7 +4,7 @@ use Rattle.std.specs.List.{AllByRecursion}
 use Rattle.oc_keep.specs.KeptView.{node_of}
 use Rattle.oc_deeds.specs.Deeds.{Gives, piece, rest, with_content}
 use Rattle.oc_deeds.specs.Lawful.{IsLawfulWork}
-use Rattle.oc_deeds.specs.Works.{without}
+use Rattle.oc_deeds.specs.Works.{without_work}
 use Rattle.oc_deeds.specs.declared.ends.TurnEnd.TheVariants.{Memory}
 use Rattle.oc_deeds.specs.declared.work.Transfer.{Transfer}
 use Rattle.oc_deeds.specs.declared.work.Work.{Work}
@@ -23,7 +23,7 @@ returns-clause-did g c =
     let nodes = s.kept.node.control.nodes in
     let me = s.kept.node.control.me in
     let groups = (node_of s.kept).groups in
-    let others = without p.connection s.works in
+    let others = without_work p.connection s.works in
     let left = c.in_ok-piece.piece.rest in
     let is : c.begin_rest.new.works ≡ with_content left others = c.in_ok-begin_rest.ensures.begun ∙ ap (with_content left) c.take-given.ensures.rest in
     does_one g.D.Disk.view g.K.Sink.takes g.K.Sink.fails g.K.Sink.faults g.L.Link.story g.L.Link.counts (Gives c.args.transfer c.args.now) (one (Gives c.args.transfer c.args.now)) s _ (λ honest. refl)

@@ -2,7 +2,7 @@ use Rattle.std.proofs.Common.{◌≡◌, List, length, sym, subst}
 use Rattle.std.proofs.Math.Seq.{take-length}
 use Rattle.oc_model.specs.NextWorld.{world_after}
 use Rattle.oc_model.specs.declared.event.Event.{Event}
-use Rattle.oc_replay.proofs.replaying.tell.Goals as goal
+use Rattle.oc_replay.proofs.replaying.write_run.Goals as goal
 
 pub returns-then-summary-clause-told : goal.returns-then-summary-clause-told
 returns-then-summary-clause-told g c = rw c.if-summary.true c.summarize.ensures.told

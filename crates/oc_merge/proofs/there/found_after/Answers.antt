@@ -1,16 +1,16 @@
 use Rattle.std.proofs.Common.{rules, ◌≡◌, Some, None, get_or, slice_get, refl, ap, ◌∙◌, arith}
 use Rattle.std.proofs.lemmas.Option.{slice_get-get_or}
 use Rattle.oc_merge.specs.declared.told.Told.TheVariants.{Started}
-use Rattle.oc_merge.specs.Recorded.{found_behind}
+use Rattle.oc_merge.specs.Recorded.{found_after}
 use Rattle.oc_merge.proofs.Going.{node_at_head}
 use Rattle.oc_merge.proofs.LinesThere.{next_later, next_none, next_own, next_start, next_within}
-use Rattle.oc_merge.proofs.there.found_behind.Goals as goal
+use Rattle.oc_merge.proofs.there.found_after.Goals as goal
 
 pub starts-init : goal.starts-init
 starts-init c = λ k there. (
   next_within c.args.lines.now c.args.next.now c.requires.next c.args.place k there k.node refl,
   next_none c.args.lines.now c.args.next.now c.requires.next c.args.place k there k.node refl,
-  ap found_behind (next_own c.args.lines.now c.args.next.now c.requires.next c.args.place k there k.node refl),
+  ap found_after (next_own c.args.lines.now c.args.next.now c.requires.next c.args.place k there k.node refl),
 )
 
 pub starts-smaller : goal.starts-smaller
@@ -28,6 +28,6 @@ starts-preserved c = λ k there.
     let own : l.node ≡ k.node = node_at_head k.node c.args.lines.now c.starts.behind l before.1 at in (
       next_within c.args.lines.now c.args.next.now c.requires.next c.starts.behind l at k.node own,
       next_none c.args.lines.now c.args.next.now c.requires.next c.starts.behind l at k.node own,
-      ap found_behind (next_own c.args.lines.now c.args.next.now c.requires.next c.starts.behind l at k.node own)
+      ap found_after (next_own c.args.lines.now c.args.next.now c.requires.next c.starts.behind l at k.node own)
           ∙ (next_start c.args.lines.now c.starts.behind l k.node at own told ∙ before.2),
     )

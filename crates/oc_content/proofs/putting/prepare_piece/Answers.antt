@@ -5,7 +5,7 @@ use Rattle.oc_content.specs.ContentView.{IsReady}
 use Rattle.oc_content.proofs.Views.{IsIndexed-sized, IsIndexed-kept, PutsNothing-by}
 use Rattle.oc_content.proofs.Puts.{ready_put}
 use Rattle.oc_journal.proofs.ReadRuns.{OnlyReads-none}
-use Rattle.oc_content.proofs.putting.ready.Goals as goal
+use Rattle.oc_content.proofs.putting.prepare_piece.Goals as goal
 
 pub piece_for-requires-clause-sized : goal.piece_for-requires-clause-sized
 piece_for-requires-clause-sized g c = IsIndexed-sized g.D.Disk.view c.args.journal.now c.args.index.now c.requires.indexed

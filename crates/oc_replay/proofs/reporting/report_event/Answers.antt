@@ -4,7 +4,7 @@ use Rattle.oc_model.specs.NextWorld.{word_of}
 use Rattle.oc_model.specs.World.{ids}
 use Rattle.oc_model.proofs.GoesOn.{ids-next_world}
 use Rattle.oc_replay.proofs.Runs.{event_told}
-use Rattle.oc_replay.proofs.reporting.tell.Goals as goal
+use Rattle.oc_replay.proofs.reporting.report_event.Goals as goal
 
 -- the messages in the stage's answer are those added to its world
 pub put_told-requires-clause-all : goal.put_told-requires-clause-all

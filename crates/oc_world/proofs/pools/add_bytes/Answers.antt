@@ -3,7 +3,7 @@ use Rattle.std.proofs.lemmas.List.{map-set}
 use Rattle.oc_content.proofs.Lists.{map_at}
 use Rattle.oc_world.specs.declared.pools.Pool.{Pool}
 use Rattle.oc_world.specs.Letters.{contents}
-use Rattle.oc_world.proofs.pools.put_behind.Goals as goal
+use Rattle.oc_world.proofs.pools.add_bytes.Goals as goal
 
 -- only the bytes of this pool are others
 pub returns-clause-ok : goal.returns-clause-ok

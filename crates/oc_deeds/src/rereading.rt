@@ -10,6 +10,7 @@ ghost use Rattle.oc_probe.specs.Turns.{peers_of};
 ghost use Rattle.oc_updown.specs.MeasureLines.{IsMeasure};
 ghost use Rattle.oc_deeds.specs.Lawful.{IsMadeFor};
 ghost use Rattle.oc_deeds.specs.Rereading.{IsLawfulReread, MeansLook, MeansNew, MeansText, fitting, fresh, goes_by, is_fresh, is_last, is_placed, last_read, measured_by, probing_by, rotated_to, settles, takes_measures};
+ghost use Rattle.oc_deeds.specs.Telling.{takes_ahead};
 ghost use Rattle.oc_deeds.specs.declared.reread.Reread.TheVariants as rereads;
 
 use crate::doer::Doer;
@@ -232,15 +233,26 @@ fn takes_measures<W: Doer>(doer: &mut W, measures: &[Measure]) -> Result<(), Tur
 {
     W::parts_go_on();
     W::parts_stop();
-    for measure in measures {
-        takes_ahead(
-            doer,
-            Input::Measured {
-                peer: measure.peer,
-                rate: measure.rate,
-                hops: measure.hops,
-            },
-        )?;
+    'measures: for place in 0..measures.len() {
+        let measure = measures[place];
+        takes_measure(doer, measure)?;
     }
     Ok(())
+}
+
+/// Takes a measure as an input.
+fn takes_measure<W: Doer>(doer: &mut W, measure: Measure) -> Result<(), TurnEnd>
+    requires serving { W.serving doer.old }
+    requires lawful { IsInput (W.running doer.old).node.control.nodes (W.running doer.old).node.control.me (measured_by measure) }
+    ensures did { OnOk result (W.does (takes_ahead (measured_by measure)) doer.old doer.new) }
+    ensures breaks { IfErr result (λ end. W.stops end (takes_ahead (measured_by measure)) doer.old doer.new) }
+{
+    takes_ahead(
+        doer,
+        Input::Measured {
+            peer: measure.peer,
+            rate: measure.rate,
+            hops: measure.hops,
+        },
+    )
 }

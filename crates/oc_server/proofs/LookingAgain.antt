@@ -1,5 +1,5 @@
 -- A turn: what came or was due is dealt with, and then the file of the configuration is looked at.
-use Rattle.std.proofs.Common.{◌≡◌, ◌⊎◌, ◌<◌, ◌++◌, ℕ, Bool, Option, None, Some, List, length, inl, inr, refl, sym, ap, subst, ◌∙◌}
+use Rattle.std.proofs.Common.{◌≡◌, ◌⊎◌, ◌<◌, ◌++◌, ℕ, Bool, Option, None, Some, List, [], length, inl, inr, refl, sym, ap, subst, ◌∙◌}
 use Rattle.oc_config.specs.Settings.{Settings}
 use Rattle.oc_link.specs.Told.{AddsAll}
 use Rattle.oc_link.specs.declared.call.Call.{Call}
@@ -9,17 +9,21 @@ use Rattle.oc_link.specs.declared.look.Look.TheVariants as looks
 use Rattle.oc_io.specs.DiskView.{DiskView}
 use Rattle.oc_keep.specs.KeptView.{IsHonest}
 use Rattle.oc_probe.specs.declared.probing.Probing.{Probing}
-use Rattle.oc_deeds.specs.Deeds.{Running, Setting, calls_of}
-use Rattle.oc_deeds.specs.Rereading.{MeansLook, last_read, looks_again, probing_by}
+use Rattle.oc_link.specs.declared.look.Look.{Look}
+use Rattle.oc_deeds.specs.Deeds.{Looks, Running, Setting, calls_of}
+use Rattle.oc_deeds.specs.Parts.{one}
+use Rattle.oc_deeds.specs.Rereading.{MeansLook, goes_by, last_read, looks_again, probing_by}
 use Rattle.oc_deeds.specs.Turns.{Observation, dealt, probing_after, turn}
 use Rattle.oc_deeds.specs.declared.ends.TurnEnd.{TurnEnd}
+use Rattle.oc_deeds.specs.Under.{Idle}
+use Rattle.oc_deeds.specs.declared.reread.Reread.{Reread}
 use Rattle.oc_deeds.specs.declared.reread.Reread.TheVariants as rereads
 use Rattle.oc_server.specs.Parts.{Does, Stops}
 use Rattle.oc_server.specs.Runs.{CouldCome, HandleStops, Handled, IsLent, LookAgainStops, LooksAgain, MayRead, TurnStops, Turned, after_reading, config_at_look, due_in}
-use Rattle.oc_server.specs.Scenes.{BreaksAfter, running, setting}
+use Rattle.oc_server.specs.Scenes.{Breaks, BreaksAfter, running, setting}
 use Rattle.oc_server.specs.declared.server.Server.{Server}
 use Rattle.oc_server.specs.declared.turns.Turns.{Turns}
-use Rattle.oc_server.proofs.Parts.{behind_part, does_then, stops_behind, stops_in}
+use Rattle.oc_server.proofs.Parts.{behind_part, does_then, stops_behind, stops_first, stops_in}
 use Rattle.oc_server.proofs.Scenes.{setting_stays, still_honest, still_renewed}
 
 module _ {D L K : Type 0} (view : D → DiskView) (takes fails : K → List ℕ → K → Type 0) (faults : K → ℕ) (story : L → Option (List Call)) (counts : L → LinkCounts) where
@@ -132,3 +136,43 @@ module _ {D L K : Type 0} (view : D → DiskView) (takes fails : K → List ℕ 
             → AddsAll (calls_of (setting at.server) stopped.stops.deeds (running at.server)) (story at.server.link) (story new.server.link)
         made (x, did, breaks) honest =
             subst (λ (z : Option (List Call)). AddsAll (calls_of (setting at.server) stopped.stops.deeds (running at.server)) (story at.server.link) z) (sym breaks.told) (did.done honest).calls
+
+  -- What a look gave
+
+  module _ (takes_nothing : (k : K) → takes k [] k) (takes_then : (a b c : K) (x y : List ℕ) → takes a x b → takes b y c → takes a (x ++ y) c) (old : Turns D L K) (b : Server D L K) (new : Turns D L K)
+      (look : Look) (does : Does view takes faults story counts (one (Looks look)) old.server b) where
+    -- was gone by
+    pub look_done : (reread : Reread) → Does view takes faults story counts (goes_by reread) b new.server → MeansLook old.reading look reread → new.reading ≡ last_read look old.reading → new.pace ≡ old.pace
+        → new.probing ≡ probing_by (setting b).me (running b).config reread old.probing → LooksAgain view takes faults story counts old new
+    look_done reread gone means reading pace probing = record {
+      look = look;
+      reread = reread;
+      does = does_then view takes fails faults story counts takes_then (one (Looks look)) (goes_by reread) old.server b new.server does gone;
+      means = means;
+      reading = reading;
+      pace = pace;
+      probing = λ honest.
+          probing
+          ∙ ap (λ (s : Setting). probing_by s.me (running b).config reread old.probing) (setting_stays view takes fails faults story counts old.server b does.did.same does.did.log)
+          ∙ ap (λ (r : Running). probing_by (setting old.server).me r.config reread old.probing) (behind_part view takes fails faults story counts (one (Looks look)) old.server b does honest);
+    }
+
+    -- was gone by in part
+    pub look_stopped : (end : TurnEnd) (reread : Reread) → MeansLook old.reading look reread → Stops view takes fails faults story counts end (goes_by reread) b new.server
+        → LookAgainStops view takes fails faults story counts end old new
+    look_stopped end reread means stops = record {
+      look = look;
+      reread = reread;
+      stops = stops_behind view takes fails faults story counts takes_then end (one (Looks look)) (goes_by reread) old.server b new.server does stops;
+      means = inr means;
+    }
+
+    -- was not read, since memory ran out
+    pub look_unread : (end : TurnEnd) → Breaks view takes fails faults story counts end Idle b new.server → LookAgainStops view takes fails faults story counts end old new
+    look_unread end breaks = record {
+      look = look;
+      reread = rereads.Nothing;
+      stops = stops_behind view takes fails faults story counts takes_then end (one (Looks look)) (goes_by rereads.Nothing) old.server b new.server does
+          (stops_first view takes fails faults story counts takes_nothing end Idle (goes_by rereads.Nothing) b new.server does.did.is_open (λ honest. tt) breaks);
+      means = inl refl;
+    }

@@ -84,7 +84,8 @@ impl<D: Disk, L: Link, K: Sink> Turns<D, L, K> {
         let look = self.server.looks();
         let reread = self.server.rereads_look(&self.reading, &look)?;
         self.reading = last_read(self.reading.take(), look);
-        goes_by(&mut self.server, &mut self.probing, reread)
+        goes_by(&mut self.server, &mut self.probing, reread)?;
+        Ok(())
     }
 
     /// Takes one thing that happened at the link. It answers whether something was served.

@@ -6,26 +6,9 @@ use Rattle.std.specs.List.{AllByRecursion}
 use Rattle.oc_base.specs.Lawful.{IsNode}
 use Rattle.oc_probe.specs.Turns.{RotationView, peers_from, peers_of}
 use Rattle.oc_probe.specs.declared.probing.Probing.{Probing}
+use Rattle.oc_deeds.proofs.Peers.{all_peers, same_peers}
 use Rattle.oc_deeds.specs.Lawful.{IsMadeFor}
 use Rattle.oc_service.specs.OnSite.{probing_of}
-
--- each peer of some places is a node
-all_peers : {A : Type 0} (me nodes id : ℕ) (places : List (Option A)) → 1 ≤ id → id + length places ≤ nodes + 1 → AllByRecursion (IsNode nodes) (peers_from me id places)
-all_peers me nodes id [] some within = tt
-all_peers me nodes id (None ∷ places) some within = all_peers me nodes (id + 1) places (omega (arith, some)) (omega (arith, within))
-all_peers me nodes id (Some x ∷ places) some within = by_test (id == me) where
-  rest : AllByRecursion (IsNode nodes) (peers_from me (id + 1) places)
-  rest = all_peers me nodes (id + 1) places (omega (arith, some)) (omega (arith, within))
-
-  by_test : (b : Bool) → AllByRecursion (IsNode nodes) (if b then peers_from me (id + 1) places else id ∷ peers_from me (id + 1) places)
-  by_test true = rest
-  by_test false = ((some, omega (arith, within)), rest)
-
--- what is there of a list is there of what is read of it
-same_peers : {A B : Type 0} (f : A → B) (me id : ℕ) (places : List (Option A)) → peers_from me id (map (option_map f) places) ≡ peers_from me id places
-same_peers f me id [] = refl
-same_peers f me id (None ∷ places) = same_peers f me (id + 1) places
-same_peers f me id (Some x ∷ places) = ap (λ (ids : List ℕ). if id == me then ids else id ∷ ids) (same_peers f me (id + 1) places)
 
 made_of : {A : Type 0} (me : ℕ) (places : List (Option A)) (p : Probing) → p.gauge ≡ replicate (length places) [] → p.rotation ≡ record { coming = peers_of me places } → IsMadeFor (length places) p
 made_of me places p gauge rotation = record {

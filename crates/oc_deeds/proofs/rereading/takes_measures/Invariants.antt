@@ -1,0 +1,12 @@
+-- The measures so far and the rest are all.
+use Rattle.std.proofs.Common.{drop}
+use Rattle.oc_deeds.specs.Parts.{Part}
+use Rattle.oc_deeds.proofs.Rereading.{AreTaken}
+use Rattle.oc_deeds.proofs.rereading.takes_measures.Given as goal
+
+abbrev pub invariant-measures : goal.invariant-measures
+invariant-measures g l = record {
+  serving : g.W.Doer.serving l.doer;
+  far : (p : Part) × g.W.Doer.does p l.fn.doer l.doer
+      × (g.W.Doer.honest l.fn.doer → AreTaken (drop l.place l.fn.measures.now) l.fn.measures.now p (g.W.Doer.setting l.fn.doer) (g.W.Doer.running l.fn.doer));
+}

@@ -1,6 +1,7 @@
 -- Measures of a configuration that was read again, taken one after another.
-use Rattle.std.proofs.Common.{◌≡◌, ◌<◌, ◌≤◌, ℕ, ◌+◌, suc, List, [], ◌∷◌, ◌++◌, length, drop, get_or, refl, sym, ap, ◌∙◌, append_assoc, append-nil, drop-cons, add-one}
+use Rattle.std.proofs.Common.{◌≡◌, ◌<◌, ◌≤◌, ℕ, ◌+◌, zero, suc, Bool, arith, cond_both, filter, List, [], ◌∷◌, ◌++◌, length, drop, get_or, refl, sym, ap, ◌∙◌, append_assoc, append-nil, drop-cons, add-one}
 use Rattle.std.proofs.lemmas.List.{drop_all}
+use Rattle.std.specs.Prelude.{All}
 use Rattle.oc_updown.specs.declared.measure_lines.Measure.{Measure}
 use Rattle.oc_deeds.specs.Deeds.{Deed, Running, Setting, after_all}
 use Rattle.oc_deeds.specs.Parts.{Part, in_turn}
@@ -51,3 +52,17 @@ pub all_taken : (all : List Measure) (i : ℕ) (p : Part) (s : Setting) (a : Run
 all_taken all i p s a past taken =
     sym (append-nil (p s a)) ∙ ap (λ (ds : List Deed). p s a ++ ds) (sym (none_left s (after_all (p s a) a)))
     ∙ ap (λ (ms : List Measure). p s a ++ takes_measures ms s (after_all (p s a) a)) (sym (drop_all i all past)) ∙ taken
+
+-- Fresh measures
+
+all_cons : (P : Measure → Type 0) (x : Measure) (ys : List Measure) → P x → All P ys → All P (x ∷ ys)
+all_cons P x ys first rest zero d few = first
+all_cons P x ys first rest (suc k) d few = rest k d (omega (arith, few))
+
+-- what holds of each holds of each of some
+pub all_some : (P : Measure → Type 0) (test : Measure → Bool) (xs : List Measure) → All P xs → All P (filter test xs)
+all_some P test [] all = λ k d few. absurd (omega (arith, few))
+all_some P test (x ∷ xs) all =
+    let rest : All P (filter test xs) = all_some P test xs (λ k d few. all (suc k) d (omega (arith, few))) in
+    let both : All P (x ∷ filter test xs) = all_cons P x (filter test xs) (all 0 x (omega arith)) rest in
+    cond_both (test x) (x ∷ filter test xs) (filter test xs) (All P) (λ _. both) (λ _. rest)

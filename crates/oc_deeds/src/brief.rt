@@ -123,7 +123,12 @@ pub fn told_after(
 }
 
 /// Puts what is told of an input that was taken, by what was known before it.
-fn put_told_after(out: &mut Vec<u8>, before: &Before, node: &Node, answer: Answer) -> Result<(), Memory>
+fn put_told_after(
+    out: &mut Vec<u8>,
+    before: &Before,
+    node: &Node,
+    answer: Answer,
+) -> Result<(), Memory>
     ensures { OnOk result (out.new.items ≡ out.old.items ++ told_after (Some before.now) node.now.control answer) }
 {
     put_asked(out, &before.told, answer)?;

@@ -109,7 +109,10 @@ fn first_free(messages: &VecDeque<Message>, dials: &[Dialling]) -> Option<usize>
 fn has_room(dials: &[Dialling]) -> bool
     ensures { result ≡ has_room dials.now }
 {
-    let others = dials.iter().filter(|dialling| !asks_content(dialling)).count();
+    let others = dials
+        .iter()
+        .filter(|dialling| !asks_content(dialling))
+        .count();
     dials.len() < MAX_DIALS && others < MAX_OTHER_DIALS
 }
 

@@ -62,8 +62,8 @@ pub use law::{
 };
 pub use log::Log;
 pub use outbox::{Outbox, is_fetch, put_all};
-pub use reread::Reread;
 pub use pace::{Pace, most_interval};
+pub use reread::Reread;
 pub use turn_law::{brief_lines_compute, turns_compute};
 pub use turning::{deals, takes_due};
 pub use unfit::{Unfit, put_unfit_line};

@@ -6,7 +6,7 @@ ghost use Rattle.oc_deeds.specs.Rooms.{goes_on, takes_loss, takes_room};
 use crate::choosing::prospect_of;
 use crate::doer::Doer;
 use crate::ends::TurnEnd;
-use crate::rooms::{transfer_of, is_told, tells};
+use crate::rooms::{is_told, tells, transfer_of};
 use crate::work::Transfer;
 use oc_link::{ConnectionId, Loss};
 use oc_routes::Prospect;
@@ -44,7 +44,11 @@ pub fn goes_on<W: Doer>(doer: &mut W, transfer: Transfer, now: u64) -> Result<()
 }
 
 /// A connection is over before its reply was sent whole.
-pub fn takes_loss<W: Doer>(doer: &mut W, connection: ConnectionId, loss: Loss) -> Result<(), TurnEnd>
+pub fn takes_loss<W: Doer>(
+    doer: &mut W,
+    connection: ConnectionId,
+    loss: Loss,
+) -> Result<(), TurnEnd>
     requires { W.serving doer.old }
     ensures did { OnOk result (W.does (takes_loss connection loss) doer.old doer.new) }
     ensures breaks { IfErr result (λ end. W.stops end (takes_loss connection loss) doer.old doer.new) }

@@ -1,12 +1,8 @@
 //! What a node does with its configuration when it was read again.
 
-ghost use Rattle.std.specs.Prelude.{◌≡◌, ◌≤◌, ◌-◌, All, IfErr, IfOk, IfSome, None, OnOk, Result, is_some, length, map, option_map, slice_index_or, string_bytes};
-ghost use Rattle.std.specs.List.{AllByRecursion};
-ghost use Rattle.oc_base.specs.Lawful.{IsNode};
+ghost use Rattle.std.specs.Prelude.{◌≡◌, ◌≤◌, All, IfErr, IfOk, IfSome, OnOk, Result, filter, length, option_map};
 ghost use Rattle.oc_base.specs.declared.limits.TheConstants.{MAX_NODES as MOST_NODES};
 ghost use Rattle.oc_config.specs.Reading.{IsConfig};
-ghost use Rattle.oc_model.specs.Lawful.{IsInput};
-ghost use Rattle.oc_probe.specs.Turns.{peers_of};
 ghost use Rattle.oc_updown.specs.MeasureLines.{IsMeasure};
 ghost use Rattle.oc_deeds.specs.Lawful.{IsMadeFor};
 ghost use Rattle.oc_deeds.specs.Rereading.{IsLawfulReread, MeansLook, MeansNew, MeansText, fitting, fresh, goes_by, is_fresh, is_last, is_placed, last_read, measured_by, probing_by, rotated_to, settles, takes_measures};
@@ -187,13 +183,23 @@ fn changes<W: Doer>(
 
 /// The node's own measures that the old configuration had not.
 fn fresh(alloc: Global, me: NodeId, old: &Config, new: &Config) -> Result<Vec<Measure>, Memory>
-    requires { IsConfig new.now }
-    ensures fresh { IfOk result (λ measures. measures.items ≡ fresh me old.now new.now) }
-    ensures lawful { IfOk result (λ measures. AllByRecursion (λ m. IsInput (length new.now.addresses) me (measured_by m)) measures.items) }
+    ensures { IfOk result (λ measures. measures.items ≡ fresh me old.now new.now) }
+{
+    fresh_of(alloc, me, &old.measures, &new.measures)
+}
+
+/// Those of these measures that are the node's own, and that the old ones are not.
+fn fresh_of(
+    alloc: Global,
+    me: NodeId,
+    old: &[Measure],
+    new: &[Measure],
+) -> Result<Vec<Measure>, Memory>
+    ensures { IfOk result (λ measures. measures.items ≡ filter (is_fresh me old.now) new.now) }
 {
     let mut measures = Vec::new(alloc);
-    for measure in &new.measures {
-        if is_fresh(me, &old.measures, *measure) {
+    for measure in new {
+        if is_fresh(me, old, *measure) {
             measures.push(*measure)?;
         }
     }
@@ -227,7 +233,7 @@ fn reroute(
 /// Takes each of these measures.
 fn takes_measures<W: Doer>(doer: &mut W, measures: &[Measure]) -> Result<(), TurnEnd>
     requires serving { W.serving doer.old }
-    requires lawful { AllByRecursion (λ m. IsInput (W.running doer.old).node.control.nodes (W.running doer.old).node.control.me (measured_by m)) measures.now }
+    requires lawful { All (IsMeasure (W.running doer.old).node.control.nodes) measures.now }
     ensures did { OnOk result (W.does (takes_measures measures.now) doer.old doer.new) }
     ensures breaks { IfErr result (λ end. W.stops end (takes_measures measures.now) doer.old doer.new) }
 {
@@ -243,7 +249,7 @@ fn takes_measures<W: Doer>(doer: &mut W, measures: &[Measure]) -> Result<(), Tur
 /// Takes a measure as an input.
 fn takes_measure<W: Doer>(doer: &mut W, measure: Measure) -> Result<(), TurnEnd>
     requires serving { W.serving doer.old }
-    requires lawful { IsInput (W.running doer.old).node.control.nodes (W.running doer.old).node.control.me (measured_by measure) }
+    requires lawful { IsMeasure (W.running doer.old).node.control.nodes measure }
     ensures did { OnOk result (W.does (takes_ahead (measured_by measure)) doer.old doer.new) }
     ensures breaks { IfErr result (λ end. W.stops end (takes_ahead (measured_by measure)) doer.old doer.new) }
 {

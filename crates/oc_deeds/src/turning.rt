@@ -11,7 +11,7 @@ ghost use Rattle.oc_deeds.specs.declared.came.Came.TheVariants as comes;
 use crate::came::Came;
 use crate::doer::Doer;
 use crate::ends::TurnEnd;
-use crate::moving::{takes_room, takes_loss};
+use crate::moving::{takes_loss, takes_room};
 use crate::obeying::obeys;
 use crate::pace::{Pace, quickened};
 use crate::probing::{measured, next_peer};

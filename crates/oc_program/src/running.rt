@@ -30,7 +30,7 @@ use oc_io::{Disk, Sink, Source};
 use oc_link::{Dialler, Link};
 use oc_replay::Stage;
 use oc_service::Site;
-use oc_words::{Download, Invocation, CheckedNode, Name, Service, Upload, WordsFault, read_words};
+use oc_words::{CheckedNode, Download, Invocation, Name, Service, Upload, WordsFault, read_words};
 use std::alloc::Global;
 
 /// Runs the program: performs the request of the words, from the input to the output, over the

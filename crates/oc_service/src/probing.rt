@@ -28,11 +28,7 @@ pub(crate) fn first_probing(
 }
 
 /// The state of probing of this node, without rates, and with the first peer that has an address as the next.
-fn make_probing(
-    alloc: Global,
-    me: NodeId,
-    addresses: &[Option<String>],
-) -> Result<Probing, Memory>
+fn make_probing(alloc: Global, me: NodeId, addresses: &[Option<String>]) -> Result<Probing, Memory>
     requires { length addresses.now ≤ MAX_NODES }
     ensures first { IfOk result (λ probing. probing ≡ probing_of me (map (option_map string_bytes) addresses.now)) }
     ensures made { IfOk result (IsMadeFor (length (map (option_map string_bytes) addresses.now))) }

@@ -126,9 +126,7 @@ fn announce<R: Eprint>(rt: &R, node: Option<u64>, address: &str) {
     }
 }
 
-impl<R: Net<Stream = TcpStream> + Clock + Eprint + Files<File = File>> Link
-    for SocketLink<'_, R>
-{
+impl<R: Net<Stream = TcpStream> + Clock + Eprint + Files<File = File>> Link for SocketLink<'_, R> {
     ghost use Rattle.std.specs.Prelude.{None};
 
     ghost story = { λ link. None };

@@ -1,6 +1,7 @@
 use Rattle.std.proofs.Common.{◌≡◌, ◌<◌, ◌≤◌, ℕ, suc, List, drop, length, get_or, refl, sym, ap, subst, ◌∙◌, arith, rules}
 use Rattle.std.proofs.lemmas.Result.{err_from_is_err_and}
-use Rattle.oc_model.specs.Lawful.{IsInput}
+use Rattle.std.specs.Prelude.{All}
+use Rattle.oc_updown.specs.MeasureLines.{IsMeasure}
 use Rattle.oc_updown.specs.declared.measure_lines.Measure.{Measure}
 use Rattle.oc_deeds.specs.Parts.{in_turn, nothing}
 use Rattle.oc_deeds.specs.Rereading.{measured_by, takes_measures}
@@ -13,6 +14,7 @@ measures-init g c =
     let s = c.args.doer.now in
     record {
       serving = c.requires.serving;
+      lawful = c.requires.lawful;
       far = (nothing, c.parts_go_on.ensures.nothing_done nothing s c.requires.serving (λ honest. refl), λ honest. none_taken c.args.measures.now nothing (g.W.Doer.setting s) (g.W.Doer.running s) refl);
     }
 
@@ -29,6 +31,7 @@ measures-preserved g c =
     let did = c.in_ok-takes_measure.ensures.did in
     record {
       serving = c.parts_go_on.ensures.stays_serving (takes_ahead (measured_by m)) l.doer new did l.invariant.serving;
+      lawful = subst (λ (n : ℕ). All (IsMeasure n) c.args.measures.now) (sym (c.parts_go_on.ensures.same_nodes (takes_ahead (measured_by m)) l.doer new did)) l.invariant.lawful;
       far = (
         in_turn far.0 (takes_ahead (measured_by m)),
         c.parts_go_on.ensures.follows far.0 (takes_ahead (measured_by m)) (takes_ahead (measured_by m)) s l.doer new far.1 (λ honest. refl) did,

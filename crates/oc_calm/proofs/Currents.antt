@@ -1,4 +1,4 @@
--- The leases of a table, tested for each node in place of each row.
+-- The leases of a table, tested node by node instead of row by row.
 use Rattle.std.proofs.Common.{◌≡◌, ℕ, zero, suc, ◌+◌, ◌<◌, ◌≤◌, Bool, true, false, not, ◌||◌, ◌==◌, Option, Some, None, List, [], ◌∷◌, length, inl, inr, ⊎_elim, refl, ap, sym, subst, ◌∙◌, arith, eqb-true, ne_eqb}
 use Rattle.std.specs.List.{list_all, range_with_len}
 use Rattle.std.proofs.lemmas.Bool.{and_parts, cases_eq}
@@ -15,7 +15,7 @@ use Rattle.oc_model.specs.Numbers.{is_empty}
 use Rattle.oc_calm.specs.Cluster.{HasNoStranger}
 use Rattle.oc_calm.proofs.Fitting.{same_truth}
 
--- a node has a lease in a table only where there is a row of it
+-- a test that holds of all rows holds of each node with a lease in the table
 leased_row : (test : ℕ → Bool) (y x seq : ℕ) (rows : List Cert) → leased_by rows y x ≡ Some seq → list_all (λ k. test k.subject) rows ≡ true → test x ≡ true
 leased_row test y x seq [] leased all = absurd cc
 leased_row test y x seq (k ∷ ks) leased all = by_test (leased_row test y x seq ks) (k.subject == x) refl where
@@ -31,7 +31,7 @@ all_rows : (test : ℕ → Bool) (rows : List Cert) → ((x : ℕ) → test x �
 all_rows test [] each = refl
 all_rows test (k ∷ ks) each = rw (each k.subject) (all_rows test ks each)
 
--- a number of a range is one of it
+-- a number within a range is one of its numbers
 one_of_range : (b n x : ℕ) → b ≤ x → x < b + n → IsOneOf x (range_with_len b n)
 one_of_range b zero x low high = absurd (omega (arith, low, high))
 one_of_range b (suc n) x low high = ⊎_elim (λ same. inl same) (λ other. inr (one_of_range (b + 1) n x (omega (arith, low, other)) (omega (arith, high)))) (cases_eq x b)
@@ -44,7 +44,7 @@ pub current_is : (w : World) (y x : ℕ) (b : Bool) → b ≡ is_current w y x (
 unfolding current_at
 current_is w y x b e = sym e
 
--- it holds of all nodes exactly where it holds of all rows
+-- the test holds of all nodes exactly where it holds of all rows
 pub currents_are : (w : World) (y n : ℕ) → ids w ≡ range_with_len 1 n → n ≡ length (ids w) → HasNoStranger w y → list_all (current_at w y) (ids w) ≡ holds_current w y
 unfolding current_at
 currents_are w y n numbered count strangers = same_truth (list_all (current_at w y) (ids w)) (holds_current w y) there back where
@@ -65,9 +65,9 @@ currents_are w y n numbered count strangers = same_truth (list_all (current_at w
     by_lease x None e = ap (is_current w y x) e
     by_lease x (Some seq) e = leased_row (current_at w y) y x seq table e all
 
--- What waits
+-- Waiting certificates
 
--- nothing is on an empty list
+-- an empty list has length 0
 empty_counts : (cs : List Cert) → (length cs == 0) ≡ is_empty cs
 empty_counts [] = refl
 empty_counts (c ∷ cs) = ne_eqb (length (c ∷ cs)) 0 (λ e. omega (arith, e))

@@ -23,7 +23,7 @@ chain_root w x r [] h = absurd h
 chain_root w x r (a ∷ []) h = subst (IsRoot w) h.1 h.2
 chain_root w x r (a ∷ d ∷ ds) h = chain_root w d r (d ∷ ds) h.3
 
--- a node whose chain has a length has a true chain, and the other way round
+-- a node whose chain has a length has a true chain
 long_true : (w : World) (x : ℕ) → is_positive (chain_length w x) ≡ true → (r : ℕ) × IsRoot w r × HasTrueChain w x r
 unfolding chain_length
 long_true w x e = by_found (chain_from w x) refl where
@@ -31,7 +31,7 @@ long_true w x e = by_found (chain_from w x) refl where
   by_found None f = let none : is_positive (nodes_in None) ≡ true = ap (λ (g : Option (List ℕ)). is_positive (nodes_in g)) (sym f) ∙ e in absurd cc
   by_found (Some c) f = let chain = found_true w x c f in (chain.0, chain_root w x chain.0 c chain.1, (c, chain.1))
 
--- the other way round
+-- the converse: a true chain has a length
 true_long : (w : World) (x r : ℕ) → HasTrueChain w x r → is_positive (chain_length w x) ≡ true
 unfolding chain_length
 true_long w x r ([], h) = absurd h
@@ -39,7 +39,7 @@ true_long w x r (a ∷ c, h) = ap (λ (g : Option (List ℕ)). is_positive (node
 
 -- Links
 
--- a link has its lease
+-- a link holds its lease
 pub linked_leased : (w : World) (x : ℕ) → is_linked w x ≡ true → is_leased w x ≡ true
 linked_leased w x e = by_mode (mode_of w x) e where
   by_mode : (m : Mode) → is_linked_as w x m ≡ true → is_leased_as w x m ≡ true
@@ -48,7 +48,7 @@ linked_leased w x e = by_mode (mode_of w x) e where
   by_mode (Asking p) e = absurd cc
   by_mode Acting e = absurd cc
 
--- a lease that a node which is up holds is a link
+-- a lease at a node that is up is a link
 pub leased_linked : (w : World) (x p : ℕ) → IsJoined w x p → IsUp w p → is_leased w x ≡ true → is_linked w x ≡ true
 leased_linked w x p joins up leased =
     let holds : is_leased_as w x (Joined p) ≡ true = ap (is_leased_as w x) (sym joins) ∙ leased in
@@ -60,7 +60,7 @@ chain_up w x r [] h = absurd h
 chain_up w x r (a ∷ []) h = h.2.0
 chain_up w x r (a ∷ d ∷ ds) h = h.1
 
--- so a true chain begins with a link where the lease is there
+-- a true chain begins with a link where its first node has a lease
 chain_linked : (w : World) (x r : ℕ) (c : List ℕ) → (x ≡ r → ⊥) → IsTrueChain w x r c → is_leased w x ≡ true → is_linked w x ≡ true
 chain_linked w x r [] other h leased = absurd h
 chain_linked w x r (a ∷ []) other h leased = absurd (other h.1)
@@ -74,11 +74,11 @@ same_truth true b f g = sym (f refl)
 same_truth false true f g = g refl
 same_truth false false f g = refl
 
--- what the test of a node that is up says
+-- the properties that the test of a node that is up checks
 Fits : World → ℕ → ℕ → Type 0
 Fits w r x = (x ≡ r) ⊎ ((IsRoot w x → ⊥) × (is_positive (chain_length w x) ≡ true) × IsLeased w x)
 
--- the test says it
+-- a node that passes the test has these properties
 fits_true : (w : World) (r x : ℕ) → fits_under w r x ≡ true → IsUp w x → Fits w r x
 unfolding fits_under Fits
 fits_true w r x e up = by_tests (is_up w x) (x == r) (is_acting (mode_of w x)) (is_positive (chain_length w x)) (is_linked w x) up refl refl refl refl e where
@@ -93,7 +93,7 @@ fits_true w r x e up = by_tests (is_up w x) (x == r) (is_acting (mode_of w x)) (
   by_tests false false false false leased h s a l g e = absurd cc
   by_tests false false false true false h s a l g e = absurd cc
 
--- the test of a node under the root of a ready world
+-- each node of a ready world passes the test under its root
 fits_test : (w : World) (r x : ℕ) → IsReadyUnder w r → fits_under w r x ≡ true
 unfolding fits_under
 fits_test w r x ready = by_tests (is_up w x) (x == r) (is_acting (mode_of w x)) (is_positive (chain_length w x)) (is_linked w x) refl refl refl refl refl where
@@ -113,7 +113,7 @@ fits_test w r x ready = by_tests (is_up w x) (x == r) (is_acting (mode_of w x)) 
 
 -- All nodes
 
--- where each node fits under a root, the world is ready
+-- the world is ready where each node fits under a root
 fits_ready : (w : World) (r : ℕ) → IsRoot w r → ((x : ℕ) → IsUp w x → Fits w r x) → IsReadyUnder w r
 unfolding Fits
 fits_ready w r root fits = record { root = root; alone = alone; chains = chains; leases = leases } where
@@ -129,7 +129,7 @@ fits_ready w r root fits = record { root = root; alone = alone; chains = chains;
   leases : (x : ℕ) → IsUp w x → (x ≡ r → ⊥) → IsLeased w x
   leases x up other = ⊎_elim (λ same. absurd (other same)) (λ both. both.2) (fits x up)
 
--- the world is ready exactly where each node fits under the first root
+-- the world is ready exactly where each node fits under its first root
 pub ready_fits : (w : World) (r : ℕ) → Some r ≡ find (is_root w) (ids w) → list_all (fits_under w r) (ids w) ≡ is_ready w
 ready_fits w r e = same_truth (list_all (fits_under w r) (ids w)) (is_ready w) there back where
   root : IsRoot w r
@@ -143,13 +143,13 @@ ready_fits w r e = same_truth (list_all (fits_under w r) (ids w)) (is_ready w) t
     under : IsReady w → IsReadyUnder w r
     under (s, is) = subst (IsReadyUnder w) (sym (is.alone r root)) is
 
--- where there is no root, it is not
+-- a world without a root is not ready
 pub rootless : (w : World) → None ≡ find (is_root w) (ids w) → false ≡ is_ready w
 rootless w e = ap (ready_under w) e
 
 -- Loops over the nodes
 
--- all but the ones that were looked at pass
+-- one more node passes, so the result is that of the rest
 pub all_more : (test : ℕ → Bool) (k end : ℕ) (all : Bool) → k < end → test k ≡ true → list_all test (range_with_len k (end - k)) ≡ all
     → list_all test (range_with_len (k + 1) (end - (k + 1))) ≡ all
 all_more test k end all within passes so_far =
@@ -157,21 +157,21 @@ all_more test k end all within passes so_far =
     let next : list_all test (range_with_len k (end - k)) ≡ list_all test (range_with_len (k + 1) (end - (k + 1))) = rw (more, passes) refl in
     sym next ∙ so_far
 
--- one fails
+-- one node fails, so the result is false
 pub all_fails : (test : ℕ → Bool) (k end : ℕ) (all : Bool) → k < end → test k ≡ false → list_all test (range_with_len k (end - k)) ≡ all → false ≡ all
 all_fails test k end all within fails so_far =
     let more : end - k ≡ suc (end - (k + 1)) = omega (arith, within) in
     let next : list_all test (range_with_len k (end - k)) ≡ false = rw (more, fails) refl in
     sym next ∙ so_far
 
--- none is left that could fail
+-- no node remains that could fail
 pub all_ends : (test : ℕ → Bool) (k end : ℕ) (all : Bool) → end ≤ k → list_all test (range_with_len k (end - k)) ≡ all → true ≡ all
 all_ends test k end all past so_far =
     let none : end - k ≡ 0 = omega (arith, past) in
     let next : list_all test (range_with_len k (end - k)) ≡ true = rw none refl in
     sym next ∙ so_far
 
--- the first is among those that were not looked at
+-- the first root is among the nodes that were not looked at yet
 pub find_more : (test : ℕ → Bool) (k end : ℕ) (found : Option ℕ) → k < end → test k ≡ false → find test (range_with_len k (end - k)) ≡ found
     → find test (range_with_len (k + 1) (end - (k + 1))) ≡ found
 find_more test k end found within fails so_far =
@@ -179,14 +179,14 @@ find_more test k end found within fails so_far =
     let next : find test (range_with_len k (end - k)) ≡ find test (range_with_len (k + 1) (end - (k + 1))) = rw (more, fails) refl in
     sym next ∙ so_far
 
--- the first is the one that is looked at
+-- the first root is the node that is looked at
 pub find_here : (test : ℕ → Bool) (k end : ℕ) (found : Option ℕ) → k < end → test k ≡ true → find test (range_with_len k (end - k)) ≡ found → Some k ≡ found
 find_here test k end found within passes so_far =
     let more : end - k ≡ suc (end - (k + 1)) = omega (arith, within) in
     let next : find test (range_with_len k (end - k)) ≡ Some k = rw (more, passes) refl in
     sym next ∙ so_far
 
--- none is left that could be it
+-- no node remains that could be the first root
 pub find_ends : (test : ℕ → Bool) (k end : ℕ) (found : Option ℕ) → end ≤ k → find test (range_with_len k (end - k)) ≡ found → None ≡ found
 find_ends test k end found past so_far =
     let none : end - k ≡ 0 = omega (arith, past) in

@@ -1,4 +1,4 @@
--- What is known of who is placed, as it is noted and forgotten.
+-- The nodes that are known to be in place, as they are noted and forgotten.
 use Rattle.std.proofs.Common.{◌≡◌, ℕ, zero, suc, ◌+◌, ◌-◌, ◌<◌, ◌≤◌, Bool, true, false, ◌&&◌, ◌==◌, List, [], ◌∷◌, length, reverse, get_or, set, replicate, if◌then◌else◌, refl, ap, sym, subst, ◌∙◌, ⊎_elim, arith, true≢false, eqb-true, eq-eqb, Some, None, nat_lt, ltb-true, ltb-false}
 use Rattle.std.specs.List.{AllByRecursion, range_with_len}
 use Rattle.std.proofs.lemmas.Bool.{and_parts, cases_eq}
@@ -18,11 +18,11 @@ use Rattle.oc_calm.proofs.Steady.{count_stays}
 
 -- Tops
 
--- the test of a top says it
+-- a node that passes the test of a top is the top and a root
 pub top_true : (w : World) (m x : ℕ) → (x == m && is_root w x) ≡ true → (x ≡ m) × (is_root w x ≡ true)
 top_true w m x e = let both = and_parts (x == m) (is_root w x) e in (eqb-true x m both.0, both.1)
 
--- where the test fails, the top does not act
+-- a top that fails the test is no root
 pub top_false : (w : World) (m x : ℕ) → (x == m && is_root w x) ≡ false → x ≡ m → is_root w x ≡ false
 top_false w m x e same = let here : (x == m) ≡ true = eq-eqb x m same in rw here at e
 
@@ -32,7 +32,7 @@ top_placed w m x e = let both = top_true w m x e in sym (leader_placed w m x bot
 
 -- Noting
 
--- one more is known
+-- one more node is known to be in place
 pub placed_more : (w : World) (m x i : ℕ) (known : List Bool) → ArePlaced w m known → IsNodeOf w x → is_placed_under w m x ≡ true → i ≡ x - 1 → ArePlaced w m (set known i true)
 placed_more w m x i known placed node here place = record {
   places = length-set known i true ∙ placed.places;
@@ -46,52 +46,52 @@ placed_more w m x i known placed node here place = record {
 
 -- Forgetting
 
--- one more is forgotten
+-- one more node is forgotten
 pub forget_more : (known : List Bool) (i : ℕ) → i < length known → ((k : ℕ) → k < i → get_or known k false ≡ false) → (k : ℕ) → k < i + 1 → get_or (set known i false) k false ≡ false
 forget_more known i within before k low = ⊎_elim
     (λ (same : k ≡ i). ap (λ (j : ℕ). get_or (set known i false) j false) same ∙ get_or-set_same known i false false within)
     (λ (other : k ≡ i → ⊥). get_or-set_other known i k false false other ∙ before k (omega (arith, low, other)))
     (cases_eq k i)
 
--- and all are
+-- all nodes are forgotten
 pub all_forgotten : (known : List Bool) (i : ℕ) → length known ≤ i → ((k : ℕ) → k < i → get_or known k false ≡ false) → IsForgotten known
 all_forgotten known i past before = record { none = λ k. by_test k (nat_lt k i) refl } where
   by_test : (k : ℕ) (b : Bool) → nat_lt k i ≡ b → get_or known k false ≡ false
   by_test k true e = before k (ltb-true k i e)
   by_test k false e = get_or_past known k false (omega (arith, past, ltb-false k i e))
 
--- then what is known is so in any world
+-- entries that are all forgotten are right in any world
 pub forgotten_placed : (w : World) (m : ℕ) (known : List Bool) → length known ≡ length (ids w) → IsForgotten known → ArePlaced w m known
 forgotten_placed w m known places forgotten = record { places = places; placed = λ x node e. absurd (true≢false (sym e ∙ forgotten.none (x - 1))) }
 
--- also after a run
+-- forgotten entries are right after a run too
 pub forgotten_after : {f : World → Run} {w v : World} {n k : ℕ} (m : ℕ) (known : List Bool) → Plays f w v n k → length known ≡ length (ids w) → IsForgotten known → ArePlaced v m known
 forgotten_after {f} {w} {v} m known played places forgotten =
     forgotten_placed v m known (places ∙ (sym (count_stays w (f w).acts) ∙ ap (λ (z : World). length (ids z)) (sym played.reached))) forgotten
 
--- nothing is known at first
+-- no node is known at first
 replicate_false : (n k : ℕ) → get_or (replicate n false) k false ≡ false
 replicate_false zero k = refl
 replicate_false (suc n) zero = refl
 replicate_false (suc n) (suc k) = replicate_false n k
 
--- so nothing false is known
+-- entries of which none is set are right
 pub none_placed : (w : World) (m n : ℕ) → ids w ≡ range_with_len 1 n → ArePlaced w m (replicate n false)
 none_placed w m n e = forgotten_placed w m (replicate n false) (length-replicate n false ∙ nodes_count w n e) (record { none = replicate_false n })
 
 -- Nodes below the top
 
--- what holds of each holds of them the other way round
+-- a property of each item of a list holds of each of the reversed list
 all_reverse : (P : ℕ → Type 0) (xs : List ℕ) → AllByRecursion P xs → AllByRecursion P (reverse xs)
 all_reverse P [] all = tt
 all_reverse P (x ∷ xs) all = subst (AllByRecursion P) (sym (reverse-append (x ∷ []) xs)) (all_append P (reverse xs) (x ∷ []) (all_reverse P xs all.1) (all.0, tt))
 
--- nor is it otherwise where they are left out
+-- a property of each item holds too where the list may be left out
 pub turned_nodes : (P : ℕ → Type 0) (b : Bool) (xs : List ℕ) → AllByRecursion P xs → AllByRecursion P (if b then reverse xs else [])
 turned_nodes P true xs all = all_reverse P xs all
 turned_nodes P false xs all = tt
 
--- where the way ends, it goes to the top, or there is no such chain
+-- the nodes below the top, once the way has ended at the top or elsewhere
 pub turned_below : (w : World) (k m x y : ℕ) (b : Bool) (xs : List ℕ) → above w k x ≡ Some y → parent_of w y ≡ None → b ≡ (y == m && is_root w y) → xs ≡ way_up w k x
     → (if b then reverse xs else []) ≡ nodes_below m x w
 turned_below w k m x y true xs way none top e =

@@ -1,4 +1,4 @@
--- Who is placed: the leader, and who is linked to one that is by a link with its lease.
+-- The placed nodes: the leader, and each node with a leased link to a placed one.
 use Rattle.std.proofs.Common.{◌≡◌, ℕ, zero, suc, ◌+◌, ◌<◌, ◌≤◌, Bool, true, false, Option, Some, None, List, [], ◌∷◌, ◌++◌, length, drop, reverse, refl, ap, sym, subst, ◌∙◌, arith, true≢false}
 use Rattle.std.proofs.lemmas.List.{reverse-append}
 use Rattle.oc_model.specs.Chains.{IsRoot, IsTrueChain, chain_to}
@@ -15,12 +15,12 @@ use Rattle.oc_calm.proofs.Fitting.{same_truth, linked_leased, leased_linked, cha
 
 -- Placed
 
--- the test says it
+-- a node that passes the test is placed
 placed_true : (w : World) (m x : ℕ) → is_placed_under w m x ≡ true → IsPlaced w m x
 unfolding is_placed_under
 placed_true w m x e = (placed_tested w m x).0 e
 
--- the other way round
+-- the converse: a placed node passes the test
 placed_test : (w : World) (m x : ℕ) → IsPlaced w m x → is_placed_under w m x ≡ true
 unfolding is_placed_under
 placed_test w m x placed = (placed_tested w m x).1 placed
@@ -29,17 +29,17 @@ placed_test w m x placed = (placed_tested w m x).1 placed
 pub leader_placed : (w : World) (m x : ℕ) → x ≡ m → is_root w x ≡ true → is_placed_under w m x ≡ true
 leader_placed w m x same root = placed_test w m x (x ∷ [], (refl, same, root_true w x root), tt)
 
--- the leases of a chain are those of its first link and of the rest
+-- the rest of a leased chain after its first link is leased
 behind : (w : World) (x : ℕ) (d : List ℕ) → AreLeased w (x ∷ d) → AreLeased w d
 behind w x [] all = tt
 behind w x (y ∷ ys) all = all.1
 
--- a link with its lease before them
+-- a leased link before a leased chain gives a leased chain
 before : (w : World) (x p r : ℕ) (d : List ℕ) → IsTrueChain w p r d → is_leased w x ≡ true → AreLeased w d → AreLeased w (x ∷ d)
 before w x p r [] chain leased all = tt
 before w x p r (y ∷ ys) chain leased all = (leased_true w x leased, all)
 
--- a placed node that has a parent: it is linked to it, and the parent is placed
+-- a placed node that has a parent is linked to it, and the parent is placed
 pub placed_parent : (w : World) (m x p : ℕ) → parent_of w x ≡ Some p → is_placed_under w m x ≡ true → (is_linked w x ≡ true) × (is_placed_under w m p ≡ true)
 placed_parent w m x p up e =
     let placed = placed_true w m x e in
@@ -51,7 +51,7 @@ placed_parent w m x p up e =
       first [] chain leases = absurd chain
       first (y ∷ ys) chain leases = leased_test w x leases.0
 
--- and the other way round
+-- the converse: a node that is linked to a placed parent is placed
 pub placed_linked : (w : World) (m x p : ℕ) → parent_of w x ≡ Some p → is_linked w x ≡ true → is_placed_under w m p ≡ is_placed_under w m x
 placed_linked w m x p up linked = same_truth (is_placed_under w m p) (is_placed_under w m x) there (λ e. (placed_parent w m x p up e).1) where
   there : is_placed_under w m p ≡ true → is_placed_under w m x ≡ true
@@ -60,54 +60,54 @@ placed_linked w m x p up linked = same_truth (is_placed_under w m p) (is_placed_
       let is = parent_true w x p up in
       placed_test w m x (x ∷ placed.0, link w x p m placed.0 is.0 is.1 placed.1, before w x p m placed.0 placed.1 (linked_leased w x linked) placed.2)
 
--- who is not true is false
+-- a truth value that is not true is false
 not_so : (b : Bool) → (b ≡ true → ⊥) → false ≡ b
 not_so true denied = absurd (denied refl)
 not_so false denied = refl
 
--- without such a link it is not placed
+-- a node without a leased link to its parent is not placed
 pub linkless : (w : World) (m x p : ℕ) → parent_of w x ≡ Some p → is_linked w x ≡ false → false ≡ is_placed_under w m x
 linkless w m x p up none = not_so (is_placed_under w m x) (λ e. true≢false (sym (placed_parent w m x p up e).0 ∙ none))
 
--- nor is one without a parent that is not the leader
+-- a true chain of a node without a parent has that node alone, as its root
 top_only : (w : World) (x r : ℕ) (c : List ℕ) → parent_of w x ≡ None → IsTrueChain w x r c → (x ≡ r) × (is_root w x ≡ true)
 top_only w x r [] none chain = absurd chain
 top_only w x r (a ∷ []) none chain = (chain.1, root_test w x chain.2)
 top_only w x r (a ∷ d ∷ ds) none chain = let has : parent_of w x ≡ Some d = parent_found w x d chain.1 chain.2 in absurd cc
 
--- is not placed
+-- a node without a parent that is not an acting leader is not placed
 pub unlinked : (w : World) (m x : ℕ) → parent_of w x ≡ None → (x ≡ m → is_root w x ≡ false) → false ≡ is_placed_under w m x
 unlinked w m x none other = not_so (is_placed_under w m x) (λ e. let placed = placed_true w m x e in let top = top_only w x m placed.0 none placed.1 in true≢false (sym top.1 ∙ other top.0))
 
--- a way of as many links as there are nodes leads to none that is placed
+-- a node at the end of a way with at least as many links as the world has nodes has no true chain
 long_chain : (w : World) (k x y r : ℕ) (c : List ℕ) → length (ids w) ≤ k → above w k x ≡ Some y → IsTrueChain w y r c → ⊥
 long_chain w k x y r c long way chain = absurd (by_length (chain_length w y) refl (length_of_true w y r c chain)) where
   by_length : (n : ℕ) → chain_length w y ≡ n → 0 < chain_length w y → ⊥
   by_length zero e some = omega (arith, e, some)
   by_length (suc n) e some = let all : chain_length w x ≡ suc n + k = length_above w k x y way ∙ ap (longer k) e in omega (arith, all, length_short w x, long)
 
--- so such a node is not placed
+-- the node at the start of such a way is not placed
 pub too_long : (w : World) (m k x y : ℕ) → length (ids w) ≤ k → above w k x ≡ Some y → is_placed_under w m y ≡ is_placed_under w m x → false ≡ is_placed_under w m x
 too_long w m k x y long way same = not_so (is_placed_under w m x) (λ e. let placed = placed_true w m y (same ∙ e) in long_chain w k x y m placed.0 long way placed.1)
 
 -- The nodes on a way up
 
--- the first k of them, from x on
+-- the rest of a way from the parent on; no node without a parent
 pub on_way : Option ℕ → (ℕ → List ℕ) → List ℕ
 on_way None rest = []
 on_way (Some p) rest = rest p
 
--- the node and those above it
+-- the first k nodes of the way up from x
 pub way_up : World → ℕ → ℕ → List ℕ
 way_up w zero x = []
 way_up w (suc k) x = x ∷ on_way (parent_of w x) (way_up w k)
 
--- of no links there is none
+-- the way of no links has no nodes
 pub way_zero : (w : World) (x : ℕ) → way_up w 0 x ≡ []
 unfolding way_up
 way_zero w x = refl
 
--- one more at its end
+-- a way with one node more at its end
 pub way_more : (w : World) (k x y : ℕ) → above w k x ≡ Some y → way_up w (k + 1) x ≡ way_up w k x ++ y ∷ []
 unfolding way_up on_way above
 way_more w zero x y e = let same : x ≡ y = cc in by_parent (parent_of w x) same where
@@ -123,7 +123,7 @@ way_more w (suc k) x y e = by_parent (way_more w k) (parent_of w x) refl e where
       let more : suc k + 1 ≡ suc (k + 1) = omega arith in
       rw (more, f) (ap (λ (xs : List ℕ). x ∷ xs) (rest p y there))
 
--- with a root at its end it is a true chain
+-- the way up to a root is a true chain
 way_true : (w : World) (k x r : ℕ) → above w k x ≡ Some r → IsRoot w r → IsTrueChain w x r (way_up w k x ++ r ∷ [])
 unfolding way_up on_way above
 way_true w zero x r e root = let same : x ≡ r = cc in (sym same, same, subst (IsRoot w) (sym same) root)
@@ -152,7 +152,7 @@ chain_above w (suc k) x y r c e chain = by_parent (chain_above w k) (parent_of w
 
 -- The nodes below the top
 
--- the way comes to the top
+-- the nodes below the top, where the way comes to the top
 pub below_way : (w : World) (k m x y : ℕ) → above w k x ≡ Some y → y ≡ m → is_root w y ≡ true → reverse (way_up w k x) ≡ nodes_below m x w
 unfolding nodes_below
 below_way w k m x y way same root =
@@ -161,7 +161,7 @@ below_way w k m x y way same root =
     let turned : reverse (way_up w k x ++ m ∷ []) ≡ m ∷ reverse (way_up w k x) = reverse-append (way_up w k x) (m ∷ []) in
     sym (ap top_down chain ∙ ap (drop 1) turned)
 
--- or ends elsewhere
+-- no node is below the top where there is no chain to it
 none_below : (w : World) (m x : ℕ) → ((c : List ℕ) → IsTrueChain w x m c → ⊥) → [] ≡ nodes_below m x w
 unfolding nodes_below
 none_below w m x none = by_found (chain_to w m x) refl where
@@ -169,11 +169,11 @@ none_below w m x none = by_found (chain_to w m x) refl where
   by_found None e = ap top_down (sym e)
   by_found (Some c) e = absurd (none c (chain_to-true w x m c e))
 
--- then there is no such chain
+-- no node is below the top where the way ends elsewhere
 pub below_elsewhere : (w : World) (k m x y : ℕ) → above w k x ≡ Some y → parent_of w y ≡ None → (y ≡ m → is_root w y ≡ false) → [] ≡ nodes_below m x w
 below_elsewhere w k m x y way none other =
     none_below w m x (λ c chain. let up = chain_above w k x y m c way chain in let top = top_only w y m up.0 none up.1 in true≢false (sym top.1 ∙ other top.0))
 
--- or goes on for ever
+-- no node is below the top where the way never ends
 pub below_endless : (w : World) (k m x y : ℕ) → length (ids w) ≤ k → above w k x ≡ Some y → [] ≡ nodes_below m x w
 below_endless w k m x y long way = none_below w m x (λ c chain. let up = chain_above w k x y m c way chain in long_chain w k x y m up.0 long way up.1)

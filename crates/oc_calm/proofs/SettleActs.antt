@@ -1,4 +1,4 @@
--- The acts of settle, as a run and as the model lists them.
+-- The acts of settle, as a run and as the list of the model.
 use Rattle.std.proofs.Common.{◌≡◌, ℕ, Bool, true, false, Option, Some, None, List, [], length, refl, ap, sym, subst, ◌∙◌, arith}
 use Rattle.oc_model.specs.declared.event.Act.{Act}
 use Rattle.oc_model.specs.declared.word.Word.TheVariants as words
@@ -9,16 +9,16 @@ use Rattle.oc_model.specs.World.{World}
 use Rattle.oc_calm.specs.CalmRuns.{settle_run}
 use Rattle.oc_calm.specs.Way.{Plays, Begins, IsOnTheWay, acts_of}
 
--- in a world that is ready
+-- the acts in a world that is ready
 pub ready_acts : (w : World) → is_ready w ≡ true → settle_acts w ≡ Some (settle_run w).acts
 unfolding settle_run
 ready_acts w ready = ap (λ (b : Bool). settle_acts_if b w) ready
 
--- and in one that is not
+-- no acts in a world that is not ready
 pub unready_acts : (w : World) → is_ready w ≡ false → settle_acts w ≡ None
 unready_acts w unready = ap (λ (b : Bool). settle_acts_if b w) unready
 
--- What a call answers and leaves, where there are acts
+-- The answer and effect of a call, where there are acts
 
 pub settled_word : (run : World → Run) (w v : World) (k : ℕ) (all : Option (List Act)) → all ≡ Some (run w).acts → Plays run w v 0 k → words.Settled k ≡ word_of_settle all
 settled_word run w v k all e played = let count : k ≡ length (run w).acts = omega (arith, played.count) in ap words.Settled count ∙ ap word_of_settle (sym e)
@@ -32,7 +32,7 @@ acts_world run w v k all e played = played.reached ∙ ap (after_any w) (sym e)
 pub acts_way : (run : World → Run) (w v : World) (all : Option (List Act)) → all ≡ Some (run w).acts → Begins run w v → IsOnTheWay (acts_of all) w v
 acts_way run w v all e begun = subst (λ (a : Option (List Act)). IsOnTheWay (acts_of a) w v) (sym e) begun.way
 
--- and where nothing was done
+-- the answer where nothing was done
 pub unsettled_word : (all : Option (List Act)) → all ≡ None → words.Unready ≡ word_of_settle all
 unsettled_word all e = ap word_of_settle (sym e)
 

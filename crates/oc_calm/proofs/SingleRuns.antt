@@ -1,4 +1,4 @@
--- What the runs that single calls play are made of.
+-- The parts of the runs that single calls play.
 use Rattle.std.proofs.Common.{◌≡◌, ℕ, ◌+◌, true, false, Option, Some, None, length, refl, ap, sym}
 use Rattle.oc_model.specs.declared.event.Act.TheVariants as acts
 use Rattle.oc_model.specs.declared.input.Input.TheVariants as inputs
@@ -41,7 +41,7 @@ pub ack_is : (w : World) → is_ack (last_body w) ≡ true → delivery_run w �
 unfolding delivery_run ack_run
 ack_is w e = ack_taken (last_body w) w e
 
--- nothing else is
+-- any other message is not delivered
 nothing_taken : (b : Option Body) (w : World) → is_ack b ≡ false → rests w ≡ takes_ack b w
 nothing_taken (Some (bodies.CheckAck seq upto rank ancestors)) w e = absurd cc
 nothing_taken b w e = refl
@@ -55,12 +55,12 @@ pub check_in_is : (x : ℕ) (w : World) → and_then (and_then (act_run (acts.At
 unfolding act_run delivery_run ack_run check_in_run
 check_in_is x w = refl
 
--- that of a node that is joined
+-- a check-in of a node that is joined
 pub joined_is : (x p : ℕ) (w : World) → mode_of w x ≡ Joined p → check_in_run x w ≡ joined_run x w
 unfolding check_in_run joined_run
 joined_is x p w e = ap (λ (m : Mode). checks_in_if m x w) (sym e)
 
--- and of one that is not
+-- no check-in of a node that is not joined
 not_joined : (m : Mode) (x : ℕ) (w : World) → ((p : ℕ) → m ≡ Joined p → ⊥) → rests w ≡ checks_in_if m x w
 not_joined (Joined p) x w other = absurd (other p refl)
 not_joined Idle x w other = refl

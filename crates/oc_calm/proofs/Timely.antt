@@ -33,7 +33,7 @@ clock_stepped w x y t i new old =
     at_put w.processes (record { node = (step (node w x) i).node; up = true }) (λ n. n.control.soft.clock ≤ t) y
     (λ e. subst (λ (c : ℕ). c ≤ t) (sym (step_leaves (node w x) i).clock) (new (sym (me_after w x i) ∙ e))) old
 
--- an input that is no tick
+-- an act that moves no clock
 abbrev TellsNoTime : Option Arrival → Type 0
 TellsNoTime None = Unit {0}
 TellsNoTime (Some a) = (c : ℕ) → clock_by a.input c ≡ c
@@ -48,7 +48,7 @@ act_quiet w (acts.At x (inputs.Delivered m)) no_tick = tt
 act_quiet w (acts.At x i) no_tick = λ c. refl
 act_quiet w (acts.Deliver k) no_tick = delivery_quiet (message_at w.net k)
 
--- leaves each clock before a second
+-- an act that is no tick leaves each clock before its bound
 clock_quiet : (w : World) (a : Option Arrival) (y t : ℕ) → TellsNoTime a → clock_of w y ≤ t → clock_of (acted w a) y ≤ t
 clock_quiet w None y t quiet before = before
 clock_quiet w (Some a) y t quiet before =
@@ -61,7 +61,7 @@ tick_other w x more y t other before =
     let i : Input = inputs.Tick (clock_of w x + more) in
     cond_both (process w x).up (stepped w i (step (node w x) i)) w (λ v. clock_of v y ≤ t) (λ _. clock_stepped w x y t i (λ same. absurd (other (sym same))) before) (λ _. before)
 
--- by `more` seconds at most
+-- a tick moves a clock by at most `more` seconds
 tick_before : (w : World) (x more y t : ℕ) → clock_of w x ≤ t → clock_of w y ≤ t + more → clock_of (ticks more x w).world y ≤ t + more
 tick_before w x more y t here before =
     let i : Input = inputs.Tick (clock_of w x + more) in
@@ -69,7 +69,7 @@ tick_before w x more y t here before =
 
 -- A round of ticks
 
--- a distinct list stays so where some are left out
+-- a filtered list without repeats has no repeats
 filter_distinct : (test : ℕ → Bool) (xs : List ℕ) → IsDistinct xs → IsDistinct (filter test xs)
 filter_distinct test [] distinct = tt
 filter_distinct test (x ∷ xs) distinct =
@@ -77,7 +77,7 @@ filter_distinct test (x ∷ xs) distinct =
     (λ _. (λ one. distinct.0 (of_filter test xs x one).1, filter_distinct test xs distinct.1))
     (λ _. filter_distinct test xs distinct.1)
 
--- while these have not ticked yet, each once
+-- a round of ticks is timely while none of these nodes has ticked yet
 ticks_timely : (more t : ℕ) (xs : List ℕ) (w : World) → t + more ≤ LAST_SECOND → IsDistinct xs → ((y : ℕ) → IsOneOf y xs → clock_of w y ≤ t) → UpAreBefore (t + more) w
     → AreTimely (for_each xs (ticks more) w).acts × UpAreBefore (t + more) (for_each xs (ticks more) w).world
 ticks_timely more t [] w late distinct early before = (tt, before)
@@ -91,7 +91,7 @@ ticks_timely more t (x ∷ xs) w late distinct early before =
 
 -- Runs
 
--- the ids stay, and where there are k seconds left its ticks are timely
+-- the ids stay the same, and the ticks are timely where k seconds are left
 record IsInTime (k : ℕ) (w : World) (r : Run) : Type 0 where
   same : ids r.world ≡ ids w
   timely : IsDistinct (ids w) → (t : ℕ) → t + k ≤ LAST_SECOND → UpAreBefore t w → AreTimely r.acts × UpAreBefore (t + k) r.world
@@ -135,15 +135,15 @@ in_time = record {
 ids_distinct : (w : World) (n : ℕ) → ids w ≡ range_with_len 1 n → IsDistinct (ids w)
 ids_distinct w n e = subst IsDistinct (sym e) (range_distinct 1 n)
 
--- settle is in time where half a minute is left
+-- settle is timely where half a minute is left
 pub settles_timely : (w : World) (n t : ℕ) → ids w ≡ range_with_len 1 n → t + 30 ≤ LAST_SECOND → UpAreBefore t w → AreTimely (settles w).acts
 settles_timely w n t e late before = ((course_settles IsInTime in_time w).timely (ids_distinct w n e) t late before).0
 
--- heal where a minute is
+-- heal is timely where a minute is left
 pub heals_timely : (m : ℕ) (w : World) (n t : ℕ) → ids w ≡ range_with_len 1 n → t + 60 ≤ LAST_SECOND → UpAreBefore t w → AreTimely (heals m w).acts
 heals_timely m w n t e late before = ((course_heals IsInTime in_time m w).timely (ids_distinct w n e) t late before).0
 
--- the parts of timely acts
+-- the first part of timely acts is timely
 pub timely_first : (some more : List Act) → AreTimely (some ++ more) → AreTimely some
 timely_first [] more all = tt
 timely_first (a ∷ some) more all = (all.0, timely_first some more all.1)

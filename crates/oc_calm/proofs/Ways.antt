@@ -1,4 +1,4 @@
--- Runs that are played one after another, to the end or until memory is wanted.
+-- Runs that are played one after another, to the end or until memory runs out.
 use Rattle.std.proofs.Common.{◌≡◌, ℕ, ◌+◌, Result, Ok, Err, OnOk, OnErr, List, [], ◌++◌, length, refl, ap, sym, subst, ◌∙◌, arith, append_assoc, append-nil, length-append}
 use Rattle.oc_model.specs.declared.event.Act.{Act}
 use Rattle.oc_model.specs.Runs.{Run, rests, and_then, after_acts}
@@ -9,37 +9,37 @@ use Rattle.oc_calm.specs.Way.{Plays, IsOnTheWay, Begins}
 
 -- Results
 
--- what follows from a success
+-- a consequence of a success
 pub on_ok : {A E P Q : Type 0} (r : Result A E) → (P → Q) → OnOk r P → OnOk r Q
 on_ok (Ok x) f p = f p
 on_ok (Err e) f p = p
 
--- what follows from a failure
+-- a consequence of a failure
 pub on_err : {A E P Q : Type 0} (r : Result A E) → (P → Q) → OnErr r P → OnErr r Q
 on_err (Ok x) f p = p
 on_err (Err e) f p = f p
 
--- what is so anyway is so of a failure
+-- a property that holds anyway holds of a failure
 pub even_on_err : {A E P : Type 0} (r : Result A E) → P → OnErr r P
 even_on_err (Ok x) p = tt
 even_on_err (Err e) p = p
 
--- One run after another
+-- Runs in a row
 
--- one act
+-- a run of one act
 pub act_played : (a : Act) (w v : World) (n k : ℕ) → v ≡ after_act w a → k ≡ n + 1 → Plays (act_run a) w v n k
 unfolding act_run
 act_played a w v n k e c = record { world = e; reached = e; count = c }
 
--- no act
+-- a run of no act
 pub rest_played : (w : World) (n : ℕ) → Plays rests w w n n
 rest_played w n = record { world = refl; reached = refl; count = omega arith }
 
--- before the first of some acts
+-- no act of the run was played yet
 pub not_begun : (f : World → Run) (w v : World) → v ≡ w → Begins f w v
 not_begun f w v e = record { way = record { done = []; rest = (f w).acts; whole = refl; reached = e } }
 
--- a prefix of a prefix
+-- a prefix of a prefix of some acts
 pub cut_first : (all more : List Act) (w v : World) → IsOnTheWay all w v → IsOnTheWay (all ++ more) w v
 cut_first all more w v way = record {
   done = way.done;
@@ -48,7 +48,7 @@ cut_first all more w v way = record {
   reached = way.reached;
 }
 
--- a prefix of what follows
+-- a prefix of the acts that follow
 pub cut_later : (all more : List Act) (w v u : World) → v ≡ after_acts w all → IsOnTheWay more v u → IsOnTheWay (all ++ more) w u
 cut_later all more w v u here way = record {
   done = all ++ way.done;
@@ -57,7 +57,7 @@ cut_later all more w v u here way = record {
   reached = way.reached ∙ (ap (λ (z : World). after_acts z way.done) here ∙ sym (after_acts-append w all way.done));
 }
 
--- the second run after the first
+-- the second run is played after the first
 pub then_played : {f g : World → Run} {w v u : World} {n k j : ℕ} → Plays f w v n k → Plays g v u k j → Plays (λ z. and_then (f z) g) w u n j
 then_played {f} {g} {w} {v} {u} {n} {k} {j} first second = record {
   world = second.world ∙ ap (λ (z : World). (g z).world) first.world;
@@ -70,19 +70,19 @@ then_played {f} {g} {w} {v} {u} {n} {k} {j} first second = record {
       both ∙ ap (λ (z : World). n + length ((f w).acts ++ (g z).acts)) first.world;
 }
 
--- memory is wanted in the first
+-- memory runs out in the first run
 pub cut_in_first : {f : World → Run} (g : World → Run) {w u : World} → Begins f w u → Begins (λ z. and_then (f z) g) w u
 cut_in_first {f} g {w} {u} begun = record { way = cut_first (f w).acts (g (f w).world).acts w u begun.way }
 
--- or in the second
+-- memory runs out in the second run
 pub cut_in_second : {f g : World → Run} {w v u : World} {n k : ℕ} → Plays f w v n k → Begins g v u → Begins (λ z. and_then (f z) g) w u
 cut_in_second {f} {g} {w} {v} {u} first begun =
     record { way = subst (λ (z : World). IsOnTheWay ((f w).acts ++ (g z).acts) w u) first.world (cut_later (f w).acts (g v).acts w v u first.reached begun.way) }
 
 -- Loops
 
--- of a whole run from w on, this much was played: its acts are those that were played, which lead to v, and those of the rest, which
--- leads where the whole does
+-- the part of a run that was played so far: the run's acts are those and the acts of the rest, which leads to the same world as
+-- the whole
 pub record IsLeft (whole : World → Run) (w : World) (n : ℕ) (rest : World → Run) (v : World) (k : ℕ) : Type 0 where
   pub done : List Act
   pub acts : (whole w).acts ≡ done ++ (rest v).acts
@@ -90,11 +90,11 @@ pub record IsLeft (whole : World → Run) (w : World) (n : ℕ) (rest : World �
   pub reached : v ≡ after_acts w done
   pub count : k ≡ n + length done
 
--- before the first act all is left
+-- the whole run is left before the first act
 pub all_left : (whole : World → Run) (w : World) (n : ℕ) → IsLeft whole w n whole w n
 all_left whole w n = record { done = []; acts = refl; world = refl; reached = refl; count = omega arith }
 
--- once the first part of the rest was played, what follows is left
+-- the second part of the rest is left once the first was played
 pub less_left : {whole f g : World → Run} {w v u : World} {n k j : ℕ} → IsLeft whole w n (λ z. and_then (f z) g) v k → Plays f v u k j → IsLeft whole w n g u j
 less_left {whole} {f} {g} {w} {v} {u} {n} {k} {j} left first = record {
   done = left.done ++ (f v).acts;
@@ -104,7 +104,7 @@ less_left {whole} {f} {g} {w} {v} {u} {n} {k} {j} left first = record {
   count = omega (arith, left.count, first.count, length-append left.done (f v).acts);
 }
 
--- where nothing is left, the whole was played
+-- the whole run was played where nothing is left
 pub none_left : {whole : World → Run} {w v : World} {n k : ℕ} → IsLeft whole w n rests v k → Plays whole w v n k
 none_left {whole} {w} {v} {n} {k} left =
     let acts : (whole w).acts ≡ left.done = left.acts ∙ append-nil left.done in
@@ -114,7 +114,7 @@ none_left {whole} {w} {v} {n} {k} left =
       count = left.count ∙ ap (λ (xs : List Act). n + length xs) (sym acts);
     }
 
--- memory is wanted in the first part of the rest
+-- memory runs out in the first part of the rest
 pub cut_in_rest : {whole f : World → Run} (g : World → Run) {w v u : World} {n k : ℕ} → IsLeft whole w n (λ z. and_then (f z) g) v k → Begins f v u → Begins whole w u
 cut_in_rest {whole} {f} g {w} {v} {u} left begun = record {
   way =

@@ -56,7 +56,7 @@ first_of_end size before rest b long end =
     let e : b ∷ rest ≡ 13 ∷ [] = sym (drop_at before (b ∷ rest) size long) ∙ end in
     cc
 
--- where the carriage return came
+-- the bytes after a chunk's own are the carriage return, where one came
 one_behind : (size : ℕ) (v : List ℕ) → length v ≡ size + 1 → drop size v ≡ take (length v - size) crlf_bytes → drop size v ≡ 13 ∷ []
 one_behind size v long end =
     let one : length v - size ≡ 1 = omega arith in
@@ -76,7 +76,7 @@ nothing : (x : List ℕ) → length x ≡ 0 → x ≡ []
 nothing [] none = refl
 nothing (b ∷ x) none = absurd (omega (arith, none))
 
--- where a chunk is broken no bytes follow
+-- no bytes follow a broken chunk
 broken_once : (size : ℕ) (v x c d : List ℕ) (s t : DecoderState) → IsBroken size v c s → IsBroken size (v ++ x) d t → Agrees x s t c d
 broken_once size v x c d s t first second =
     let counts : length v ≡ length first.before + 1 = ap length first.bytes ∙ length-append first.before (first.byte ∷ []) in
@@ -104,7 +104,7 @@ broken_once size v x c d s t first second =
           }
     ]
 
--- of a part of a chunk the bytes tell how many are left
+-- a part of a chunk tells the number of bytes that are left
 part_once : (size : ℕ) (v x c d : List ℕ) (s t : DecoderState) → x ≡ [] → IsPart size v c s → IsPart size (v ++ x) d t → Agrees x s t c d
 part_once size v x c d s t none first second =
     let same : v ++ x ≡ v = ap (λ (z : List ℕ). v ++ z) none ∙ append-nil v in
@@ -171,7 +171,7 @@ pub record IsTrailerBody (v c : List ℕ) (s : DecoderState) : Type 0 where
   pub content : c ≡ []
   pub stage : s ≡ stage_behind v outcome
 
--- where the stage takes no bytes the collecting has ended
+-- the collecting has ended where its stage takes no bytes
 last_of_final : (v : List ℕ) (o : Outcome (List Field × LineEnd)) → is_final (stage_behind v o) ≡ true → IsLast o
 last_of_final v unended h = absurd (false≢true h)
 last_of_final v hopeless h = tt

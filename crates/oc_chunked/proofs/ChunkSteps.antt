@@ -45,12 +45,12 @@ chunk_bad left b near other = Takes-behind (in_chunk left) (refused Bad) (b ∷ 
       bytes_are = refl;
     }))))
 
--- a byte after whole bytes of a chunk is none of them
+-- a byte after all bytes of a chunk adds none to them
 return_content : (size : ℕ) (behind content : List ℕ) (b : ℕ) → length behind ≡ size → content ≡ take size behind → content ++ [] ≡ take size (behind ++ b ∷ [])
 return_content size behind content b long is =
     append-nil content ∙ is ∙ sym (take-append-le size behind (b ∷ []) (omega arith))
 
--- and it is the first of the CR LF
+-- the byte is the first of the CR LF
 return_end : (size : ℕ) (behind : List ℕ) → length behind ≡ size → drop size (behind ++ 13 ∷ []) ≡ take (length (behind ++ 13 ∷ []) - size) crlf_bytes
 return_end size behind long =
     let one : length (behind ++ 13 ∷ []) - size ≡ 1 = omega (arith, length-append behind (13 ∷ [])) in

@@ -1,4 +1,4 @@
--- How the collecting of lines ends, and that it ends in one way.
+-- The outcomes of the collecting of lines, of which there is one.
 use Rattle.std.proofs.Common.{◌≡◌, ℕ, ◌<◌, ◌≤◌, ◌⊎◌, inl, inr, List, [], ◌∷◌, ◌++◌, length, refl, sym, ap, ◌∙◌, subst, arith, length-append}
 use Rattle.std.specs.Prelude.{⊤}
 use Rattle.std.proofs.lemmas.List.{append_assoc, append-nil}
@@ -14,7 +14,7 @@ pub data Outcome (T : Type 0) : Type 0 where
   too_long : Outcome T
   whole : T → Outcome T
 
--- to these bytes, of which there may be at most `most`, the collecting has come
+-- the outcome to which the collecting has come with these bytes, of which there may be at most `most`
 abbrev pub Collects : {T : Type 0} → (List ℕ → T → List ℕ → Type 0) → ℕ → List ℕ → Outcome T → Type 0
 Collects Reads most bytes unended = IsUnfinished Reads bytes × (length bytes < most)
 Collects Reads most bytes hopeless = IsHopeless Reads bytes × (length bytes ≤ most)
@@ -33,7 +33,7 @@ unfinished_not_whole form p q bytes tree e unfinished reads =
     let p_is : p ≡ line = form.front p tree [] reads ∙ append-nil line in
     unfinished.no_tree tree q (form.again p bytes tree [] q reads (e ∙ ap (λ (z : List ℕ). z ++ q) p_is))
 
--- nor are bytes that begin with hopeless ones
+-- bytes that begin with hopeless bytes are not unfinished
 unfinished_not_hopeless : {T : Type 0} {Reads : List ℕ → T → List ℕ → Type 0} → (p q bytes : List ℕ) → bytes ≡ p ++ q → IsUnfinished Reads bytes → IsHopeless Reads p → ⊥
 unfinished_not_hopeless {T} {Reads} p q bytes e unfinished never =
     let text : bytes ≡ never.before ++ line_feed ∷ q = e ∙ ap (λ (z : List ℕ). z ++ q) never.ends ∙ append_assoc never.before (line_feed ∷ []) q in
@@ -63,7 +63,7 @@ nothing_more : (p x : List ℕ) → length (p ++ x) ≤ length p → x ≡ []
 nothing_more p [] less = refl
 nothing_more p (b ∷ x) less = absurd (omega (arith, less, length-append p (b ∷ x)))
 
--- where the collecting has ended no bytes follow, and there is one outcome
+-- no bytes follow where the collecting has ended, and there is one outcome
 pub collects_once : {T : Type 0} {Reads : List ℕ → T → List ℕ → Type 0} → IsForm Reads → (most : ℕ) (p x : List ℕ) (a b : Outcome T) → Collects Reads most p a → Collects Reads most (p ++ x) b → (x ≡ []) ⊎ IsLast a → One x a b
 collects_once form most p x unended unended c d (inl none) = record { none = none; same = refl }
 collects_once form most p x unended hopeless c d (inl none) = absurd (unfinished_not_hopeless (p ++ x) [] p (back p x none) c.0 d.0)

@@ -9,7 +9,7 @@ use Rattle.httparse.specs.Spans.{SectionExceeds, AreFieldsAt, header_bytes, name
 use Rattle.oc_http.proofs.Forms.{few_fields}
 use Rattle.oc_chunked.specs.declared.limits.TheConstants.{FIELD_ROOM, MAX_TRAILER_BYTES}
 
--- not too many bytes have no more fields than there is room for
+-- a text of the greatest length or less has no more fields than there is room for
 fields_fit : (bytes : List ℕ) (room : ℕ) → FIELD_ROOM ≤ room → length bytes ≤ MAX_TRAILER_BYTES → SectionExceeds room bytes → ⊥
 fields_fit bytes room enough short found =
     let few = few_fields [] found.3 lf found.4.0 in
@@ -20,7 +20,7 @@ pub never_fields : (bytes : List ℕ) (room : ℕ) (error : Error) → FIELD_ROO
 never_fields bytes room errors.TooManyHeaders enough short never exceeds = absurd (fields_fit bytes room enough short (exceeds refl))
 never_fields bytes room error enough short never exceeds = never (λ same. cc)
 
--- as many fields were written as there are
+-- the number of fields that were written is that of all fields
 pub count_of_fields : (bytes : List ℕ) (headers : List HeaderSpan) (count : ℕ) (fields : List Field) → count ≤ length headers → AreFieldsAt bytes headers count fields → count ≡ length fields
 count_of_fields bytes headers count fields fits same =
     sym (length-take-le count headers fits)

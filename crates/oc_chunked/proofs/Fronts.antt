@@ -1,7 +1,7 @@
 -- Fronts of bytes.
 use Rattle.std.proofs.Common.{◌≡◌, ℕ, ◌⊎◌, inl, inr, List, [], ◌∷◌, ◌++◌, refl}
 
--- a prefix of bytes is all of them, or is a prefix of all but the last
+-- a prefix of bytes is the whole, or a prefix of all but the last
 pub all_or_less : (x r y : List ℕ) (b : ℕ) → x ++ r ≡ y ++ b ∷ [] → (r ≡ []) ⊎ ((z : List ℕ) × (y ≡ x ++ z))
 all_or_less [] r y b e = inr (y, refl)
 all_or_less (a ∷ x) r [] b e = inl (nothing x r cc)

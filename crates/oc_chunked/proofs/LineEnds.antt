@@ -1,4 +1,4 @@
--- Where the lines of a text end.
+-- The ends of the lines of a text.
 use Rattle.std.proofs.Common.{◌≡◌, ℕ, ◌⊎◌, inl, inr, List, [], ◌∷◌, ◌++◌, refl}
 use Rattle.httparse.specs.Ascii.{line_feed}
 use Rattle.oc_http.proofs.LineEnds.{ended, ended-some}

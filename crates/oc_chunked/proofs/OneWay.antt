@@ -130,7 +130,7 @@ comparable_line u x s o is (inr final) = inr (last_of_stage u o (ap is_final (sy
 not_whole : (l : ChunkLine) (o : Outcome ChunkLine) → IsNoLine o → whole l ≡ o → ⊥
 not_whole l o none e = subst IsNoLine (sym e) none
 
--- where no size line is whole, none is at the front of those bytes with others
+-- no size line is at the front of bytes, where none is whole in their own front
 pub no_size_no_line : (u x v c : List ℕ) (s : DecoderState) (l : ChunkLine) → IsNoSize u c s → IsSizeLine l → u ++ x ≡ print_chunk_line l ++ v → IsComparable x s → ⊥
 no_size_no_line u x v c s l first size e comparable =
     let line = print_chunk_line l in
@@ -176,7 +176,7 @@ behind_once u x c d s t (inr first) (inl second) comparable =
     absurd (no_size_no_line (u ++ x) [] (first.behind ++ x) d t first.line second first.size text (inl refl))
 behind_once u x c d s t (inr first) (inr second) comparable = sized_once u x c d s t first second comparable
 
--- after the size line of a chunk that is not taken whole there is no whole chunk
+-- no whole chunk follows a size line whose chunk is not taken whole
 pub chunk_not_sized : (u x rest c : List ℕ) (s : DecoderState) (k : Chunk) → IsChunk k → u ++ x ≡ print_chunk k ++ rest → IsSized u c s → IsComparable x s → ⊥
 chunk_not_sized u x rest c s k is e first comparable =
     let text : print_chunk_line first.line ++ (first.behind ++ x) ≡ print_chunk_line k.line ++ ((k.bytes ++ crlf_bytes) ++ rest) =
@@ -190,7 +190,7 @@ chunk_not_sized u x rest c s k is e first comparable =
       | chunk some fits body ↦ whole_not_body (chunk_size first.line) k.bytes rest first.behind x c s (is.whole ∙ sym size) bytes body comparable
     ]
 
--- after whole chunks there is no whole chunk
+-- no whole chunk follows those that were taken
 no_more_chunk : (u x rest c : List ℕ) (s : DecoderState) (k : Chunk) → IsShortChunk k → u ++ x ≡ print_chunk k ++ rest → IsBehind u c s → IsComparable x s → ⊥
 no_more_chunk u x rest c s k short e (inl first) comparable =
     no_size_no_line u x ((k.bytes ++ crlf_bytes) ++ rest) c s k.line first (record { is_line = short.chunk.line; short = short.short }) (e ∙ append_assoc (print_chunk_line k.line) (k.bytes ++ crlf_bytes) rest) comparable

@@ -50,7 +50,7 @@ size_bad line never = Takes-behind (in_size line) (refused Bad) (line_feed ∷ [
       content_is = append-nil more ∙ part.content_is;
     }))
 
--- where the last byte makes a size line whole, all the bytes are that line
+-- bytes that the last byte makes a size line are that line
 record IsLine (l : ChunkLine) (bytes : List ℕ) : Type 0 where
   size : IsSizeLine l
   bytes_are : bytes ≡ print_chunk_line l
@@ -64,11 +64,11 @@ found_line line b l rest behind more reads part =
       bytes_are = ap (λ (z : List ℕ). z ++ b ∷ []) part.bytes_are ∙ whole;
     }
 
--- of no bytes after a size line none are of the CR LF
+-- no bytes after a size line are none of the CR LF
 nothing_behind : (size : ℕ) → drop size [] ≡ take (0 - size) crlf_bytes
 nothing_behind size = rw (drop-nil, zero-sub)
 
--- after a size line a chunk begins
+-- a size line that begins a chunk
 to_chunk : (line : List ℕ) (b : ℕ) (l : ChunkLine) (rest : List ℕ) → ReadsChunkLine (line ++ b ∷ []) l rest → 0 < chunk_size l → chunk_size l ≤ MAX_CHUNK_SIZE → Takes (in_size line) (b ∷ []) [] (in_chunk (chunk_size l + 2))
 to_chunk line b l rest reads some fits = Takes-behind (in_size line) (in_chunk (chunk_size l + 2)) (b ∷ []) [] (λ behind more part.
     let found = found_line line b l rest behind more reads part in record {
@@ -84,7 +84,7 @@ to_chunk line b l rest reads some fits = Takes-behind (in_size line) (in_chunk (
       end = nothing_behind (chunk_size l);
     })
 
--- or the trailer fields begin
+-- a size line for 0, which begins the trailer fields
 to_trailer : (line : List ℕ) (b : ℕ) (l : ChunkLine) (rest : List ℕ) → ReadsChunkLine (line ++ b ∷ []) l rest → chunk_size l ≡ 0 → Takes (in_size line) (b ∷ []) [] (in_trailer [])
 to_trailer line b l rest reads none = Takes-behind (in_size line) (in_trailer []) (b ∷ []) [] (λ behind more part.
     let found = found_line line b l rest behind more reads part in record {
@@ -99,7 +99,7 @@ to_trailer line b l rest reads none = Takes-behind (in_size line) (in_trailer []
       short = omega arith;
     })
 
--- or the chunk is too great
+-- a size line of a chunk that is too great
 to_great : (line : List ℕ) (b : ℕ) (l : ChunkLine) (rest : List ℕ) → ReadsChunkLine (line ++ b ∷ []) l rest → MAX_CHUNK_SIZE < chunk_size l → Takes (in_size line) (b ∷ []) [] (refused Bad)
 to_great line b l rest reads great = Takes-behind (in_size line) (refused Bad) (b ∷ []) [] (λ behind more part.
     let found = found_line line b l rest behind more reads part in
@@ -111,7 +111,7 @@ to_great line b l rest reads great = Takes-behind (in_size line) (refused Bad) (
       content_is = append-nil more ∙ part.content_is;
     })))
 
--- after a size line the text is where its size says
+-- a size line leads to the state for its size
 pub size_found : (line : List ℕ) (b : ℕ) (l : ChunkLine) (rest : List ℕ) → ReadsChunkLine (line ++ b ∷ []) l rest → Takes (in_size line) (b ∷ []) [] (stage_at (behind_size_line (chunk_size l)) [])
 size_found line b l rest reads = elim (eqb_tells (chunk_size l) 0) [
   | inl none ↦ rw (none.0) (to_trailer line b l rest reads none.1)

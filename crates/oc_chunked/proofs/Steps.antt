@@ -63,7 +63,7 @@ nothing_taken = record {
   content_is = refl;
 }
 
--- where there is a fault the stage is that of refused bytes
+-- a stage with a fault is that of refused bytes
 pub refused_in : (s : DecoderState) (fault : ChunkFault) → fault_in s ≡ Some fault → s ≡ refused fault
 refused_in (in_size line) fault is = cc
 refused_in (in_chunk left) fault is = cc

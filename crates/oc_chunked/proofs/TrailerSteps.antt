@@ -56,7 +56,7 @@ trailer_bad front never = Takes-behind (in_trailer front) (refused Bad) (line_fe
       short = omega (arith, part.short, length-append front (line_feed ∷ []));
     }))))
 
--- where the last byte makes the fields whole, nothing is after them
+-- fields that the last byte makes whole have nothing after them
 whole_fields : (front : List ℕ) (b : ℕ) (fields : List Field × LineEnd) (rest : List ℕ) → IsUnfinished ReadsFields front → ReadsFields (front ++ b ∷ []) fields rest → ReadsFields (front ++ b ∷ []) fields []
 whole_fields front b fields rest unfinished reads =
     let none = whole_at_end fields_form front b fields rest unfinished reads in

@@ -14,7 +14,7 @@ within_chunk : (size : ℕ) (behind content bytes : List ℕ) → length (behind
 within_chunk size behind content bytes fits short is =
     ap (λ (z : List ℕ). z ++ bytes) (is ∙ take_all size behind short) ∙ sym (take_all size (behind ++ bytes) fits)
 
--- none of them is of its CR LF
+-- the bytes within a chunk are none of its CR LF
 no_end : (size : ℕ) (bytes : List ℕ) → length bytes ≤ size → drop size bytes ≡ take (length bytes - size) crlf_bytes
 no_end size bytes fits =
     let none : length bytes - size ≡ 0 = omega arith in
@@ -37,7 +37,7 @@ chunk_goes left bytes few = Takes-behind (in_chunk left) (in_chunk (left - lengt
       end = no_end (chunk_size part.line) (part.behind ++ bytes) fits;
     })
 
--- before the end something is missing
+-- bytes are missing before the end
 some_missing : (s : DecoderState) (bytes given more content : List ℕ) → s ≢ ended → IsTaken bytes given s → IsTaken (bytes ++ more) content ended → 0 < length more
 some_missing s bytes given [] content other first last = absurd (other (taken_once bytes [] given content s ended first last (inl refl)).stage)
 some_missing s bytes given (b ∷ more) content other first last = omega arith

@@ -164,7 +164,7 @@ written_taken bytes =
       content_is = done.content_is ∙ sym (append-nil (content_of done.chunks));
     }
 
--- it is chunked
+-- the written text is chunked
 pub chunked_text-IsChunked : (bytes : List ℕ) → IsChunked (chunked_text bytes) bytes
 chunked_text-IsChunked bytes = whole_chunked (chunked_text bytes) bytes (written_taken bytes)
 
@@ -173,7 +173,7 @@ enough_more : (m n b : ℕ) (bytes : List ℕ) → chunks_written m (drop WRITTE
 enough_more m n b bytes same =
     written_cons m b bytes ∙ ap (λ (z : List ℕ). chunk_written (take WRITTEN_BYTES (b ∷ bytes)) ++ z) same ∙ sym (written_cons n b bytes)
 
--- as many chunks as there are bytes are enough
+-- a chunk for each byte is enough
 chunks_enough : (m n : ℕ) (bytes : List ℕ) → length bytes ≤ m → length bytes ≤ n → chunks_written m bytes ≡ chunks_written n bytes
 unfolding chunks_written
 chunks_enough zero zero bytes few less = refl
@@ -206,7 +206,7 @@ cut_front n bytes cut = elim (cases_lt WRITTEN_BYTES (length bytes)) [
       (take_all n bytes all ∙ sym (take_all WRITTEN_BYTES bytes few), drop_all n bytes all ∙ sym (drop_all WRITTEN_BYTES bytes few))
 ]
 
--- with one more chunk, the text written and the text for the rest together are unchanged
+-- the text written and the text for the rest together are unchanged with one more chunk
 pub chunk_more : (n : ℕ) (text rest all : List ℕ) → 0 < length rest → n ≡ min (length rest) WRITTEN_BYTES → text ++ chunks_written (length rest) rest ≡ all → (text ++ chunk_written (take n rest)) ++ chunks_written (length (drop n rest)) (drop n rest) ≡ all
 chunk_more n text rest all some cut invariant =
     let front = cut_front n rest cut in
@@ -214,20 +214,20 @@ chunk_more n text rest all some cut invariant =
     ∙ ap (λ (z : List ℕ). text ++ z) (sym (chunks_first rest some))
     ∙ invariant)
 
--- if no bytes are left, the text written is the whole text
+-- the text written is the whole text where no bytes are left
 pub chunks_done : (text rest bytes : List ℕ) → length rest ≡ 0 → text ++ chunks_written (length rest) rest ≡ chunks_written (length bytes) bytes → text ++ end_written ≡ chunked_text bytes
 unfolding chunks_written
 chunks_done text [] bytes none invariant = ap (λ (z : List ℕ). z ++ end_written) (sym (append-nil text) ∙ invariant)
 chunks_done text (b ∷ rest) bytes none invariant = absurd (omega arith)
 
--- a prefix of it that leads to a refusal would be all of it
+-- a prefix of the written text that leads to a refusal would be all of that text
 refused_is_end : (bytes front rest content : List ℕ) (fault : ChunkFault) → chunked_text bytes ≡ front ++ rest → IsTaken front content (refused fault) → ⊥
 refused_is_end bytes front rest content fault text taken =
     let all = subst (λ (x : List ℕ). IsTaken x bytes ended) text (written_taken bytes) in
     let agrees = taken_once front rest content bytes (refused fault) ended taken all (inr refl) in
     let e = agrees.stage in cc e
 
--- no prefix of it is refused
+-- no prefix of the written text is refused
 pub written_fine : (bytes front rest content : List ℕ) (s : DecoderState) → chunked_text bytes ≡ front ++ rest → IsTaken front content s → fault_in s ≡ None
 written_fine bytes front rest content (refused fault) text taken = absurd (refused_is_end bytes front rest content fault text taken)
 written_fine bytes front rest content s text taken = refl

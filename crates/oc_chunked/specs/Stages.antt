@@ -8,15 +8,15 @@ use Rattle.oc_chunked.specs.declared.state.BadText.{BadText}
 use Rattle.oc_chunked.specs.declared.state.BadText.TheVariants as refusals
 
 pub data DecoderState : Type 0 where
-  -- in a size line, with its bytes so far
+  -- a size line, of which these bytes came
   in_size : List ℕ → DecoderState
-  -- in a chunk, with the number of bytes left, its CR LF included
+  -- a chunk, of which this number of bytes is left, its CR LF included
   in_chunk : ℕ → DecoderState
-  -- in the trailer fields, with their bytes so far
+  -- the trailer fields, of which these bytes came
   in_trailer : List ℕ → DecoderState
-  -- after a whole text
+  -- the end of a whole text
   ended : DecoderState
-  -- after bytes that are refused
+  -- the refusal of bytes
   refused : ChunkFault → DecoderState
 
 -- whether the text is whole

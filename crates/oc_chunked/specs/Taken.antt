@@ -98,7 +98,7 @@ pub record HasBadTrailer (bytes content : List ℕ) : Type 0 where
       ⊎ ((fields : List Field × LineEnd) × ReadsFields front fields [] × (MAX_FIELDS < length fields.0))
   pub short : length front ≤ MAX_TRAILER_BYTES
 
--- as many bytes as a size line may have, without its end
+-- a size line of the greatest length, without its end
 pub record HasLongSize (bytes content : List ℕ) : Type 0 where
   pub unfinished : IsUnfinished ReadsChunkLine bytes
   pub long : length bytes ≡ MAX_SIZE_LINE_BYTES
@@ -111,7 +111,7 @@ pub record HasLongTrailer (bytes content : List ℕ) : Type 0 where
   pub unfinished : IsUnfinished ReadsFields front
   pub long : length front ≡ MAX_TRAILER_BYTES
 
--- after whole chunks these bytes lead to this stage, with this content
+-- bytes after whole chunks that lead to this stage, with this content
 abbrev pub LeadsOn : DecoderState → List ℕ → List ℕ → Type 0
 LeadsOn (in_size line) bytes content = IsPartOfSize line bytes content
 LeadsOn (in_chunk left) bytes content = IsPartOfChunk left bytes content

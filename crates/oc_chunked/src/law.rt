@@ -20,8 +20,8 @@ pub fn a_chunked_text_ends()
         → (s ≡ ended) × (given ≡ content) }
 {}
 
-/// A text written by [`crate::chunk_text`] is read however it is cut: no prefix of it is refused,
-/// and all of it leads to the end, with the content.
+/// A text written by [`crate::chunk_text`] is read however it is cut: no prefix of the text is refused,
+/// and the whole leads to the end, with the content.
 pub fn a_written_text_is_read()
     ensures whole { (bytes : List ℕ) → IsTaken (chunked_text bytes) bytes ended }
     ensures fine { (bytes front rest content : List ℕ) (s : DecoderState) → chunked_text bytes ≡ front ++ rest → IsTaken front content s

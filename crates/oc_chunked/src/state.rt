@@ -6,15 +6,15 @@ use crate::fault::ChunkFault;
 /// The place in a chunked text after the bytes taken so far.
 #[derive(Clone, Copy, Debug, PartialEq, Eq)]
 pub(crate) enum State {
-    /// In a size line.
+    /// A size line.
     Size,
-    /// In a chunk with `left` bytes left, its CR LF included.
+    /// A chunk with `left` bytes left, its CR LF included.
     Chunk { left: u32 },
-    /// In the trailer fields.
+    /// The trailer fields.
     Trailer,
-    /// After the text.
+    /// The end of the text.
     End,
-    /// After refused bytes.
+    /// The refusal of bytes.
     Refused(BadText),
 }
 

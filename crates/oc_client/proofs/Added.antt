@@ -1,4 +1,4 @@
--- With a source that answers by the rules, a publishing that is done was added once.
+-- A publishing that is done, with a source that answers by the rules, was added once.
 use Rattle.std.proofs.Common.{◌≡◌, ◌≢◌, ◌⊎◌, inl, inr, ℕ, ◌+◌, ◌<◌, ◌≤◌, Bool, true, false, not, ◌&&◌, ◌||◌, ◌==◌, if◌then◌else◌, Result, Ok, Err, List, [], ◌∷◌, ◌++◌, length, drop, map, refl, sym, ap, subst, ◌∙◌, arith, length-append, append_assoc, append-nil}
 use Rattle.std.specs.List.{AllByRecursion}
 use Rattle.std.proofs.lemmas.Bool.{eqb-true, eq-eqb, and_parts}
@@ -23,7 +23,7 @@ use Rattle.oc_client.specs.declared.publication.WriteMode.{WriteMode}
 use Rattle.oc_client.specs.declared.publication.WriteMode.TheVariants.{New, Append, Resume}
 use Rattle.oc_client.specs.declared.publication.Publication.{Publication}
 
--- What was lost
+-- Lost requests
 
 -- a POST that can change nothing any more: the group is longer than where it belongs, or it has neither bytes nor a seal
 abbrev IsSpent : List ℕ → Post → Type 0
@@ -109,7 +109,7 @@ takes_old base load sealed source post holds (inr same) may =
     let may_now : may_take source.group (post_of base load) ≡ true = subst (λ (p : Post). may_take source.group p ≡ true) same may in
     subst (λ (p : Post). Holds base load sealed (record source { group = taken p source.group })) (sym same) (takes_now base load sealed source holds may_now)
 
--- where something lost arrives, that stays
+-- the group holds where a lost POST arrives
 arrives_by : (base : List ℕ) (load : Load) (sealed : Bool) (source : SourceState) (post : Post) → Holds base load sealed source → IsOld base load post → (b : Bool) → may_take source.group post ≡ b → Holds base load sealed (record source { group = arrived post source.group })
 arrives_by base load sealed source post holds old true may =
     subst (λ (b : Bool). Holds base load sealed (record source { group = if b then taken post source.group else source.group })) (sym may) (takes_old base load sealed source post holds old may)
@@ -122,7 +122,7 @@ old_among base load [] post all among = absurd among
 old_among base load (first ∷ posts) post all (inl same) = subst (IsOld base load) (sym same) all.0
 old_among base load (first ∷ posts) post all (inr among) = old_among base load posts post all.1 among
 
--- where some arrive, too
+-- the group holds where some lost POSTs arrive
 all_arrive : (base : List ℕ) (load : Load) (sealed : Bool) (group : SourceGroup) (lost posts : List Post) → Holds base load sealed (record { group = group; lost = lost }) → AllByRecursion (λ post. IsAmong post lost) posts → Holds base load sealed (record { group = all_arrived posts group; lost = lost })
 all_arrive base load sealed group lost [] holds among = holds
 all_arrive base load sealed group lost (post ∷ posts) holds among =
@@ -135,7 +135,7 @@ arrive_holds base load sealed old new holds arrive =
 
 -- Turns
 
--- a source during turns, without what arrives after them
+-- a source during turns, without the POSTs that arrive after them
 abbrev Through : SourceState → List PutTurn → SourceState → Type 0
 Through old [] new = new ≡ old
 Through old (turn ∷ turns) new =
@@ -178,7 +178,7 @@ record Finds (group : SourceGroup) (new : SourceState) (progress : Progress) : T
   same : new ≡ fresh group
   length_is : progress.length ≡ length group.content
 
--- after a failure that is not the last
+-- the turns after a failure that is not the last
 after_by : (b : Bool) (On : Effort → Type 0) (further : Effort) (end : PutEnd) (turns : List PutTurn) (progress : Progress) → Onward On (if b then Again further else Ended end) turns (Settled progress) → On further
 after_by true On further end turns progress h = h
 after_by false On further end turns progress h = absurd (let e : Settled progress ≡ Ended end = h.1 in cc)
@@ -332,7 +332,7 @@ begins_load base load sealed source stands = record {
   sealed_is = inl stands.sealed_is;
 }
 
--- after bytes that are taken, the earlier sent ones are spent
+-- the earlier requests are spent after bytes that are taken
 now_spent : (base piece : List ℕ) (post : Post) → IsOld base (bytes piece) post → IsSpent (base ++ piece) post
 now_spent base piece post (inl (inl less)) = inl (omega (arith, less, length-append base piece))
 now_spent base piece post (inl (inr idle)) = inr idle
@@ -386,13 +386,13 @@ is_set : (now : Bool) → (now ≡ true) ⊎ ((seal.seals ≡ true) × (now ≡ 
 is_set now (inl e) = e
 is_set now (inr e) = e.1
 
--- between two loads an arriving POST changes nothing
+-- an arriving POST changes nothing between two loads
 arrive_stands : (base : List ℕ) (sealed : Bool) (old new : SourceState) → Stands base sealed old → Arrive old new → (new.group.content ≡ base) × (new.group.sealed ≡ sealed)
 arrive_stands base sealed old new stands arrive =
     let holds = arrive_holds base nothing sealed old new (begins_load base nothing sealed old stands) arrive in
     (no_more base new.group.content holds.content, seal_stays [] sealed new.group.sealed holds.sealed_is)
 
--- with a seal and without
+-- the source with a seal and without
 sealed_or_not : (wanted : Bool) (base : List ℕ) (sealed : Bool) (progress : Progress) (turns : List PutTurn) (old last new : SourceState) → progress.length ≡ length base → Stands base sealed old → Seals wanted progress turns → Through old turns last → Arrive last new → (new.group.content ≡ base) × (new.group.sealed ≡ (sealed || wanted))
 sealed_or_not false base sealed progress turns old last new long stands seals through arrive =
     let same : last ≡ old = subst (λ (ts : List PutTurn). Through old ts last) seals through in

@@ -50,7 +50,7 @@ pub least_some : (live : Bool) → 0 < least_piece live
 least_some true = omega arith
 least_some false = omega arith
 
--- these pieces, and one more
+-- more pieces with one after them
 some_more : (live : Bool) (pieces : List (List ℕ)) (piece : List ℕ) → AllByRecursion (IsPart live) pieces → 0 < length piece → length piece ≤ PUT_PIECE_BYTES → AreSome live (pieces ++ piece ∷ [])
 some_more live [] piece all least most = (least, most)
 some_more live (first ∷ []) piece all least most = (all.0, (least, most))
@@ -79,7 +79,7 @@ cut_more plan pieces (b ∷ piece) all most first =
 pub cut_end : (plan : Publication) (pieces : List (List ℕ)) → AllByRecursion (IsPart plan.live) pieces → (sends_empty plan.place ≡ false) ⊎ (pieces ≢ []) → AreCut plan pieces
 cut_end plan pieces all why = inl (all_some plan.live pieces all, why)
 
--- Which ends turns have
+-- The ends that turns have
 
 abbrev pub IsOfTurns : PutEnd → Type 0
 IsOfTurns ends.Done = ⊥
@@ -136,7 +136,7 @@ pub refuses_of_turns : (load : Load) (progress : Progress) (turns : List PutTurn
 refuses_of_turns load progress turns end (inl long) = subst IsOfTurns (sym long.1) tt
 refuses_of_turns load progress turns end (inr h) = ends_of_turns load (begun progress load) turns end h.1
 
--- What came of the input
+-- The bytes that came of the input
 
 pub came_of_turns : {S : Type 0} (gives fails : S → List ℕ → S → Type 0) (a b : S) (came : List ℕ) (end : PutEnd) → IsOfTurns end → gives a came b → Came gives fails a came b end
 came_of_turns gives fails a b came ends.Done is p = p

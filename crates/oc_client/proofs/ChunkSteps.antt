@@ -13,7 +13,7 @@ use Rattle.oc_io.specs.Faults.{NoFall}
 use Rattle.oc_chunked.specs.Stages.{DecoderState, in_size, in_chunk, in_trailer, ended, refused, is_ended, wanted_at}
 use Rattle.oc_chunked.specs.Taken.{IsTaken}
 
--- What is wanted
+-- The wanted bytes
 
 -- nothing is wanted at the end
 pub wanted_none : (s : DecoderState) → wanted_at s ≡ 0 → is_ended s ≡ true
@@ -23,7 +23,7 @@ wanted_none (in_trailer front) none = cc
 wanted_none ended none = refl
 wanted_none (refused fault) none = cc
 
--- and something before it
+-- some bytes are wanted before the end
 pub wanted_some : (s : DecoderState) → 0 < wanted_at s → is_ended s ≡ false
 wanted_some (in_size line) some = refl
 wanted_some (in_chunk left) some = refl
@@ -31,7 +31,7 @@ wanted_some (in_trailer front) some = refl
 wanted_some ended some = absurd (omega (arith, some))
 wanted_some (refused fault) some = refl
 
--- Why no piece was taken
+-- The reasons why no piece was taken
 
 -- a call failed
 pub stops_failed : {S : Type 0} (gives fails : S → List ℕ → S → Type 0) (ended_by : S → Type 0) (a b : S) (s : DecoderState) → fails a [] b → StopsPiece gives fails ended_by a b s ends.Link
@@ -41,7 +41,7 @@ stops_failed gives fails ended_by a b s failed = record { front = []; rest = [];
 pub stops_early : {S : Type 0} (gives fails : S → List ℕ → S → Type 0) (ended_by : S → Type 0) (a b : S) (s : DecoderState) → gives a [] b → ended_by b → StopsPiece gives fails ended_by a b s ends.Reply
 stops_early gives fails ended_by a b s came end = record { front = []; rest = []; over = true; came = came; is_over = λ _. end; cause = inl (refl, refl) }
 
--- there was no memory for the bytes that came
+-- memory ran out for the bytes that came
 pub stops_starved : {S : Type 0} (gives fails : S → List ℕ → S → Type 0) (ended_by : S → Type 0) (a b : S) (s : DecoderState) (piece : List ℕ) → gives a piece b → StopsPiece gives fails ended_by a b s ends.Memory
 stops_starved gives fails ended_by a b s piece came = record { front = []; rest = piece; over = false; came = came; is_over = unseen; cause = tt }
 
@@ -49,7 +49,7 @@ stops_starved gives fails ended_by a b s piece came = record { front = []; rest 
 pub still : (a b c : ℕ) → NoFall a b → NoFall b c → NoFall a c
 still a b c first second = omega arith
 
--- What was passed on so far
+-- The content that was passed on so far
 
 -- bytes came that lead to this stage; of their content this much was taken, and this is still gathered
 pub record HasPassed {S K : Type 0} (gives : S → List ℕ → S → Type 0) (takes : K → List ℕ → K → Type 0) (old new : S) (before after : K) (stage : DecoderState) (count : ℕ) (gathered : List ℕ) : Type 0 where
@@ -174,7 +174,7 @@ passed_stops gives fails ended_by takes breaks came fail a b c p q s count gathe
 passed_stops gives fails ended_by takes breaks came fail a b c p q s count gathered ends.Redirects has goes stops = absurd stops.cause
 passed_stops gives fails ended_by takes breaks came fail a b c p q s count gathered ends.Sink has goes stops = absurd stops.cause
 
--- nor could the gathered bytes be written
+-- the gathered bytes could not be written
 passed_unput : {S K : Type 0} (gives fails : S → List ℕ → S → Type 0) (ended_by : S → Type 0) (takes breaks : K → List ℕ → K → Type 0) → Then gives gives → Then takes breaks → (a b c : S) (p q r : K) (s : DecoderState) (count : ℕ) (gathered more : List ℕ) (n : ℕ) → HasPassed gives takes a b p q s count gathered → gives b more c → breaks q (take n gathered) r → StopsPassing gives fails ended_by takes breaks Chunked a c p r ends.Sink
 passed_unput gives fails ended_by takes breaks came fail a b c p q r s count gathered more n has next unsent = record {
   body = has.bytes ++ more;
@@ -256,7 +256,7 @@ passed_nothing gives fails ended_by takes breaks none_given none_taken s k = rec
   cause = tt;
 }
 
--- it was given up
+-- memory ran out
 pub passed_starved : {S K : Type 0} (gives fails : S → List ℕ → S → Type 0) (ended_by : S → Type 0) (takes breaks : K → List ℕ → K → Type 0) (a b : S) (p q : K) (s : DecoderState) (count : ℕ) (gathered : List ℕ) → HasPassed gives takes a b p q s count gathered → StopsPassing gives fails ended_by takes breaks Chunked a b p q ends.Memory
 passed_starved gives fails ended_by takes breaks a b p q s count gathered has = record {
   body = has.bytes;

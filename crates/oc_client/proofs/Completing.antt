@@ -43,7 +43,7 @@ not_both n a b = absurd (omega (arith, a, b))
 abbrev IsContent : FetchOptions → ReplyHead → List ℕ → Type 0
 IsContent manner head behind = Serves (whole manner) head × HoldsWhole (framing_of head) behind
 
--- Where a turn led on
+-- The state to which a turn led on
 
 -- two redirections of one reply lead to one state
 one_state : (state : ClientState) (h k : ReplyHead) (p q : ClientState) → h ≡ k → Redirects state h p → Redirects state k q → p ≡ q
@@ -52,12 +52,12 @@ one_state state h k p q e r s =
     let url = one_url state.target r.follows.points.text s.follows.points.text r.follows.url s.follows.url (some_is _ _ location) r.follows.points.leads s.follows.points.leads in
     r.follows.next_is ∙ ap (λ (u : Parts). sent_to u state) url ∙ sym s.follows.next_is
 
--- after a content of which one was wanted none is wanted
+-- no content is wanted after the only one
 none_wanted : (length : Option ℕ) (replies : ℕ) → replies ≡ 1 → wanted_after length replies ≡ 0
 none_wanted None replies one = omega arith
 none_wanted (Some count) replies one = refl
 
--- where none is wanted, the conversation is done
+-- the conversation is done where no content is wanted
 none_goes_on : (wish : Wish) (state : ClientState) (through : List Turn) (content : List ℕ) (reached : ClientState) (last : Option Turn) (rest : List ℕ) (end : GetEnd) → state.replies ≡ 0 → Leads wish state through content reached → EndsAt wish reached last rest end → IsUnrefused end
 none_goes_on wish state (t ∷ through) content reached last rest end none leads ends = absurd (omega (arith, leads.0, none))
 none_goes_on wish state [] content reached None rest ends.Done none leads ends = tt
@@ -72,9 +72,9 @@ none_goes_on wish state [] content reached (Some turn) rest end none leads ends 
     let same : reached.replies ≡ state.replies = ap (λ (p : ClientState). p.replies) leads.1 in
     absurd (omega (arith, ends.0, same, none))
 
--- Where the last turn ended
+-- The end of the last turn
 
--- where a whole content follows a head, its first bytes do not rule that out
+-- the first bytes of a whole content after a head do not rule that content out
 not_cut : (framing : ReplyFraming) (behind left : List ℕ) (over : Bool) → (over ≡ true → left ≡ []) → HoldsWhole framing (behind ++ left) → IsBodiless framing behind over → ⊥
 not_cut (Counted count) behind left over end holds none =
     let nothing : length left ≡ 0 = ap length (end none.1) in
@@ -142,7 +142,7 @@ last_unrefused one manner state turn text texts written end front leads (inr cut
 last_unrefused one manner state turn text texts written end front (inl content) (inl asked) = content_unrefused one manner state turn text written end front content asked.1
 last_unrefused one manner state turn text texts written end front (inr (next, said, more)) (inl asked) = redirection_unrefused one manner state next turn text written end front said asked.1
 
--- at a state
+-- the end at a state
 at_unrefused : OneAnswer → (manner : FetchOptions) (state : ClientState) (last : Option Turn) (texts : List (List ℕ)) (written : List ℕ) (end : GetEnd) → AreFronts (option_to_list last) texts → LeadToContent manner state texts → EndsAt (whole manner) state last written end → IsUnrefused end
 at_unrefused one manner state None texts written ends.Done fronts leads ends = tt
 at_unrefused one manner state None texts written ends.Memory fronts leads ends = tt

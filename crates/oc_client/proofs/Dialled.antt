@@ -14,7 +14,7 @@ use Rattle.oc_client.specs.declared.answer.PutAnswer.{PutAnswer}
 use Rattle.oc_client.specs.declared.answer.Failure.{Failure}
 use Rattle.oc_client.specs.declared.answer.Failure.TheVariants.{Link, Reply, Unavailable, Memory}
 
--- all of a list is a front of it
+-- the whole of a list is a front of that list
 whole_front : (whole : List ℕ) → IsFront whole whole
 whole_front whole = ([], sym (append-nil whole))
 
@@ -46,7 +46,7 @@ cut_dial address text reply given (Some between) last heard breaks at =
       written_front = subst (λ (x : List ℕ). IsFront x text) (sym written) (whole_front text);
     }
 
--- where there was a dial there still is one
+-- a dial that was there still is
 still_there : (reply : List ℕ) (c : Connection) → HearsThenBreaks reply (Some c) None → ⊥
 still_there reply c (None, h, e) = h
 still_there reply c (Some between, h, e) = cc
@@ -78,7 +78,7 @@ broken_dial address text reply a b c (Some last) is (given, dialled) heard =
     let last_is : c ≡ record (record (hung_up a) { outgoing = Some (made_at address text given) }) { outgoing = Some last } = heard.rest ∙ ap (λ (o : Option Dial). record b { outgoing = o }) is ∙ ap (λ (s : Story). record s { outgoing = Some last }) dialled in
     (last, cut_dial address text reply given breaks.0 last breaks.1 breaks.2 at, ended a c (made_at address text given) last last_is)
 
--- Over links that may not tell their story
+-- Links that may not tell their story
 
 told_dials : (address text reply : List ℕ) (over : Bool) (answer : Result PutAnswer Failure) (a b c : Option Story) → Told (DialsTo address text) a b → Came (λ o bytes n. Told (OnOutgoing (Hears bytes)) o n) (λ o bytes n. Told (OnOutgoing (HearsThenBreaks bytes)) o n) b reply c answer → (over ≡ true → IfTold c IsHeardOut) → Told (DialsOnce address text reply over answer) a (option_map hung_up c)
 told_dials address text reply over answer a b None dialled came end = tt
@@ -139,7 +139,7 @@ unexchanged address text asks a b d fails is = record {
   told = subst (Told (DialsOnce address text [] false (Err Link)) a) (sym is) (told_fails address text a b fails);
 }
 
--- What a loan of the outgoing connection says of the link
+-- The statements of a loan of the outgoing connection about the link
 
 came_at : {S L : Type 0} (view : S → BorrowView) (story : L → Option Story) (old new : S) (a b : L) (bytes : List ℕ) (answer : Result PutAnswer Failure) → story a ≡ (view old).story → story b ≡ (view new).story → Came (λ o given n. ChangesOutgoing (Hears given) (view o) (view n)) (λ o given n. ChangesOutgoing (HearsThenBreaks given) (view o) (view n)) old bytes new answer → Came (λ o given n. Told (OnOutgoing (Hears given)) (story o) (story n)) (λ o given n. Told (OnOutgoing (HearsThenBreaks given)) (story o) (story n)) a bytes b answer
 came_at view story old new a b bytes (Ok value) first last came = told_at (OnOutgoing (Hears bytes)) (story a) (story b) (view old).story (view new).story first last came.story

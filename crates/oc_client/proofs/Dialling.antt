@@ -21,7 +21,7 @@ abbrev pub AllDial : List Turn → Type 0
 AllDial [] = Unit {0}
 AllDial (turn ∷ turns) = MakesConnection turn × AllDial turns
 
--- at a state that keeps no connection a turn dials
+-- a turn dials at a state that keeps no connection
 asked_dials : (kept : Bool) (state : ClientState) (at : Option (List ℕ)) → kept ≡ false → at ≡ dialled_at kept state → (address : List ℕ) × (at ≡ Some address)
 asked_dials true state at e f = cc
 asked_dials false state at e f = (_, f)
@@ -31,7 +31,7 @@ cut_dials true state at e f = cc
 cut_dials false state None e f = absurd f
 cut_dials false state (Some address) e f = (address, refl)
 
--- after a turn for a whole content no connection is kept
+-- no connection is kept after a turn for a whole content
 still_new : (manner : FetchOptions) (state : ClientState) (turn : Turn) (content : List ℕ) (next : ClientState) → GoesOn (whole manner) state turn content next → next.kept ≡ false
 still_new manner state turn content next goes = elim goes.leads.so [
   | inl redirects ↦ ap (λ (p : ClientState). p.kept) redirects.0.follows.next_is
@@ -50,7 +50,7 @@ all_dial manner state (turn ∷ through) content reached last rest end new (some
     let d = asked_dials state.kept state turn.dialled new goes.asks.dialled in
     (record { address = d.0; dialled = d.1 }, all_dial manner next through more reached last rest end (still_new manner state turn first next goes) leads ends)
 
--- What the dials gave
+-- The replies of the dials
 
 -- the last dial tells the last talk
 pub record IsSplit (talks : List Talk) (talk : Talk) (made : List Dial) : Type 0 where

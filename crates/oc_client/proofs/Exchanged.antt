@@ -13,7 +13,7 @@ use Rattle.oc_link.specs.Calls.{Told, IfTold, OnOutgoing}
 use Rattle.oc_link.specs.Borrow.{BorrowView, ChangesOutgoing, Told-same, Told-then}
 use Rattle.oc_link.specs.Story.{Story, IsHeardOut}
 
--- What a loan of the outgoing connection says of the link
+-- The statements of a loan of the outgoing connection about the link
 
 pub told_at : (R : Story → Story → Type 0) (a b x y : Option Story) → a ≡ x → b ≡ y → Told R x y → Told R a b
 told_at R a b x y p q t = subst (λ (o : Option Story). Told R o b) (sym p) (subst (λ (o : Option Story). Told R x o) (sym q) t)
@@ -53,7 +53,7 @@ outgoing_last view story takes breaks So old new a b p q end first last h = reco
   so = h.so;
 }
 
--- A request and what came after it
+-- A request and the reply after it
 
 told_heard : (at : Option (List ℕ)) (request bytes : List ℕ) (over : Bool) (a b c : Option Story) → Told (Speaks (asking at request)) a b → Told (OnOutgoing (Hears bytes)) b c → (over ≡ true → IfTold c IsHeardOut) → Told (Speaks (heard at request bytes over)) a c
 told_heard at request bytes over a b None p q e = tt
@@ -81,7 +81,7 @@ exchanged story takes wish state next a l m p q asked h = record {
   so = record { asks = asks_at wish state h.reply h.over; leads = h.so };
 }
 
--- How it ends
+-- The end of an exchange
 
 -- memory ran out before the request
 pub exchange_starved : {K : Type 0} (takes breaks : K → List ℕ → K → Type 0) → ((k : K) → takes k [] k) → (wish : Wish) (state : ClientState) (a : Option Story) (k : K) → IsLastExchanged takes breaks (EndsAt wish state) a a k k ends.Memory

@@ -78,7 +78,7 @@ talked_so takes breaks P Q a b p q end so talked = record {
 pub one_parsed : (address : List ℕ) (u v : Parts) → IsAddressOf address u → IsAddressOf address v → u ≡ v
 one_parsed address u v p q = let e = sym p.parsed ∙ q.parsed in cc
 
--- where nothing is asked, nothing was refused of a good address
+-- a good address was not refused where nothing was asked
 unasked_unrefused : (address : List ℕ) (url : Parts) (end : GetEnd) → IsAddressOf address url → IsUnasked address end → IsUnrefused end
 unasked_unrefused address url ends.BadUrl good why = absurd (why url good)
 unasked_unrefused address url ends.Memory good why = tt

@@ -20,9 +20,9 @@ use Rattle.oc_http.specs.declared.reply.ReplyHead.{ReplyHead}
 abbrev Rests : {S : Type 0} → (S → List ℕ → S → Type 0) → Type 0
 Rests {S} gives = (s : S) → gives s [] s
 
--- After the head of a 200
+-- The content after the head of a 200
 
--- its content is not taken
+-- the content is not taken
 pub untaken : {S K : Type 0} (gives fails : S → List ℕ → S → Type 0) (ended : S → Type 0) (takes breaks : K → List ℕ → K → Type 0) → Rests gives → Rests takes → (wish : Wish) (head : ReplyHead) (s : S) (k : K) → head.status ≡ 200 → ¬ (Takes wish head) → IsLastHeard gives fails ended takes breaks (StopsContent wish head) s s k k ends.Reply
 untaken gives fails ended takes breaks none_given none_taken wish head s k status refused = record {
   reply = [];
@@ -56,7 +56,7 @@ stopped_content gives fails ended takes breaks wish head a c p r end serves stop
   so = passing_stops gives fails ended takes breaks wish head a c p r end serves stops;
 }
 
--- all of it was passed on
+-- the whole content was passed on
 pub brought : {S K : Type 0} (gives : S → List ℕ → S → Type 0) (ended : S → Type 0) (takes : K → List ℕ → K → Type 0) (wish : Wish) (state next : ClientState) (head : ReplyHead) (a c : S) (p r : K) (count : ℕ) → Serves wish head → ((content : List ℕ) → length content ≡ count → next ≡ after_content head content state) → IsPassed gives ended takes (framing_of head) a c p r count → IsHeard gives ended takes (λ body over content. Brings wish state head body over content next) a c p r
 brought gives ended takes wish state next head a c p r count serves next_is passed = record {
   reply = passed.body;
@@ -68,7 +68,7 @@ brought gives ended takes wish state next head a c p r count serves next_is pass
   so = record { serves = serves; whole = passed.whole; next_is = next_is passed.content passed.count_is };
 }
 
--- A head and what follows it
+-- A head and the bytes after it
 
 -- a reply of this head, and of bytes after it
 whole_reply : (P : ReplyHead → List ℕ → Type 0) (bytes behind : List ℕ) (head : ReplyHead) → SaysReplyHead bytes head → P head behind → Replied (bytes ++ behind) P

@@ -24,7 +24,7 @@ use Rattle.oc_link.specs.Story.{Story}
 
 -- One turn more
 
--- where an answer leads, with no turn after it
+-- the result of an answer with no turn after it
 onward_last : (load : Load) (next : Next) → Onward (λ further. LeadsTo load further [] next) next [] next
 onward_last load (Again further) = refl
 onward_last load (Settled progress) = (refl, refl)
@@ -46,7 +46,7 @@ leads_more load [] effort further turn asks_so leads =
 leads_more load (first ∷ turns) effort further turn asks_so leads =
     (leads.0, onward_more load turns (next_of effort first.answer) further turn (λ e on. leads_more load turns e further turn asks_so on) leads.1)
 
--- Over a link
+-- Turns over a link
 
 -- no turn yet
 pub led_none : (goal : Goal) (load : Load) (effort : Effort) (o : Option Story) → IsLed goal load effort o o (Again effort)
@@ -70,7 +70,7 @@ led_turn goal load effort further a b c address text asked answer next led one i
     let dialled : IsDialled address text (asks further.doing) b c answer = subst (λ (x : Bool). IsDialled address text x b c answer) is_asked one in
     subst (λ (x : Next). IsLed goal load effort a c x) (sym is_next) (led_more goal load effort further a b c address text answer led dialled is_address is_text)
 
--- Which answer ends with the link's failure
+-- The answers that end with the link's failure
 
 abbrev IsNoLink : Next → Type 0
 IsNoLink (Again effort) = ⊤
@@ -97,7 +97,7 @@ link_end effort (Err failures.Reply) e = absurd (subst IsNoLink e (link_test (na
 link_end effort (Err failures.Unavailable) e = absurd (subst IsNoLink e (link_test (nat_lt effort.failures (MAX_FAILURES - 1)) (Again (record { doing = behind_failure effort.doing; failures = effort.failures + 1 })) (Ended (ends.Refused 503)) tt tt))
 link_end effort (Err failures.Link) e = refl
 
--- How often
+-- The number of tries
 
 -- the number of tries that an effort has left: each failure takes some, and so does each other try
 abbrev pub left_of_doing : Doing → ℕ → ℕ

@@ -46,7 +46,7 @@ passed_length New found before begins = sym (ap length begins.1)
 passed_length Append found before begins = sym (ap length begins)
 passed_length Resume found before begins = sym begins
 
--- What is told before an end
+-- The lines before an end
 
 module _ {S E : Type 0} (gives fails : S → List ℕ → S → Type 0) (takes breaks : E → List ℕ → E → Type 0) where
   -- nothing is told

@@ -16,7 +16,7 @@ abbrev pub ShowsBy : Option Talk → List Talk → Story → Story → Type 0
 ShowsBy None ended old new = (ended ≡ []) × (new ≡ old)
 ShowsBy (Some talk) ended old new = ShowsLast talk ended old new
 
--- from the old story to the new one these connections were made, and nothing else happened
+-- these connections were made from the old story to the new one, and nothing else happened
 abbrev pub Shows : Talks → Story → Story → Type 0
 Shows talks old new = ShowsBy talks.last talks.ended old new
 
@@ -89,7 +89,7 @@ pub after_turns-push : (talks : Talks) (turns : List Turn) (turn : Turn) → aft
 after_turns-push talks [] turn = refl
 after_turns-push talks (t ∷ turns) turn = after_turns-push (after_turn talks t) turns turn
 
--- after a turn there is a connection
+-- a connection is there after a turn
 pub last_behind : (at : Option (List ℕ)) (turn : Turn) (last : Option Talk) → IsReady at last → IsReady None (last_by at turn last)
 last_behind None turn None ready = absurd ready
 last_behind None turn (Some talk) ready = tt

@@ -42,7 +42,7 @@ makes_then goal first rest a b c p q = record {
   hung = hung_then a b c p.hung q.hung;
 }
 
--- Of a link that may not tell its story
+-- Links that may not tell their story
 
 pub made_none : (goal : Goal) (o : Option Story) → Told (Makes goal []) o o
 made_none goal o = Told-same (Makes goal []) (makes_none goal) o

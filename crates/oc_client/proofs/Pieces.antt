@@ -49,7 +49,7 @@ carried_all gives ended both plan goal found reached a b s t u pieces piece has 
   over = end;
 }
 
--- with a last piece
+-- an input carried with a last piece
 pub carried_last : {S : Type 0} (gives : S → List ℕ → S → Type 0) (ended : S → Type 0) → ((a b c : S) (x y : List ℕ) → gives a x b → gives b y c → gives a (x ++ y) c) → (plan : Publication) (goal : Goal) (found reached next : Progress) (a b c : Option Story) (s t u : S) (pieces : List (List ℕ)) (piece : List ℕ) → HasCarried gives plan goal found a b s t reached pieces → gives t piece u → length piece ≤ PUT_PIECE_BYTES → (length piece ≡ 0 → (sends_empty plan.place ≡ true) × (pieces ≡ [])) → ended u → IsSent goal (bytes piece) reached b c next → IsCarried gives ended plan goal found a c s u next
 carried_last gives ended both plan goal found reached next a b c s t u pieces piece has came most first end sent = record {
   pieces = pieces ++ piece ∷ [];

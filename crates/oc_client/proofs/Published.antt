@@ -25,7 +25,7 @@ pub record Joins {S : Type 0} (gives fails : S → List ℕ → S → Type 0) : 
   pub both : (a b c : S) (x y : List ℕ) → gives a x b → gives b y c → gives a (x ++ y) c
   pub last : (a b c : S) (x y : List ℕ) → gives a x b → fails b y c → fails a (x ++ y) c
 
--- before the first request memory runs out
+-- a publishing whose memory runs out before the first request
 pub no_memory : {S : Type 0} (gives fails : S → List ℕ → S → Type 0) (ended : S → Type 0) (plan : Publication) (goal : Goal) (o : Option Story) (s : S) → gives s [] s → IsPublishedAt gives fails ended plan goal o o s s ends.Memory
 no_memory gives fails ended plan goal o s none = record {
   turns = [];
@@ -42,7 +42,7 @@ stopped_turns : (goal : Goal) (load : Load) (effort : Effort) (a b : Option Stor
 stopped_turns goal load effort a b end (inl led) = (led.turns, inl led.leads, led.made)
 stopped_turns goal load effort a b end (inr out) = (out.1.1.turns, inr (out.0, (out.1.0, out.1.1.leads)), out.1.1.made)
 
--- and none of them is a failure of the input
+-- no stopped effort is a failure of the input
 pub stopped_no_input : (goal : Goal) (load : Load) (effort : Effort) (a b : Option Story) (end : PutEnd) → IsStopped goal load effort a b end → end ≡ ends.Input → ⊥
 stopped_no_input goal load effort a b end stopped same =
     let t = stopped_turns goal load effort a b end stopped in
@@ -51,7 +51,7 @@ stopped_no_input goal load effort a b end stopped same =
 pub refused_no_input : (goal : Goal) (load : Load) (progress : Progress) (a b : Option Story) (end : PutEnd) → IsRefused goal load progress a b end → end ≡ ends.Input → ⊥
 refused_no_input goal load progress a b end refused same = subst IsOfTurns same (refuses_of_turns load progress refused.turns end refused.refuses)
 
--- nor that it is done
+-- no stopped effort is done
 pub stopped_not_done : (goal : Goal) (load : Load) (effort : Effort) (a b : Option Story) (end : PutEnd) → IsStopped goal load effort a b end → end ≡ ends.Done → ⊥
 stopped_not_done goal load effort a b end stopped same =
     let t = stopped_turns goal load effort a b end stopped in

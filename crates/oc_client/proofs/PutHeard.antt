@@ -18,7 +18,7 @@ use Rattle.oc_client.specs.declared.answer.Failure.TheVariants as failures
 unseen : {A : Type 0} → false ≡ true → A
 unseen e = cc
 
--- What a reply answers
+-- The answers of replies
 
 -- an answer that a reply can have
 abbrev IsOfReply : Result PutAnswer Failure → Type 0
@@ -58,7 +58,7 @@ by_answer gives fails ended asks reply over a c (Err failures.Unavailable) of ca
 by_answer gives fails ended asks reply over a c (Err failures.Link) of came is_over replies = absurd of
 by_answer gives fails ended asks reply over a c (Err failures.Memory) of came is_over replies = absurd of
 
--- To a question
+-- Replies to a question
 
 pub heard_head : {S : Type 0} (gives fails : S → List ℕ → S → Type 0) (ended : S → Type 0) (head : ReplyHead) (bytes : List ℕ) (a c : S) (answer : Result PutAnswer Failure) → gives a bytes c → SaysReplyHead bytes head → answer ≡ answer_to_ask head → Hears gives fails ended (λ r o. Answers true r o answer) a c answer
 heard_head gives fails ended head bytes a c answer came says is =
@@ -76,7 +76,7 @@ no_head gives fails ended bytes a c (faults.Coding both) came refused = record {
 no_head gives fails ended bytes a c (faults.Length missing) came refused = record { reply = bytes; over = false; came = came; is_over = unseen; so = inl (record { fault = faults.Length missing; of_bytes = tt; refused = refused }) }
 no_head gives fails ended bytes a c faults.BodyLong came refused = record { reply = bytes; over = false; came = came; is_over = unseen; so = inl (record { fault = faults.BodyLong; of_bytes = tt; refused = refused }) }
 
--- To a load
+-- Replies to a load
 
 -- a body without a length went to the end
 abbrev over_of : Option ℕ → Bool
@@ -103,7 +103,7 @@ heard_whole gives fails ended reply head body a c answer came says is =
       answer_is = is;
     })
 
--- where the source ended early, it ended
+-- a content that ended early means that the source ended
 content_ended : {Done : Type 0} (length : Option ℕ) (body : List ℕ) → RefusesContent length body Done faults.Ended → Done
 content_ended (Some count) body refused = refused.1
 content_ended None body refused = absurd refused
@@ -120,7 +120,7 @@ reply_over : {Done : Type 0} (bytes : List ℕ) → RefusesReply bytes Done faul
 reply_over bytes (inl refused) = inl (refused.0, refused.1, refl)
 reply_over bytes (inr (head, body, split, stops)) = inr (head, body, split, record { head = stops.head; says = stops.says; stops = content_over _ (body_length stops.head) body stops.stops })
 
--- for no other fault it matters whether it ended
+-- the end of the source does not matter for any other fault
 abbrev IsOther : HttpFault → Type 0
 IsOther faults.Ended = ⊥
 IsOther fault = ⊤

@@ -20,9 +20,9 @@ use Rattle.std.proofs.lemmas.List.{append-nil}
 use Rattle.oc_link.specs.Story.{Story}
 use Rattle.url.specs.Parts.{Parts}
 
--- Where it ends with `Redirects`
+-- The end `Redirects`
 
--- from a reply of a 302 to a redirection
+-- a reply of a 302 is a redirection
 redirection_of : (state : ClientState) (reply : List ℕ) (url : Parts) (head : ReplyHead) (behind : List ℕ) → Says reply head behind → SendsTo state head url → IsRedirection state.target reply url
 redirection_of state reply url head behind says sends = record {
   head = head;
@@ -65,13 +65,13 @@ redirects_only wish state (turn ∷ through) content reached last rest (some, (n
           )
     ]
 
--- Where a third redirection came
+-- The third redirection
 
 -- two heads of one reply say one status
 one_status : OneAnswer → (reply : List ℕ) (h k : ReplyHead) (b c : List ℕ) → Says reply h b → Says reply k c → h.status ≡ k.status
 one_status one reply h k b c p q = ap (λ (x : ReplyHead). x.status) (same_head one reply h k b c p q).0
 
--- with a redirection that is not followed
+-- the end of a redirection that is not followed
 last_redirected : OneAnswer → (wish : Wish) (state : ClientState) (turn : Turn) (url : Parts) (written : List ℕ) (end : GetEnd) → IsRedirection state.target turn.reply url → EndsWith wish state turn.reply turn.over written end → IsRedirected end
 last_redirected one wish state turn url written ends.Redirects said end = tt
 last_redirected one wish state turn url written ends.Link said end = tt
@@ -146,7 +146,7 @@ redirects_always one wish state (turn ∷ through) content reached last rest end
 
 -- The whole
 
--- where nothing is asked, there was no redirection
+-- no redirection came where nothing was asked
 unasked_not_redirected : (address : List ℕ) (end : GetEnd) → IsUnasked address end → end ≡ ends.Redirects → ⊥
 unasked_not_redirected address end why e = subst (λ (x : GetEnd). IsUnasked address x) e why
 

@@ -21,7 +21,7 @@ use Rattle.oc_client.specs.declared.put_end.PutEnd.TheVariants as ends
 use Rattle.oc_client.specs.declared.load.Load.{Load}
 use Rattle.oc_client.proofs.Making.{made_none}
 
--- How long the group is after it
+-- The length of the group after a load
 
 -- the load that is sent ends here
 abbrev IsAbout : ℕ → Doing → Type 0
@@ -29,7 +29,7 @@ IsAbout behind Finding = ⊥
 IsAbout behind (Posting at end tried) = end ≡ behind
 IsAbout behind (Checking at end) = end ≡ behind
 
--- and so it stays, up to where it is settled
+-- the load that is sent ends here until it is settled
 abbrev IsNextAbout : ℕ → Next → Type 0
 IsNextAbout behind (Again effort) = IsAbout behind effort.doing
 IsNextAbout behind (Settled progress) = progress.length ≡ behind

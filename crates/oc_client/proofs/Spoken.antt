@@ -109,7 +109,7 @@ heard_carries (Some at) request bytes over o None n c h a end = absurd c
 heard_carries (Some at) request bytes over o (Some m) None c h a end = absurd h
 heard_carries (Some at) request bytes over o (Some m) (Some n) c h a end = heard_told bytes over (begun at (asking (Some at) request)) m n c h a end
 
--- a change of the outgoing connection after a change of it
+-- a change of the outgoing connection after another one
 behind : (at : Option (List ℕ)) (a b c : Story) → b ≡ record (ready_for at a) { outgoing = b.outgoing } → c ≡ record b { outgoing = c.outgoing } → c ≡ record (ready_for at a) { outgoing = c.outgoing }
 behind at a b c p q = q ∙ ap (λ (s : Story). record s { outgoing = c.outgoing }) p
 
@@ -119,7 +119,7 @@ heard_speaks at request bytes over a b c p q end = record {
   rest = behind at a b c p.rest q.rest;
 }
 
--- and then a call failed
+-- a connection on which bytes were read before a call failed
 broken_told : (bytes : List ℕ) (talk : Talk) (between : Connection) (old new : Dial) → IsTold talk old → ReadsFront bytes old.connection between → Some new.connection ≡ Some (broken between) → Some new.address ≡ Some old.address → IsTold (record { address = talk.address; written = talk.written; read = talk.read ++ bytes; over = false }) new
 broken_told bytes talk between old new told gives breaks a =
     let e : new.connection ≡ broken between = some_is new.connection (broken between) breaks in

@@ -24,12 +24,12 @@ pub record HasTalked {K : Type 0} (takes : K → List ℕ → K → Type 0) (wis
   pub leads : Leads wish first through content state
   pub ready : IsReady (dialled_at state.kept state) (after_turns no_talks through).last
 
--- where the connection is not kept a turn can begin
+-- a turn can begin where the connection is not kept
 ready_new : (kept : Bool) (state : ClientState) (last : Option Talk) → kept ≡ false → IsReady (dialled_at kept state) last
 ready_new false state last e = tt
 ready_new true state last e = cc
 
--- where there is a connection a turn can begin
+-- a turn can begin where there is a connection
 ready_any : (at : Option (List ℕ)) (last : Option Talk) → IsReady None last → IsReady at last
 ready_any None last ready = ready
 ready_any (Some address) last ready = tt
@@ -67,7 +67,7 @@ talked_then takes then wish first state next a b c p q r wanted has goes =
       ready = rw pushed (ready_any (dialled_at next.kept next) _ (last_behind goes.turn.dialled goes.turn talks.last ready));
     }
 
--- how the turns show with a last one
+-- the connections of the turns with a last one
 makes_last : (through : List Turn) (last : Option Turn) (old mid new : Story) → ((turn : Turn) → last ≡ Some turn → IsReady turn.dialled (after_turns no_talks through).last) → Shows (after_turns no_talks through) old mid → MaySpeakLast last mid new → MakesOnceHung (through ++ option_to_list last) old new
 makes_last through None old mid new ready shows same =
     subst (λ (ts : List Turn). MakesOnceHung ts old new) (sym (append-nil through)) (shows_makes through old mid (hung_up new) shows (ap hung_up same))
@@ -149,12 +149,12 @@ hung_talked takes breaks So a b c p q end hung talked = record {
   so = talked.so;
 }
 
--- after a content fewer replies are wanted
+-- fewer replies are wanted after a content
 fewer_wanted : (length : Option ℕ) (replies : ℕ) → 0 < replies → wanted_after length replies < replies
 fewer_wanted None replies wanted = omega arith
 fewer_wanted (Some count) replies wanted = wanted
 
--- after each turn fewer replies and redirections are left
+-- fewer replies and redirections are left after each turn
 pub goes_down : (wish : Wish) (state next : ClientState) (turn : Turn) (content : List ℕ) → 0 < state.replies → GoesOn wish state turn content next → next.replies + next.redirections < state.replies + state.redirections
 goes_down wish state next turn content wanted goes = elim goes.leads.so [
   | inl redirects ↦

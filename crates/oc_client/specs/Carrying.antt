@@ -42,7 +42,7 @@ abbrev pub IsPlaced : {S : Type 0} → (S → List ℕ → S → Type 0) → (S 
 IsPlaced gives fails ended place length old new (Ok done) = IsAtPlace gives place length old new
 IsPlaced gives fails ended place length old new (Err end) = IsOffPlace gives fails ended place length old new end
 
--- these pieces were read and taken, and each may be followed by others
+-- an input of which these pieces were read and taken, each of which others may follow
 pub record HasCarried {S : Type 0} (gives : S → List ℕ → S → Type 0) (plan : Publication) (goal : Goal) (found : Progress) (old new : Option Story) (before after : S) (reached : Progress) (pieces : List (List ℕ)) : Type 0 where
   pub turns : List PutTurn
   pub sends : Sends found (map bytes pieces) turns reached
@@ -50,7 +50,7 @@ pub record HasCarried {S : Type 0} (gives : S → List ℕ → S → Type 0) (pl
   pub made : Told (Makes goal turns) old new
   pub came : gives before (joined pieces) after
 
--- the input was read to its end, and all of it was taken
+-- an input that was read to its end and taken whole
 pub record IsCarried {S : Type 0} (gives : S → List ℕ → S → Type 0) (ended : S → Type 0) (plan : Publication) (goal : Goal) (found : Progress) (old new : Option Story) (before after : S) (reached : Progress) : Type 0 where
   pub pieces : List (List ℕ)
   pub turns : List PutTurn

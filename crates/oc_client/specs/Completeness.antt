@@ -40,7 +40,7 @@ IsUnrefused Sink = ⊤
 IsUnrefused Memory = ⊤
 IsUnrefused end = ⊥
 
--- if the dials gave replies that lead to a content, none was refused
+-- no reply of the dials was refused where they lead to a content
 abbrev pub Completes : FetchOptions → Parts → GetEnd → Story → Story → Type 0
 Completes manner url end old new =
     (made : List Dial) → dials new ≡ dials old ++ made → LeadToContent manner (first_state manner.from url 1) (map text_of made) → IsUnrefused end

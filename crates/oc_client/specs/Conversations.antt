@@ -63,7 +63,7 @@ abbrev pub LeadsOn : Wish → ClientState → List ℕ → Bool → List ℕ →
 LeadsOn wish state reply over content next =
     Replied reply (λ head behind. (Redirects state head next × (content ≡ [])) ⊎ Brings wish state head behind over content next)
 
--- these bytes were written of a content of which `body` came
+-- a content of which `body` came and these bytes were written
 pub record Passes (wish : Wish) (head : ReplyHead) (body written : List ℕ) : Type 0 where
   pub content : List ℕ
   pub serves : Serves wish head
@@ -80,7 +80,7 @@ pub record IsUntaken (wish : Wish) (head : ReplyHead) : Type 0 where
   pub status : head.status ≡ 200
   pub untaken : ¬ (Takes wish head)
 
--- after the head of a 200, the bytes that came end the conversation, and these were written
+-- the end of a conversation after the head of a 200, with the bytes that came and those that were written
 abbrev pub StopsContent : Wish → ReplyHead → List ℕ → Bool → List ℕ → GetEnd → Type 0
 StopsContent wish head body over written Reply = (IsUntaken wish head × (written ≡ [])) ⊎ CutsOff wish head body over written
 StopsContent wish head body over written Link = Passes wish head body written

@@ -38,7 +38,7 @@ request_of load Finding = ask
 request_of load (Posting at behind tried) = publish at load
 request_of load (Checking at behind) = ask
 
--- after a failure a client that sent bytes asks whether they were taken, and one that asked asks
+-- the doing after a failure: a client that sent bytes asks whether they were taken, and one that asked asks
 -- again
 abbrev pub behind_failure : Doing → Doing
 behind_failure Finding = Finding
@@ -104,7 +104,7 @@ LeadsTo load effort [] next = next ≡ Again effort
 LeadsTo load effort (turn ∷ turns) next =
     IsTurnOf load effort turn × Onward (λ further. LeadsTo load further turns next) (next_of effort turn.answer) turns next
 
--- these turns were made, with this result
+-- the result of these turns, which were made over the link
 pub record IsLed (goal : Goal) (load : Load) (effort : Effort) (old new : Option Story) (next : Next) : Type 0 where
   pub turns : List PutTurn
   pub leads : LeadsTo load effort turns next

@@ -76,7 +76,7 @@ module _ {E : Type 0} (takes fails : E → List ℕ → E → Type 0) (nothing :
   pub grows_then : (a b c : ProgressLines E) (x y : List ℕ) → Grows takes fails a (length x) b → Grows takes fails b (length y) c → Grows takes fails a (length (x ++ y)) c
   grows_then a b c x y f s = subst (λ (k : ℕ). Grows takes fails a k c) (sym (length-append x y)) (grows_both a b c (length x) (length y) f s)
 
--- these bytes were taken, and the count grew by this number
+-- bytes that were taken, by whose number the count grew
 pub record Goes {K E : Type 0} (takes fails : E → List ℕ → E → Type 0) (went : K → List ℕ → K → Type 0) (old : Metered K E) (bytes : List ℕ) (new : Metered K E) : Type 0 where
   pub gone : went old.sink bytes new.sink
   pub grew : Grows takes fails old.lines (length bytes) new.lines

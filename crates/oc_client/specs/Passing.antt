@@ -8,12 +8,12 @@ use Rattle.oc_client.specs.Turns.{Turn, Makes, MakesOnceHung, Speaks, MaySpeakLa
 use Rattle.oc_link.specs.Calls.{IsFront, Told}
 use Rattle.oc_link.specs.Story.{Story}
 
--- these bytes came from the source; with the end `Link` a call failed after them
+-- the bytes that came from the source; with the end `Link` a call failed after them
 abbrev pub Came : {S : Type 0} → (S → List ℕ → S → Type 0) → (S → List ℕ → S → Type 0) → S → List ℕ → S → GetEnd → Type 0
 Came gives fails old bytes new Link = fails old bytes new
 Came gives fails old bytes new end = gives old bytes new
 
--- these bytes were taken by the sink; with the end `Sink` a call failed after them
+-- the bytes that the sink took; with the end `Sink` a call failed after them
 abbrev pub Sent : {K : Type 0} → (K → List ℕ → K → Type 0) → (K → List ℕ → K → Type 0) → K → List ℕ → K → GetEnd → Type 0
 Sent takes fails old bytes new Sink = fails old bytes new
 Sent takes fails old bytes new end = takes old bytes new

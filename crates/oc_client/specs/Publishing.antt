@@ -32,7 +32,7 @@ joined (piece ∷ pieces) = piece ++ joined pieces
 abbrev pub IsPart : Bool → List ℕ → Type 0
 IsPart live piece = (least_piece live ≤ length piece) × (length piece ≤ PUT_PIECE_BYTES)
 
--- the last may be shorter; none is empty
+-- pieces of which the last may be shorter; none is empty
 abbrev pub AreSome : Bool → List (List ℕ) → Type 0
 AreSome live [] = ⊤
 AreSome live (piece ∷ []) = (0 < length piece) × (length piece ≤ PUT_PIECE_BYTES)
@@ -87,9 +87,9 @@ pub record IsDone (plan : Publication) (turns : List PutTurn) (input : List ℕ)
   pub seals : Seals plan.seal reached last
   pub turns_are : turns ≡ through ++ last
 
--- How it ends otherwise
+-- The other ends
 
--- these turns led to an end, or memory ran out after them
+-- the end to which these turns led, or lack of memory after them
 abbrev pub Ends : Load → Effort → List PutTurn → PutEnd → Type 0
 Ends load effort turns end =
     LeadsTo load effort turns (Ended end)
@@ -164,9 +164,9 @@ abbrev pub Publishes : Publication → List PutTurn → List ℕ → Bool → Pu
 Publishes plan turns input over ends.Done = IsDone plan turns input × (over ≡ true)
 Publishes plan turns input over end = Stops plan turns input over end
 
--- Over a link and a source
+-- Publishings over a link and a source
 
--- these bytes came from the input; with the end `Input` a call failed after them
+-- the bytes that came from the input; with the end `Input` a call failed after them
 abbrev pub Came : {S : Type 0} → (S → List ℕ → S → Type 0) → (S → List ℕ → S → Type 0) → S → List ℕ → S → PutEnd → Type 0
 Came gives fails old bytes_came new ends.Input = fails old bytes_came new
 Came gives fails old bytes_came new end = gives old bytes_came new

@@ -3,7 +3,7 @@ use Rattle.std.specs.Prelude.{◌≡◌, ℕ, Bool, true, Result, Ok, Err, List}
 use Rattle.oc_client.specs.declared.answer.Failure.{Failure}
 use Rattle.oc_client.specs.declared.answer.Failure.TheVariants.{Link, Reply, Unavailable, Memory}
 
--- these bytes came from the source; with the failure `Link` a call failed after them
+-- the bytes that came from the source; with the failure `Link` a call failed after them
 abbrev pub Came : {S A : Type 0} → (S → List ℕ → S → Type 0) → (S → List ℕ → S → Type 0) → S → List ℕ → S → Result A Failure → Type 0
 Came gives fails old bytes new (Ok value) = gives old bytes new
 Came gives fails old bytes new (Err Reply) = gives old bytes new

@@ -22,7 +22,7 @@ seal = record { piece = []; seals = true }
 pub data PutRequest : Type 0 where
   -- the query for the length of the group
   ask : PutRequest
-  -- take this, if the group has this length
+  -- the request to take this load, if the group has this length
   publish : ℕ → Load → PutRequest
 
 abbrev pub seal_part : Bool → List ℕ

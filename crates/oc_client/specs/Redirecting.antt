@@ -6,7 +6,7 @@ use Rattle.oc_client.specs.declared.end.GetEnd.TheVariants.{Redirects, Reply, Me
 use Rattle.oc_client.specs.declared.client_state.ClientState.{ClientState}
 use Rattle.url.specs.Parts.{Parts}
 
--- there is no Location, or it is no URL that can be asked
+-- a Location that is missing, or no URL that can be asked
 abbrev pub IsLost : Parts → Option (List ℕ) → Type 0
 IsLost asked None = ⊤
 IsLost asked (Some location) = LeadsNowhere asked location
@@ -15,7 +15,7 @@ IsLost asked (Some location) = LeadsNowhere asked location
 abbrev pub sent_to : Parts → ClientState → ClientState
 sent_to url state = record state { target = url; led = true; kept = false; redirections = state.redirections - 1 }
 
--- there is a Location, and it is this URL
+-- a Location that is this URL
 pub record Points (state : ClientState) (location : Option (List ℕ)) (url : Parts) : Type 0 where
   pub text : List ℕ
   pub is : location ≡ Some text

@@ -1,4 +1,4 @@
--- The reply to a request, and the part of it that is content.
+-- The reply to a request, and its content.
 use Rattle.std.specs.Prelude.{◌≡◌, ℕ, ◌<◌, ◌≤◌, ◌⊎◌, Bool, true, false, Option, Some, None, List, [], ◌++◌, length}
 use Rattle.oc_client.specs.declared.reply_framing.ReplyFraming.{ReplyFraming}
 use Rattle.oc_client.specs.declared.reply_framing.ReplyFraming.TheVariants.{Counted, Chunked, ToTheEnd}

@@ -13,7 +13,7 @@ abbrev pub get_lines : List ℕ → List ℕ → List ℕ → Option (List ℕ) 
 get_lines path query host token last =
     codes "GET " ++ path ++ query ++ codes " HTTP/1.1\r\nHost: " ++ host ++ codes "\r\n" ++ authorization_line token ++ last
 
--- after the reply the connection is closed
+-- the lines of a request whose connection is closed after the reply
 abbrev pub close_lines : List ℕ
 close_lines = codes "Connection: close\r\n\r\n"
 
@@ -35,12 +35,12 @@ query_from (Some from) query = codes "?start=" ++ decimal from ++ more_text quer
 abbrev pub news_query : ℕ → Option (List ℕ) → Option (List ℕ) → List ℕ
 news_query start area knowledge = codes "?start=" ++ decimal start ++ codes "&follow" ++ area_text area ++ more_text knowledge
 
--- a Location says itself from which byte on
+-- the first byte to ask for; a Location gives its own
 abbrev pub from_at : Bool → Option ℕ → Option ℕ
 from_at true from = None
 from_at false from = from
 
--- only a Location gives knowledge of a group
+-- the knowledge of a group to ask with, which only a Location gives
 abbrev pub knowledge_at : Bool → Option (List ℕ) → Option (List ℕ)
 knowledge_at true query = knowledge_of query
 knowledge_at false query = None

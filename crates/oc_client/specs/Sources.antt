@@ -22,12 +22,12 @@ pub record Post : Type 0 where
   pub at : ℕ
   pub load : Load
 
--- a source may take it only where the group has that length; bytes only into an open group, a seal only on one that is held
+-- whether a source may take a POST: only where the group has that length; bytes only into an open group, a seal only on one that is held
 abbrev pub may_take : SourceGroup → Post → Bool
 may_take group post =
     post.at == length group.content && (post.load.seals || not group.sealed) && (group.held || not post.load.seals)
 
--- the group after it
+-- the group after a POST that is taken
 abbrev pub taken : Post → SourceGroup → SourceGroup
 taken post group = record {
   held = true;

@@ -40,12 +40,12 @@ abbrev pub request_of : Wish → ClientState → List ℕ
 request_of (whole manner) state = whole_request manner state
 request_of (news manner area) state = news_request manner area state
 
--- the address to which it makes a connection, unless the one before is kept
+-- the address to which the client makes a connection, unless the one before is kept
 abbrev pub dialled_at : Bool → ClientState → Option (List ℕ)
 dialled_at true state = None
 dialled_at false state = Some (dial_address state.target)
 
--- the turn has the request of a client at this state, where it belongs
+-- a turn with the request of a client at this state, on the connection where it belongs
 pub record Asks (wish : Wish) (state : ClientState) (turn : Turn) : Type 0 where
   pub dialled : turn.dialled ≡ dialled_at state.kept state
   pub request : turn.request ≡ request_of wish state

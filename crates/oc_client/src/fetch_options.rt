@@ -6,7 +6,7 @@ use std::marker::Model;
 /// `specs/FetchOptions`.
 #[derive(Drop)]
 pub struct FetchOptions<'a> {
-    /// The first byte of a group to ask for, unless the URL gives one.
+    /// The first byte of a group to ask for; `None` leaves it to the URL.
     pub from: Option<u64>,
     /// The token that each request shows as a bearer token (RFC 6750, section 2.1): printable ASCII
     /// bytes without a space.
@@ -23,7 +23,7 @@ impl<'a> Model for FetchOptions<'a> {
 }
 
 impl<'a> FetchOptions<'a> {
-    /// The first byte to ask for, unless the URL gives one.
+    /// The first byte to ask for, unless it is left to the URL.
     pub(crate) fn first_byte(&self) -> Option<u64>
         ensures { result ≡ self.now.from }
     {

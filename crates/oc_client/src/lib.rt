@@ -13,7 +13,7 @@
 //!
 //! [`put`] asks for the length of a group, and sends its input in pieces of [`PUT_PIECE_BYTES`]
 //! bytes and one of the rest, each on a dial of its own with its position as `at=`: so a piece that
-//! comes twice is taken once. If no reply comes, it asks for the length again, and learns from it
+//! comes twice is taken once. If no reply comes, it asks for the length again, and learns from the answer
 //! whether the piece was taken. Its contract is `IsPublished`: the requests made, the answer to
 //! each, and that each piece is the next of the input (`specs/Publishing`). `specs/PutRequests` has
 //! the requests, `specs/PutReplies` the answers in replies, and `specs/Efforts` the next step of a

@@ -7,7 +7,7 @@ use crate::input::PUT_PIECE_BYTES;
 pub enum WriteMode {
     /// A group that has no bytes yet.
     New,
-    /// After the present end of the group.
+    /// The present end of the group.
     Append,
     /// A group that has the first bytes of the input already; only the rest is sent.
     Resume,

@@ -1,11 +1,11 @@
 /// The end of the content of a reply (RFC 9112, section 6.3).
 #[derive(Clone, Copy, Debug, PartialEq, Eq)]
 pub(crate) enum ReplyFraming {
-    /// After this number of bytes.
+    /// The end after this number of bytes.
     Counted(u64),
-    /// At the last chunk (RFC 9112, section 7.1).
+    /// The end at the last chunk (RFC 9112, section 7.1).
     Chunked,
-    /// At the end of the connection.
+    /// The end of the connection.
     ToTheEnd,
 }
 

@@ -40,7 +40,7 @@ same_id asked m n p q is also = cc
 
 module _ {S D : Type 0} (gives fails : S → List ℕ → S → Type 0) (ended : S → Type 0) (faulty : S → ℕ) (old new : S) (view : D → DiskView) (d e : Disks D) (output : Output)
     (honest : AreHonest view d) (unfailed : OneRose view d e → ⊥) (sourced : Rose (faulty old) (faulty new) → ⊥) (sound : IsSound output) where
-  -- where it was not loaded, by its cause
+  -- the status of files that were not loaded, by the cause
   load_has : (s : Settings) (id : ℕ) (error : KeepLoad) (cause : FileError) → cause_of error ≡ cause → IsNode (length s.addresses) id → RefusesNode view (length s.addresses) d e error → IsShownOver view d s id (number_of (status_of_cause cause)) ⊎ (number_of (status_of_cause cause) ≡ 4)
   load_has s id error causes.Disk is node h =
       inl (inr (node, λ files. let also : causes.Disk ≡ causes.Memory = sym is ∙ only_memory view (length s.addresses) d e honest files unfailed error h in absurd cc))
@@ -50,14 +50,14 @@ module _ {S D : Type 0} (gives fails : S → List ℕ → S → Type 0) (ended :
       inl (inr (node, λ files. let also : causes.BadFrame i ≡ causes.Memory = sym is ∙ only_memory view (length s.addresses) d e honest files unfailed error h in absurd cc))
   load_has s id error causes.Memory is node h = inr refl
 
-  -- over the files of a node
+  -- the status over the files of a node
   check_has : (s : Settings) (id : ℕ) (end : CheckEnd) → IsNode (length s.addresses) id → HappenedAtCheck (at_files view d e) output (sizes_in s) id end
       → IsShownOver view d s id (number_of (status_of_check end)) ⊎ (number_of (status_of_check end) ≡ 4)
   check_has s id checks.Done node h = inl (inr (node, λ files. refl))
   check_has s id checks.Sink node h = let (text, shows, cut) = h.0 in absurd (sound _ cut.1)
   check_has s id (checks.Load error) node h = load_has s id error (cause_of error) refl node h.0.0
 
-  -- by the meaning of all bytes of the input
+  -- the status by the meaning of all bytes of the input
   told : (id : ℕ) (said : Result Settings ConfigFault) (status : ℕ) (bytes : List ℕ) → gives old bytes new → ended new → (line : ℕ) → settings_of line bytes ≡ said → IsShownOf view d id said status ⊎ (status ≡ 4)
       → HasShownStatus gives ended view d id old new status ⊎ (status ≡ 4)
   told id said status bytes came whole line is (inl has) = inl (record { bytes = bytes; came = came; status_is = inl (whole, shown_over view d id line bytes status (subst (λ r. IsShownOf view d id r status) (sym is) has)) })

@@ -75,7 +75,7 @@ module _ {K L : Type 0} (takes fails : K → List ℕ → K → Type 0) (count :
       (subst (λ m. (url : Parts) → IsAddressOf d.address url → link.completes m url end) manner_is
       (subst (λ a. (url : Parts) → IsAddressOf a url → link.completes manner url end) address_is complete))
 
-  -- and one that is followed
+  -- a download that follows its group
   pub got_news : (times : ℕ) → d.times ≡ Some times → IsTalked takes fails (Downloads (news_of manner) manner.from address times) (story old) (story new) before after end
       → Downloaded link (at_sink takes fails count before after) d token end
   got_news times is t =
@@ -84,7 +84,7 @@ module _ {K L : Type 0} (takes fails : K → List ℕ → K → Type 0) (count :
       (subst (λ a. IsTalked takes fails (Downloads (news_of manner) manner.from a times) (story old) (story new) before after end) address_is t))
       tt
 
--- Where lines tell of it
+-- Lines that tell of the download
 
 module _ {K E : Type 0} (takes fails : K → List ℕ → K → Type 0) (count : K → ℕ) (writes breaks : E → List ℕ → E → Type 0) (faults : E → ℕ)
     (then : (a b c : E) (x y : List ℕ) → writes a x b → writes b y c → writes a (x ++ y) c) (then_breaks : (a b c : E) (x y : List ℕ) → writes a x b → breaks b y c → breaks a (x ++ y) c)

@@ -46,7 +46,7 @@ module _ {E : Type 0} (writes breaks : E → List ℕ → E → Type 0) (faults 
   falls_not a c true true text told = told.1
   falls_not a c true false text (front, is, broke) = broke.1
 
-  -- of a count that grew, and then at the end
+  -- the lines of a count that grew, and the last line at the end
   module _ (a b : ProgressLines (Counting E)) (c : Counting E) (active whole : Bool) (bytes : ℕ) (grows : Grows T F a bytes b) (last : Tells T F b.sink c b.active active (last_line whole b.count)) where
     all : Tells T F a.sink c a.active active (lines_between a.count b.count ++ last_line whole b.count)
     all = tells_then a.sink b.sink c a.active b.active active (lines_between a.count b.count) (last_line whole b.count) grows.told last

@@ -94,7 +94,7 @@ module _ {S : Type 0} (gives fails : S → List ℕ → S → Type 0) (ended : S
     abbrev F : Counting E → List ℕ → Counting E → Type 0
     F = Fails breaks faults
 
-    -- of a count that came of the input
+    -- the lines of a count of bytes of the input
     counted : (end : PutEnd) → first.active ≡ true → (bytes : List ℕ) → (more : ℕ) → Grows T F first more mid → Tells T F mid.sink last mid.active active (last_line (is_done end) mid.count)
         → Came input bytes false end → more ≤ length bytes → (end ≡ puts.Done → more ≡ length bytes) → posted_at.Tells (at_error writes breaks faults first.sink.sink last.sink) input true end
     counted end is bytes more grows ends came within all = (
@@ -108,7 +108,7 @@ module _ {S : Type 0} (gives fails : S → List ℕ → S → Type 0) (ended : S
       },
     )
 
-    -- where all is not done
+    -- the lines of a publishing that is not done
     counted_within : (end : PutEnd) → first.active ≡ true → ¬ (end ≡ puts.Done) → TellsWithin gives fails T F old new first mid end → (end ≡ puts.Input → Rose (count old) (count new))
         → Tells T F mid.sink last mid.active active (last_line (is_done end) mid.count) → posted_at.Tells (at_error writes breaks faults first.sink.sink last.sink) input true end
     counted_within end is undone w cause ends =

@@ -1,4 +1,4 @@
--- How reading records ends where there are none.
+-- The end of reading records where there are none.
 use Rattle.std.proofs.Common.{◌≡◌, ℕ, ◌<◌, cond, List, [], length, Err, ap}
 use Rattle.std.specs.Str.Lines.{lines}
 use Rattle.std.proofs.lemmas.Bool.{lt-ltb}
@@ -27,7 +27,7 @@ module _ {S : Type 0} (gives fails : S → List ℕ → S → Type 0) (ended : S
   ends_at whole (faults.Limit Published) read = (bytes, (came, whole), read)
   ends_at whole faults.Memory read = (bytes, came)
 
--- where there are no records nothing is written
+-- nothing is written where there are no records
 pub happened_early : (input : Input) (output : Output) (end : RecordsEnd) → EndsEarly input end → output.written [] → HappenedAtMerge input output end
 happened_early input output (Merged end) early written = absurd early
 happened_early input output (Text line cause) early written = (early, written)

@@ -1,4 +1,4 @@
--- What a replay did, told with the laws that hold of its schedule.
+-- The effect of a replay, told with the laws that hold of its schedule.
 use Rattle.std.proofs.Common.{◌≡◌, ℕ, ◌⊎◌, Bool, true, false, cond, List, [], length, Ok, Err, inl, inr}
 use Rattle.std.specs.Prelude.{nat_lt}
 use Rattle.std.specs.Str.Lines.{lines}
@@ -47,7 +47,7 @@ module _ {S K T : Type 0} (gives fails : S → List ℕ → S → Type 0) (ended
     pub memory : OnMemory end ((((bytes : List ℕ) × gives source bytes came) × takes sink [] gone × (left ≡ stage))
         ⊎ ((s : Script) × IsInput scale gives ended source came (Ok s) × SomeFront (text s) (λ front. takes sink front gone)))
 
-  -- so it had happened
+  -- the effect of a replay has happened
   pub happened : (end : ReplayEnd) → Replays end
       → HappenedAtReplay (at_source gives fails ended faulty source came) (at_sink takes breaks count sink gone) (at_stage world stage left) scale summary end
   happened replays.Done r = let (s, says, is, written, played) = r.done in (s, says, is, written, played, headline s is.header)

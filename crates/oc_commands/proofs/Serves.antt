@@ -47,7 +47,7 @@ module _ {S D N K : Type 0} (gives fails : S → List ℕ → S → Type 0) (end
   abbrev OrMemory : (ℕ → Type 0) → ℕ → Type 0
   OrMemory P status = P status ⊎ (status ≡ 4)
 
-  -- where it was not loaded, by its cause
+  -- the status of files that were not loaded, by the cause
   load_has : (s : Settings) (v : Service) (error : KeepLoad) (cause : FileError) → cause_of error ≡ cause → HasNode s v → RefusesNode view (length s.addresses) d e error → OrMemory (IsStatusOver view d s v) (number_of (status_of_cause cause))
   load_has s v error causes.Disk is node h =
       inl (inr (node, λ files. let also : causes.Disk ≡ causes.Memory = sym is ∙ only_memory view (length s.addresses) d e honest files unfailed error h in absurd cc))
@@ -57,7 +57,7 @@ module _ {S D N K : Type 0} (gives fails : S → List ℕ → S → Type 0) (end
       inl (inr (node, λ files. let also : causes.BadFrame i ≡ causes.Memory = sym is ∙ only_memory view (length s.addresses) d e honest files unfailed error h in absurd cc))
   load_has s v error causes.Memory is node h = inr refl
 
-  -- over the files of a node
+  -- the status over the files of a node
   run_has : (s : Settings) (v : Service) (end : NodeEnd) → HasNode s v → NodeEnds (at_run view story counts takes takes_less s (task_of v) d e link after sink written) output.written output.cut_off (setting_of s (task_of v)) end
       → OrMemory (IsStatusOver view d s v) (number_of (status_of_run end))
   run_has s v (nodes.Load error) node h = load_has s v error (cause_of error) refl node h.0.0
@@ -69,7 +69,7 @@ module _ {S D N K : Type 0} (gives fails : S → List ℕ → S → Type 0) (end
   run_has s v (nodes.Turned turns.Memory) node h = inr refl
   run_has s v (nodes.Turned turns.Sink) node h = absurd (sound _ h.2.2)
 
-  -- by the meaning of all bytes of the input
+  -- the status by the meaning of all bytes of the input
   told : (v : Service) (said : Result Settings ConfigFault) (status : ℕ) (bytes : List ℕ) → gives old bytes new → ended new → (line : ℕ) → settings_of line bytes ≡ said → OrMemory (IsStatusOf view d v said) status
       → OrMemory (HasServiceStatus gives ended view d v old new) status
   told v said status bytes came whole line is (inl has) = inl (record { bytes = bytes; came = came; status_is = inl (whole, status_over view d v line bytes status (subst (λ r. IsStatusOf view d v r status) (sym is) has)) })

@@ -23,7 +23,7 @@ ready_where_settled w tested n told = by_test (is_ready w) refl told where
   by_test true e told = tested e
   by_test false e told = absurd cc
 
--- and a heal that does, in an able one
+-- a heal that tells a number was in an able world
 able_where_healed : (w : World) → (is_able w ≡ true → IsAble w) → (n : ℕ) → word_of w Heal ≡ Healed n → IsAble w
 able_where_healed w tested n told = by_test (is_able w) (leader w) refl told where
   by_test : (b : Bool) (m : Option ℕ) → is_able w ≡ b → word_of_heal (heal_acts_if b m w) ≡ Healed n → IsAble w
@@ -58,7 +58,7 @@ settle_holds w laws = record {
   number = λ n told. same_settled w n _ told (laws.takes (ready_where_settled w laws.tested n told));
 }
 
--- and of a heal
+-- the laws of a heal
 pub record HealLaws (w : World) : Type 0 where
   pub tested : is_able w ≡ true → IsAble w
   pub refused : (word_of w Heal ≡ Unready) ↔ (IsAble w → ⊥)
@@ -79,7 +79,7 @@ heal_holds w laws = record {
       (led.0, led.1, same_healed w n _ told (laws.takes led.0 able led.1));
 }
 
--- so at each event
+-- settle and heal hold at each event
 pub settle_and_heal_hold : (w : World) → SettleLaws w → HealLaws w → (e : Event) → SettleAndHealHold w e
 settle_and_heal_hold w settle heal Settle = settle_holds w settle
 settle_and_heal_hold w settle heal Heal = heal_holds w heal

@@ -45,13 +45,13 @@ replay_is_other replays.Source is = absurd (omega (arith, is))
 replay_is_other replays.Sink is = absurd (omega (arith, is))
 replay_is_other replays.Memory is = absurd (omega (arith, is))
 
--- and so `gen`
+-- no status of `gen` is 2
 gen_is_other : (end : GenEnd) → number_of (status_of_gen end) ≡ 2 → ⊥
 gen_is_other gens.Done is = absurd (omega (arith, is))
 gen_is_other gens.Sink is = absurd (omega (arith, is))
 gen_is_other gens.Memory is = absurd (omega (arith, is))
 
--- and so `merge`
+-- no status of `merge` is 2
 merge_is_other : (end : RecordsEnd) → number_of (status_of_records end) ≡ 2 → ⊥
 merge_is_other (records.Merged merges.Whole) is = absurd (omega (arith, is))
 merge_is_other (records.Merged (merges.State line)) is = absurd (omega (arith, is))
@@ -62,7 +62,7 @@ merge_is_other records.Source is = absurd (omega (arith, is))
 merge_is_other records.Sink is = absurd (omega (arith, is))
 merge_is_other records.Memory is = absurd (omega (arith, is))
 
--- and so `rules`
+-- no status of `rules` is 2
 rules_are_other : (end : RulesEnd) → number_of (status_of_rules end) ≡ 2 → ⊥
 rules_are_other lists.Done is = absurd (omega (arith, is))
 rules_are_other (lists.Config configs.Source) is = absurd (omega (arith, is))
@@ -77,7 +77,7 @@ rules_are_other (lists.Config (configs.Fault faults.Memory)) is = absurd (omega 
 rules_are_other lists.Sink is = absurd (omega (arith, is))
 rules_are_other lists.Memory is = absurd (omega (arith, is))
 
--- why a file was not loaded
+-- no cause that a file was not loaded has status 2
 cause_is_other : (cause : FileError) → number_of (status_of_cause cause) ≡ 2 → ⊥
 cause_is_other causes.Disk is = absurd (omega (arith, is))
 cause_is_other causes.NotJournal is = absurd (omega (arith, is))
@@ -106,7 +106,7 @@ get_is_other gets.Link is = absurd (omega (arith, is))
 get_is_other gets.Sink is = absurd (omega (arith, is))
 get_is_other gets.Memory is = absurd (omega (arith, is))
 
--- why a client has no token
+-- no cause that a client has no token has status 2
 token_is_other : (end : TokenEnd) → number_of (status_of_token end) ≡ 2 → ⊥
 token_is_other tokens.Source is = absurd (omega (arith, is))
 token_is_other tokens.Long is = absurd (omega (arith, is))
@@ -125,7 +125,7 @@ put_is_other puts.Link is = absurd (omega (arith, is))
 put_is_other puts.Input is = absurd (omega (arith, is))
 put_is_other puts.Memory is = absurd (omega (arith, is))
 
--- and `node`
+-- no status of `node` is 2
 turns_are_other : (end : TurnEnd) → number_of (status_of_turns end) ≡ 2 → ⊥
 turns_are_other turns.Served is = absurd (omega (arith, is))
 turns_are_other turns.Link is = absurd (omega (arith, is))

@@ -17,7 +17,7 @@ use Rattle.oc_commands.specs.declared.token.TheConstants.{MAX_TOKEN_BYTES}
 token_byte_ascii : (b : ℕ) → is_token_byte b ≡ true → b < 128
 token_byte_ascii b h = grind (arith, nat_tests)
 
--- and so are all of them
+-- all bytes of a token are of ASCII
 all_ascii : (line : List ℕ) → list_all is_token_byte line ≡ true → (i : ℕ) → slice_index line i < 128
 all_ascii [] all i = omega arith
 all_ascii (x ∷ xs) all zero = token_byte_ascii x (and_parts (is_token_byte x) (list_all is_token_byte xs) all).0
@@ -39,7 +39,7 @@ untokened asked r file is none named =
     let same : None ≡ Some file = sym none ∙ (sym (ap token_file_asked is) ∙ named) in
     cc
 
--- where no file is named there is no token
+-- no token is taken where no file is named
 pub untaken : (file : Input) (name token : Option (List ℕ)) → name ≡ None → TakesToken file name token → token ≡ None
 untaken file None None is took = refl
 untaken file None (Some token) is took = absurd took

@@ -80,17 +80,17 @@ pub record TellsInput (i j : Input) : Type 0 where
   pub broke : (bytes : List ℕ) → i.broke bytes → j.broke bytes
   pub unread : i.unread → j.unread
 
--- and so of an output
+-- statements of one output that hold of another
 pub record TellsOutput (o p : Output) : Type 0 where
   pub written : (text : List ℕ) → o.written text → p.written text
   pub cut_off : (text : List ℕ) → o.cut_off text → p.cut_off text
 
--- and of the error output
+-- statements of one error output that hold of another
 pub record TellsError (d e : OnError) : Type 0 where
   pub told : (whole : Bool) (count : ℕ) → d.told whole count → e.told whole count
   pub silent : d.silent → e.silent
 
--- and of a node
+-- statements of one node that hold of another
 pub record TellsNode (m n : OnNode) : Type 0 where
   pub run : (s : Settings) (task : Task) → TellsRun (m.run s task) (n.run s task)
   pub untouched : m.untouched → n.untouched
@@ -115,7 +115,7 @@ unless_told a b tells services.Stranger h = tells h
 unless_told a b tells (services.Ran end) h = h
 
 module _ (i j : Input) (o p : Output) (d e : OnError) (stage : OnStage) (input : TellsInput i j) (output : TellsOutput o p) (error : TellsError d e) where
-  -- at the end of a replay
+  -- the end of a replay
   replay_told : (scale : Scale) (summary : Bool) (end : ReplayEnd) → HappenedAtReplay i o stage scale summary end → HappenedAtReplay j p stage scale summary end
   replay_told scale summary replays.Done h = let (s, says, lawful, written, played, holds) = h in (s, input.says scale _ says, lawful, output.written _ written, played, holds)
   replay_told scale summary (replays.Text line why) h = (input.says scale _ h.0, output.written _ h.1, h.2)
@@ -125,13 +125,13 @@ module _ (i j : Input) (o p : Output) (d e : OnError) (stage : OnStage) (input :
   replay_told scale summary replays.Memory (inl h) = inl (input.came h.0, output.written _ h.1, h.2)
   replay_told scale summary replays.Memory (inr h) = let (s, says, lawful, front, holds) = h in inr (s, input.says scale _ says, lawful, (front.0, output.written _ front.1), holds)
 
-  -- at the end of `gen`
+  -- the end of `gen`
   gen_told : (sample : Sample) (end : GenEnd) → HappenedAtGen o sample end → HappenedAtGen p sample end
   gen_told sample gens.Done h = output.written _ h
   gen_told sample gens.Sink h = (h.0, output.cut_off _ h.1)
   gen_told sample gens.Memory h = output.written _ h
 
-  -- at the end of `merge`
+  -- the end of `merge`
   records_told : (r : Result Records RecordsFault) → TellsRecords i r → TellsRecords j r
   records_told r h = (h.0, input.whole _ h.1, h.2)
 
@@ -148,7 +148,7 @@ module _ (i j : Input) (o p : Output) (d e : OnError) (stage : OnStage) (input :
   merge_told records.Source h = (input.failed h.0, output.written _ h.1)
   merge_told records.Memory h = (input.came h.0, output.written _ h.1)
 
-  -- of a configuration
+  -- the reading of a configuration
   config_told : (read : Result Settings ConfigEnd) → ReadsConfig i read → ReadsConfig j read
   config_told (Ok settings) h = (h.0, input.whole _ h.1, h.2)
   config_told (Err configs.Source) h = input.failed h
@@ -161,26 +161,26 @@ module _ (i j : Input) (o p : Output) (d e : OnError) (stage : OnStage) (input :
   config_told (Err (configs.Fault (faults.Measure number why))) h = (h.0, input.whole _ h.1, h.2)
   config_told (Err (configs.Fault (faults.Unknown place key))) h = (h.0, input.whole _ h.1, h.2)
 
-  -- at the end of `rules`
+  -- the end of `rules`
   rules_told : (end : RulesEnd) → HappenedAtRules i o end → HappenedAtRules j p end
   rules_told lists.Done h = let (settings, read, w) = h in (settings, config_told (Ok settings) read, (w.0, w.1, output.written _ w.2))
   rules_told lists.Sink h = let (settings, read, w) = h in let (text, listing, cut) = w in (settings, config_told (Ok settings) read, (text, listing, (cut.0, output.cut_off (take cut.0 text) cut.1)))
   rules_told lists.Memory h = let (settings, read, written) = h in (settings, config_told (Ok settings) read, output.written _ written)
   rules_told (lists.Config end) h = (config_told (Err end) h.0, output.written _ h.1)
 
-  -- at the end of `check`
+  -- the end of `check`
   check_told : (files : OnFiles) (n : Sizes) (id : ℕ) (end : CheckEnd) → HappenedAtCheck files o n id end → HappenedAtCheck files p n id end
   check_told files n id checks.Done h = let (shown, safely) = h in ((shown.0, shown.1, output.written _ shown.2), safely)
   check_told files n id checks.Sink h = let (shown, safely) = h in let (text, shows, cut) = shown in ((text, shows, (cut.0, output.cut_off (take cut.0 text) cut.1)), safely)
   check_told files n id (checks.Load error) h = let (refused, safely) = h in ((refused.0, output.written _ refused.1), safely)
 
-  -- and so of a node of a configuration
+  -- the end of `check` for a node of a configuration
   configured_told : (files : OnFiles) (id : ℕ) (end : ConfiguredEnd) → HappenedAtConfigured i files o id end → HappenedAtConfigured j files p id end
   configured_told files id (configured.Config end) h = (config_told (Err end) h.0, output.written _ h.1)
   configured_told files id configured.Stranger h = let (settings, read, rest) = h in (settings, config_told (Ok settings) read, (rest.0, output.written _ rest.1))
   configured_told files id (configured.Checked end) h = let (settings, read, rest) = h in (settings, config_told (Ok settings) read, (rest.0, check_told files (sizes_in settings) id end rest.1))
 
-  -- at the end of `get`
+  -- the end of `get`
   wrote_told : (bytes : List ℕ) (end : GetEnd) → Wrote o bytes end → Wrote p bytes end
   wrote_told bytes gets.Sink h = output.cut_off _ h
   wrote_told bytes gets.Done h = output.written _ h
@@ -214,7 +214,7 @@ module _ (i j : Input) (o p : Output) (d e : OnError) (stage : OnStage) (input :
     tells = got_told download.progress end (length h.did.written) h.tells;
   }
 
-  -- at the end of `put`
+  -- the end of `put`
   came_so : (bytes : List ℕ) (over : Bool) → CameSo i bytes over → CameSo j bytes over
   came_so bytes true h = input.whole bytes h
   came_so bytes false h = input.gave bytes h
@@ -266,7 +266,7 @@ module _ (i j : Input) (o p : Output) (d e : OnError) (stage : OnStage) (input :
     tells = posted_told u.progress end h.tells;
   }
 
-  -- at the end of `node`
+  -- the end of `node`
   stops_told : (run other : OnRun) → TellsRun run other → (s : Setting) (end : TurnEnd) → Stops run o.written o.cut_off s end → Stops other p.written p.cut_off s end
   stops_told run other tells s turns.Sink h = let (deeds, under, cut, stopped) = h in (deeds, under, (cut.0, cut.1, output.cut_off _ cut.2), tells.stopped turns.Sink deeds under stopped)
   stops_told run other tells s turns.Served h = let (deeds, under, written, stopped) = h in (deeds, under, output.written _ written, tells.stopped turns.Served deeds under stopped)
@@ -311,7 +311,7 @@ module _ (i j : Input) (o p : Output) (d e : OnError) (stage : OnStage) (input :
     fileless_told : IsFileless before → IsFileless after
     fileless_told a = record { files = a.files; node = tells.untouched a.node }
 
-    -- of a token
+    -- the reading of a token
     token_told : (read : Result (List ℕ) TokenEnd) → ReadsToken t read → ReadsToken u read
     token_told (Ok text) h = (h.0, token.whole _ h.1, h.2)
     token_told (Err tokens.Source) h = token.failed h
@@ -325,7 +325,7 @@ module _ (i j : Input) (o p : Output) (d e : OnError) (stage : OnStage) (input :
     took_told (Some name) None h = absurd h
     took_told (Some name) (Some text) h = token_told (Ok text) h
 
-    -- at each end of a run
+    -- each end of a run
     pub happened_told : (end : End) → Happened before end → Happened after end
     happened_told Helped h = let (a, (text, some, written), x, n) = h in (a, (text, some, output.written _ written), unplayed_told x, alone_told n)
     happened_told HelpFailed h = let (a, (text, cut), x, n) = h in (a, (text, output.cut_off _ cut), unplayed_told x, alone_told n)

@@ -54,7 +54,7 @@ pub same_scale : (asked : Option Invocation) (large summary : Bool) (file : Opti
     → asked ≡ Some (Replay large summary file) → asked ≡ Some (Replay big short name) → big ≡ large
 same_scale asked large summary file big short name is also = cc
 
--- where the output is sound, help was written
+-- help was written where the output is sound
 pub helped : (o : Outside) → IsSound o.output → (end : End) → o.asked ≡ Some Help → Happened o end → IsDoneOrMemory (number_of (status_of end))
 helped o sound Helped is h = inl refl
 helped o sound HelpFailed is h = let (a, (text, cut), u, n) = h in absurd (sound text cut)
@@ -73,7 +73,7 @@ helped o sound (Got end) is h = let also = h.0.1 in cc
 helped o sound (Published end) is h = let also = h.0.1 in cc
 helped o sound (Served end) is h = let also = h.0.2 in cc
 
--- and the version
+-- the version was written where the output is sound
 pub versioned : (o : Outside) → IsSound o.output → (end : End) → o.asked ≡ Some Version → Happened o end → IsDoneOrMemory (number_of (status_of end))
 versioned o sound Helped is h = let also = h.0 in cc
 versioned o sound HelpFailed is h = let also = h.0 in cc
@@ -92,7 +92,7 @@ versioned o sound (Got end) is h = let also = h.0.1 in cc
 versioned o sound (Published end) is h = let also = h.0.1 in cc
 versioned o sound (Served end) is h = let also = h.0.2 in cc
 
--- and `gen`
+-- `gen` is done where the output is sound
 gen_done : (output : Output) → IsSound output → (sample : Sample) (end : GenEnd) → HappenedAtGen output sample end → IsDoneOrMemory (number_of (status_of_gen end))
 gen_done output sound sample gens.Done h = inl refl
 gen_done output sound sample gens.Sink h = absurd (sound _ h.1)
@@ -147,7 +147,7 @@ module _ {S : Type 0} (gives fails : S → List ℕ → S → Type 0) (ended : S
   replay_has scale summary replays.Sink h = let (s, says, is, cut, played, holds) = h in absurd (sound _ cut.1)
   replay_has scale summary replays.Memory h = inr refl
 
-  -- and so is that of a merge
+  -- the status of a merge
   merge_has : (end : RecordsEnd) → HappenedAtMerge (at_source gives fails ended faulty old new) output end
       → HasRecordsStatus gives ended old new (number_of (status_of_records end)) ⊎ (number_of (status_of_records end) ≡ 4)
   merge_has (records.Merged end) h =
@@ -161,7 +161,7 @@ module _ {S : Type 0} (gives fails : S → List ℕ → S → Type 0) (ended : S
   merge_has records.Sink h = let (r, told, text, end, is, cut) = h in absurd (sound _ cut.1)
   merge_has records.Memory h = inr refl
 
-  -- and that of `rules`
+  -- the status of `rules`
   rules_have : (end : RulesEnd) → HappenedAtRules (at_source gives fails ended faulty old new) output end
       → HasConfigStatus gives ended old new (number_of (status_of_rules end)) ⊎ (number_of (status_of_rules end) ≡ 4)
   rules_have lists.Done h = let (settings, read, wrote) = h in let (bytes, whole, is) = read in inl (record { bytes = bytes; came = whole.0; status_is = inl (whole.1, sym (status_read is.line bytes _ is.gives)) })

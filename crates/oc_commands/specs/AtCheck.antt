@@ -14,16 +14,16 @@ use Rattle.oc_commands.specs.declared.checking.CheckEnd.TheVariants.{Done, Load,
 abbrev pub sizes_of : CheckedNode → Sizes
 sizes_of m = record { nodes = m.nodes; chain = m.chain; chunk = USUAL_CHUNK_BYTES }
 
--- and of a configuration
+-- the sizes of a configuration
 abbrev pub sizes_in : Settings → Sizes
 sizes_in s = record { nodes = length s.addresses; chain = s.chain; chunk = s.chunk }
 
--- what the files show was written, or some of it and then the output failed; or they were refused, and nothing was
+-- the text of the files, which was written, or a part of it before the output failed; or the refusal of the files, and nothing was written
 abbrev pub WritesCheck : OnFiles → Output → Sizes → ℕ → CheckEnd → Type 0
 WritesCheck files output n id Done = (text : List ℕ) × files.show (header_without_areas n) id text × output.written text
 WritesCheck files output n id Sink = (text : List ℕ) × files.show (header_without_areas n) id text × SomeFront text output.cut_off
 WritesCheck files output n id (Load error) = files.are_refused n.nodes error × output.written []
 
--- what had happened; no moment of it lost anything of the files
+-- the effect of `check`, which at no moment lost anything of the files
 abbrev pub HappenedAtCheck : OnFiles → Output → Sizes → ℕ → CheckEnd → Type 0
 HappenedAtCheck files output n id end = WritesCheck files output n id end × files.load_safely (header_without_areas n) id

@@ -26,14 +26,14 @@ abbrev pub HappenedAtConfigured : Input → OnFiles → Output → ℕ → Confi
 HappenedAtConfigured input files output id (Config end) = ReadsConfig input (Err end) × output.written []
 HappenedAtConfigured input files output id end = (s : Settings) × ReadsConfig input (Ok s) × ChecksOne files output s id end
 
--- this holds, unless the files were read
+-- a statement that holds unless the files were read
 abbrev pub UnlessChecked : ConfiguredEnd → Type 0 → Type 0
 UnlessChecked (Checked end) so = ⊤
 UnlessChecked end so = so
 
--- ---- which status has to come
+-- The status that has to come
 
--- for a configuration without a node of this id the status is 3; otherwise, over the files of a
+-- the status is 3 for a configuration without a node of this id; otherwise, over the files of a
 -- node, it is 0
 abbrev pub IsShownOver : {D : Type 0} → (D → DiskView) → Disks D → Settings → ℕ → ℕ → Type 0
 IsShownOver view d s id status =

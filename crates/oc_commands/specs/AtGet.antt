@@ -30,12 +30,12 @@ abbrev pub Wrote : Output → List ℕ → GetEnd → Type 0
 Wrote output bytes ends.Sink = output.cut_off bytes
 Wrote output bytes end = output.written bytes
 
--- if the end blames the link a dial failed
+-- the end blames the link only where a dial failed
 abbrev pub Blames : OnLink → GetEnd → Type 0
 Blames link ends.Link = link.has_failed
 Blames link end = ⊤
 
--- if the URL is asked for once, replies that lead to its whole content are not refused
+-- replies that lead to the whole content of a URL which is asked for once are not refused
 abbrev pub CompletesOnce : OnLink → Option ℕ → FetchOptions → List ℕ → GetEnd → Type 0
 CompletesOnce link None manner address end = (url : Parts) → IsAddressOf address url → link.completes manner url end
 CompletesOnce link (Some times) manner address end = ⊤
@@ -44,7 +44,7 @@ abbrev pub is_done : GetEnd → Bool
 is_done ends.Done = true
 is_done end = false
 
--- if wanted, lines gave this number of bytes, with a last one if all is done
+-- lines gave this number of bytes where they are wanted, with a last one where all is done
 abbrev pub Tells : OnError → Bool → GetEnd → ℕ → Type 0
 Tells error false end count = error.silent
 Tells error true end count = error.told (is_done end) count

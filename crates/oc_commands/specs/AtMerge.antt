@@ -47,14 +47,14 @@ HappenedAtMerge input output (Merged end) = (r : Records) × TellsRecords input 
 HappenedAtMerge input output Sink = (r : Records) × TellsRecords input (Ok r) × (text : List ℕ) × (end : MergeEnd) × IsMergedText r text end × SomeFront text output.cut_off
 HappenedAtMerge input output end = EndsEarly input end × output.written []
 
--- ---- to which end a fault leads
+-- The end to which a fault leads
 
 abbrev pub end_of_records : RecordsFault → RecordsEnd
 end_of_records (faults.Line line cause) = Text line cause
 end_of_records (faults.Limit most) = Limit most
 end_of_records faults.Memory = Memory
 
--- ---- which status has to come
+-- The status that has to come
 
 -- the status of a merge: every line was taken, or one was not
 abbrev pub status_of_merged : MergeEnd → ℕ

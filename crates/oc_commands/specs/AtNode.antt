@@ -22,7 +22,7 @@ use Rattle.oc_commands.specs.declared.configuring.Configured.{Configured}
 use Rattle.oc_commands.specs.declared.serving.ServiceEnd.{ServiceEnd}
 use Rattle.oc_commands.specs.declared.serving.ServiceEnd.TheVariants.{Config, Stranger, Ran}
 
--- this is the id of a node that has an address
+-- the id of a node that has an address
 abbrev pub HasAddress : List (Option (List ℕ)) → ℕ → Type 0
 HasAddress addresses id = IsNode (length addresses) id × (is_some (slice_index_or addresses (id - 1) None) ≡ true)
 
@@ -52,7 +52,7 @@ abbrev pub HappenedAtNode : Input → OnNode → Output → Service → ServiceE
 HappenedAtNode input node output v (Config end) = ReadsConfig input (Err end) × output.written []
 HappenedAtNode input node output v end = (c : Configured) × ReadsConfigured input (Ok c) × RunsService node output c v end
 
--- this holds, unless the node ran
+-- a statement that holds unless the node ran
 abbrev pub UnlessRan : ServiceEnd → Type 0 → Type 0
 UnlessRan (Ran end) so = ⊤
 UnlessRan end so = so
@@ -67,9 +67,9 @@ abbrev pub IsPlacedOf : List (Option (List ℕ)) → ℕ → Option ℕ → Type
 IsPlacedOf addresses id (Some me) = HasAddress addresses id × (me ≡ id)
 IsPlacedOf addresses id None = HasAddress addresses id → ⊥
 
--- ---- which status has to come
+-- The status that has to come
 
--- For a configuration without a node of this id the status is 3. Otherwise, over the files of a
+-- The status is 3 for a configuration without a node of this id. Otherwise, over the files of a
 -- node, it is 0, or 5 if a file is full.
 abbrev pub IsStatusOver : {D : Type 0} → (D → DiskView) → Disks D → Settings → Service → ℕ → Type 0
 IsStatusOver view d s v status =

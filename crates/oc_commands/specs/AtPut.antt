@@ -35,7 +35,7 @@ abbrev pub Came : Input → List ℕ → Bool → PutEnd → Type 0
 Came input bytes over ends.Input = input.broke bytes
 Came input bytes over end = CameSo input bytes over
 
--- if the end blames the link a dial failed
+-- the end blames the link only where a dial failed
 abbrev pub Blames : OnLink → PutEnd → Type 0
 Blames link ends.Link = link.has_failed
 Blames link end = ⊤
@@ -66,7 +66,7 @@ pub record CountsInput (input : Input) (end : PutEnd) (count : ℕ) : Type 0 whe
   pub within : count ≤ length bytes
   pub all : end ≡ ends.Done → count ≡ length bytes
 
--- if wanted, lines gave this number of bytes of the input, at any end
+-- lines gave this number of bytes of the input where they are wanted, at any end
 abbrev pub Tells : OnError → Input → Bool → PutEnd → Type 0
 Tells error input false end = error.silent
 Tells error input true end = (count : ℕ) × error.told (is_done end) count × CountsInput input end count

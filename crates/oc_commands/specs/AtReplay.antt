@@ -30,7 +30,7 @@ HappenedAtReplay input output stage scale summary Sink = (s : Script) × input.s
 HappenedAtReplay input output stage scale summary Memory = (input.came × output.written [] × stage.unplayed)
     ⊎ ((s : Script) × input.says scale (Ok s) × IsSchedule scale s × SomeFront (output_text summary s) output.written × HeadlineHolds s)
 
--- ---- which status has to come
+-- The status that has to come
 
 -- the status for the schedule in a text
 abbrev pub status_for : Result Script ScheduleFault → ℕ

@@ -34,7 +34,7 @@ ReadsToken file (Err Long) = file.long
 ReadsToken file (Err Memory) = file.came
 ReadsToken file read = (bytes : List ℕ) × file.whole bytes × GivesToken read bytes
 
--- if a file is named its token was read, otherwise nothing was read
+-- the token of a file that is named was read; without a name nothing was read
 abbrev pub TakesToken : Input → Option (List ℕ) → Option (List ℕ) → Type 0
 TakesToken file None None = file.unread
 TakesToken file (Some name) (Some token) = ReadsToken file (Ok token)

@@ -69,7 +69,7 @@ version_line = codes "overcast " ++ (VERSION.now ++ (codes "\n" ++ []))
 abbrev pub text_of : ErrorLine → List ℕ
 text_of l = l.first.now ++ (l.second.now ++ (l.third.now ++ (l.fourth.now ++ (l.fifth.now ++ (l.end.now ++ [])))))
 
--- these parts, and the end of a line
+-- a line of these parts, with its end
 abbrev pub line : List ℕ → List ℕ → List ℕ → List ℕ → List ℕ
 line first second third fourth = first ++ (second ++ (third ++ (fourth ++ codes "\n")))
 

@@ -65,7 +65,7 @@ pub record Input : Type 1 where
 pub record Output : Type 1 where
   -- exactly this was written
   pub written : List ℕ → Type 0
-  -- this was written, and then the output failed
+  -- this text was written before the output failed
   pub cut_off : List ℕ → Type 0
 
 -- the error output, before the line that tells how the run ended
@@ -87,9 +87,9 @@ pub record OnStage : Type 1 where
 pub record OnFiles : Type 1 where
   -- the node of this id, among the nodes of this header, as they recover it, is shown by this text
   pub show : Header → ℕ → List ℕ → Type 0
-  -- among this number of nodes no node was loaded from the files, for this reason
+  -- no node was loaded from the files among this number of nodes, for this reason
   pub are_refused : ℕ → KeepLoad → Type 0
-  -- at every moment a crash leaves the files as a crash at the start would have left them
+  -- a crash at any moment leaves the files as a crash at the start would have left them
   pub load_safely : Header → ℕ → Type 0
   -- the files are unchanged
   pub untouched : Type 0
@@ -100,7 +100,7 @@ pub record OnLink : Type 1 where
   pub makes : List Turn → Type 0
   -- a call of a dial failed
   pub has_failed : Type 0
-  -- if the replies of the dials, from a URL on, led to a whole content, a download with this end was not refused
+  -- a download with this end was not refused where the replies of the dials, from a URL on, led to a whole content
   pub completes : FetchOptions → Parts → GetEnd → Type 0
   -- a client that publishes there made these turns on it, and nothing else was done
   pub publishes : Goal → List PutTurn → Type 0
@@ -130,7 +130,7 @@ pub record Outside : Type 1 where
   pub token : Input
   pub node : OnNode
 
--- ---- at a source, a sink, a stage, three disks and links, from the old value to the new one
+-- The outside over a source, a sink, a stage, three disks and links, from the old value to the new one
 
 module _ {S : Type 0} (gives fails : S → List ℕ → S → Type 0) (ended : S → Type 0) (faults : S → ℕ) where
   abbrev pub at_source : S → S → Input

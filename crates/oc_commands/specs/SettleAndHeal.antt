@@ -44,7 +44,7 @@ SettleAndHealHold w Settle = SettleHolds w
 SettleAndHealHold w Heal = HealHolds w
 SettleAndHealHold w e = Unit {0}
 
--- this holds at each of these events, in the world to which the earlier ones lead
+-- a statement at each of these events, in the world to which the earlier ones lead
 abbrev pub AtEach : (World → Event → Type 0) → World → List Event → Type 0
 AtEach P w [] = Unit {0}
 AtEach P w (e ∷ es) = P w e × AtEach P (next_world w e) es

@@ -18,7 +18,7 @@ abbrev pub IsToldOf : (List ℕ → Type 0) → Bool → ℕ → Type 0
 IsToldOf written whole bytes = (count : ℕ) × Rises 0 bytes count × written (progress_text whole count)
 
 module _ {E : Type 0} (takes fails : E → List ℕ → E → Type 0) (faults : E → ℕ) where
-  -- at an error output, from the old value to the new one
+  -- the lines on an error output, from the old value to the new one
   abbrev pub at_error : E → E → OnError
   at_error old new = record {
     told = λ whole bytes. IsToldOf (λ text. IsWrittenOrCut takes fails faults old new text) whole bytes;

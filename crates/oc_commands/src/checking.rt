@@ -43,7 +43,7 @@ pub enum ConfiguredEnd {
     Checked(CheckEnd),
 }
 
-/// Writes what the files of a node recover, one of a network with these sizes.
+/// Writes the node that its files recover, one of a network with these sizes.
 pub fn check_files<K: Sink, D: Disk>(
     alloc: Global,
     member: CheckedNode,

@@ -42,10 +42,10 @@ pub fn recovered_text<D: Disk>(
     // The text is that of the node that the files recover.
     ensures shows { IfOk result.text (λ text. Shows D.view (header_without_areas sizes) id (disks_in files) text.items) }
 
-    // When it refuses.
+    // The refusals, each with its cause.
     ensures refuses { IfErr result.text (λ error. RefusesNode D.view sizes.nodes (disks_in files) (disks_in result.files) error) }
 
-    // At every moment a crash leaves what a crash at the start would have left.
+    // A crash at any moment leaves the files as a crash at the start would have left them.
     ensures safely { LoadsSafely D.view (header_without_areas sizes) id (disks_in files) (disks_in result.files) }
 
     // The files of a node on honest disks are shown, unless a disk fails or memory runs out.

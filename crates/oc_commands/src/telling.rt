@@ -43,7 +43,7 @@ pub fn tell<E: Sink>(err: &mut E, end: &End, file: Option<&str>)
     write_line(err, line);
 }
 
-/// Writes a line, or a prefix of it if the output fails.
+/// Writes a line, or a prefix of the line if the output fails.
 fn write_line<E: Sink>(err: &mut E, line: ErrorLine<'_>)
     ensures told { IsWrittenOrCut E.takes E.fails E.faults err.old err.new (text_of line.entry) }
     ensures count { NoFall (E.faults err.old) (E.faults err.new) }

@@ -30,12 +30,12 @@ closing_byte b is = grind (arith, nat_tests)
 opening_byte : (b : ℕ) → (b == byte "[") ≡ true → is_host_byte b ≡ true
 opening_byte b is = grind (arith, nat_tests)
 
--- what is of each of some bytes is of each of them in the other words
+-- bytes that all pass a test pass a weaker one
 all_by : (p q : ℕ → Bool) → ((b : ℕ) → p b ≡ true → q b ≡ true) → (bs : List ℕ) → list_all p bs ≡ true → list_all q bs ≡ true
 all_by p q so [] is = refl
 all_by p q so (b ∷ bs) is = let parts = and_parts (p b) (list_all p bs) is in ap₂ (λ x y. x && y) (so b parts.0) (all_by p q so bs parts.1)
 
--- what is a number is some digits
+-- a text that is a number is some digits
 digits_of : (least most : ℕ) (text : List ℕ) → is_ok (number_in least most text) ≡ true → (list_all is_ascii_digit text ≡ true) × (0 < length text)
 digits_of least most text is = by_number (is_number text) refl is where
   some : (n : ℕ) → not (n == 0) ≡ true → 0 < n
@@ -50,7 +50,7 @@ digits_of least most text is = by_number (is_number text) refl is where
       (first.1, some (length text) second.0)
   by_number false number ok = absurd cc
 
--- something follows the first such byte, so there is one
+-- a text with bytes after the first such byte has one
 there_is : (p : ℕ → Bool) (text : List ℕ) → 0 < length (after_first p text) → position_or_len p text < length text
 there_is p text some = by_place (nat_lt (position_or_len p text) (length text)) refl where
   by_place : (b : Bool) → nat_lt (position_or_len p text) (length text) ≡ b → position_or_len p text < length text
@@ -80,7 +80,7 @@ named_bytes text is =
       in_parts is_colon text colon_byte within (all_by is_hostname_byte is_host_byte hostname_byte (before_first is_colon text) host) (port_bytes (after_first is_colon text) parts.1),
     )
 
--- what follows a host in brackets
+-- the bytes after a host in brackets
 behind_bytes : (text : List ℕ) → is_after_host text ≡ true → (0 < length text) × (list_all is_host_byte text ≡ true)
 behind_bytes [] is = absurd cc
 behind_bytes (b ∷ port) is =

@@ -1,4 +1,4 @@
--- The table that bytes are.
+-- The table of some bytes.
 use Rattle.std.proofs.Common.{◌≡◌, ℕ, Option, Some, None, Result, Err, List, inl, inr, refl, ◌∙◌, arith}
 use Rattle.std.proofs.lemmas.Bool.{cases_Bool, cond-true, cond-false}
 use Rattle.std.proofs.lemmas.Str.{IsUtf8-from_is_utf8, is_utf8-from_IsUtf8}
@@ -10,11 +10,11 @@ use Rattle.oc_config.specs.Settings.{Settings}
 use Rattle.oc_config.specs.declared.fault.ConfigFault.{ConfigFault}
 use Rattle.oc_config.specs.declared.fault.ConfigFault.TheVariants.{Toml}
 
--- of UTF-8 it is that of the text
+-- the table of bytes in UTF-8 is that of the text
 pub of_text : (bytes : List ℕ) (found : Option Members) → IsUtf8 bytes → parse_document bytes ≡ found → document bytes ≡ found
 of_text bytes found text is = cond-true (is_utf8 bytes) (parse_document bytes) None (is_utf8-from_IsUtf8 bytes text) ∙ is
 
--- where no text is one, there is none
+-- bytes that are no text with a table have none
 pub of_no_text : (bytes : List ℕ) → (IsUtf8 bytes → parse_document bytes ≡ None) → document bytes ≡ None
 of_no_text bytes refused = elim (cases_Bool (is_utf8 bytes)) [
   | inl good ↦ of_text bytes None (IsUtf8-from_is_utf8 bytes good) (refused (IsUtf8-from_is_utf8 bytes good))
@@ -25,7 +25,7 @@ of_no_text bytes refused = elim (cases_Bool (is_utf8 bytes)) [
 pub first_line : (bytes : List ℕ) → IsLineOf bytes 1
 first_line bytes = record { place = 0; within = omega arith; line_is = refl }
 
--- what holds of all that is read of a text that is none, whatever line is told, holds of what is read of any text, whatever line
+-- the line of a fault of TOML does not matter for a property that holds of such a fault in each line or in none
 of_any_line : (P : Result Settings ConfigFault → Type 0) → ((a b : ℕ) → P (Err (Toml a)) → P (Err (Toml b)))
     → (a b : ℕ) (found : Option Members) → P (settings_from a found) → P (settings_from b found)
 of_any_line P same a b None holds = same a b holds

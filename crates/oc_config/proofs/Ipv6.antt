@@ -1,4 +1,4 @@
--- What std reads as an address of IPv6.
+-- Addresses of IPv6, as std reads them.
 use Rattle.std.proofs.lemmas.Bool.Decides.{nat_tests}
 use Rattle.std.proofs.Common.{arith, ◌≡◌, ℕ, Bool, false, List, [], ◌∷◌, length, Some, None, Result, Ok, Err, refl, sym, ap, ◌∙◌, subst, append-nil, is_ok}
 use Rattle.std.specs.Prelude.{is_some, suc, ◌==◌, if◌then◌else◌}
@@ -15,7 +15,7 @@ address_of segments = record { segments = segments }
 no_zero : (n : ℕ) → (suc n == 0) ≡ false
 no_zero n = grind (arith, nat_tests)
 
--- what leaves something is no whole value
+-- a reading that leaves some bytes is no whole value
 left_over : (segments : List ℕ) (n : ℕ) → false ≡ is_some (if suc n == 0 then Some segments else None)
 left_over segments n = ap (λ (b : Bool). is_some (if b then Some segments else None)) (sym (no_zero n))
 
@@ -28,7 +28,7 @@ none_read text none (Some (segments, [])) e =
     let whole : text ≡ sound.0 = sound.1 ∙ append-nil sound.0 in
     absurd (none (address_of segments) (subst (λ (t : List ℕ). IsColonHex t segments) (sym whole) sound.2))
 
--- what is parsed is what is read to its end
+-- a text is parsed where it is read to its end
 pub spells_is : {E : Type 0} (text : List ℕ) (r : Result Ipv6Addr E) → Parses IsIpv6Text text r → is_ok r ≡ is_some (whole_value (read_ipv6 text))
 spells_is text (Ok a) parsed =
     let read : read_ipv6 text ≡ Some (ipv6_segments a, []) = rw append-nil at (read_ipv6_complete text (ipv6_segments a) [] parsed EndsGroups-nil) in

@@ -1,4 +1,4 @@
--- What is read is within its ranges.
+-- The settings that are read are within their ranges.
 use Rattle.std.proofs.Common.{◌≡◌, ℕ, ◌≤◌, None, Option, Ok, List, length, map, replicate, sym, ap, ◌∙◌, subst, arith}
 use Rattle.std.specs.Prelude.{All, IfSome}
 use Rattle.std.proofs.lemmas.List.{length-map, length-replicate}
@@ -29,11 +29,11 @@ pub record AreRead (s : Settings) (n : ℕ) (ts : List Section) (places : List (
   pub measures : All (IsMeasure n) s.measures
   pub rules : length s.rules ≤ MAX_RULES
 
--- a list of what is said at places is as long as another
+-- lists of two fields of all places are as long as each other
 as_long : {A B : Type 0} (f : Option NodeSettings → A) (g : Option NodeSettings → B) (places : List (Option NodeSettings)) → length (map f places) ≡ length (map g places)
 as_long f g places = length-map places f ∙ sym (length-map places g)
 
--- with these the whole is a configuration
+-- settings with these ranges are a configuration
 pub lawful : (s : Settings) (n : ℕ) (ts : List Section) (places : List (Option NodeSettings)) → AreRead s n ts places → IsConfig s
 lawful s n ts places read =
     let put = put_all ts (replicate n None) places read.nodes in

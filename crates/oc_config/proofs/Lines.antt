@@ -14,7 +14,7 @@ ends_more bs i b inside is end =
     ∙ ap (λ x. ends_in (take i bs) + cond (x == 10) 1 0) (sym is)
     ∙ ap (λ x. ends_in (take i bs) + cond x 1 0) end
 
--- and no other byte is
+-- a byte that ends no line adds no line
 pub ends_same : (bs : List ℕ) (i b : ℕ) → i < length bs → b ≡ get_or bs i b → (b == 10) ≡ false → ends_in (take (i + 1) bs) ≡ ends_in (take i bs)
 ends_same bs i b inside is other =
     let e = length-filter_more (λ b. b == 10) bs i b inside

@@ -8,7 +8,7 @@ pub none_or_some : {B : Type 0} (o : Option B) → (o ≡ None) ⊎ ((b : B) × 
 none_or_some None = inl refl
 none_or_some (Some b) = inr (b, refl)
 
--- what a place holds, the list of what all of them hold has at that place
+-- the list of values of all places has the value of a place there
 pub at_map : {A B : Type 0} (f : Option A → B) (xs : List (Option A)) (i : ℕ) (x : A) → get_or xs i None ≡ Some x → slice_get (map f xs) i ≡ Some (f (Some x))
 at_map f [] i x is = cc
 at_map f (o ∷ xs) zero x is = ap (λ o. Some (f o)) is

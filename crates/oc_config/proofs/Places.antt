@@ -36,7 +36,7 @@ id_range nodes t id e =
     let step = steps (required Id t) (λ d. read_as Id t (whole_in 1 nodes d)) id e in
     within_range 1 nodes (as_integer step.value) id (there (whole_in 1 nodes step.value) (Value t.place Id) id step.then)
 
--- what a step gives
+-- the result of a step
 abbrev some_text : List ℕ → Result (Option (List ℕ)) ConfigFault
 some_text text = Ok (Some text)
 
@@ -67,7 +67,7 @@ given x = Ok x
 same_places : (a b : List (Option NodeSettings)) → given a ≡ given b → a ≡ b
 same_places a b e = cc e
 
--- what is new is what the table says
+-- the settings of a new node are those of its table
 of_new : (places : List (Option NodeSettings)) (t : Section) (place : NodeSettings) → new_entry_in places t ≡ Ok place → entry_in t ≡ Ok place
 of_new places t place e =
     let retired = steps (retired_in t) (then_new_address places t) place e in
@@ -102,7 +102,7 @@ put places next t e =
 pub put_length : (places next : List (Option NodeSettings)) (t : Section) → IsPut places next t → length next ≡ length places
 put_length places next t p = ap length p.next_is ∙ length-set places (p.id - 1) (Some p.place)
 
--- and what is at other places
+-- putting keeps the nodes at other places
 put_keeps : (places next : List (Option NodeSettings)) (t : Section) (i : ℕ) (place : NodeSettings) → IsPut places next t → get_or places i None ≡ Some place → get_or next i None ≡ Some place
 put_keeps places next t i place p there = elim (cases_eq i (p.id - 1)) [
   | inl same ↦
@@ -111,12 +111,12 @@ put_keeps places next t i place p there = elim (cases_eq i (p.id - 1)) [
   | inr other ↦ ap (λ (xs : List (Option NodeSettings)). get_or xs i None) p.next_is ∙ get_or-set_other places (p.id - 1) i (Some p.place) None other ∙ there
 ]
 
--- it is at its own
+-- the node is at its own place
 put_there : (places next : List (Option NodeSettings)) (t : Section) → (p : IsPut places next t) → get_or next (p.id - 1) None ≡ Some p.place
 put_there places next t p =
     ap (λ (xs : List (Option NodeSettings)). get_or xs (p.id - 1) None) p.next_is ∙ get_or-set_same places (p.id - 1) (Some p.place) None (omega (arith, p.first, p.last))
 
--- what is at a place has its addresses and its name
+-- a text that passes a test, where there is one
 abbrev pub Passes : (List ℕ → Bool) → Option (List ℕ) → Type 0
 Passes test o = IfSome o (λ text. test text ≡ true)
 
@@ -156,7 +156,7 @@ name_good : (o : Option (List ℕ)) (text : List ℕ) → lawful_name o ≡ Some
 name_good None text e = cc
 name_good (Some s) text e = passes is_name s text e
 
--- what is read of a key, where it is read, passes a test
+-- a text that is read from a key passes a test
 read_good : (key : ConfigKey) (t : Section) (read : Data → Option (List ℕ)) (test : List ℕ → Bool) → ((d : Data) (text : List ℕ) → read d ≡ Some text → test text ≡ true)
     → (o : Option Data) (text : Option (List ℕ)) → read_if key t read o ≡ Ok text → Passes test text
 read_good key t read test good None text e =
@@ -178,7 +178,7 @@ unless_good false t address e =
     let same : Some step.value ≡ address = cc step.then in
     subst (Passes is_reachable) same (reachable_good (as_str value.value) step.value (there (reachable_of (as_str value.value)) (Value t.place Address) step.value value.then))
 
--- who can be reached listens somewhere
+-- a node that can be reached listens somewhere
 reached : (address : Option (List ℕ)) → Passes is_reachable address → Passes is_address address
 reached None good = tt
 reached (Some text) good = (and_parts _ _ good).0
@@ -194,7 +194,7 @@ listen_good t address listen good e =
     subst (Passes is_address) same (or_good read.value address
     (read_good Listen t listen_of is_address (λ d text. address_good (as_str d) text) (value_in Listen t) read.value read.first) (reached address good))
 
--- an entry that is made of these
+-- an entry that is made of good parts is good
 good_made : (retired : Bool) (address listen : Option (List ℕ)) (area : ℕ) (name : Option (List ℕ)) (place : NodeSettings) → made retired address listen area name ≡ given place
     → Passes is_reachable address → Passes is_address listen → Passes is_name name → IsGoodEntry place
 good_made retired address listen area name place e first second third =
@@ -221,7 +221,7 @@ put_good : (places next : List (Option NodeSettings)) (t : Section) → IsPut pl
 put_good places next t p all =
     subst (λ (xs : List (Option NodeSettings)). AllByRecursion IsGood xs) (sym p.next_is) (set_good places (p.id - 1) (Some p.place) all (entry_good t p.place p.place_is))
 
--- what is known after all tables were put
+-- facts after all tables were put
 pub record AreSaid (places after : List (Option NodeSettings)) (nodes : ℕ) (t : Section) : Type 0 where
   pub id : ℕ
   pub place : NodeSettings
@@ -254,7 +254,7 @@ same_number a b after (t ∷ ts) e all =
       same_number a b after ts e all.1,
     )
 
--- table for table
+-- all tables are put, one after another
 pub put_all : (ts : List Section) (places after : List (Option NodeSettings)) → nodes_in places ts ≡ Ok after → ArePut places after ts
 put_all [] places after e =
     let same : places ≡ after = cc in
@@ -292,19 +292,19 @@ pub all_none : (n : ℕ) → AllByRecursion IsGood (replicate n None)
 all_none zero = tt
 all_none (suc n) = (tt, all_none n)
 
--- of good places each address is one
+-- the addresses of good places are good
 pub addresses_good : (places : List (Option NodeSettings)) → AllByRecursion IsGood places → AllByRecursion (Passes is_reachable) (map address_at places)
 addresses_good [] all = tt
 addresses_good (None ∷ places) all = (tt, addresses_good places all.1)
 addresses_good (Some place ∷ places) all = (all.0.address, addresses_good places all.1)
 
--- and so is each at which a node listens
+-- the addresses at which the nodes of good places listen are good
 pub listens_good : (places : List (Option NodeSettings)) → AllByRecursion IsGood places → AllByRecursion (Passes is_address) (map listen_at places)
 listens_good [] all = tt
 listens_good (None ∷ places) all = (tt, listens_good places all.1)
 listens_good (Some place ∷ places) all = (all.0.listen, listens_good places all.1)
 
--- each name is one
+-- the names of good places are good
 pub names_good : (places : List (Option NodeSettings)) → AllByRecursion IsGood places → AllByRecursion (Passes is_name) (map name_at places)
 names_good [] all = tt
 names_good (None ∷ places) all = (tt, names_good places all.1)

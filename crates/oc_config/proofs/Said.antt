@@ -1,4 +1,4 @@
--- What settings say of each node.
+-- The settings of each node.
 use Rattle.std.proofs.Common.{◌≡◌, ℕ, ◌-◌, Bool, Option, Some, None, Ok, List, [], ◌∷◌, length, map, replicate, ap, ◌∙◌, subst}
 use Rattle.std.proofs.lemmas.List.{length-replicate}
 use Rattle.std.specs.Prelude.{slice_get}
@@ -18,7 +18,7 @@ pub record HasLists (s : Settings) (places : List (Option NodeSettings)) : Type 
   pub areas : s.areas ≡ map area_at places
   pub names : s.names ≡ map name_at places
 
--- what the places say, the settings say
+-- the places of settings give the nodes of the tables
 said_all : (s : Settings) (places after : List (Option NodeSettings)) (nodes : ℕ) (ts : List Section) → HasLists s after → AllByRecursion (AreSaid places after nodes) ts → AllByRecursion (IsSaid s nodes) ts
 said_all s places after nodes [] has all = tt
 said_all s places after nodes (t ∷ ts) has all =
@@ -39,7 +39,7 @@ said_all s places after nodes (t ∷ ts) has all =
       said_all s places after nodes ts has all.1,
     )
 
--- of settings with these places each table is said
+-- settings with these places have the node of each table
 pub settings_say : (s : Settings) (n : ℕ) (ts : List Section) (after : List (Option NodeSettings)) → nodes_in (replicate n None) ts ≡ Ok after → HasLists s after → AllByRecursion (IsSaid s n) ts
 settings_say s n ts after e has =
     let put = put_all ts (replicate n None) after e in

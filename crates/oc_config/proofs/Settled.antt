@@ -44,7 +44,7 @@ places_of text network s tables e =
       };
     }
 
--- what each table says, settings say
+-- the node of each table is in the settings
 pub settled_say : (text : Section) (s : Settings) (network : NetworkSettings) (tables : List Section) → settings_in text ≡ Ok s → network_in text ≡ Ok network → node_tables_in text ≡ Ok tables
     → AllByRecursion (IsSaid s (greatest_of network tables)) tables
 settled_say text s network tables e said there =

@@ -17,7 +17,7 @@ use Rattle.oc_config.proofs.Walks.{gives_fault}
 abbrev Keys : Type 0
 Keys = List (List ℕ)
 
--- after a key
+-- the keys after one more
 pub key_put : (s : Section) (keys : Keys) (key : List ℕ) (vs : List TomlValue) (i : ℕ) (v : TomlValue) → i < length vs → v ≡ get_or vs i v → Ok key ≡ read_as Accept s (node_key_of (view v))
     → keys_from s (keys ++ key ∷ []) (items_view (drop (i + 1) vs)) ≡ keys_from s keys (items_view (drop i vs))
 key_put s keys key vs i v inside is put =
@@ -25,7 +25,7 @@ key_put s keys key vs i v inside is put =
     sym (ap (λ (xs : List TomlValue). keys_from s keys (items_view xs)) (next_value vs i v inside is)
     ∙ ap (λ (r : Result (List ℕ) ConfigFault). r >>= (λ k. keys_from s (keys ++ k ∷ []) rest)) (sym put))
 
--- at a value that spells none
+-- the keys at a value that spells none
 key_refused : (s : Section) (keys : Keys) (fault : ConfigFault) (vs : List TomlValue) (i : ℕ) (v : TomlValue) → i < length vs → v ≡ get_or vs i v → Err fault ≡ read_as Accept s (node_key_of (view v))
     → keys_from s keys (items_view (drop i vs)) ≡ Err fault
 key_refused s keys fault vs i v inside is refused =
@@ -37,11 +37,11 @@ pub key_fault : {X : Type 0} (view_of : X → Keys) (s : Section) (said : Result
     → keys_from s keys (items_view (drop i vs)) ≡ said → Err fault ≡ read_as Accept s (node_key_of (view v)) → GivesBy view_of (Err fault) said
 key_fault view_of s said keys fault vs i v inside is rest refused = gives_fault view_of said fault (sym rest ∙ key_refused s keys fault vs i v inside is refused)
 
--- of a few values the keys are those that they spell
+-- a few values have the keys that they spell
 pub few_keys : (s : Section) (vs : List TomlValue) → length vs ≤ MAX_ACCEPTED → accepted_of s (Some (items_view vs)) ≡ keys_from s [] (items_view vs)
 few_keys s vs few = cond-true _ (keys_from s [] (items_view vs)) (Err (Value s.place Accept)) (le-leb (count_items (items_view vs)) MAX_ACCEPTED (omega (arith, few, count_view vs)))
 
--- more have a fault
+-- more values have a fault
 pub many_keys : (s : Section) (vs : List TomlValue) → MAX_ACCEPTED < length vs → accepted_of s (Some (items_view vs)) ≡ Err (Value s.place Accept)
 many_keys s vs many = cond-false _ (keys_from s [] (items_view vs)) (Err (Value s.place Accept)) (lt-leb (count_items (items_view vs)) MAX_ACCEPTED (omega (arith, many, count_view vs)))
 

@@ -1,4 +1,4 @@
--- What is said of the nodes, in a list for each thing.
+-- The settings of all nodes, in one list for each field.
 use Rattle.std.proofs.Common.{◌≡◌, ℕ, Bool, List, [], ◌∷◌, ◌++◌, Option, String, Global, string_bytes, map, sym, ap, ◌∙◌}
 use Rattle.std.specs.Prelude.{option_map}
 use Rattle.std.proofs.lemmas.List.{map-append}
@@ -23,7 +23,7 @@ pub record ArePushed (retired retired_new : List Bool) (told told_new heard hear
   pub named_is : named_new ≡ named ++ name ∷ []
   pub said_is : record { retired = is_retired; address = option_map string_bytes address; listen = option_map string_bytes listen; area = area; name = option_map string_bytes name } ≡ said
 
--- a list of what is said of all nodes, and of this one
+-- a list of the values of all nodes so far, with that of this node
 of_all : {B : Type 0} (f : Option NodeSettings → B) (so_far : List (Option NodeSettings)) (place : Option NodeSettings) → map f so_far ++ f place ∷ [] ≡ map f (so_far ++ place ∷ [])
 of_all f so_far place = sym (map-append f so_far (place ∷ []))
 

@@ -1,4 +1,4 @@
--- What stays where settings are taken over.
+-- Parts that stay where settings are taken over.
 use Rattle.std.proofs.Common.{◌≡◌, ℕ, ◌≤◌, Bool, true, false, Option, Some, None, Ok, List, length, refl, ap, arith, not, if◌then◌else◌}
 use Rattle.std.specs.Prelude.{◌==◌, nat_lt}
 use Rattle.std.specs.Str.{bytes_eq}
@@ -9,7 +9,7 @@ use Rattle.oc_config.specs.Settings.{Settings}
 use Rattle.oc_config.specs.declared.change.Running.{Running}
 use Rattle.oc_config.specs.declared.config_key.ConfigKey.TheVariants.{Nodes, Chain, Chunk, NodeKey, Listen, Area}
 
--- what passed each test was taken over
+-- settings that passed each test were taken over
 record PassedAll (nodes chain chunk keyed listen areas : Bool) (new taken : Settings) : Type 0 where
   nodes_is : nodes ≡ true
   chain_is : chain ≡ true
@@ -53,7 +53,7 @@ texts_same None (Some y) is = cc
 texts_same (Some x) None is = cc
 texts_same (Some x) (Some y) is = ap Some (same_bytes x y is)
 
--- by whether it writes a record
+-- the greatest id does not fall, with or without a record
 more_nodes : (recorded : Bool) (a b : ℕ) → (if recorded then a == b else not (nat_lt b a)) ≡ true → a ≤ b
 more_nodes true a b is = let same = same_number a b is in omega (arith, same)
 more_nodes false a b is = no_less a b is

@@ -66,13 +66,13 @@ tables_found kind least most vs low high =
     let count = count_view vs in
     cond-true _ (all_tables kind 1 (items_view vs)) None (and_from _ _ (le-leb least (count_items (items_view vs)) (omega (arith, low, count))) (le-leb (count_items (items_view vs)) most (omega (arith, high, count))))
 
--- one of fewer has none
+-- an array of fewer values has none
 pub too_few : (kind : Kind) (least most : ℕ) (vs : List Value) → length vs < least → tables_of kind least most (Some (items_view vs)) ≡ None
 too_few kind least most vs low =
     let count = count_view vs in
     cond-false _ (all_tables kind 1 (items_view vs)) None (and_left _ _ (lt-leb least (count_items (items_view vs)) (omega (arith, low, count))))
 
--- nor has one of more
+-- an array of more values has none
 pub too_many : (kind : Kind) (least most : ℕ) (vs : List Value) → most < length vs → tables_of kind least most (Some (items_view vs)) ≡ None
 too_many kind least most vs high =
     let count = count_view vs in
@@ -100,13 +100,13 @@ table_next kind number front vs i v t inside is table =
     ∙ ap (λ (o : Option Members). with_front front (table_before kind number o rest)) table
     ∙ front_before kind number front t rest)
 
--- a value that is none ends all
+-- a value that is no table ends all
 pub no_table : (kind : Kind) (number : ℕ) (vs : List Value) (i : ℕ) (v : Value) → i < length vs → v ≡ get_or vs i v → as_table (view v) ≡ None → all_tables kind number (items_view (drop i vs)) ≡ None
 no_table kind number vs i v inside is none =
     ap (λ (xs : List Value). all_tables kind number (items_view xs)) (next_value vs i v inside is)
     ∙ ap (λ (o : Option Members). table_before kind number o (all_tables kind (number + 1) (items_view (drop (i + 1) vs)))) none
 
--- nothing in front
+-- an empty front adds nothing
 pub front_none : (o : Option (List Section)) → with_front [] o ≡ o
 front_none None = refl
 front_none (Some others) = refl

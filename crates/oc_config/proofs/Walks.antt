@@ -25,7 +25,7 @@ next_table ts i t inside is =
     let same : drop i ts ≡ t ∷ drop (i + 1) ts = rw (add-one, drop-cons ts i t) (ap (λ (x : CodeSection). x ∷ drop (suc i) ts) (sym is)) in
     ap sections_of same
 
--- after the last there is none
+-- no table is left after the last
 nothing_left : (ts : Tables) (i : ℕ) → length ts ≤ i → sections_of (drop i ts) ≡ []
 nothing_left [] zero h = refl
 nothing_left [] (suc i) h = refl
@@ -34,13 +34,13 @@ nothing_left (t ∷ ts) (suc i) h = nothing_left ts i (omega (arith, h))
 
 -- Nodes
 
--- after a node that was put
+-- the nodes after one that was put
 pub node_put : (places next : List (Option NodeSettings)) (ts : Tables) (i : ℕ) (t : CodeSection) → i < length ts → t ≡ get_or ts i t → node_in places (section_of t) ≡ Ok next → nodes_in next (sections_of (drop (i + 1) ts)) ≡ nodes_in places (sections_of (drop i ts))
 node_put places next ts i t inside is put =
     let rest = sections_of (drop (i + 1) ts) in
     sym (ap (nodes_in places) (next_table ts i t inside is) ∙ ap (λ (r : Result (List (Option NodeSettings)) ConfigFault). r >>= (λ p. nodes_in p rest)) put)
 
--- at a node that has a fault
+-- the nodes at one that has a fault
 node_refused : (places : List (Option NodeSettings)) (fault : ConfigFault) (ts : Tables) (i : ℕ) (t : CodeSection) → i < length ts → t ≡ get_or ts i t → node_in places (section_of t) ≡ Err fault → nodes_in places (sections_of (drop i ts)) ≡ Err fault
 node_refused places fault ts i t inside is refused =
     let rest = sections_of (drop (i + 1) ts) in
@@ -58,19 +58,19 @@ node_fault said places next Memory ts i t inside is rest gives = tt
 
 -- Rules
 
--- after a rule
+-- the rules after one more
 pub rule_put : (rules : List Rule) (rule : Rule) (ts : Tables) (i : ℕ) (t : CodeSection) → i < length ts → t ≡ get_or ts i t → Ok rule ≡ rule_in (section_of t) → rules_from (rules ++ rule ∷ []) (sections_of (drop (i + 1) ts)) ≡ rules_from rules (sections_of (drop i ts))
 rule_put rules rule ts i t inside is put =
     let rest = sections_of (drop (i + 1) ts) in
     sym (ap (rules_from rules) (next_table ts i t inside is) ∙ ap (λ (r : Result Rule ConfigFault). r >>= (λ x. rules_from (rules ++ x ∷ []) rest)) (sym put))
 
--- at a rule that has a fault
+-- the rules at one that has a fault
 rule_refused : (rules : List Rule) (fault : ConfigFault) (ts : Tables) (i : ℕ) (t : CodeSection) → i < length ts → t ≡ get_or ts i t → Err fault ≡ rule_in (section_of t) → rules_from rules (sections_of (drop i ts)) ≡ Err fault
 rule_refused rules fault ts i t inside is refused =
     let rest = sections_of (drop (i + 1) ts) in
     ap (rules_from rules) (next_table ts i t inside is) ∙ ap (λ (r : Result Rule ConfigFault). r >>= (λ x. rules_from (rules ++ x ∷ []) rest)) (sym refused)
 
--- what gives a fault says so, whatever the fault
+-- a fault that is said is given, whatever the fault
 pub gives_fault : {X A : Type 0} (view : X → A) (said : Result A ConfigFault) (fault : ConfigFault) → said ≡ Err fault → GivesBy view (Err fault) said
 gives_fault view said (Toml line) is = is
 gives_fault view said (Missing place key) is = is
@@ -84,24 +84,24 @@ gives_fault view said Memory is = tt
 pub rule_fault : (said : Result (List Rule) ConfigFault) (rules : List Rule) (fault : ConfigFault) (ts : Tables) (i : ℕ) (t : CodeSection) → i < length ts → t ≡ get_or ts i t → rules_from rules (sections_of (drop i ts)) ≡ said → Err fault ≡ rule_in (section_of t) → GivesBy {X = Vec Rule Global} (λ v. v.items) (Err fault) said
 rule_fault said rules fault ts i t inside is rest refused = gives_fault {X = Vec Rule Global} (λ v. v.items) said fault (sym rest ∙ rule_refused rules fault ts i t inside is refused)
 
--- after the last rule all are read
+-- all rules are read after the last
 pub rules_end : (rules : List Rule) (ts : Tables) (i : ℕ) → length ts ≤ i → Ok rules ≡ rules_from rules (sections_of (drop i ts))
 rules_end rules ts i past = sym (ap (rules_from rules) (nothing_left ts i past))
 
 -- Keys
 
--- after a table whose keys are known
+-- the tables after one whose keys are known
 pub known_next : (ts : Tables) (i : ℕ) (t : CodeSection) → i < length ts → t ≡ get_or ts i t → Ok tt ≡ known_in (section_of t) → all_known (sections_of (drop (i + 1) ts)) ≡ all_known (sections_of (drop i ts))
 known_next ts i t inside is known =
     let rest = sections_of (drop (i + 1) ts) in
     sym (ap all_known (next_table ts i t inside is) ∙ ap (λ (r : Result (Unit {0}) ConfigFault). r >>= (λ done. all_known rest)) (sym known))
 
--- at a table with a key that is none
+-- the tables at one with a key that is none
 pub known_refused : (fault : ConfigFault) (ts : Tables) (i : ℕ) (t : CodeSection) → i < length ts → t ≡ get_or ts i t → Err fault ≡ known_in (section_of t) → all_known (sections_of (drop i ts)) ≡ Err fault
 known_refused fault ts i t inside is refused =
     let rest = sections_of (drop (i + 1) ts) in
     ap all_known (next_table ts i t inside is) ∙ ap (λ (r : Result (Unit {0}) ConfigFault). r >>= (λ done. all_known rest)) (sym refused)
 
--- after the last table all are known
+-- all keys are known after the last table
 pub known_end : (ts : Tables) (i : ℕ) → length ts ≤ i → all_known (sections_of (drop i ts)) ≡ Ok tt
 known_end ts i past = ap all_known (nothing_left ts i past)

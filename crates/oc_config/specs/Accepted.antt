@@ -33,7 +33,7 @@ abbrev pub accepted_of : Section → Option Items → Result (List (List ℕ)) C
 accepted_of s None = Err (Value s.place Accept)
 accepted_of s (Some ds) = if nat_le (count_items ds) MAX_ACCEPTED then keys_from s [] ds else Err (Value s.place Accept)
 
--- the keys that are accepted besides; none where nothing is said
+-- the keys that are accepted besides; none where the configuration has no such key
 abbrev pub accepted_at : Section → Option Data → Result (List (List ℕ)) ConfigFault
 accepted_at s None = Ok []
 accepted_at s (Some d) = accepted_of s (as_array d)
@@ -41,12 +41,12 @@ accepted_at s (Some d) = accepted_of s (as_array d)
 abbrev pub accepted_in : Section → Result (List (List ℕ)) ConfigFault
 accepted_in s = accepted_at s (value_in Accept s)
 
--- without a key no others are accepted
+-- no keys where there is no first key: the configuration may list no others then
 abbrev pub no_keys : Section → Option Data → Result (Option Keyring) ConfigFault
 no_keys s None = Ok None
 no_keys s (Some d) = Err (Value s.place Accept)
 
--- the keys, where this is the first, if there is one
+-- the keys of a network with this first key, if there is one
 abbrev pub keyring_in : Section → Option (List ℕ) → Result (Option Keyring) ConfigFault
 keyring_in s None = no_keys s (value_in Accept s)
 keyring_in s (Some key) = do

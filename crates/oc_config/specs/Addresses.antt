@@ -1,4 +1,4 @@
--- What an address is.
+-- The addresses of nodes.
 use Rattle.std.specs.Prelude.{ℕ, Bool, false, not, ◌&&◌, ◌||◌, ◌==◌, nat_eq, nat_le, is_ok, is_some, List, [], ◌∷◌, length, codes}
 use Rattle.std.specs.Char.{is_ascii_hexdigit}
 use Rattle.std.specs.List.{list_all, before_first, after_first, starts_with}
@@ -39,7 +39,7 @@ is_ipv6 host = list_all is_ipv6_byte host && is_some (whole_value (read_ipv6 hos
 abbrev pub is_closing : ℕ → Bool
 is_closing b = b == byte "]"
 
--- a colon and a port
+-- a colon and a port after a host
 abbrev pub is_after_host : List ℕ → Bool
 is_after_host [] = false
 is_after_host (b ∷ port) = is_colon b && is_port port
@@ -48,19 +48,19 @@ is_after_host (b ∷ port) = is_colon b && is_port port
 abbrev pub is_closed : List ℕ → Bool
 is_closed rest = is_ipv6 (before_first is_closing rest) && is_after_host (after_first is_closing rest)
 
--- the same after the bracket before it
+-- an address of IPv6 in brackets, a colon and a port
 abbrev pub is_bracketed : List ℕ → Bool
 is_bracketed [] = false
 is_bracketed (b ∷ rest) = b == byte "[" && is_closed rest
 
--- one of the two, of at most 255 bytes: where a node can listen
+-- an address at which a node can listen: a host name or an address of IPv6, with a port, of at most 255 bytes
 abbrev pub is_address : List ℕ → Bool
 is_address text = nat_le (length text) MAX_ADDRESS_BYTES && (is_named text || is_bracketed text)
 
--- the host is `0.0.0.0` or `[::]`, at which nobody can be reached
+-- an address whose host is `0.0.0.0` or `[::]`, at which nobody can be reached
 abbrev pub is_everywhere : List ℕ → Bool
 is_everywhere text = starts_with nat_eq text (codes "0.0.0.0:") || starts_with nat_eq text (codes "[::]:")
 
--- where others can reach a node
+-- an address at which others can reach a node
 abbrev pub is_reachable : List ℕ → Bool
 is_reachable text = is_address text && not (is_everywhere text)

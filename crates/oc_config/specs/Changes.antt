@@ -1,4 +1,4 @@
--- Which changes of its configuration a node takes over while it runs.
+-- The changes of its configuration that a node takes over while it runs.
 use Rattle.std.specs.Prelude.{◌≡◌, ℕ, ◌≤◌, Bool, true, false, not, ◌-◌, ◌&&◌, ◌==◌, nat_lt, if◌then◌else◌, Option, Some, None, is_some, Result, Ok, Err, List, length, slice_index_or}
 use Rattle.std.specs.List.{list_any}
 use Rattle.std.specs.Str.{bytes_eq}
@@ -8,11 +8,11 @@ use Rattle.oc_config.specs.declared.change.Running.{Running}
 use Rattle.oc_config.specs.declared.config_key.ConfigKey.{ConfigKey}
 use Rattle.oc_config.specs.declared.config_key.ConfigKey.TheVariants.{Nodes, Chain, Chunk, NodeKey, Listen, Area}
 
--- the greatest id may grow, except where the node writes a record, which has one header
+-- a change of the greatest id that a node can take over: growth, and none where the node writes a record, which has one header
 abbrev pub keeps_nodes : Running → ℕ → ℕ → Bool
 keeps_nodes r old new = if r.recorded then old == new else not (nat_lt new old)
 
--- both are there, or neither
+-- presence of both, or of neither
 abbrev pub same_presence : {A : Type 0} → Option A → Option A → Bool
 same_presence None None = true
 same_presence (Some x) (Some y) = true
@@ -23,11 +23,11 @@ same_text None None = true
 same_text (Some x) (Some y) = bytes_eq x y
 same_text x y = false
 
--- where a node listens
+-- the address at which a node listens
 abbrev pub listen_at : ℕ → Settings → Option (List ℕ)
 listen_at id s = slice_index_or s.listens (id - 1) None
 
--- the areas are in the header of a record, too
+-- a change of the areas that a node can take over: none where the node writes a record, whose header has the areas too
 abbrev pub keeps_areas : Running → List ℕ → List ℕ → Bool
 keeps_areas r old new = if r.recorded then bytes_eq old new else true
 
@@ -42,7 +42,7 @@ restart_key r old new =
     else if not (keeps_areas r old.areas new.areas) then Some Area
     else None
 
--- all of the new one, or the key that needs a new start
+-- all of the new settings, or the key that needs a new start
 abbrev pub taken_over : Settings → Option ConfigKey → Result Settings ConfigKey
 taken_over new None = Ok new
 taken_over new (Some key) = Err key
@@ -50,8 +50,8 @@ taken_over new (Some key) = Err key
 abbrev pub config_change : Running → Settings → Settings → Result Settings ConfigKey
 config_change r old new = taken_over new (restart_key r old new)
 
--- what stays as it was where settings are taken over: all that a network shares, but that there may be more nodes, where the node listens,
--- and, where it writes a record, all of the header of that
+-- parts that stay as they were where settings are taken over: all that a network shares, except that more nodes may come; the address at which
+-- the node listens; and, where the node writes a record, all of the record's header
 pub record Stays (r : Running) (old new : Settings) : Type 0 where
   pub chain : old.chain ≡ new.chain
   pub chunk : old.chunk ≡ new.chunk
@@ -60,10 +60,10 @@ pub record Stays (r : Running) (old new : Settings) : Type 0 where
   pub listen : listen_at r.me old ≡ listen_at r.me new
   pub recorded : r.recorded ≡ true → (length old.addresses ≡ length new.addresses) × (old.areas ≡ new.areas)
 
--- one measure is another
+-- equality of two measures
 abbrev pub same_measure : Measure → Measure → Bool
 same_measure a b = (a.from == b.from && a.peer == b.peer) && (a.rate == b.rate && a.hops == b.hops)
 
--- the settings have a measure
+-- settings with this measure
 abbrev pub has_measure : Measure → List Measure → Bool
 has_measure m measures = list_any (same_measure m) measures

@@ -97,11 +97,11 @@ two_keys_read = record with_room_read {
 abbrev pub five_keys : Items
 five_keys = item other_key (item other_key (item other_key (item other_key (item other_key no_items))))
 
--- what is read again: at first there is the first node alone
+-- settings that are read again: at first there is the first node alone
 abbrev pub one_place : Settings
 one_place = record two_keys_read { keys = None }
 
--- then there is room for three
+-- settings with room for three nodes
 abbrev pub grown : Settings
 grown = record one_place {
   retired = false ∷ false ∷ false ∷ [];
@@ -111,6 +111,6 @@ grown = record one_place {
   names = None ∷ None ∷ None ∷ [];
 }
 
--- at the first node, which writes a record or not
+-- the first node, which writes a record or not
 abbrev pub running : Bool → Running
 running recorded = record { me = 1; recorded = recorded }

@@ -18,7 +18,7 @@ abbrev pub unknown_key : SectionName → List (List ℕ) → Option (List ℕ)
 unknown_key place [] = None
 unknown_key place (key ∷ rest) = if is_known place key then unknown_key place rest else Some key
 
--- no such key, or the fault of the first
+-- success where there is no such key, else the fault of the first
 abbrev pub no_unknown : SectionName → Option (List ℕ) → Result (Unit {0}) ConfigFault
 no_unknown place None = Ok tt
 no_unknown place (Some key) = Err (Unknown place (shown_key key))
@@ -26,7 +26,7 @@ no_unknown place (Some key) = Err (Unknown place (shown_key key))
 abbrev pub known_in : Section → Result (Unit {0}) ConfigFault
 known_in s = no_unknown s.place (unknown_key s.place (keys_of s.members))
 
--- the same for these tables, in their order
+-- success where no table has such a key, else the first fault of these tables, in their order
 abbrev pub all_known : List Section → Result (Unit {0}) ConfigFault
 all_known [] = Ok tt
 all_known (s ∷ rest) = do

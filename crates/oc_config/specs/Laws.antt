@@ -1,10 +1,10 @@
--- What a configuration says of each node.
+-- The settings of each node.
 use Rattle.std.specs.Prelude.{◌≡◌, ℕ, ◌-◌, Some, Ok, slice_get}
 use Rattle.oc_config.specs.Nodes.{id_in, entry_in}
 use Rattle.oc_config.specs.Settings.{NodeSettings, Settings}
 use Rattle.oc_config.specs.Values.{Section}
 
--- the settings say this of the node with this id
+-- settings with this node at this id
 pub record Say (s : Settings) (id : ℕ) (place : NodeSettings) : Type 0 where
   pub retired : slice_get s.retired (id - 1) ≡ Some place.retired
   pub address : slice_get s.addresses (id - 1) ≡ Some place.address
@@ -12,7 +12,7 @@ pub record Say (s : Settings) (id : ℕ) (place : NodeSettings) : Type 0 where
   pub area : slice_get s.areas (id - 1) ≡ Some place.area
   pub name : slice_get s.names (id - 1) ≡ Some place.name
 
--- the settings say of the node with this table's id, where the greatest id is `nodes`, what the table says
+-- settings with the node of this table at the table's id, where the greatest id is `nodes`
 pub record IsSaid (s : Settings) (nodes : ℕ) (table : Section) : Type 0 where
   pub id : ℕ
   pub place : NodeSettings

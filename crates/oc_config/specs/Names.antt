@@ -1,4 +1,4 @@
--- What a name of a node is.
+-- The names of nodes.
 use Rattle.std.specs.Prelude.{ℕ, Bool, not, ◌&&◌, ◌==◌, nat_le, List, length}
 use Rattle.std.specs.List.{list_all}
 use Rattle.oc_config.specs.declared.name.TheConstants.{MAX_NAME_BYTES}

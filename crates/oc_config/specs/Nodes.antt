@@ -14,13 +14,13 @@ use Rattle.oc_config.specs.declared.fault.ConfigFault.{ConfigFault}
 use Rattle.oc_config.specs.declared.fault.ConfigFault.TheVariants.{Value, Repeat, Memory}
 use Rattle.oc_config.specs.declared.config_key.ConfigKey.TheVariants.{Id, Retired, Address, Listen, Name}
 
--- the id that a table says, where the greatest id is this
+-- the id in a table, where the greatest id is `nodes`
 abbrev pub id_in : ℕ → Section → Result ℕ ConfigFault
 id_in nodes s = do
   d ← required Id s
   read_as Id s (whole_in 1 nodes d)
 
--- yes or no, but not yes of a node that has an address
+-- the answer to whether a node is retired; a node with an address cannot be
 abbrev pub unless_placed : Bool → Option Bool → Option Bool
 unless_placed placed None = None
 unless_placed placed (Some retired) = if retired && placed then None else Some retired
@@ -28,7 +28,7 @@ unless_placed placed (Some retired) = if retired && placed then None else Some r
 abbrev pub retired_of : Section → Data → Option Bool
 retired_of s d = unless_placed (is_some (value_in Address s)) (as_bool d)
 
--- whether a node is retired, which it is not where nothing is said
+-- whether a node is retired; no where the table does not tell
 abbrev pub retired_in : Section → Result Bool ConfigFault
 retired_in s = do
   retired ← read_if Retired s (retired_of s) (value_in Retired s)
@@ -59,13 +59,13 @@ address_of (Some text) = if is_address text then Some text else None
 abbrev pub listen_of : Data → Option (List ℕ)
 listen_of d = address_of (as_str d)
 
--- where a node listens, which is its address, if it has one, where nothing else is said
+-- the address at which a node listens: `listen`, or without one the address of the node, if it has one
 abbrev pub listen_in : Section → Option (List ℕ) → Result (Option (List ℕ)) ConfigFault
 listen_in s address = do
   listen ← read_if Listen s listen_of (value_in Listen s)
   Ok (option_or listen address)
 
--- the area of a node, which is 0 where none is said
+-- the area of a node, which is 0 where the table has none
 abbrev pub node_area_in : Section → Result ℕ ConfigFault
 node_area_in s = do
   area ← area_in s
@@ -83,7 +83,7 @@ name_of d = lawful_name (as_str d)
 abbrev pub name_in : Section → Result (Option (List ℕ)) ConfigFault
 name_in s = read_if Name s name_of (value_in Name s)
 
--- what is said of a node, apart from its id, where this is said of its retirement and its address
+-- the settings of a node, apart from its id, with this retirement and this address
 abbrev pub entry_with : Section → Bool → Option (List ℕ) → Result NodeSettings ConfigFault
 entry_with s retired address = do
   listen ← listen_in s address
@@ -97,12 +97,12 @@ entry_in s = do
   address ← address_unless retired s
   entry_with s retired address
 
--- a text is this one
+-- a text that is there and is this one
 abbrev pub is_text : List ℕ → Option (List ℕ) → Bool
 is_text text None = false
 is_text text (Some said) = bytes_eq said text
 
--- the node at a place has this address
+-- a place whose node has this address
 abbrev pub has_address : List ℕ → Option NodeSettings → Bool
 has_address address None = false
 has_address address (Some place) = is_text address place.address
@@ -111,11 +111,11 @@ abbrev pub is_taken : List (Option NodeSettings) → Option (List ℕ) → Bool
 is_taken places None = false
 is_taken places (Some address) = list_any (has_address address) places
 
--- no table before has the address
+-- success where no table before has the address
 abbrev pub is_new : List (Option NodeSettings) → Section → Option (List ℕ) → Result (Unit {0}) ConfigFault
 is_new places s address = if is_taken places address then Err (Value s.place Address) else Ok tt
 
--- what a table says of a node, where no table before has its address
+-- the settings of a node in a table, where no table before has its address
 abbrev pub new_entry_in : List (Option NodeSettings) → Section → Result NodeSettings ConfigFault
 new_entry_in places s = do
   retired ← retired_in s
@@ -123,17 +123,17 @@ new_entry_in places s = do
   done ← is_new places s address
   entry_with s retired address
 
--- the places with this one at an id
+-- the places with this node at an id
 abbrev pub put_place : List (Option NodeSettings) → ℕ → NodeSettings → Result (List (Option NodeSettings)) ConfigFault
 put_place places id place = Ok (slice_set places (id - 1) (Some place))
 
--- the places with what a table says at an id
+-- the places with the node of a table at an id
 abbrev pub put_free : List (Option NodeSettings) → ℕ → Section → Result (List (Option NodeSettings)) ConfigFault
 put_free places id s = do
   place ← new_entry_in places s
   put_place places id place
 
--- the same, where no table before it had the id
+-- the places with the node of a table at an id that no table before has
 abbrev pub put_new : List (Option NodeSettings) → ℕ → Section → Result (List (Option NodeSettings)) ConfigFault
 put_new places id s =
     if is_some (slice_index_or places (id - 1) None) then Err (Repeat s.place id) else put_free places id s
@@ -144,18 +144,18 @@ node_in places s = do
   id ← id_in (length places) s
   put_new places id s
 
--- the same with all tables, in their order
+-- the places of the nodes by their ids, with those of all tables, in their order
 abbrev pub nodes_in : List (Option NodeSettings) → List Section → Result (List (Option NodeSettings)) ConfigFault
 nodes_in places [] = Ok places
 nodes_in places (s ∷ rest) = do
   next ← node_in places s
   nodes_in next rest
 
--- what is said of a node where no table has its id
+-- the settings of a node whose id no table has
 abbrev pub unsaid : NodeSettings
 unsaid = record { retired = false; address = None; listen = None; area = 0; name = None }
 
--- what is said of each node
+-- the settings of the node at a place
 abbrev pub said_at : Option NodeSettings → NodeSettings
 said_at place = unwrap_or place unsaid
 
@@ -174,13 +174,13 @@ area_at place = (said_at place).area
 abbrev pub name_at : Option NodeSettings → Option (List ℕ)
 name_at place = (said_at place).name
 
--- one more table was put, or its fault was given
+-- the places with one more table, or the fault of the table
 abbrev pub GivesNode : Result (Unit {0}) ConfigFault → List (Option NodeSettings) → List (Option NodeSettings) → Section → Type 0
 GivesNode (Ok done) old new s = node_in old s ≡ Ok new
 GivesNode (Err Memory) old new s = Unit {0}
 GivesNode (Err fault) old new s = node_in old s ≡ Err fault
 
--- lists of what is said of each node, as code has them, are those of places
+-- lists of the settings of all nodes, one for each field, as code has them, that are those of the places
 pub record AreOf (retired : List Bool) (told heard : List (Option (String Global))) (near : List ℕ) (named : List (Option (String Global))) (places : List (Option NodeSettings)) : Type 0 where
   pub retired_are : retired ≡ map retired_at places
   pub addresses : map (option_map string_bytes) told ≡ map address_at places

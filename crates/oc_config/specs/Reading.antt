@@ -1,4 +1,4 @@
--- What a text says as a configuration, or its first fault.
+-- The settings that a text spells, or its first fault.
 use Rattle.std.specs.Prelude.{◌≡◌, ℕ, ◌+◌, ◌≤◌, ◌==◌, Bool, true, nat_lt, if◌then◌else◌, Option, Some, None, IfSome, unwrap_or, Result, Ok, Err, String, List, [], length, map, replicate, take, filter, All}
 use Rattle.std.specs.Str.{byte, is_utf8}
 use Rattle.std.specs.BTreeMap.{BTreeMap}
@@ -36,7 +36,7 @@ chain_in s = do
   d ← required Chain s
   read_as Chain s (whole_in 1 MAX_CHAIN d)
 
--- the greatest id of a node, if it is said
+-- the greatest id of a node, if the text has the key
 abbrev pub greatest_in : Section → Result (Option ℕ) ConfigFault
 greatest_in s = read_if Nodes s (whole_in 1 MAX_NODES) (value_in Nodes s)
 
@@ -73,13 +73,13 @@ measures_at nodes s (Some d) = do
 abbrev pub measures_in : ℕ → Section → Result (List Measure) ConfigFault
 measures_in nodes s = measures_at nodes s (value_in Measures s)
 
--- the greatest id: what is said, or the number of tables
+-- the greatest id: that of the text, or the number of tables
 abbrev pub greatest_of : NetworkSettings → List Section → ℕ
 greatest_of network nodes = unwrap_or network.nodes (length nodes)
 
--- What a text says, with the first fault in the order of these steps:
+-- The settings of a text, step by step, the last step first. The fault is that of the earliest step which has one.
 
--- all of it
+-- the settings of these parts
 abbrev pub settings_with : NetworkSettings → List (Option NodeSettings) → List Measure → List Rule → Result Settings ConfigFault
 settings_with network places measures rules = Ok (record {
   chain = network.chain;
@@ -105,7 +105,7 @@ keys_known s nodes rules = do
   done ← known_in s
   tables_known nodes rules
 
--- the keys, where all before them is read
+-- the keys that tables may have, after all parts are read
 abbrev pub with_keys : Section → NetworkSettings → List Section → List (Option NodeSettings) → List Measure → List Section → List Rule → Result Settings ConfigFault
 with_keys s network nodes places measures tables rules = do
   done ← keys_known s nodes tables
@@ -147,7 +147,7 @@ with_nodes s network = do
   nodes ← node_tables_in s
   with_tables s network nodes
 
--- what is said at the top for all nodes
+-- the settings at the top for all nodes
 abbrev pub network_in : Section → Result NetworkSettings ConfigFault
 network_in s = do
   chain ← chain_in s
@@ -156,17 +156,17 @@ network_in s = do
   keys ← keys_in s
   Ok (record { chain = chain; nodes = nodes; chunk = chunk; keys = keys })
 
--- and these before all
+-- the settings of a text, which begin with those at the top
 abbrev pub settings_in : Section → Result Settings ConfigFault
 settings_in s = do
   network ← network_in s
   with_nodes s network
 
--- the table that a text is, if it is one
+-- the table of a text that is one
 abbrev pub document : List ℕ → Option Members
 document bytes = if is_utf8 bytes then parse_document bytes else None
 
--- what a text that is this table says; of a text that is none, this is the line that `toml` tells
+-- the settings of a table; without a table the fault is this line, which `toml` tells
 abbrev pub settings_from : ℕ → Option Members → Result Settings ConfigFault
 settings_from line None = Err (Toml line)
 settings_from line (Some members) = settings_in (top members)
@@ -178,19 +178,19 @@ settings_of line bytes = settings_from line (document bytes)
 abbrev pub line_at : List ℕ → ℕ → ℕ
 line_at bytes place = length (filter (λ b. b == byte "\n") (take place bytes)) + 1
 
--- a text has a place in this line
+-- the line of a place in the text
 pub record IsLineOf (bytes : List ℕ) (line : ℕ) : Type 0 where
   pub place : ℕ
   pub within : place ≤ length bytes
   pub line_is : line ≡ line_at bytes place
 
--- what was read is what the text says; which line of it `toml` tells is its own affair
+-- the settings of a text, or its fault; the line of a fault of TOML may be any line of the text
 pub record Reads (bytes : List ℕ) (result : Result Settings ConfigFault) : Type 0 where
   pub line : ℕ
   pub in_text : IsLineOf bytes line
   pub gives : Gives result (settings_of line bytes)
 
--- the table that the text is, or that it is no table
+-- the table of a text, or the fault that it is none
 abbrev pub table_or_fault : ℕ → Option Members → Result Members ConfigFault
 table_or_fault line None = Err (Toml line)
 table_or_fault line (Some members) = Ok members
@@ -200,21 +200,21 @@ pub record ReadsTable (bytes : List ℕ) (result : Result (BTreeMap (String Glob
   pub in_text : IsLineOf bytes line
   pub gives : GivesBy table_view result (table_or_fault line (document bytes))
 
--- what is said at the top is within its ranges
+-- the settings at the top, within their ranges
 pub record IsCommon (network : NetworkSettings) : Type 0 where
   pub chain : (1 ≤ network.chain) × (network.chain ≤ MAX_CHAIN)
   pub nodes : IfSome network.nodes (λ n. (1 ≤ n) × (n ≤ MAX_NODES))
   pub chunk : (1 ≤ network.chunk) × (network.chunk ≤ MAX_CHUNK)
   pub keys : IfSome network.keys (λ ring. length ring.accept ≤ MAX_ACCEPTED)
 
--- the lists of the nodes are as long as each other
+-- lists of the nodes that are as long as each other
 pub record HavePlaces (s : Settings) : Type 0 where
   pub retired : length s.retired ≡ length s.addresses
   pub listens : length s.listens ≡ length s.addresses
   pub areas : length s.areas ≡ length s.addresses
   pub names : length s.names ≡ length s.addresses
 
--- where something is said it passes this test
+-- texts that pass this test where they are there
 abbrev pub AllPassing : (List ℕ → Bool) → List (Option (List ℕ)) → Type 0
 AllPassing test texts = All (λ text. IfSome text (λ t. test t ≡ true)) texts
 

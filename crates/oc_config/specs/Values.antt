@@ -17,12 +17,12 @@ use Rattle.oc_config.specs.declared.section_name.SectionName.TheVariants as plac
 use Rattle.oc_config.specs.declared.section.Section.{Section as CodeSection}
 use Rattle.oc_config.specs.Keys.{key_text, place_in}
 
--- a table of the text, and which one it is
+-- a table of the text, and its place
 pub record Section : Type 0 where
   pub place : SectionName
   pub members : Members
 
--- the whole text
+-- the table of the whole text
 abbrev pub top : Members → Section
 top members = record { place = places.Top; members = members }
 
@@ -38,11 +38,11 @@ value_in key s = get_member (key_text key) s.members
 abbrev pub required : ConfigKey → Section → Result Data ConfigFault
 required key s = ok_or (value_in key s) (Missing s.place key)
 
--- what a value is read as, where it is read
+-- the value of a key, as it is read, or its fault
 abbrev pub read_as : {A : Type 0} → ConfigKey → Section → Option A → Result A ConfigFault
 read_as key s o = ok_or o (Value s.place key)
 
--- what the value of a key is read as, if the key is there
+-- the value of a key, as it is read, if the key is there
 abbrev pub read_if : {A : Type 0} → ConfigKey → Section → (Data → Option A) → Option Data → Result (Option A) ConfigFault
 read_if key s read None = Ok None
 read_if key s read (Some d) = do
@@ -57,11 +57,11 @@ within least most o = None
 abbrev pub whole_in : ℕ → ℕ → Data → Option ℕ
 whole_in least most d = within least most (as_integer d)
 
--- the area that a table says, if it says one
+-- the area of a table, if it has one
 abbrev pub area_in : Section → Result (Option ℕ) ConfigFault
 area_in s = read_if Area s (whole_in 0 MAX_AREA) (value_in Area s)
 
--- how many items there are
+-- the number of items
 abbrev pub count_items : Items → ℕ
 count_items no_items = 0
 count_items (item d ds) = count_items ds + 1
@@ -76,7 +76,7 @@ abbrev pub all_tables : Kind → ℕ → Items → Option (List Section)
 all_tables kind number no_items = Some []
 all_tables kind number (item d ds) = table_before kind number (as_table d) (all_tables kind (number + 1) ds)
 
--- the tables of an array of from the least to the most of them
+-- the tables of an array that has at least `least` and at most `most` of them
 abbrev pub tables_of : Kind → ℕ → ℕ → Option Items → Option (List Section)
 tables_of kind least most (Some ds) = if nat_le least (count_items ds) && nat_le (count_items ds) most then all_tables kind 1 ds else None
 tables_of kind least most None = None
@@ -84,17 +84,17 @@ tables_of kind least most None = None
 abbrev pub tables_in : Kind → ℕ → ℕ → Data → Option (List Section)
 tables_in kind least most d = tables_of kind least most (as_array d)
 
--- what a call gave, seen by view, is what is said, unless memory ran out
+-- the result of a call, seen by `view`, which is the one that is said, unless memory runs out
 abbrev pub GivesBy : {X A : Type 0} → (X → A) → Result X ConfigFault → Result A ConfigFault → Type 0
 GivesBy view (Ok x) said = said ≡ Ok (view x)
 GivesBy view (Err Memory) said = Unit {0}
 GivesBy view (Err fault) said = said ≡ Err fault
 
--- the same where nothing is to be seen by a view
+-- the result of a call, which is the one that is said, unless memory runs out
 abbrev pub Gives : {A : Type 0} → Result A ConfigFault → Result A ConfigFault → Type 0
 Gives = GivesBy (λ x. x)
 
--- the table that code has by a reference
+-- the table that code refers to
 abbrev pub section_of : CodeSection → Section
 section_of s = record { place = s.place; members = table_view s.table.now }
 

@@ -13,26 +13,25 @@ use oc_updown::Measure;
 #[derive(Clone, Copy)]
 pub struct Running {
     pub me: NodeId,
-    /// Whether it writes a record, which has one header for all that follows.
+    /// Whether the node writes a record, which has one header for all entries after it.
     pub recorded: bool,
 }
 
-/// What a node goes by after its configuration was read again: all of the new one, or the first key, in the order of
+/// The configuration of a node after it was read again: all of the new one, or the first key, in the order of
 /// `restart_key`, whose change needs a new start of the node; then the old one stays.
 pub fn config_change(running: Running, old: &Config, new: Config) -> Result<Config, ConfigKey>
     ensures { result ≡ config_change running old.now new }
 {
-    match restart_key(running, old, &new) {
+    match restart_key(&running, old, &new) {
         Some(key) => Err(key),
         None => Ok(new),
     }
 }
 
 /// The first key whose change needs a new start of the node.
-fn restart_key(running: Running, old: &Config, new: &Config) -> Option<ConfigKey>
-    ensures { result ≡ restart_key running old.now new.now }
+fn restart_key(running: &Running, old: &Config, new: &Config) -> Option<ConfigKey>
+    ensures { result ≡ restart_key running.now old.now new.now }
 {
-    let me = running.me;
     if !keeps_nodes(running, old.addresses.len(), new.addresses.len()) {
         Some(ConfigKey::Nodes)
     } else if old.chain != new.chain {
@@ -41,7 +40,7 @@ fn restart_key(running: Running, old: &Config, new: &Config) -> Option<ConfigKey
         Some(ConfigKey::Chunk)
     } else if !same_presence(&old.keys, &new.keys) {
         Some(ConfigKey::NodeKey)
-    } else if !keeps_listen(me, old, new) {
+    } else if !keeps_listen(running.me, old, new) {
         Some(ConfigKey::Listen)
     } else if !keeps_areas(running, &old.areas, &new.areas) {
         Some(ConfigKey::Area)
@@ -51,8 +50,8 @@ fn restart_key(running: Running, old: &Config, new: &Config) -> Option<ConfigKey
 }
 
 /// Whether the greatest id may go from one to the other: it may grow, except where the node writes a record.
-fn keeps_nodes(running: Running, old: usize, new: usize) -> bool
-    ensures { result ≡ keeps_nodes running old new }
+fn keeps_nodes(running: &Running, old: usize, new: usize) -> bool
+    ensures { result ≡ keeps_nodes running.now old new }
 {
     if running.recorded {
         old == new
@@ -68,14 +67,14 @@ fn same_presence(old: &Option<Keyring>, new: &Option<Keyring>) -> bool
     old.is_some() == new.is_some()
 }
 
-/// Whether a node listens where it did.
+/// Whether a node listens where it listened before.
 fn keeps_listen(node: NodeId, old: &Config, new: &Config) -> bool
     ensures { result ≡ same_text (listen_at node old.now) (listen_at node new.now) }
 {
     same_text(listen_at(node, old), listen_at(node, new))
 }
 
-/// Where a node listens.
+/// The address at which a node listens.
 fn listen_at(node: NodeId, config: &Config) -> Option<&str>
     ensures { option_map (λ s. s.now) result ≡ listen_at node config.now }
 {
@@ -95,15 +94,15 @@ fn same_text(old: Option<&str>, new: Option<&str>) -> bool
     }
 }
 
-/// Whether the areas may go from one to the other: of a node that writes a record they stay.
-fn keeps_areas(running: Running, old: &[u8], new: &[u8]) -> bool
-    ensures { result ≡ keeps_areas running old.now new.now }
+/// Whether the areas may go from one to the other: the areas of a node that writes a record stay.
+fn keeps_areas(running: &Running, old: &[u8], new: &[u8]) -> bool
+    ensures { result ≡ keeps_areas running.now old.now new.now }
 {
     if running.recorded { old == new } else { true }
 }
 
-/// Whether a measure is one of these. Of a configuration that is taken over a node takes those of its own which the one
-/// before had not.
+/// Whether a measure is one of these. A node takes those of its own measures from a configuration that is taken over
+/// which the configuration before had not.
 pub fn has_measure(measure: Measure, measures: &[Measure]) -> bool
     ensures { result ≡ has_measure measure measures.now }
 {

@@ -8,10 +8,10 @@ use std::marker::Model;
 /// The greatest number of bytes of a chunk that a configuration can ask for.
 pub const MAX_CHUNK: u32 = 524_288;
 
-/// The number of bytes of a chunk where a configuration says none.
+/// The number of bytes of a chunk where a configuration has none.
 pub const FIRST_CHUNK: u32 = 262_144;
 
-/// What a configuration says. Contracts see it as the record `Settings` of lists.
+/// The settings of a configuration. Contracts see them as the record `Settings` of lists.
 ///
 /// The lists of the nodes have a place for each id, from 1 to the greatest that a node can have, also where no table has
 /// it.
@@ -28,13 +28,13 @@ pub struct Config {
     /// The address that others are told of each node, by its id: a host, `:` and a port. A node that is retired has none,
     /// nor has an id without a table.
     pub addresses: Vec<Option<String>>,
-    /// Where each node listens, by its id: its `listen`, or its address where it has none.
+    /// The address at which each node listens, by its id: its `listen`, or its address where it has none.
     pub listens: Vec<Option<String>>,
     /// The area of each node, by its id.
     pub areas: Vec<u8>,
     /// The name of each node, by its id, if it has one.
     pub names: Vec<Option<String>>,
-    /// What was measured, in the order of the text.
+    /// The measures, in the order of the text.
     pub measures: Vec<Measure>,
     /// The access rules, in their order.
     pub rules: Vec<Rule>,
@@ -42,14 +42,14 @@ pub struct Config {
 
 impl Config {
     /// The greatest number of bytes of a group that one chunk carries: 1 to [`MAX_CHUNK`], and [`FIRST_CHUNK`]
-    /// where the text says nothing.
+    /// where the text has none.
     pub fn chunk(&self) -> u32
         ensures { result ≡ self.now.chunk }
     {
         self.chunk
     }
 
-    /// The key under which what goes out has its MAC, if the network has one.
+    /// The key for the MACs of messages that go out, if the network has one.
     pub fn key(&self) -> Option<&Key>
         ensures { option_map (λ k. k.now) result ≡ key_of self.now.keys }
     {

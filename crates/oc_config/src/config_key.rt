@@ -11,14 +11,14 @@ pub enum ConfigKey {
     Chunk,
     /// The key of the nodes.
     NodeKey,
-    /// The keys that are accepted besides it.
+    /// The keys that are accepted besides the key of the nodes.
     Accept,
     Node,
     Id,
     Retired,
     Address,
     Listen,
-    /// Of a node or of a rule.
+    /// The area of a node or of a rule.
     Area,
     Name,
     Measures,

@@ -10,16 +10,16 @@ use std::alloc::{AllocError, AllocFailed};
 use std::error::Error;
 use std::fmt;
 
-/// Why a text is no configuration.
+/// The first fault of a text that is no configuration.
 #[derive(Clone, Copy, Debug)]
 pub enum ConfigFault {
-    /// It is no TOML; what is wrong begins in this line, counted from 1.
+    /// The text is no TOML; the fault begins in this line, counted from 1.
     Toml(u64),
     /// A table lacks this key.
     Missing(SectionName, ConfigKey),
     /// This key of a table has a value that it may not have.
     Value(SectionName, ConfigKey),
-    /// This id, which a table has, is that of a table before it.
+    /// The id of a table is that of a table before it.
     Repeat(SectionName, u32),
     /// This line of the measures, counted from 1, is refused for this cause.
     Measure { line: u32, why: Why },

@@ -39,7 +39,7 @@ impl Model for KeyName {
 }
 
 impl KeyName {
-    /// How a fault shows a key.
+    /// The key, as a fault shows it.
     pub(crate) fn shown(key: &[u8]) -> KeyName
         ensures { result ≡ shown_key key.now }
     {

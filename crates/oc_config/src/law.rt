@@ -16,12 +16,12 @@ ghost use Rattle.oc_config.specs.declared.fault.ConfigFault.TheVariants.{Value};
 ghost use Rattle.oc_config.specs.declared.reading.NetworkSettings.{NetworkSettings};
 ghost use Rattle.oc_config.specs.declared.section_name.SectionName.TheVariants.{Node, Top};
 
-/// Each address may stand in a request as its host.
+/// Each address may be the host of a request.
 pub fn each_address_is_a_host()
     ensures { (text : List ℕ) → is_address text ≡ true → IsHost text }
 {}
 
-/// What is said of a node, at the place of its id, is what the table with that id says, whatever the order of the
+/// The settings of a node, at the place of its id, are those of the table with that id, whatever the order of the
 /// tables.
 pub fn each_node_has_its_table()
     ensures { (text : Section) (s : Settings) (network : NetworkSettings) (tables : List Section)
@@ -41,8 +41,8 @@ pub fn examples_are_read()
     ensures keyless { read (accepts no_items no_members) ≡ Err (Value Top Accept) }
 {}
 
-/// A node goes on with all of a new configuration or with none of it, and where it goes on with it the network is as it
-/// was, but that more nodes may have come.
+/// A node goes on with all of a new configuration or with none of it, and where it goes on with all the network is as it
+/// was, except that more nodes may have come.
 pub fn a_change_keeps_the_network()
     ensures { (running : Running) (old new taken : Settings) → config_change running old new ≡ Ok taken
         → (taken ≡ new) × Stays running old new }

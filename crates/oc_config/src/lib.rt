@@ -1,17 +1,16 @@
-//! The configuration of a network: its nodes, what is measured, and who may read and post what.
+//! The configuration of a network: its nodes, its measures, and the rules of who may read and post.
 //!
-//! A configuration is a TOML text. [`read`] is what the layers above use: it gives exactly what
-//! `settings_of` makes of the bytes, the settings or the first fault, unless memory runs out. What is
-//! read is within the ranges (`IsConfig`), and [`each_node_has_its_table`] says that what is said of a node is
-//! what the table with its id says.
+//! A configuration is a TOML text. [`read`] is the function that the layers above use: it gives exactly what
+//! `settings_of` makes of the bytes, the settings or the first fault, unless memory runs out. The settings that are
+//! read are within the ranges (`IsConfig`), and those of a node are those of the table with its id
+//! ([`each_node_has_its_table`]).
 //!
-//! What the text is as a table is said by `toml` (`parse_document`); `specs/Reading` says what a table
-//! means, with its faults in their order, `specs/Nodes` what the table of a node means,
-//! `specs/Accepted` what the keys of the network do, `specs/AccessRules` what the table of a rule does, and
-//! `specs/Known` which keys are none.
+//! The table of a text is that of `toml` (`parse_document`); `specs/Reading` has the meaning of a table, with its
+//! faults in their order, `specs/Nodes` the meaning of the table of a node, `specs/Accepted` that of the keys of
+//! the network, `specs/AccessRules` that of the table of a rule, and `specs/Known` the keys that are none.
 //!
-//! A node that runs may read its configuration again: [`config_change`] says what it then goes by (`specs/Changes`), and
-//! [`a_change_keeps_the_network`] what stays.
+//! A node that runs may read its configuration again: [`config_change`] gives its configuration from then on
+//! (`specs/Changes`), and [`a_change_keeps_the_network`] tells what stays.
 #![tactic(auto)]
 
 mod address;

@@ -1,6 +1,6 @@
 use std::marker::Model;
 
-/// What the table of a node says of it, apart from its id.
+/// The settings of a node in its table, apart from its id.
 #[derive(Drop)]
 pub(crate) struct NodeEntry {
     pub(crate) retired: bool,

@@ -19,7 +19,7 @@ use oc_base::{MAX_NODES, Memory};
 use std::alloc::Global;
 use toml::Value;
 
-/// What is said of each node, by its id, where the greatest id is this. Each id occurs in one table at most.
+/// The settings of each node, by its id, where the greatest id is `greatest`. Each id occurs in one table at most.
 pub(crate) fn nodes(
     alloc: Global,
     greatest: u32,
@@ -46,7 +46,7 @@ fn free_places(alloc: Global, count: u32) -> Result<Vec<Option<NodeEntry>>, Memo
     Ok(places)
 }
 
-/// Puts what a table says of a node at the place of its id.
+/// Puts the node of a table at the place of its id.
 fn put_node(
     alloc: Global,
     places: &mut Vec<Option<NodeEntry>>,
@@ -65,7 +65,7 @@ fn put_node(
     Ok(())
 }
 
-/// The id that a table says, where the greatest is `nodes`.
+/// The id in a table, where the greatest is `nodes`.
 fn id(table: &Section<'_>, nodes: usize) -> Result<u32, ConfigFault>
     requires { nodes ≤ MAX_NODES }
     ensures said { result ≡ id_in nodes (section_of table.now) }
@@ -75,7 +75,7 @@ fn id(table: &Section<'_>, nodes: usize) -> Result<u32, ConfigFault>
     whole(value, 1, nodes as u32).ok_or(table.refuses(ConfigKey::Id))
 }
 
-/// What a table says of a node, apart from its id, where no node before has its address.
+/// The node of a table, apart from its id, where no node before has its address.
 fn new_entry(
     alloc: Global,
     places: &[Option<NodeEntry>],
@@ -137,7 +137,7 @@ fn is_text(said: &Option<String>, text: &str) -> bool
     }
 }
 
-/// What a table says of a node with this address, if it has one.
+/// The node of a table with this address, if it has one.
 fn entry(
     alloc: Global,
     table: &Section<'_>,
@@ -168,7 +168,7 @@ fn owned(alloc: Global, text: Option<&str>) -> Result<Option<String>, Memory>
     }
 }
 
-/// Whether a node is retired, which it is not where its table says nothing.
+/// Whether a node is retired; no where its table does not tell.
 fn retired(table: &Section<'_>) -> Result<bool, ConfigFault>
     ensures { result ≡ retired_in (section_of table.now) }
 {
@@ -178,7 +178,7 @@ fn retired(table: &Section<'_>) -> Result<bool, ConfigFault>
     }
 }
 
-/// Whether a value says that a node is retired: yes, where its table has no address, or no.
+/// Whether a node is retired, by a value: yes, where its table has no address, or no.
 fn retired_of(table: &Section<'_>, value: &Value) -> Option<bool>
     ensures { result ≡ retired_of (section_of table.now) (view value.now) }
 {
@@ -199,7 +199,7 @@ fn address_unless<'a>(retired: bool, table: &Section<'a>) -> Result<Option<&'a s
     Ok(Some(address(table)?))
 }
 
-/// The address that a table says.
+/// The address in a table.
 fn address<'a>(table: &Section<'a>) -> Result<&'a str, ConfigFault>
     ensures { GivesBy (λ s. s.now) result (address_in (section_of table.now)) }
 {
@@ -209,7 +209,7 @@ fn address<'a>(table: &Section<'a>) -> Result<&'a str, ConfigFault>
     }
 }
 
-/// Where a node with this address, if it has one, listens.
+/// The address at which a node with this address, if it has one, listens.
 fn listen<'a>(table: &Section<'a>, address: Option<&'a str>) -> Result<Option<&'a str>, ConfigFault>
     ensures { GivesBy (λ o. option_map (λ s. s.now) o) result (listen_in (section_of table.now) (option_map (λ s. s.now) address.entry)) }
 {
@@ -232,7 +232,7 @@ fn listen_of(value: &Value) -> Option<&str>
     }
 }
 
-/// The area of a node, which is 0 where its table says none.
+/// The area of a node, which is 0 where its table has none.
 fn node_area(table: &Section<'_>) -> Result<u8, ConfigFault>
     ensures { result ≡ node_area_in (section_of table.now) }
 {
@@ -262,7 +262,7 @@ fn name_of(value: &Value) -> Option<&str>
     }
 }
 
-/// What is said of the nodes, in a list for each thing.
+/// The settings of all nodes, in one list for each field.
 #[derive(Drop)]
 pub(crate) struct Split {
     pub(crate) retired: Vec<bool>,
@@ -273,7 +273,7 @@ pub(crate) struct Split {
 }
 
 impl Split {
-    /// What is at the places, in their order.
+    /// The settings of the nodes at the places, in their order.
     pub(crate) fn of(alloc: Global, places: Vec<Option<NodeEntry>>) -> Result<Split, Memory>
         ensures { IfOk result (λ s. AreOf s.retired.items s.addresses.items s.listens.items s.areas.items s.names.items places.items) }
     {
@@ -290,7 +290,7 @@ impl Split {
         Ok(split)
     }
 
-    /// Puts what is said of a node after what is said of those before it.
+    /// Puts the settings of a node after those of the nodes before it.
     fn put(&mut self, entry: NodeEntry) -> Result<(), Memory>
         ensures { (so_far : List (Option NodeSettings)) (place : Option NodeSettings) → said_at place ≡ entry
             → AreOf self.old.retired.items self.old.addresses.items self.old.listens.items self.old.areas.items self.old.names.items so_far
@@ -306,7 +306,7 @@ impl Split {
     }
 }
 
-/// What is at a place; of a node that no table has nothing is said.
+/// The settings of the node at a place, or those of a node that no table has.
 fn said_at(place: Option<NodeEntry>) -> NodeEntry
     ensures { result ≡ said_at place }
 {

@@ -21,7 +21,7 @@ use oc_updown::{Measure, read_lines};
 use std::alloc::Global;
 use toml::{Table, Value, table_from_slice};
 
-/// What the top of a configuration says for all nodes.
+/// The settings at the top of a configuration, for all nodes.
 #[derive(Drop)]
 pub(crate) struct NetworkSettings {
     pub(crate) chain: u32,
@@ -30,11 +30,11 @@ pub(crate) struct NetworkSettings {
     pub(crate) keys: Option<Keyring>,
 }
 
-/// Reads the text of a configuration, any bytes: what it says, or its first fault.
+/// Reads the text of a configuration, any bytes: its settings, or its first fault.
 ///
 /// The text is TOML. The faults come in this order: the text, the chain, the greatest id, the chunk, the key, the keys
-/// that are accepted besides, the array of nodes, then table for table what is wrong with a node, whether the chain has
-/// members past the greatest id, the measures, the array of rules, then table for table what is wrong with a rule, and
+/// that are accepted besides, the array of nodes, then table for table the fault of a node, a chain with
+/// members past the greatest id, the measures, the array of rules, then table for table the fault of a rule, and
 /// then a key that is none: at the top, in a table of a node, in a table of a rule.
 pub fn read(alloc: Global, bytes: &[u8]) -> Result<Config, ConfigFault>
     ensures exact { Reads bytes.now result }
@@ -71,7 +71,7 @@ fn line_at(bytes: &[u8], place: usize) -> u64
     line
 }
 
-/// What the table of a configuration says.
+/// The settings of the table of a configuration.
 fn read_table(alloc: Global, top: &Section<'_>) -> Result<Config, ConfigFault>
     ensures exact { Gives result (settings_in (section_of top.now)) }
     ensures lawful { IfOk result IsConfig }
@@ -81,7 +81,7 @@ fn read_table(alloc: Global, top: &Section<'_>) -> Result<Config, ConfigFault>
     read_parts(alloc, top, network, &tables)
 }
 
-/// The same, with what is said for all nodes, and these tables of nodes.
+/// The settings of a configuration with these settings for all nodes, and these tables of nodes.
 fn read_parts(
     alloc: Global,
     top: &Section<'_>,
@@ -115,7 +115,7 @@ fn read_parts(
     })
 }
 
-/// The greatest id: what is said, or the number of tables.
+/// The greatest id: that of the text, or the number of tables.
 fn greatest_of(network: &NetworkSettings, tables: &[Section<'_>]) -> u32
     requires network { IsCommon network.now }
     requires count { (1 ≤ length tables.now) × (length tables.now ≤ MAX_NODES) }
@@ -128,7 +128,7 @@ fn greatest_of(network: &NetworkSettings, tables: &[Section<'_>]) -> u32
     }
 }
 
-/// What is said for all nodes.
+/// The settings for all nodes.
 fn read_network(alloc: Global, top: &Section<'_>) -> Result<NetworkSettings, ConfigFault>
     ensures said { Gives result (network_in (section_of top.now)) }
     ensures lawful { IfOk result IsCommon }
@@ -141,7 +141,7 @@ fn read_network(alloc: Global, top: &Section<'_>) -> Result<NetworkSettings, Con
     })
 }
 
-/// The greatest id of a node, if it is said.
+/// The greatest id of a node, if the text has the key.
 fn greatest(top: &Section<'_>) -> Result<Option<u32>, ConfigFault>
     ensures said { result ≡ greatest_in (section_of top.now) }
     ensures range { IfOk result (λ nodes. IfSome nodes (λ n. (1 ≤ n) × (n ≤ MAX_NODES))) }
@@ -209,7 +209,7 @@ fn check_keys(
     check_all(rules)
 }
 
-/// What was measured, where the greatest id is this.
+/// The measures, where the greatest id is `nodes`.
 fn measures(alloc: Global, top: &Section<'_>, nodes: u32) -> Result<Vec<Measure>, ConfigFault>
     ensures said { GivesBy (λ v. v.items) result (measures_in nodes (section_of top.now)) }
     ensures lawful { IfOk result (λ v. All (IsMeasure nodes) v.items) }

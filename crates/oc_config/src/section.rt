@@ -9,7 +9,7 @@ use crate::values::whole;
 use oc_base::MAX_AREA;
 use toml::{Table, Value};
 
-/// A table of a configuration, and which one it is.
+/// A table of a configuration, and its place.
 #[derive(Clone, Copy)]
 pub(crate) struct Section<'a> {
     pub(crate) place: SectionName,
@@ -17,7 +17,7 @@ pub(crate) struct Section<'a> {
 }
 
 impl<'a> Section<'a> {
-    /// The table that the whole text is.
+    /// The table of the whole text.
     pub(crate) fn top(table: &'a Table) -> Section<'a>
         ensures { section_of result ≡ top (table_view table.now) }
     {
@@ -34,7 +34,7 @@ impl<'a> Section<'a> {
         self.table.get(key.word())
     }
 
-    /// The value of a key that the table has to have.
+    /// The value of a key that the table must have.
     pub(crate) fn required(&self, key: ConfigKey) -> Result<&'a Value, ConfigFault>
         ensures said { GivesBy (λ v. view v.now) result (required key (section_of self.now)) }
         ensures missing { IfErr result (λ fault. required key (section_of self.now) ≡ Err fault) }
@@ -52,7 +52,7 @@ impl<'a> Section<'a> {
         ConfigFault::Value(self.place, key)
     }
 
-    /// The area that the table says, if it says one.
+    /// The area of the table, if it has one.
     pub(crate) fn area(&self) -> Result<Option<u8>, ConfigFault>
         ensures { result ≡ area_in (section_of self.now) }
     {

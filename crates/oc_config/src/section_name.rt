@@ -50,7 +50,7 @@ impl SectionName {
     }
 }
 
-/// What comes before a fault: the table, where it is not the whole text.
+/// The table before a fault, unless it is the whole text.
 impl fmt::Display for SectionName {
     fn fmt<W: fmt::Write>(&self, f: &mut fmt::Formatter<W>) -> fmt::Result {
         match self {
@@ -61,7 +61,7 @@ impl fmt::Display for SectionName {
     }
 }
 
-/// Of what the tables of an array are.
+/// The kind of the tables of an array.
 #[derive(Clone, Copy)]
 pub(crate) enum Kind {
     Node,

@@ -85,7 +85,7 @@ silent_all : (answer : Answer) (back : Option Message) (s : Setting) (ds : List 
 silent_all answer back s [] a silent = tt
 silent_all answer back s (d ∷ ds) a silent = (silent_one answer back s d a (silent.0), silent_all (answer_of answer d a) (back_of back d a) s ds (after d a) (silent.1))
 
--- after those that answer
+-- the answer is unchanged after the deeds that answer
 answered_then : (answer : Answer) (back : Option Message) (s : Setting) (ds es : List Deed) (a : Running) → AreAnsweredBy answer back s ds a → AreSilent es → AreAnsweredBy answer back s (ds ++ es) a
 answered_then answer back s [] es a first second = silent_all answer back s es a second
 answered_then answer back s (d ∷ ds) es a first second = (first.0, answered_then (answer_of answer d a) (back_of back d a) s ds es (after d a) (first.1) second)
@@ -121,7 +121,7 @@ silent_end pace now seconds s a =
     let ds : List Deed = ticks pace now seconds s a in
     silent_then ds (sends MAX_DIALS s (after_all ds a)) (silent_ticks pace now seconds s a) (silent_sends MAX_DIALS s (after_all ds a))
 
--- What came
+-- Turns in which something came
 
 silent_moves : (p : Transfer) (now : ℕ) (what : Prospect) → AreSilent (moves p now what)
 silent_moves p now prospects.Gives = (tt, tt)
@@ -183,7 +183,7 @@ dealt pace probing came now median started seconds s a =
     let soon : Pace = quickened (came_hurries came a.node) pace in
     answered_then answers.Ok None s ds (ticks_and_sends soon now seconds s (after_all ds a)) a (happened probing came now median started s a) (silent_end soon now seconds s (after_all ds a))
 
--- What was due
+-- Turns in which some work was due
 
 took_up : (o : Option Work) (now : ℕ) (s : Setting) (a : Running) → AreAnswered s (takes_up o now s a) a
 took_up None now s a = tt

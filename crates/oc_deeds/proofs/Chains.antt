@@ -22,12 +22,12 @@ with_append : (o : Option Input) (is js : List Input) → with_input o (is ++ js
 with_append None is js = refl
 with_append (Some i) is js = refl
 
--- their inputs
+-- the inputs of deeds
 pub inputs_append : (ds es : List Deed) → inputs_of (ds ++ es) ≡ inputs_of ds ++ inputs_of es
 inputs_append [] es = refl
 inputs_append (d ∷ ds) es = ap (λ (is : List Input). with_input (deed_input d) is) (inputs_append ds es) ∙ with_append (deed_input d) (inputs_of ds) (inputs_of es)
 
--- what they make of a running node
+-- a running node after deeds
 pub after_append : (ds es : List Deed) (a : Running) → after_all (ds ++ es) a ≡ after_all es (after_all ds a)
 after_append [] es a = refl
 after_append (d ∷ ds) es a = after_append ds es (after d a)
@@ -73,7 +73,7 @@ calls_append s (d ∷ ds) es a =
 
 -- Counts
 
--- those of deeds after deeds
+-- the counts after deeds and further ones
 pub counts_append : (ds es : List Deed) (a b c : LinkCounts) → CountsAll ds a b → CountsAll es b c → CountsAll (ds ++ es) a c
 counts_append [] es a b c first second = subst (λ (x : LinkCounts). CountsAll es x c) first second
 counts_append (deeds.Sees e wait bytes ∷ ds) es a b c (at, one, first) second = (at, one, counts_append ds es at b c first second)

@@ -1,4 +1,4 @@
--- What a client is given as chunks is there, where the answer is that of its step.
+-- The bytes that a client is given as chunks are there, where the answer is that of its step.
 use Rattle.std.proofs.Common.{◌≡◌, ◌≤◌, ℕ, ◌+◌, ◌-◌, ◌^◌, Bool, true, false, Option, Some, None, List, length, refl, sym, ap, subst, ◌∙◌, arith}
 use Rattle.std.specs.Prelude.{◌==◌, if◌then◌else◌, nat_le}
 use Rattle.std.specs.Option.{option_map}
@@ -35,7 +35,7 @@ abbrev Serves : Answer → ℕ → ℕ → Type 0
 Serves (answers.Serve count) held start = count ≤ held - start
 Serves answer held start = Unit {0}
 
--- the same of what a client is shown of a group that may still grow
+-- the bytes of a group that may still grow are there, where a client is shown its answer
 abbrev ServesShown : Bool → Answer → ℕ → ℕ → Type 0
 ServesShown true answer held start = Unit {0}
 ServesShown false answer held start = Serves answer held start
@@ -89,7 +89,7 @@ all_serve Here answer h start serves = here_serves h.there h.sealed h.held start
 all_serve (Of length) answer h start serves = of_serves length answer h.sealed h.held start serves
 all_serve Known answer h start serves = known_serves answer h.sealed h.held start serves
 
--- what is served as chunks is there
+-- the bytes that are served as chunks are there
 range_there : (group : List ℕ) (start count : ℕ) (chunked : Bool) (ks : List Group) → (chunked ≡ true → count ≤ length (bytes_of group ks) - start) → IsGivable (content_at group (Some (record { start = start; count = count; chunked = chunked }))) ks
 range_there group start count chunked ks fits = by_test (nat_le (start + count) (2 ^ 64 - 1))
   where
@@ -104,13 +104,13 @@ served_there group Once sealed last start count ks h = range_there group start c
 served_there group Follow true last start count ks h = range_there group start count false ks (λ (is : false ≡ true). absurd (false≢true is))
 served_there group Follow false last start count ks h = range_there group start count true ks (λ is. h)
 
--- or its start is past the end of its group, and it is given nothing
+-- the bytes of a client whose start is past the end of its group, of which it is given none
 past_or_served : (group : List ℕ) (start count : ℕ) (manner : Manner) (sealed last past : Bool) (h : Holding) (ks : List Group) → ServesShown sealed (answers.Serve count) (length (bytes_of group ks)) start
     → IsGivable (content_at group (if past then whole_for manner (past_reply h.held) else served manner sealed last start count).content) ks
 past_or_served group start count manner sealed last true h ks serves = tt
 past_or_served group start count manner sealed last false h ks serves = served_there group manner sealed last start count ks serves
 
--- what is given of what is here, by any answer
+-- the bytes given of those that are here, by any answer
 given_there : (group : List ℕ) (start : ℕ) (manner : Manner) (answer : Answer) (sealed last : Bool) (h : Holding) (ks : List Group) → ServesShown sealed answer (length (bytes_of group ks)) start
     → IsGivable (content_at group (given_response start manner answer sealed last h).content) ks
 given_there group start manner answers.Ok sealed last h ks serves = tt
@@ -128,11 +128,11 @@ given_there group start manner answers.Sealed sealed last h ks serves = tt
 given_there group start manner (answers.Redirect node) sealed last h ks serves = tt
 given_there group start manner (answers.Serve count) sealed last h ks serves = past_or_served group start count manner sealed last (is_past start h) h ks serves
 
--- what this node holds of a group is there
+-- the bytes of a group that this node holds are there
 abbrev HereServes : List ℕ → ℕ → Holding → List Group → Type 0
 HereServes group start h ks = ServesShown h.sealed (here_answer h start) (length (bytes_of group ks)) start
 
--- who would be sent to a node without an address is given it
+-- a client that would be sent to a node without an address is given the bytes that are here
 here_given : (group : List ℕ) (start : ℕ) (manner : Manner) (last : Bool) (h : Holding) (ks : List Group) → HereServes group start h ks
     → IsGivable (content_at group (here_response start manner last h).content) ks
 here_given group start Follow last h ks serves = tt
@@ -172,7 +172,7 @@ reply_there group area start manner hint last answer ks addresses serves =
     (subst (λ (n : ℕ). ServesShown (shown hint answer h start).sealed (shown hint answer h start).answer n start) (held_is group ks) serves)
     (subst (λ (n : ℕ). ServesShown h.sealed (here_answer h start) n start) (held_is group ks) (here_serves h.there h.sealed h.held start))
 
--- where the node answers itself
+-- the bytes are there where the node answers itself
 pub here_there : (answer : Answer) (ks : List Group) (group : List ℕ) (area start : ℕ) (manner : Manner) (last : Bool) (addresses : List (Option (List ℕ))) → IsGivable (client_content (asks.Client group area start manner) Here last answer ks addresses) ks
 here_there answer ks group area start manner last addresses =
     let h = holding group (shelf ks) in
@@ -206,7 +206,7 @@ groups_same n area start group =
     ap (λ (at : Option ℕ). kept_at at n.groups (piece_of (inputs.Client area start group)) (plan n.control (shelf n.groups) (inputs.Client area start group)).seals)
     (client_keeps (line_of group (shelf n.groups)) (plan_begun n.control) area start)
 
--- where the answer is that of the step
+-- the bytes are there where the answer is that of the step
 pub step_there : (n : Node) (group : List ℕ) (area start : ℕ) (manner : Manner) (hint : Hint) (last : Bool) (addresses : List (Option (List ℕ)))
     → IsGivable (client_content (asks.Client group area start manner) hint last (step n (inputs.Client area start group)).answer (step n (inputs.Client area start group)).node.groups addresses) (step n (inputs.Client area start group)).node.groups
 step_there n group area start manner hint last addresses =

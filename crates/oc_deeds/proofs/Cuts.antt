@@ -5,7 +5,7 @@ use Rattle.oc_deeds.specs.Deeds.{Deed}
 use Rattle.oc_deeds.specs.Under.{Cuts, IsUnder}
 use Rattle.oc_deeds.specs.Under.{Idle, Noting, Taking, Under}
 
--- what is under way is so with more deeds after it
+-- an input or a line under way is the same with more deeds after it
 under_more : (u : Under) (ds more : List Deed) → IsUnder u ds → IsUnder u (ds ++ more)
 under_more Idle ds more is = tt
 under_more (Taking i) [] more is = absurd is
@@ -21,7 +21,7 @@ cuts_more whole more deeds u cut = record {
   next = under_more u cut.behind more cut.next;
 }
 
--- and with deeds before
+-- a cut of deeds is one with deeds before too
 pub cuts_behind : (before whole deeds : List Deed) (u : Under) → Cuts whole deeds u → Cuts (before ++ whole) (before ++ deeds) u
 cuts_behind before whole deeds u cut = record {
   behind = cut.behind;

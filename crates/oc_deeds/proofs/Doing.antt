@@ -1,4 +1,4 @@
--- What is decided of a running node that does deeds.
+-- Facts of a running node that does deeds.
 use Rattle.std.proofs.Common.{◌≡◌, ℕ, Option, List, [], ◌∷◌, ap, subst, sym, ◌∙◌}
 use Rattle.oc_model.specs.Lawful.{IsInput}
 use Rattle.oc_model.specs.Node.{Node}
@@ -16,7 +16,7 @@ pub input_stays : (nodes me more other : ℕ) (i : Input) → more ≡ nodes →
 input_stays nodes me more other i many same lawful =
     subst (λ (n : ℕ). IsInput n other i) (sym many) (subst (λ (x : ℕ). IsInput nodes x i) (sym same) lawful)
 
--- what is told after an input is what is told of it
+-- the lines by the facts before an input are those of the input
 pub told_after : (d : Deed) (i : Input) (s : Setting) (a b : Running) (before : Option Before) (answer : Answer) → IsBefore s.log a.node.control i before
     → (after d a).node ≡ (step a.node i).node → b ≡ after d a → answer ≡ (step a.node i).answer
     → Says (told_after before b.node.control answer) ∷ [] ≡ Says (told_of s.log a.node i) ∷ []

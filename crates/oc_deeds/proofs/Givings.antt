@@ -1,4 +1,4 @@
--- What a connection in this state was given, beside the replies to its requests.
+-- The bytes given to a connection in this state, beside the replies to its requests.
 use Rattle.std.proofs.Common.{◌≡◌, ℕ, ◌+◌, Bool, true, false, Option, None, Some, List, [], ◌∷◌, ◌++◌, length, refl, sym, ap, subst, ◌∙◌, arith, length-append}
 use Rattle.std.specs.Prelude.{◌==◌, if◌then◌else◌}
 use Rattle.std.specs.Option.{option_map}
@@ -28,14 +28,14 @@ content_under (works.Content p) = Some p.content
 content_under (works.Aside p) = Some p.content
 content_under (works.Waits w) = None
 
--- a reply is under way: what was given and what is left of it are the replies
+-- a reply under way: the bytes given and those that are left are the replies
 pub record IsGiving (ws : List Work) (now later : List Group) (g w : List ℕ) : Type 0 where
   pub work : Work
   pub under_way : ws ≡ work ∷ []
   pub givable : IsGivable (content_under work) now
   pub left : w ≡ g ++ owed (content_under work) later
 
--- Of a connection at this phase, with this work, g was given, and its replies are w where the groups are these in the end.
+-- A connection at this phase, with this work, was given g, and its replies are w where the groups are these in the end.
 abbrev pub Holds : Phase → List Work → List Group → List Group → List ℕ → List ℕ → Type 0
 Holds Awaiting ws now later g w = (ws ≡ []) × (w ≡ g)
 Holds Answering ws now later g w = IsGiving ws now later g w
@@ -43,7 +43,7 @@ Holds Whole ws now later g w = w ≡ g
 Holds Broken ws now later g w = IsFront g w
 Holds Gone ws now later g w = IsFront g w
 
--- whatever it does, it was given a beginning of its replies
+-- a connection was given a beginning of its replies at any phase
 pub front_of : (phase : Phase) (ws : List Work) (now later : List Group) (g w : List ℕ) → Holds phase ws now later g w → IsFront g w
 front_of Awaiting ws now later g w h = ([], h.1 ∙ sym (append-nil g))
 front_of Answering ws now later g w h = (owed (content_under h.work) later, h.left)
@@ -51,7 +51,7 @@ front_of Whole ws now later g w h = ([], h ∙ sym (append-nil g))
 front_of Broken ws now later g w h = h
 front_of Gone ws now later g w h = h
 
--- what can be given stays so while the groups grow
+-- a content that can be given can be given while the groups grow
 pub givable_grown : (o : Option UnderWay) (now later : List Group) → Grows now later → IsGivable o now → IsGivable o later
 givable_grown None now later grows there = tt
 givable_grown (Some u) now later grows there = λ chunked.
@@ -76,7 +76,7 @@ holds_still phase ws old now later g w grows h =
 
 -- Pieces
 
--- what is left of a content
+-- the rest of a content
 abbrev pub content_left : Option Transfer → Option UnderWay
 content_left None = None
 content_left (Some p) = Some p.content
@@ -97,7 +97,7 @@ rest_givable p t now there =
     subst (λ (o : Option UnderWay). IsGivable o now) (sym (left_behind p t (rest_after p.content (length (piece_of p.content now)))))
     (behind_givable p.content (length (piece_of p.content now)) now there)
 
--- what is owed of a content is its next piece, and what is owed after that
+-- the text that is owed of a content is its next piece and the text that is owed after it
 pub piece_given : (p : Transfer) (t : ℕ) (now later : List Group) → Grows now later → IsGivable (Some p.content) now
     → owed (Some p.content) later ≡ piece p now ++ owed (content_left (rest p t now)) later
 piece_given p t now later grows there =
@@ -126,9 +126,9 @@ first_givable r response t None now there = tt
 first_givable r response t (Some u) now there =
     rest_givable (record { connection = r.connection; content = u; keeps = keeps response.connection; told = r.told; since = t }) t now there
 
--- After what was given
+-- After a piece was given
 
--- what is under way is what is left
+-- the work of the rest of a content
 abbrev pub works_left : Option Transfer → List Work
 works_left None = []
 works_left (Some p) = works.Content p ∷ []
@@ -138,7 +138,7 @@ phase_kept : (keep watched : Bool) (st : Standing) (ws : List Work) (now later :
 phase_kept true watched st ws now later g w none is = (none, is)
 phase_kept false watched st ws now later g w none is = is
 
--- where nothing is left the reply is whole
+-- the reply is whole where nothing of the content is left
 pub finished : (c d : ℕ) (keep watched : Bool) (left : Option Transfer) (st : Standing) (ws : List Work) (now later : List Group) (g w : List ℕ)
     → (d == c) ≡ true → st.phase ≡ Answering → ws ≡ works_left left → IsGivable (content_left left) now → w ≡ g ++ owed (content_left left) later
     → Holds (stands_after c (finish d keep watched left) st).phase ws now later g w

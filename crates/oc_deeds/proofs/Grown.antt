@@ -1,4 +1,4 @@
--- The groups of a node only grow, whatever it does.
+-- The groups of a node only grow, whatever the node does.
 use Rattle.std.proofs.Common.{◌≡◌, ℕ, ◌-◌, Bool, true, false, if◌then◌else◌, Option, None, Some, List, [], ◌∷◌, ◌++◌, length, drop, refl, sym, ap, ◌∙◌}
 use Rattle.std.proofs.lemmas.List.{append_assoc, append-nil}
 use Rattle.oc_base.specs.declared.group.Group.{Group}
@@ -11,7 +11,7 @@ use Rattle.oc_model.specs.Step.{Piece, grown, kept_at, piece_of, plan, step}
 use Rattle.oc_model.specs.declared.input.Input.{Input}
 use Rattle.oc_deeds.specs.Deeds.{Accepts, BreaksOff, Deed, Dials, Drops, Gives, Keeps, LaysAside, Looks, Notes, Permits, Probes, Reads, Refuses, Replies, Rereads, Running, Says, Sees, Takes, Tells, Waits, after, after_all}
 
--- the bytes of each group are a beginning of what they are later
+-- the bytes of each group are a beginning of its bytes later
 abbrev pub Grows : List Group → List Group → Type 0
 Grows now later = (g : List ℕ) → (more : List ℕ) × (bytes_of g later ≡ bytes_of g now ++ more)
 
@@ -49,7 +49,7 @@ grows_kept (Some at) ks p closes = grows_with p at closes ks
 grows_step : (n : Node) (i : Input) → Grows n.groups (step n i).node.groups
 grows_step n i = let o = plan n.control (shelf n.groups) i in grows_kept o.keeps n.groups (piece_of i) o.seals
 
--- a deed leaves each group at least what it was
+-- a deed leaves each group at least the bytes that it had
 pub grows_after : (d : Deed) (a : Running) → Grows a.node.groups (after d a).node.groups
 grows_after (Takes i) a = grows_step a.node i
 grows_after (Accepts i) a = grows_step a.node i

@@ -1,4 +1,4 @@
--- What lies in the bytes that came, after a head that was taken of them.
+-- The parts of the bytes that came, after a head that was taken of them.
 use Rattle.std.proofs.Common.{◌≡◌, ℕ, ◌-◌, true, List, [], ◌++◌, length, take, drop, refl, sym, ap, ◌∙◌, arith}
 use Rattle.std.proofs.Math.Seq.{drop-append_seam}
 use Rattle.std.proofs.lemmas.List.{append-nil, length-append, length-drop, take-append-drop, take_all}
@@ -7,19 +7,19 @@ use Rattle.oc_link.specs.ArrivedView.{ArrivedView, FailsBehind, GivesFront, arri
 use Rattle.oc_link.specs.Failures.{has_failed}
 use Rattle.oc_link.specs.declared.event.Coming.{Coming}
 
--- what is left of the bytes after some of them, which end the same
+-- the rest of the bytes, with the same end
 abbrev pub left : List ℕ → Coming → ArrivedView
 left bytes coming = record { left = bytes; fails = has_failed coming; faults = 0 }
 
--- all of them came
+-- all bytes came
 pub all_came : (bytes : List ℕ) (coming : Coming) → GivesFront (arrived bytes coming) bytes (left [] coming)
 all_came bytes coming = record { front = sym (append-nil bytes); fails = refl; faults = refl }
 
--- the first n of them came
+-- the first n bytes came
 pub first_came : (n : ℕ) (bytes : List ℕ) (coming : Coming) → GivesFront (arrived bytes coming) (take n bytes) (left (drop n bytes) coming)
 first_came n bytes coming = record { front = sym (take-append-drop n bytes); fails = refl; faults = refl }
 
--- all of them came, and then a call failed
+-- all bytes came before a call failed
 pub all_failed : (bytes : List ℕ) (coming : Coming) → has_failed coming ≡ true → FailsBehind (arrived bytes coming) bytes (record { left = []; fails = has_failed coming; faults = counted 0 })
 all_failed bytes coming failed = record { whole = refl; none = refl; fails = failed; same = refl; faults = refl }
 

@@ -1,4 +1,4 @@
--- Lists of what is lawful.
+-- Lists of lawful elements.
 use Rattle.std.proofs.Common.{◌≡◌, ◌<◌, ℕ, zero, suc, Option, None, Some, IfSome, List, [], ◌∷◌, ◌++◌, length, take, drop, remove, slice_get, is_some, true, refl, subst, arith}
 use Rattle.std.specs.List.{AllByRecursion}
 use Rattle.std.specs.Option.{option_map}
@@ -30,7 +30,7 @@ module _ {X : Type 0} (P : X → Type 0) where
   all_take (suc n) [] all = tt
   all_take (suc n) (x ∷ xs) all = (all.0, all_take n xs all.1)
 
-  -- those after them
+  -- the elements after the first ones
   all_drop : (n : ℕ) (xs : List X) → AllByRecursion P xs → AllByRecursion P (drop n xs)
   all_drop zero xs all = all
   all_drop (suc n) [] all = tt
@@ -40,28 +40,28 @@ module _ {X : Type 0} (P : X → Type 0) where
   pub all_remove : (place : ℕ) (xs : List X) → AllByRecursion P xs → AllByRecursion P (remove xs place)
   all_remove place xs all = all_append P (take place xs) (drop (suc place) xs) (all_take place xs all) (all_drop (suc place) xs all)
 
--- there is an element at each place
+-- an element is at each place
 pub none_there : {X : Type 0} (xs : List X) (k : ℕ) → k < length xs → slice_get xs k ≡ None → ⊥
 none_there [] k few none = omega (arith, few)
 none_there (x ∷ xs) zero few none = cc
 none_there (x ∷ xs) (suc k) few none = none_there xs k (omega (arith, few)) none
 
--- What is under way
+-- Works
 
 module _ (nodes me : ℕ) where
   without_place : (place : Option ℕ) (ws : List Work) → AllByRecursion (IsLawfulWork nodes me) ws → AllByRecursion (IsLawfulWork nodes me) (without_at ws place)
   without_place None ws all = all
   without_place (Some place) ws all = all_remove (IsLawfulWork nodes me) place ws all
 
-  -- without what is under way on a connection
+  -- the works without that on a connection
   pub works_without : (c : ℕ) (ws : List Work) → AllByRecursion (IsLawfulWork nodes me) ws → AllByRecursion (IsLawfulWork nodes me) (without_work c ws)
   works_without c ws all = without_place (index_on c ws) ws all
 
-  -- with further work
+  -- the works with a further one
   pub works_with : (ws : List Work) (w : Work) → AllByRecursion (IsLawfulWork nodes me) ws → IsLawfulWork nodes me w → AllByRecursion (IsLawfulWork nodes me) (ws ++ w ∷ [])
   works_with ws w all one = all_append (IsLawfulWork nodes me) ws (w ∷ []) all (one, tt)
 
-  -- with what is left of a content
+  -- the works with the rest of a content
   pub works_with_content : (p : Option Transfer) (ws : List Work) → AllByRecursion (IsLawfulWork nodes me) ws → AllByRecursion (IsLawfulWork nodes me) (with_content p ws)
   works_with_content None ws all = all
   works_with_content (Some p) ws all = works_with ws (works.Content p) all tt
@@ -82,7 +82,7 @@ module _ (nodes me : ℕ) where
       let held = lawful w refl in
       subst (λ (x : Pending). IsAsked x.asked.operation × IfSome (client_input x.asked.operation x.asked.hint) (IsInput nodes me)) same (held.asks, held.input)
 
-  -- and so is what it is answered by
+  -- the operation and the input of a request that waits are lawful
   pub due_lawful : (ws : List Work) (place : ℕ) (r : Pending) → AllByRecursion (IsLawfulWork nodes me) ws → due_of (slice_get ws place) ≡ dues.Waits r
       → IsAsked r.asked.operation × IfSome (client_input r.asked.operation r.asked.hint) (IsInput nodes me)
   due_lawful ws place r all is = due_by (slice_get ws place) r (λ w there. waiting_there ws place w all there) is
@@ -93,11 +93,11 @@ dials_without_place : (nodes : ℕ) (place : Option ℕ) (ds : List Dialling) �
 dials_without_place nodes None ds all = all
 dials_without_place nodes (Some place) ds all = all_remove (IsLawfulDial nodes) place ds all
 
--- without the dial of a number
+-- the dials without that of a number
 pub dials_without : (nodes d : ℕ) (ds : List Dialling) → AllByRecursion (IsLawfulDial nodes) ds → AllByRecursion (IsLawfulDial nodes) (dials.without_dial d ds)
 dials_without nodes d ds all = dials_without_place nodes (dials.index_of d ds) ds all
 
--- without the dial whose reply an event is
+-- the dials without that whose reply an event is
 pub dials_seen : (nodes : ℕ) (e : LinkEvent) (ds : List Dialling) → AllByRecursion (IsLawfulDial nodes) ds → AllByRecursion (IsLawfulDial nodes) (dials_after e ds)
 dials_seen nodes (events.Reply d coming) ds all = dials_without nodes d ds all
 dials_seen nodes e ds all = all
@@ -111,7 +111,7 @@ dial_placed : (nodes : ℕ) (ds : List Dialling) (place : Option ℕ) → AllByR
 dial_placed nodes ds None all = tt
 dial_placed nodes ds (Some k) all = dial_there nodes ds k all
 
--- for what a dial was made whose reply an event is
+-- the errand of the dial whose reply an event is
 pub errand_seen : (nodes : ℕ) (e : LinkEvent) (ds : List Dialling) → AllByRecursion (IsLawfulDial nodes) ds → IfSome (errand_in e ds) (IsLawfulErrand nodes)
 errand_seen nodes (events.Reply d coming) ds all = dial_placed nodes ds (dials.index_of d ds) all
 errand_seen nodes (events.Request a) ds all = tt
@@ -119,6 +119,6 @@ errand_seen nodes (events.Room c) ds all = tt
 errand_seen nodes (events.Gone c loss) ds all = tt
 errand_seen nodes events.Quiet ds all = tt
 
--- with another one
+-- the dials with another one
 pub dials_with : (nodes : ℕ) (ds : List Dialling) (d : Dialling) → AllByRecursion (IsLawfulDial nodes) ds → IsLawfulDial nodes d → AllByRecursion (IsLawfulDial nodes) (ds ++ d ∷ [])
 dials_with nodes ds d all one = all_append (IsLawfulDial nodes) ds (d ∷ []) all (one, tt)

@@ -52,7 +52,7 @@ has_spelling (bodies.Chunk group start bytes last) has = omega (arith, ltb-true 
 pub text_of_sendable : (nodes : ℕ) (m : Message) → can_send nodes m ≡ true → HasSpelling m.body
 text_of_sendable nodes m can = has_spelling m.body (parts (nat_le 1 m.to && nat_le m.to nodes) (has_text m.body) can).1
 
--- and a receiver among the nodes
+-- the receiver of a message that can be sent is among the nodes
 pub receiver_of_sendable : (nodes : ℕ) (m : Message) → can_send nodes m ≡ true → IsNode nodes m.to
 receiver_of_sendable nodes m can =
     let among = parts (nat_le 1 m.to) (nat_le m.to nodes) (parts (nat_le 1 m.to && nat_le m.to nodes) (has_text m.body) can).0 in
@@ -89,48 +89,48 @@ joined : (nodes : ℕ) (ms ns : List Message) → AreSendable nodes ms → AreSe
 joined nodes [] ns are all = all
 joined nodes (m ∷ ms) ns are all = both (can_send nodes m) (list_all (can_send nodes) (ms ++ ns)) (first_of nodes m ms are) (joined nodes ms ns (rest_of nodes m ms are) all)
 
--- each of them can be sent
+-- each message can be sent
 pub one_sendable : (nodes : ℕ) (ms : List Message) (k : ℕ) (m : Message) → slice_get ms k ≡ Some m → AreSendable nodes ms → can_send nodes m ≡ true
 one_sendable nodes [] k m there are = absurd cc
 one_sendable nodes (x ∷ ms) zero m there are = let same : x ≡ m = cc in subst (λ (y : Message). can_send nodes y ≡ true) same (first_of nodes x ms are)
 one_sendable nodes (x ∷ ms) (suc k) m there are = one_sendable nodes ms k m there (rest_of nodes x ms are)
 
--- without the message at a place
+-- the messages without that at a place
 pub without_place : (nodes k : ℕ) (ms : List Message) → AreSendable nodes ms → AreSendable nodes (remove ms k)
 without_place nodes k ms are = joined nodes (take k ms) (drop (suc k) ms) (taken nodes k ms are) (dropped nodes (suc k) ms are)
 
--- without one of them
+-- the messages without one of them
 without_one : (nodes : ℕ) (ms : List Message) (place : Option ℕ) → AreSendable nodes ms → AreSendable nodes (without_at ms place)
 without_one nodes ms None are = are
 without_one nodes ms (Some k) are = without_place nodes k ms are
 
--- without the reply to a sender
+-- the messages without the reply to a sender
 others_sendable : (nodes : ℕ) (ms : List Message) (sender : ℕ) → AreSendable nodes ms → AreSendable nodes (others ms sender)
 others_sendable nodes ms sender are = without_one nodes ms (reply_index ms sender) are
 
--- all but what goes back to a sender
+-- all messages but the reply to a sender
 pub kept_sendable : (nodes : ℕ) (ms : List Message) (sender : Option ℕ) → AreSendable nodes ms → AreSendable nodes (others_than sender ms)
 kept_sendable nodes ms None are = are
 kept_sendable nodes ms (Some sender) are = others_sendable nodes ms sender are
 
--- with one in the place of another
+-- the messages with one in the place of another
 put_in_place : (nodes k : ℕ) (ms : List Message) (m : Message) → AreSendable nodes ms → can_send nodes m ≡ true → AreSendable nodes (slice_set ms k m)
 put_in_place nodes k [] m are can = refl
 put_in_place nodes zero (x ∷ ms) m are can = both (can_send nodes m) (list_all (can_send nodes) ms) can (rest_of nodes x ms are)
 put_in_place nodes (suc k) (x ∷ ms) m are can = both (can_send nodes x) (list_all (can_send nodes) (slice_set ms k m)) (first_of nodes x ms are) (put_in_place nodes k ms m (rest_of nodes x ms are) can)
 
--- with another one
+-- the messages with another one
 with_one : (nodes : ℕ) (ms : List Message) (place : Option ℕ) (m : Message) → AreSendable nodes ms → can_send nodes m ≡ true → AreSendable nodes (put_at ms place m)
 with_one nodes ms None m are can = dropped nodes (length (ms ++ m ∷ []) - MAX_OUTBOX) (ms ++ m ∷ []) (joined nodes ms (m ∷ []) are (both (can_send nodes m) true can refl))
 with_one nodes ms (Some place) m are can = put_in_place nodes place ms m are can
 
--- with further messages that can be sent
+-- the messages with further ones that can be sent
 pub with_sendable : (nodes : ℕ) (ms more : List Message) → AreSendable nodes ms → AreSendable nodes more → AreSendable nodes (with_messages ms more)
 with_sendable nodes ms [] are all = are
 with_sendable nodes ms (m ∷ more) are all =
     with_sendable nodes (with_message ms m) more (with_one nodes ms (older_fetch ms m) m are (first_of nodes m more all)) (rest_of nodes m more all)
 
--- What goes back
+-- Replies to senders
 
 -- the message at a place, if there is one, has a text
 text_at : (nodes : ℕ) (ms : List Message) (place : Option ℕ) → AreSendable nodes ms → IfSome (element_at ms place) (λ m. HasSpelling m.body)

@@ -9,7 +9,7 @@ use Rattle.oc_deeds.specs.Sends.{dialled, dials_as, dials_at, dials_it, dials_ne
 use Rattle.oc_deeds.specs.declared.choosing.TheConstants.{MAX_DIALS}
 use Rattle.oc_deeds.proofs.Chains.{after_append}
 
--- What is sent
+-- Messages that are sent
 
 -- the message at this place is dialled
 next_some : (place : ℕ) (m : Message) (s : Setting) (a : Running) → next_to_dial a.outbox a.dials ≡ Some place → slice_get a.outbox place ≡ Some m
@@ -82,7 +82,7 @@ sends_part left rest place number s b is free may within =
     ∙ sends_some rest place at.0 s b may at.1
     ∙ ap (λ (ds : List Deed). ds ++ sends rest s (after_all ds b)) (sym (dialled_there place number at.0 s b free at.1))
 
--- with one more the others are fewer
+-- one dial more leaves fewer others
 pub part_one : (left rest place number : ℕ) (p : Part) (s : Setting) (a b : Running) → left ≡ suc rest → b ≡ after_all (p s a) a → number ≡ free_number b.dials
     → next_to_dial b.outbox b.dials ≡ Some place → place < length b.outbox → AreWhole left (p s a) s a → AreWhole rest (in_turn p (dials_as place number) s a) s a
 part_one left rest place number p s a b is here free may within whole =

@@ -87,7 +87,7 @@ use Rattle.oc_deeds.specs.declared.work.Transfer.{Transfer}
 use Rattle.oc_deeds.specs.declared.work.Work.{Work}
 use Rattle.oc_deeds.specs.declared.work.Work.TheVariants as works
 
--- What is under way at a place
+-- The work at a place
 
 -- a work at a place is among those of its connection
 found : (ws : List Work) (i : ℕ) (w : Work) → slice_get ws i ≡ Some w → (front behind : List Work) × (works_on (connection_of w) ws ≡ front ++ w ∷ behind)
@@ -125,7 +125,7 @@ alone_at Whole ws front behind w is fits = absurd (not_none front behind w (sym 
 alone_at Broken ws front behind w is fits = absurd (not_none front behind w (sym fits ∙ is))
 alone_at Gone ws front behind w is fits = absurd (not_none front behind w (sym fits ∙ is))
 
--- it is alone on its connection, where a reply is under way
+-- the work under way is alone on its connection, where a reply is under way
 pub alone : (made : List Call) (ws : List Work) (i : ℕ) (w : Work) → slice_get ws i ≡ Some w → IsSettled made ws → (phase_on (connection_of w) made ≡ Answering) × (works_on (connection_of w) ws ≡ w ∷ [])
 alone made ws i w is settled =
     let f = found ws i w is in
@@ -307,9 +307,9 @@ verdict_input t x bytes rest (Err fault) = unread_input x.coming (is_none bytes)
 has_input : (t : NodeTerms) (x : Arrival) (bytes : List ℕ) (v : Verdict) → IsVerdict t x bytes v → HasInput v
 has_input t x bytes v is = subst HasInput (sym is.verdict) (verdict_input t x bytes is.rest is.answer)
 
--- What came
+-- News
 
--- after what came its connection is in the state that it says
+-- the state of the connection after this news
 abbrev pub IsReadyFor : Came → List Call → List Work → Type 0
 IsReadyFor (comes.Request c count v) made ws = IsSettled made ws × (phase_on c made ≡ Awaiting) × HasInput v
 IsReadyFor (comes.Gone c loss) made ws = IsLeft c made ws
@@ -392,7 +392,7 @@ phase_if : (b : Bool) (x st : Standing) → x.phase ≡ st.phase → (if b then 
 phase_if true x st same = same
 phase_if false x st same = refl
 
--- after an event and a reading of the clock
+-- the calls after an event and a reading of the clock
 abbrev seeing : List Call → LinkEvent → List ℕ → ℕ → List Call
 seeing made event bytes now = made ++ (acts.Next event bytes ∷ acts.Millis now ∷ [])
 
@@ -416,7 +416,7 @@ means_back : (t : NodeTerms) (lent : List ℕ) (errand : Option Errand) (coming 
 means_back t lent None coming came made ws means settled = subst (λ (x : Came). IsReadyFor x made ws) (sym means) settled
 means_back t lent (Some errand) coming came made ws means settled = subst (λ (x : Came). IsReadyFor x made ws) (sym (means.3)) (back_ready t errand (means.0) made ws settled)
 
--- what came, where the event could come
+-- the connection is ready for the news of an event that could come
 seen_ready : (t : NodeTerms) (lent : List ℕ) (errand : Option Errand) (event : LinkEvent) (came : Came) (made : List Call) (bytes : List ℕ) (now : ℕ) (ws : List Work) → Means t lent errand event came
     → IsTrue (may event made) → IsSettled made ws → IsReadyFor came (seeing made event bytes now) ws
 seen_ready t lent errand (events.Request x) came made bytes now ws means could settled =
@@ -441,7 +441,7 @@ seen_ready t lent errand events.Quiet came made bytes now ws means could settled
 
 -- Turns
 
--- what came was told by the link, which could tell it after these calls
+-- the news was told by the link, which could tell it after these calls
 pub record IsTold (t : Observation) (made : List Call) : Type 0 where
   pub terms : NodeTerms
   pub lent : List ℕ
@@ -485,7 +485,7 @@ taking_due s made pace place before seconds a settled =
     let ds : List Deed = takes_up (slice_get a.works place) before s a in
     orderly_then s made ds (ticks_and_sends pace before seconds s (after_all ds a)) a first (ticking_and_sending s (made ++ calls_of s ds a) pace before seconds (after_all ds a) first.settled)
 
--- what the link told counts where nothing is due
+-- the news counts where no work is due
 abbrev pub IsToldAt : Option ℕ → Observation → List Call → Type 0
 IsToldAt None t made = IsTold t made
 IsToldAt (Some place) t made = Unit {0}

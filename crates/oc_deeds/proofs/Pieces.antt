@@ -5,7 +5,7 @@ use Rattle.std.proofs.lemmas.List.{append-nil}
 use Rattle.oc_chunked.specs.Texts.{chunked_text, chunks_written, end_written}
 use Rattle.oc_routes.specs.Contents.{ending, pieces}
 
--- a chunked text without what ends it
+-- a chunked text without its end
 pub without_end : (bytes text : List ℕ) (n : ℕ) → text ≡ chunked_text bytes → n ≡ length text - 5 → take n text ≡ pieces true bytes ++ ending true false
 without_end bytes text n is last =
     let chunks = chunks_written (length bytes) bytes in

@@ -1,4 +1,4 @@
--- What is kept to probe with stays what was made for a node.
+-- The state kept for probes is still that of a node.
 use Rattle.std.proofs.Common.{◌≡◌, ℕ, ◌-◌, min, Option, None, Some, IfSome, List, [], ◌∷◌, length, slice_get, refl, sym, subst, ◌∙◌}
 use Rattle.std.proofs.lemmas.List.{length-set}
 use Rattle.std.specs.List.{AllByRecursion}
@@ -39,7 +39,7 @@ module _ (nodes : ℕ) where
   made_gauged None peer rate o made = made_mapped (with_measure peer rate) (made_measured peer rate) o made
   made_gauged (Some fault) peer rate o made = made
 
-  -- after what came
+  -- the state after this news
   pub made_probed : (came : Came) (now : ℕ) (ds : List Dialling) (o : Option Probing) → IfSome o (IsMadeFor nodes) → IfSome (probed came now ds o) (IsMadeFor nodes)
   made_probed (comes.Request c count verdict) now ds o made = made
   made_probed (comes.Room c) now ds o made = made
@@ -64,9 +64,9 @@ module _ (nodes : ℕ) where
   is_gauged None peer made is = tt
   is_gauged (Some p) peer made is = subst (λ (n : ℕ). IsNode n peer) (sym made.rates) is
 
--- What is measured
+-- Measures
 
--- with a median
+-- the rate with a median
 pub median_of : (o : Option Probing) (peer rate m : ℕ) → IsMedianIn o peer rate (Some m) → IsMedianOf o peer rate m
 median_of None peer rate m is = tt
 median_of (Some p) peer rate m is = is
@@ -75,7 +75,7 @@ pub median_part : (o : Option Probing) (peer rate m : ℕ) (s : Setting) (a : Ru
 median_part None peer rate m s a is = absurd cc
 median_part (Some p) peer rate m s a is = refl
 
--- and with none
+-- the rate without a median
 pub no_median : (o : Option Probing) (peer rate : ℕ) → IsMedianIn o peer rate None → IsMedianOf o peer rate 0
 no_median None peer rate is = tt
 no_median (Some p) peer rate is = absurd is

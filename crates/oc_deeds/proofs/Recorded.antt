@@ -1,4 +1,4 @@
--- Turns of a node that writes a record: the line of each input is written before it is taken, and nothing else is said of it.
+-- Turns of a node that writes a record: the line of each input is written before it is taken, and nothing else is written of it.
 use Rattle.std.proofs.Common.{◌≡◌, ◌⊎◌, ℕ, zero, suc, Bool, true, false, Option, None, Some, List, [], ◌∷◌, ◌++◌, slice_get, refl, sym, ap, ap₂, subst, ◌∙◌, Result, Ok, Err}
 use Rattle.std.specs.Prelude.{◌==◌, if◌then◌else◌, is_some, is_none, codes}
 use Rattle.std.proofs.lemmas.List.{append-nil, append_assoc}
@@ -79,14 +79,14 @@ pub leads_then : (s : Setting) (p q r : Option Input) (ds es : List Deed) → Le
 leads_then s p q r [] es is more = subst (λ (o : Option Input). Leads s o es r) (sym is) more
 leads_then s p q r (d ∷ ds) es (next, moves, rest) more = (next, moves, leads_then s next q r ds es rest more)
 
--- a front of deeds, and what is after it
+-- a front of deeds, and the deeds after it
 pub leads_front : (s : Setting) (p r : Option Input) (ds es : List Deed) → Leads s p (ds ++ es) r → (q : Option Input) × Leads s p ds q × Leads s q es r
 leads_front s p r [] es all = (p, refl, all)
 leads_front s p r (d ∷ ds) es (next, moves, rest) =
     let front = leads_front s next r ds es rest in
     (front.0, (next, moves, front.1), front.2)
 
--- what was written of the next input is of the one that the next deed takes
+-- the input whose line was written is the one that the next deed takes
 pub next_of : (s : Setting) (p : Option Input) (ds : List Deed) → Leads s p ds None → IsNext p ds
 next_of s None ds leads = tt
 next_of s (Some i) [] leads = let no : Some i ≡ None = leads in absurd (cc no)
@@ -111,7 +111,7 @@ next_of s (Some i) (Looks look ∷ ds) (next, moves, rest) = absurd moves
 next_of s (Some i) (Rereads config ∷ ds) (next, moves, rest) = absurd moves
 next_of s (Some i) (Keeps why ∷ ds) (next, moves, rest) = absurd moves
 
--- Their text
+-- The text of deeds
 
 text_append : (me : ℕ) (xs ys : List RecordLine) → record_text me (xs ++ ys) ≡ record_text me xs ++ record_text me ys
 text_append me [] ys = refl
@@ -273,7 +273,7 @@ module _ (s : Setting) (recorded : s.log ≡ logs.Record) where
       let ds : List Deed = ticks pace now seconds s a in
       whole_then ds (sends MAX_DIALS s (after_all ds a)) (leads_ticks pace now seconds a) (leads_sends MAX_DIALS (after_all ds a))
 
-  -- What came
+  -- Turns in which something came
 
   leads_moves : (p : Transfer) (now : ℕ) (what : Prospect) → Whole (moves p now what)
   leads_moves p now prospects.Gives = (None, refl, refl)
@@ -335,7 +335,7 @@ module _ (s : Setting) (recorded : s.log ≡ logs.Record) where
       let soon : Pace = quickened (came_hurries came a.node) pace in
       whole_then ds (ticks_and_sends soon now seconds s (after_all ds a)) (leads_happens probing came now median started a) (leads_end soon now seconds (after_all ds a))
 
-  -- What was due
+  -- Turns in which some work was due
 
   leads_up : (o : Option Work) (now : ℕ) (a : Running) → Whole (takes_up o now s a)
   leads_up None now a = refl

@@ -56,7 +56,7 @@ seen_holds c events.Quiet st ws now later g w h = holds_still st.phase ws now no
 
 -- One deed
 
--- what holds of the connection c after calls with these replies
+-- the state of the connection c after calls with these replies
 abbrev Behind : ℕ → List Call → List ℕ → Standing → List Work → List Group → List Group → List ℕ → List ℕ → Type 0
 Behind c made text st ws now later g w = Holds (stands_after c made st).phase ws now later (g ++ given c made) (w ++ text)
 
@@ -128,7 +128,7 @@ content_is p ws work (inr is) one =
     let same : work ≡ works.Aside p = cc in
     ap content_under same
 
--- what is given of a content that is under way here
+-- a content that is under way here, and the bytes given
 pub record IsUnderWay (c : ℕ) (p : Transfer) (a : Running) (later : List Group) (g w : List ℕ) : Type 0 where
   pub none : works_on c (without_work p.connection a.works) ≡ []
   pub givable : IsGivable (Some p.content) a.node.groups
@@ -197,13 +197,13 @@ lays c p a made later g w has h = by_test (p.connection == c) refl
 
 -- Requests that are answered
 
--- what is given after a request
+-- the calls that give a reply
 abbrev texts : Pending → Response → ℕ → List Group → List Call
 texts r response t groups =
     acts.Give r.connection (response.text ++ first_piece (transfer_for r response t) groups)
     ∷ finish r.connection (keeps response.connection) r.told (first_rest (transfer_for r response t) t groups)
 
--- after the request that was taken
+-- the state after the request that was taken
 request_taken : (c : ℕ) (takes more : List Call) (st : Standing) (ws : List Work) (now later : List Group) (g w : List ℕ) → given c takes ≡ []
     → Holds (stands_after c more (stands_after c takes st)).phase ws now later (g ++ given c more) w
     → Holds (stands_after c (takes ++ more) st).phase ws now later (g ++ given c (takes ++ more)) w
@@ -300,7 +300,7 @@ all_done s (d ∷ ds) c a made later g w grows may h =
     (subst (λ (x : List ℕ). Holds (stands_after c more (standing_of c (made ++ mine))).phase (works_on c (after_all ds onward).works) (after_all ds onward).node.groups later x (w ++ (replied c d later ++ replied_all c ds later))) gave
     (subst (λ (x : List ℕ). Holds (stands_after c more (standing_of c (made ++ mine))).phase (works_on c (after_all ds onward).works) (after_all ds onward).node.groups later ((g ++ given c mine) ++ given c more) x) owes next))
 
--- From nothing under way
+-- From a moment without works
 
 begun_holds : (phase : Phase) (ws : List Work) (now later : List Group) → ws ≡ [] → (phase ≡ Answering → ⊥) → Holds phase ws now later [] []
 begun_holds Awaiting ws now later none idle = (none, refl)
@@ -330,7 +330,7 @@ whole_at phase ws now later g w (inr is) h =
     let held : w ≡ g = subst (λ (x : Phase). Holds x ws now later g w) is h in
     sym held
 
--- and all of them where none is under way and it was not cut off
+-- all replies are given where none is under way and none was cut off
 pub given_whole : (s : Setting) (made : List Call) (ds : List Deed) (a : Running) (c : ℕ) → a.works ≡ [] → (phase_on c made ≡ Answering → ⊥) → IsOrdered s made ds a
     → (phase_on c (made ++ calls_of s ds a) ≡ Awaiting) ⊎ (phase_on c (made ++ calls_of s ds a) ≡ Whole)
     → given c (calls_of s ds a) ≡ replied_all c ds (after_all ds a).node.groups

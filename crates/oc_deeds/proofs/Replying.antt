@@ -1,4 +1,4 @@
--- What a deed gives the connection that it names, and any other one.
+-- The bytes that a deed gives the connection that it names, and any other one.
 use Rattle.std.proofs.Common.{◌≡◌, ℕ, Bool, true, false, Option, None, Some, List, [], ◌∷◌, ◌++◌, drop, refl, sym, ap, subst, ◌∙◌}
 use Rattle.std.specs.Prelude.{◌==◌, if◌then◌else◌, length}
 use Rattle.std.specs.Option.{option_map}
@@ -33,7 +33,7 @@ use Rattle.oc_deeds.specs.declared.work.Work.TheVariants as works
 pub phase_here : (c d : ℕ) (made : List Call) (phase : Phase) → (d == c) ≡ true → phase_on d made ≡ phase → phase_on c made ≡ phase
 phase_here c d made phase own is = ap (λ (x : ℕ). phase_on x made) (sym (eqb-true d c own)) ∙ is
 
--- what was given, with more after it
+-- the bytes that were given, with more after them
 more_given : (g w text : List ℕ) → w ≡ g → w ++ text ≡ g ++ text
 more_given g w text is = ap (λ (x : List ℕ). x ++ text) is
 
@@ -66,7 +66,7 @@ refused c d count (Some text) ws now later g w st own phase h =
     let held : (ws ≡ []) × (w ≡ g) = subst (λ (x : Phase). Holds x ws now later g w) phase h in
     rw own (more_given g w text (held.1) ∙ ap (λ (x : List ℕ). g ++ x) (sym (append-nil text)))
 
--- it is over: what it was given is a beginning
+-- the bytes given to a connection that is over are a beginning of its replies
 pub over : (phase : Phase) (ws : List Work) (now later : List Group) (g w : List ℕ) → Holds phase ws now later g w → IsFront (g ++ []) (w ++ [])
 over phase ws now later g w h =
     let f = front_of phase ws now later g w h in
@@ -74,7 +74,7 @@ over phase ws now later g w h =
 
 -- Replies
 
--- after the request that is answered nothing is under way, and all before was given
+-- no work is under way after the request that is answered, and all before was given
 pub taken : (r : Pending) (c : ℕ) (a : Running) (made : List Call) (now later : List Group) (g w : List ℕ) (waited : Bool) → r.waited ≡ waited → (r.connection == c) ≡ true
     → MayAnswer waited c made a.works → Holds (phase_on c made) (works_on c a.works) now later g w
     → ((stands_after c (takes_request r) (standing_of c made)).phase ≡ Answering) × (drop 1 (works_on c a.works) ≡ []) × (given c (takes_request r) ≡ []) × (w ≡ g)
@@ -93,7 +93,7 @@ pub taken_other : (r : Pending) (c : ℕ) (st : Standing) (waited : Bool) → r.
 taken_other r c st true has apart = rw has (refl, refl)
 taken_other r c st false has apart = rw (has, apart) (refl, refl)
 
--- what is left is on the connection, or on another one
+-- the rest of a content is on the connection, or on another one
 abbrev pub IsAt : Bool → ℕ → Option Transfer → Type 0
 IsAt b c None = Unit {0}
 IsAt b c (Some p) = (p.connection == c) ≡ b
@@ -108,7 +108,7 @@ first_at b c r response t (Some u) now is =
     let p : Transfer = record { connection = r.connection; content = u; keeps = keeps response.connection; told = r.told; since = t } in
     rest_at b c p t (rest_after u (length (piece_of u now))) is
 
--- what is under way on a connection after a piece
+-- the work on a connection after a piece
 pub left_on : (c : ℕ) (ws : List Work) (left : Option Transfer) → works_on c ws ≡ [] → IsAt true c left → works_on c (with_content left ws) ≡ works_left left
 left_on c ws None none own = none
 left_on c ws (Some p) none own = own_pushed c ws (works.Content p) own ∙ ap (λ (x : List Work). x ++ works.Content p ∷ []) none
@@ -129,7 +129,7 @@ finish_other : (c d : ℕ) (keep watched : Bool) (left : Option Transfer) (st : 
 finish_other c d keep watched None st apart = rw apart refl
 finish_other c d keep watched (Some p) st apart = refl
 
--- Holds after a text and what is left
+-- the state after a text and the rest
 pub text_given : (c d : ℕ) (text : List ℕ) (keep watched : Bool) (left : Option Transfer) (st : Standing) (ws : List Work) (now later : List Group) (g w : List ℕ)
     → (d == c) ≡ true → st.phase ≡ Answering → ws ≡ works_left left → IsGivable (content_left left) now → w ≡ (g ++ text) ++ owed (content_left left) later
     → Holds (stands_after c (acts.Give d text ∷ finish d keep watched left) st).phase ws now later (g ++ given c (acts.Give d text ∷ finish d keep watched left)) w

@@ -1,4 +1,4 @@
--- Which deeds answer a request, or let it wait.
+-- Deeds that answer a request, or let it wait.
 use Rattle.std.proofs.Common.{◌≡◌, ℕ, Bool, true, false, Option, List, [], ◌∷◌, cond, is_some, ap, sym, ◌∙◌}
 use Rattle.oc_base.specs.Groups.{shelf}
 use Rattle.oc_base.specs.declared.shelf.Shelf.{Shelf}
@@ -12,18 +12,18 @@ use Rattle.oc_deeds.specs.Hurries.{hurries_unless, request_hurries}
 use Rattle.oc_deeds.specs.Parts.{nothing, one, ◌>>◌}
 use Rattle.oc_deeds.specs.Works.{pending}
 
--- by why a request is refused for its condition, if it is
+-- the part by the refusal of a request for its condition, if it is refused
 pub condition_part : (c now : ℕ) (request : Request) (why : Option Refusal) (s : Setting) (a : Running) → unmet request.asked.operation a.node.control.me (shelf a.node.groups) ≡ why
     → takes_on c request now s a ≡ refuses_or why c request now s a
 condition_part c now request why s a is = ap (λ (o : Option Refusal). refuses_or o c request now s a) is
 
--- as it was found of this node
+-- the refusal as it was found of this node
 pub condition_told : (request : Request) (why found : Option Refusal) (me : ℕ) (lines : List Shelf) (n : Node) → found ≡ unmet request.asked.operation me lines → me ≡ n.control.me → lines ≡ shelf n.groups → found ≡ why
     → unmet request.asked.operation n.control.me (shelf n.groups) ≡ why
 condition_told request why found me lines n is same held told =
     sym (is ∙ ap (λ (x : ℕ). unmet request.asked.operation x lines) same ∙ ap (λ (ls : List Shelf). unmet request.asked.operation n.control.me ls) held) ∙ told
 
--- and whether it hurries the next tick
+-- the haste that a refusal makes for the next tick
 pub condition_hurries : (request : Request) (why : Option Refusal) (n : Node) → unmet request.asked.operation n.control.me (shelf n.groups) ≡ why
     → request_hurries request.asked.operation request.input n ≡ hurries_unless why request.asked.operation request.input n
 condition_hurries request why n is = ap (λ (o : Option Refusal). hurries_unless o request.asked.operation request.input n) is
@@ -34,7 +34,7 @@ pub waits_part : (c now : ℕ) (request : Request) (s : Setting) (a : Running) �
 waits_part c now request s a is =
     ap (λ (b : Bool). cond b (Waits (waiting c request now) ∷ []) (responds (pending c request (is_some request.input) false) request.input now s a)) is
 
--- and one that is answered
+-- the part that answers a request
 pub answers_part : (c now : ℕ) (request : Request) (s : Setting) (a : Running) → has_to_wait request a.node ≡ false
     → answers_or_waits c request now s a ≡ (nothing >> responds (pending c request (is_some request.input) false) request.input now) s a
 answers_part c now request s a is =

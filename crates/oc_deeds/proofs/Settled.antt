@@ -78,12 +78,12 @@ pub ordered_front : (s : Setting) (made : List Call) (ds es : List Deed) (a : Ru
 ordered_front s made [] es a ordered = tt
 ordered_front s made (d ∷ ds) es a ordered = (ordered.0, ordered_front s (made ++ calls s d a) ds es (after d a) (ordered.1))
 
--- By connection
+-- Works by connection
 
 pub settled_by : (made more : List Call) (ws : List Work) → ((c : ℕ) → Fits (stands_after c more (standing_of c made)).phase (works_on c ws)) → IsSettled (made ++ more) ws
 settled_by made more ws fits = λ c. subst (λ (x : Standing). Fits x.phase (works_on c ws)) (sym (stands-then c made more untouched)) (fits c)
 
--- after the first work of a connection there is none
+-- no work is after the first of a connection
 pub one_at_most : (phase : Phase) (ws : List Work) → Fits phase ws → drop 1 ws ≡ []
 one_at_most Awaiting ws fits = ap (λ (x : List Work). drop 1 x) fits
 one_at_most Answering ws fits = ap (λ (x : List Work). drop 1 x) (fits.1)
@@ -95,7 +95,7 @@ pub fits_if : (b : Bool) (x st : Standing) (ws : List Work) → x.phase ≡ st.p
 fits_if true x st ws same fits = subst (λ (y : Phase). Fits y ws) (sym same) fits
 fits_if false x st ws same fits = fits
 
--- where a request is awaited nothing is under way
+-- no work is on a connection that awaits a request
 none_on : (c d : ℕ) (made : List Call) (ws : List Work) → (d == c) ≡ true → phase_on d made ≡ Awaiting → IsSettled made ws → works_on c ws ≡ []
 none_on c d made ws own may settled = subst (λ (x : Phase). Fits x (works_on c ws)) (phase_here c d made Awaiting own may) (settled c)
 

@@ -1,4 +1,4 @@
--- What is told of an input, by what was known before it.
+-- The lines of an input, by the facts before it.
 use Rattle.std.proofs.Common.{◌≡◌, ℕ, Option, None, Some, List, ◌++◌, ap, ◌∙◌}
 use Rattle.oc_base.specs.declared.cert.Child.{Child}
 use Rattle.oc_model.specs.declared.answer.Answer.{Answer}
@@ -12,7 +12,7 @@ use Rattle.oc_deeds.specs.declared.brief.Before.{Before}
 use Rattle.oc_deeds.specs.declared.log.Log.{Log}
 use Rattle.oc_deeds.specs.declared.log.Log.TheVariants as logs
 
--- what is told by what was known before an input is what is told of it
+-- the lines by the facts before an input are those of the input
 pub told_same : (log : Log) (n : Node) (x : Control) (i : Input) (before : Option Before) (answer : Answer) → IsBefore log n.control i before → x ≡ (step n i).node.control → answer ≡ (step n i).answer
     → told_after before x answer ≡ told_of log n i
 told_same logs.Inputs n x i before answer known is says = ap (λ (o : Option Before). told_after o x answer) known

@@ -43,7 +43,7 @@ short (x ∷ y ∷ []) behind more d e is few =
     ([], ap (λ (z : Deed). z ∷ e ∷ []) first ∙ ap (λ (z : Deed). x ∷ z ∷ []) second)
 short (x ∷ y ∷ z ∷ xs) behind more d e is few = absurd (omega (arith, few))
 
--- where one only asked what happened nothing else was done
+-- nothing else was done where a turn only asked for news
 pub asked_only : (due : Option ℕ) (s : Setting) (made : List Call) (pace : Pace) (probing : Option Probing) (t : Observation) (a : Running) (more deeds behind : List Deed) → due ≡ None
     → (Reads t.before ∷ takes_at due pace probing t s a) ++ more ≡ deeds ++ behind → length deeds < 3 → IsOrdered s made deeds a
 asked_only (Some place) s made pace probing t a more deeds behind none is few = let no : Some place ≡ None = none in absurd (cc no)
@@ -52,7 +52,7 @@ asked_only None s made pace probing t a more deeds behind none is few =
     ordered_front s made deeds (front.0) a
     (subst (λ (ds : List Deed). IsOrdered s made ds a) (front.1) (tt, (tt, tt)))
 
--- or some work was due
+-- some work was due, or the turn asked for news
 pub due_or_asked : (due : Option ℕ) → (due ≡ None) ⊎ ((place : ℕ) × (due ≡ Some place))
 due_or_asked None = inl refl
 due_or_asked (Some place) = inr (place, refl)
@@ -66,7 +66,7 @@ calls_joined s made at later ds es a first second =
     ∙ append_assoc made (calls_of s ds a) (calls_of s es (after_all ds a))
     ∙ ap (λ (cs : List Call). made ++ cs) (sym (calls_append s ds es a))
 
--- From nothing under way
+-- From a moment without works
 
 idle : (made : List Call) (ws : List Work) (c : ℕ) → IsSettled made ws → ws ≡ [] → phase_on c made ≡ Answering → ⊥
 idle made ws c settled none phase =

@@ -1,4 +1,4 @@
--- What is under way on one connection, as works come and go.
+-- The works on one connection, as works come and go.
 use Rattle.std.proofs.Common.{◌≡◌, ℕ, suc, ◌+◌, Bool, true, false, Option, None, Some, List, [], ◌∷◌, ◌++◌, length, drop, inl, inr, refl, sym, ap, ◌∙◌, arith, cond}
 use Rattle.std.specs.Prelude.{◌==◌, not, nat_lt, position}
 use Rattle.std.specs.List.{position_or_len}
@@ -14,7 +14,7 @@ use Rattle.oc_deeds.specs.declared.work.Work.{Work}
 abbrev pub is_on : ℕ → Work → Bool
 is_on c w = connection_of w == c
 
--- without the first one that passes
+-- the works without the first that passes
 abbrev drop_first : (Work → Bool) → List Work → List Work
 drop_first q [] = []
 drop_first q (w ∷ ws) = cond (q w) ws (w ∷ drop_first q ws)

@@ -1,4 +1,4 @@
--- By what requests are answered, deed by deed.
+-- The answers to requests, deed by deed.
 use Rattle.std.specs.Prelude.{◌≡◌, Option, None, List, [], ◌∷◌}
 use Rattle.oc_model.specs.Step.{step}
 use Rattle.oc_model.specs.declared.answer.Answer.{Answer}
@@ -7,19 +7,19 @@ use Rattle.oc_model.specs.declared.message.Message.{Message}
 use Rattle.oc_deeds.specs.Asks.{response_now}
 use Rattle.oc_deeds.specs.Deeds.{Deed, Accepts, Says, Replies, Running, Setting, after, back_to, sender_of}
 
--- what the step of the input answers that a deed takes for a request; what is told of it changes nothing
+-- the answer of the step of an input that a deed takes for a request; lines change nothing
 abbrev pub answer_of : Answer → Deed → Running → Answer
 answer_of before (Accepts i) a = (step a.node i).answer
 answer_of before (Says text) a = before
 answer_of before d a = answers.Ok
 
--- and the message that goes back to its sender
+-- the message back to the sender of an input
 abbrev pub back_of : Option Message → Deed → Running → Option Message
 back_of before (Accepts i) a = back_to (sender_of i) (step a.node i).sends
 back_of before (Says text) a = before
 back_of before d a = None
 
--- a request is answered by this, and by what the node holds then
+-- the deed answers a request by this, and by the node's holding then
 abbrev pub IsAnsweredBy : Answer → Option Message → Setting → Deed → Running → Type 0
 IsAnsweredBy answer back s (Replies r response now) a = response ≡ response_now r answer back s a
 IsAnsweredBy answer back s d a = Unit {0}

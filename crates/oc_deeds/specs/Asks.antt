@@ -1,4 +1,4 @@
--- What is done with requests.
+-- The parts of turns that deal with requests.
 use Rattle.std.specs.Prelude.{ℕ, Bool, true, false, if◌then◌else◌, Option, Some, None, is_some, List, [], ◌∷◌, length}
 use Rattle.oc_base.specs.Groups.{shelf}
 use Rattle.oc_base.specs.declared.group.Group.{Group}
@@ -35,7 +35,7 @@ use Rattle.oc_deeds.specs.declared.work.Work.TheVariants as works
 
 -- Answers
 
--- what a node with this shelf holds of the group that was asked for
+-- the holding of the group that was asked for, at a node with this shelf
 abbrev pub holding_in : Operation → List Shelf → Holding
 holding_in (asks.Client group area start manner) lines = holding group lines
 holding_in other lines = record { there = false; held = 0; sealed = false }
@@ -43,18 +43,18 @@ holding_in other lines = record { there = false; held = 0; sealed = false }
 abbrev pub holding_for : Operation → List Group → Holding
 holding_for asked groups = holding_in asked (shelf groups)
 
--- what a node tells of itself, where that is asked
+-- the report of a node that is asked for
 abbrev pub report_for : Operation → Running → List ℕ
 report_for asked a = report_of asked a.node.control (shelf a.node.groups) (length a.outbox)
 
--- what a request is answered by what the node is now
+-- the answer to a request by the node as it is now
 abbrev pub response_now : Pending → Answer → Option Message → Setting → Running → Response
 response_now r answer back s a = response_for r.asked r.last answer back (holding_for r.asked.operation a.node.groups) a.config.addresses (key_in a) (report_for r.asked.operation a)
 
 abbrev pub replies : Pending → ℕ → Answer → Option Message → Part
 replies r now answer back s a = Replies r (response_now r answer back s a) now ∷ []
 
--- its input is taken, and the answer of its step is what it is answered; without an input it is answered at once
+-- the part that takes the input of a request and answers by its step; without an input it answers at once
 abbrev pub responds : Pending → Option Input → ℕ → Part
 responds r None now s a = replies r now answers.Ok None s a
 responds r (Some i) now s a = (accepts_in i >> replies r now (step a.node i).answer (back_to (sender_of i) (step a.node i).sends)) s a
@@ -86,7 +86,7 @@ refuses_or None c request now = answers_or_waits c request now
 abbrev pub takes_on : ℕ → Request → ℕ → Part
 takes_on c request now s a = refuses_or (unmet request.asked.operation a.node.control.me (shelf a.node.groups)) c request now s a
 
--- what is to be done with this many bytes of a request is done
+-- the part for a verdict on this many bytes of a request
 abbrev pub obeys : ℕ → ℕ → Verdict → ℕ → Part
 obeys c count verdicts.Wait now = nothing
 obeys c count verdicts.Leave now = one (BreaksOff c)
@@ -94,9 +94,9 @@ obeys c count verdicts.Permit now = one (Permits c)
 obeys c count (verdicts.Refuse refusal) now = one (Refuses c count refusal)
 obeys c count (verdicts.Ask request) now = takes_on c request now
 
--- What is due
+-- Works that are due
 
--- what is to be done with some work
+-- the next step of some work
 abbrev pub due_of : Option Work → Due
 due_of None = dues.Nothing
 due_of (Some (works.Content p)) = dues.Nothing

@@ -1,5 +1,5 @@
--- What a node writes of an input for people and log collectors: what was published or sealed and who failed, the children that it lost, and
--- where it is in the tree where that changed. Of most inputs nothing.
+-- The lines of an input for people and log collectors: the groups published or sealed and the nodes that failed, the children that were lost, and
+-- the place of the node in the tree where it changed. Most inputs have no line.
 use Rattle.std.specs.Prelude.{ℕ, Bool, if◌then◌else◌, Option, is_some, List, [], ◌∷◌, ◌++◌, codes, decimal, length}
 use Rattle.std.specs.List.{flat_map}
 use Rattle.oc_base.specs.declared.cert.Child.{Child}
@@ -26,9 +26,9 @@ use Rattle.oc_deeds.specs.Records.{record_head}
 use Rattle.oc_deeds.specs.declared.log.Log.{Log}
 use Rattle.oc_deeds.specs.declared.log.Log.TheVariants as logs
 
--- What was asked of it
+-- The request
 
--- what is told of an input, without its answer; of most nothing
+-- the text of an input, without its answer; most have none
 abbrev pub told_input : ℕ → Input → List ℕ
 told_input me (inputs.Publish group bytes) = codes "publish " ++ decimal me ++ codes " " ++ group ++ codes " " ++ decimal (length bytes) ++ codes " bytes"
 told_input me (inputs.Seal group) = codes "seal " ++ decimal me ++ codes " " ++ group
@@ -62,7 +62,7 @@ lost_line n c = if has_lease n c.id then [] else codes "lost " ++ decimal c.id +
 abbrev pub lost_lines : Control → List Child → List ℕ
 lost_lines n cs = flat_map (lost_line n) cs
 
--- Where it is
+-- The place of the node
 
 -- the rank of a node that is in the tree
 abbrev pub ranked : Mode → Option Rank → List ℕ
@@ -84,17 +84,17 @@ moved_line before n = if is_still before n.kept.mode then [] else place_line n
 
 -- All that is told
 
--- what is told of an input with this answer, that led from one state to another
+-- the lines of an input with this answer, that led from one state to another
 abbrev pub brief_lines : Control → Control → Answer → Input → List ℕ
 brief_lines before n answer i = asked_line (told_input before.me i) answer ++ lost_lines n (at_stake before i) ++ moved_line before.kept.mode n
 
--- what is told of an input, besides the line that it has where each has one
+-- the lines of an input, besides the line that it has where each has one
 abbrev pub told_of : Log → Node → Input → List ℕ
 told_of logs.Inputs n i = []
 told_of logs.Record n i = []
 told_of logs.Brief n i = brief_lines n.control (step n i).node.control (step n i).answer i
 
--- what is told of a node that begins and holds these groups
+-- the lines of a node that begins and holds these groups
 abbrev pub told_first : Log → Control → List Shelf → List ℕ
 told_first logs.Inputs n shelves = []
 told_first logs.Record n shelves = record_head n shelves

@@ -1,4 +1,4 @@
--- Worked examples of what is told to people and log collectors.
+-- Worked examples of the lines for people and log collectors.
 use Rattle.std.specs.Prelude.{◌≡◌, ℕ, false, None, Some, List, [], ◌∷◌, codes}
 use Rattle.oc_base.specs.declared.cert.Cert.{Cert}
 use Rattle.oc_model.specs.declared.input.Input.{Input}
@@ -38,7 +38,7 @@ asking = record (new 2) { control = record (new 2).control { kept = record (new 
 abbrev joined : Node
 joined = record (new 2) { control = record (new 2).control { kept = record (new 2).control.kept { mode = Joined 1; seq = 1; rank = Some (record { epoch = 1; depth = 1 }) } } }
 
--- what is told of an input of this node
+-- the lines of an input of this node
 abbrev tells : Node → Input → List ℕ → Type 0
 tells n i text = told_of Brief n i ≡ text
 

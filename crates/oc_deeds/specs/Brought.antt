@@ -1,4 +1,4 @@
--- What came back on a dial, as it is read.
+-- The response that came back on a dial, as it is read.
 use Rattle.std.specs.Prelude.{ℕ, Bool, false, ◌==◌, ◌&&◌, if◌then◌else◌, Option, Some, None, Result, Ok, Err, List, ◌++◌, length}
 use Rattle.oc_link.specs.ArrivedView.{ArrivedView, FailsBehind, GivesFront, IsAtEnd, arrived}
 use Rattle.oc_link.specs.declared.event.Coming.{Coming}
@@ -24,9 +24,9 @@ use Rattle.oc_deeds.specs.declared.dials.Errand.{Errand}
 use Rattle.oc_deeds.specs.declared.dials.Errand.TheVariants as errands
 use Rattle.oc_deeds.specs.declared.reply_in_place.ReplyInPlace.{ReplyInPlace}
 
--- What is read
+-- The reading of a response
 
--- what a reader of responses says of these bytes, which end so: a response, or a fault
+-- the result of a reader of responses for these bytes, with this end: a response, or a fault
 abbrev pub IsReading : List ℕ → Coming → Result Reply HttpFault → Type 0
 IsReading bytes coming (Ok reply) = (head body : List ℕ) × (end : ArrivedView) × GivesFront (arrived bytes coming) (head ++ body) end × SaysReply head body (IsAtEnd end) reply
 IsReading bytes coming (Err fault) = (front : List ℕ) × (end : ArrivedView) × Took GivesFront FailsBehind (arrived bytes coming) front end fault × RefusesReply front (IsAtEnd end) fault
@@ -39,12 +39,12 @@ abbrev pub reading : Result ReplyInPlace HttpFault → Result Reply HttpFault
 reading (Ok reply) = Ok (reply_in reply)
 reading (Err fault) = Err fault
 
--- there was memory to read it
+-- a result for which there was memory
 abbrev pub HadMemory : Result Reply HttpFault → Type 0
 HadMemory (Err https.Memory) = ⊥
 HadMemory reading = Unit {0}
 
--- What results from a message's reply
+-- The input that results from a message's reply
 
 -- the message to the node me that was read, if it was one
 abbrev pub message_to : ℕ → Result Message WireFault → Option Message
@@ -68,7 +68,7 @@ message_in me nodes keys reply = if brings_message keys reply then message_to me
 abbrev pub input_of_reply : ℕ → ℕ → Option Keyring → ℕ → Reply → Option Input
 input_of_reply me nodes keys peer reply = if reply.status == 204 then None else Some (delivered_or peer (message_in me nodes keys reply))
 
--- the same of what was read: where it is no response, the peer is not reached
+-- the input that results from a reading: where it is no response, the peer is not reached
 abbrev pub input_of : ℕ → ℕ → Option Keyring → ℕ → Result Reply HttpFault → Option Input
 input_of me nodes keys peer (Ok reply) = input_of_reply me nodes keys peer reply
 input_of me nodes keys peer (Err fault) = Some (Unreachable peer)
@@ -77,17 +77,17 @@ abbrev pub is_taken : Option Keyring → Result Reply HttpFault → Bool
 is_taken keys (Ok reply) = brings_message keys reply
 is_taken keys (Err fault) = false
 
--- What results from a probe's reply
+-- The rate that results from a probe's reply
 
 abbrev pub is_answer : Reply → Bool
 is_answer reply = (reply.status == 200) && (length reply.body == PROBE_BYTES)
 
--- why what was read is no answer, if it is none
+-- the fault of a reading that is no answer
 abbrev pub fault_of : Result Reply HttpFault → Option ProbeFault
 fault_of (Ok reply) = if is_answer reply then None else Some faults.Reply
 fault_of (Err fault) = Some (fault_of_http fault)
 
--- What came back on a dial that was made for this, of which this was read.
+-- The news of a dial that was made for this, of which this was read.
 abbrev pub comes_back : ℕ → ℕ → Option Keyring → Errand → Result Reply HttpFault → Came
 comes_back me nodes keys (errands.Message to fetch) reading = comes.Reply (input_of me nodes keys to reading) (is_taken keys reading)
 comes_back me nodes keys (errands.Probe peer since) reading = comes.Probed peer since (fault_of reading)

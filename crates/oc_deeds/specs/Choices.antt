@@ -1,4 +1,4 @@
--- What is due by itself, for how long a turn may wait, and what may be dialled.
+-- Works that are due by themselves, the longest wait of a turn, and messages that may be dialled.
 use Rattle.std.specs.Prelude.{ℕ, ◌-◌, min, fold, Bool, true, false, not, ◌&&◌, ◌==◌, nat_lt, if◌then◌else◌, Option, None, unwrap_or, List, length, position, find}
 use Rattle.std.specs.List.{count_by, list_any, range_with_len}
 use Rattle.oc_base.specs.declared.shelf.Shelf.{Shelf}
@@ -21,9 +21,9 @@ use Rattle.oc_deeds.specs.declared.work.Transfer.{Transfer}
 use Rattle.oc_deeds.specs.declared.work.Work.{Work}
 use Rattle.oc_deeds.specs.declared.work.Work.TheVariants as works
 
--- What is due by itself
+-- Works that are due by themselves
 
--- what becomes of a content at this time, by what the node holds
+-- the prospect of a content at this time, by the node's holding
 abbrev pub prospect_of : Transfer → List Shelf → ℕ → Prospect
 prospect_of p lines now = prospect p.content (holding p.content.group lines) (now - p.since)
 
@@ -35,7 +35,7 @@ is_waiting other = false
 abbrev pub follower : List ℕ → ℕ → ℕ → Follower
 follower group start since = record { group = group; start = start; since = since }
 
--- what was asked is to be answered now
+-- a request is to be answered now
 abbrev pub is_over : Operation → ℕ → List Shelf → ℕ → Bool
 is_over (asks.Client group area start manner) since lines now = is_due (follower group start since) (holding group lines) now
 is_over other since lines now = true
@@ -52,7 +52,7 @@ due_index ws lines now = position (is_work_due lines now) ws
 
 -- Waits
 
--- the shorter of this time and what some work has left
+-- the shorter of this time and the rest of some work's time
 abbrev pub shorter : ℕ → ℕ → Work → ℕ
 shorter now least (works.Content p) = least
 shorter now least (works.Aside p) = min least (left_of IDLE_MILLIS p.since now)
@@ -68,7 +68,7 @@ abbrev pub asks_content : Errand → Bool
 asks_content (errands.Message to fetch) = fetch
 asks_content (errands.Probe peer since) = false
 
--- how many dials are under way besides those that ask for content
+-- the number of dials under way besides those that ask for content
 abbrev pub others_under_way : List Dialling → ℕ
 others_under_way ds = count_by (λ d. not (asks_content d.errand)) ds
 

@@ -1,4 +1,4 @@
--- What a running node does, deed by deed: what each deed makes of the node, the line that it writes, and the calls that it makes on the link.
+-- The deeds of a running node: the node after each deed, the line that the deed writes, and its calls on the link.
 use Rattle.std.specs.Prelude.{ℕ, Bool, true, false, if◌then◌else◌, Option, None, Some, unwrap_or, List, [], ◌∷◌, ◌++◌, codes, length, remove, nat_le, ◌+◌, ◌-◌, ◌^◌}
 use Rattle.std.specs.Option.{option_map}
 use Rattle.oc_base.specs.declared.group.Group.{Group}
@@ -46,7 +46,8 @@ use Rattle.oc_deeds.specs.declared.work.Waiting.{Waiting}
 use Rattle.oc_deeds.specs.declared.work.Work.{Work}
 use Rattle.oc_deeds.specs.declared.work.Work.TheVariants as works
 
--- what stays as it is as long as a node runs: which node it is, and what is written of inputs
+-- the id of the node, the addresses of all by their ids, where they have one, the key for messages that go out, where the network has one, and the
+-- form of the log of inputs
 pub record Setting : Type 0 where
   pub me : ℕ
   pub log : Log
@@ -56,8 +57,7 @@ abbrev pub dial_text : Option (List ℕ) → List ℕ → Message → List ℕ
 dial_text key [] m = []
 dial_text key (b ∷ host) m = request_of key (b ∷ host) m
 
--- a running node: its state, the messages that it has still to send, what is under way on its connections, its dials, and the configuration that
--- it goes by
+-- a running node: its state, the messages that it has still to send, the works on its connections, and its dials
 pub record Running : Type 0 where
   pub node : Node
   pub outbox : List Message
@@ -83,7 +83,7 @@ pub data Deed : Type 0 where
   Takes : Input → Deed
   -- the same for the input of a request: a message back to its sender is the reply
   Accepts : Input → Deed
-  -- what is told before an input or after it was written: these lines, or none
+  -- lines that are written before an input or after it, or none
   Says : List ℕ → Deed
   -- the line `! WHY` was written
   Notes : List ℕ → Deed
@@ -120,7 +120,7 @@ pub data Deed : Type 0 where
 abbrev pub note_line : List ℕ → List ℕ
 note_line why = codes "! " ++ why ++ codes "\n"
 
--- the line of a reply that was not sent, where one says so
+-- the line for a reply that was not sent, where one is written
 abbrev pub drop_line : Bool → List ℕ
 drop_line told = if told then note_line (codes "write") else []
 
@@ -144,7 +144,7 @@ line s (Refuses c count refusal) = note_line (why_text refusal.why)
 line s (Drops c told) = drop_line told
 line s d = []
 
--- What a content gives
+-- The pieces of a content
 
 -- the next piece as it is sent
 abbrev pub piece : Transfer → List Group → List ℕ
@@ -183,7 +183,7 @@ transfer_for r response now = option_map (λ (u : UnderWay). record {
   since = now;
 }) (content_in r.asked.operation response.content)
 
--- the first piece of a content, and what is left of it
+-- the first piece of a content, and the rest of the content
 abbrev pub first_piece : Option Transfer → List Group → List ℕ
 first_piece None groups = []
 first_piece (Some p) groups = piece p groups
@@ -197,7 +197,7 @@ first_rest (Some p) now groups = rest p now groups
 abbrev pub took : Input → (List Message → List Message) → Running → Running
 took i kept a = record a { node = (step a.node i).node; outbox = with_messages a.outbox (kept (step a.node i).sends) }
 
--- who sent the message that an input is
+-- the sender of the message that an input is
 abbrev pub sender_of : Input → Option ℕ
 sender_of (Delivered m) = Some m.from
 sender_of i = None
@@ -215,7 +215,7 @@ others_than (Some sender) sends = others sends sender
 abbrev pub for_outbox : Input → List Message → List Message
 for_outbox i sends = others_than (sender_of i) sends
 
--- with what is left of a content
+-- the works with the rest of a content
 abbrev pub with_content : Option Transfer → List Work → List Work
 with_content None ws = ws
 with_content (Some p) ws = ws ++ works.Content p ∷ []
@@ -225,7 +225,7 @@ abbrev pub dials_after : LinkEvent → List Dialling → List Dialling
 dials_after (events.Reply d coming) ds = dials.without_dial d ds
 dials_after e ds = ds
 
--- for what the dial was made whose reply an event is
+-- the errand of the dial whose reply an event is
 abbrev pub errand_in : LinkEvent → List Dialling → Option Errand
 errand_in (events.Reply d coming) ds = dials.errand_of d ds
 errand_in e ds = None
@@ -248,7 +248,7 @@ after d a = a
 
 -- The calls of a deed
 
--- after a whole reply the connection ends, or its next request is awaited; where a line was written, one says that it was not sent
+-- the connection ends after a whole reply, or its next request is awaited; where a line was written, one says that the reply was not sent
 abbrev pub finish : ℕ → Bool → Bool → Option Transfer → List Call
 finish c keeps watched None = acts.Finish c (record { keeps = keeps; watched = watched }) ∷ []
 finish c keeps watched (Some left) = []

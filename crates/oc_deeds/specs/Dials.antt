@@ -13,7 +13,7 @@ use Rattle.oc_deeds.specs.declared.dials.Errand.TheVariants as errands
 abbrev pub index_of : ℕ → List Dialling → Option ℕ
 index_of dial ds = position (λ d. d.dial == dial) ds
 
--- for what the dial of this number was made
+-- the errand of the dial of this number
 abbrev pub errand_of : ℕ → List Dialling → Option Errand
 errand_of dial ds = option_map (λ (d : Dialling). d.errand) (element_at ds (index_of dial ds))
 

@@ -1,4 +1,4 @@
--- Worked examples: short runs of deeds, with their calls, their lines and what is left under way.
+-- Worked examples: short runs of deeds, with their calls, their lines and the works after them.
 use Rattle.std.specs.Prelude.{◌≡◌, ℕ, true, false, Option, None, Some, List, [], ◌∷◌, ◌++◌, codes}
 use Rattle.oc_base.specs.Groups.{bytes_of}
 use Rattle.oc_link.specs.declared.call.Call.TheVariants as acts
@@ -63,7 +63,7 @@ pending c count operation = record { connection = c; count = count; asked = reco
 abbrev response : List ℕ → Option GroupRange → Persistence → Response
 response text content connection = record { text = text; content = content; connection = connection }
 
--- these bytes are published after those of the group
+-- a deed that publishes these bytes after those of the group
 abbrev publishes : List ℕ → Deed
 publishes bytes = Accepts (inputs.Publish (codes "/a") bytes)
 
@@ -75,7 +75,7 @@ publish = Sees (came 7) 0 (codes "POST") ∷ publishes (codes "abc") ∷ Replies
 abbrev published : Running
 published = after_all publish (started [])
 
--- Of six bytes that were promised of a group three are there: they are given with the head, and the other three once they were published.
+-- Three of six bytes that were promised of a group are there: they are given with the head, and the other three once they were published.
 
 abbrev six_bytes : GroupRange
 six_bytes = record { start = 0; count = 6; chunked = false }
@@ -83,7 +83,7 @@ six_bytes = record { start = 0; count = 6; chunked = false }
 abbrev head_deed : Deed
 head_deed = Replies (pending 8 40 (asks.Client (codes "/a") 0 0 Once)) (response (codes "200:") (Some six_bytes) Keep) 5
 
--- what is left after the first three
+-- the transfer after the first three bytes
 abbrev left : Transfer
 left = record { connection = 8; content = record { group = codes "/a"; at = 3; end = 6; chunked = false }; keeps = true; told = true; since = 5 }
 
@@ -101,7 +101,7 @@ dial = Dials 0 look 3 ∷ []
 abbrev reply : LinkEvent
 reply = events.Reply 3 Ended
 
--- what these runs do
+-- the effects of these runs
 pub record AreRuns : Type 0 where
   pub published_calls : calls_of example publish (started [])
       ≡ acts.Next (came 7) (codes "POST") ∷ acts.Take 7 43 ∷ acts.Give 7 (codes "200") ∷ acts.Finish 7 (record { keeps = false; watched = true }) ∷ []

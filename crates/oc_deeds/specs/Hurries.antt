@@ -1,4 +1,4 @@
--- What makes the next tick come soon.
+-- The causes for which the next tick comes soon.
 use Rattle.std.specs.Prelude.{Bool, false, ◌==◌, Option, None, Some}
 use Rattle.oc_base.specs.Groups.{shelf}
 use Rattle.oc_model.specs.declared.answer.Answer.{Answer}
@@ -25,7 +25,7 @@ hurries other answer = false
 abbrev pub input_hurries : Operation → Option Input → Node → Bool
 input_hurries asked input n = hurries asked (answer_now input n)
 
--- not where the condition of the request is not met
+-- a request hurries the tick, unless its condition is not met
 abbrev pub hurries_unless : Option Refusal → Operation → Option Input → Node → Bool
 hurries_unless (Some refusal) asked input n = false
 hurries_unless None asked input n = input_hurries asked input n
@@ -37,7 +37,7 @@ abbrev pub verdict_hurries : Verdict → Node → Bool
 verdict_hurries (verdicts.Ask request) n = request_hurries request.asked.operation request.input n
 verdict_hurries verdict n = false
 
--- or a message was answered by 200
+-- whether news hurries the tick: a verdict on a request, or a message that was answered by 200
 abbrev pub came_hurries : Came → Node → Bool
 came_hurries (comes.Request c count verdict) n = verdict_hurries verdict n
 came_hurries (comes.Reply input taken) n = taken

@@ -1,4 +1,4 @@
--- What is lawful: of addresses, of what is under way, of what came, and of what is kept to probe with.
+-- Lawful addresses, works, news, and states kept for probes.
 use Rattle.std.specs.Prelude.{◌≡◌, ℕ, ◌<◌, Option, IfSome, List, length}
 use Rattle.std.specs.List.{AllByRecursion}
 use Rattle.oc_base.specs.Lawful.{IsNode}
@@ -18,12 +18,12 @@ use Rattle.oc_deeds.specs.declared.work.Waiting.{Waiting}
 use Rattle.oc_deeds.specs.declared.work.Work.{Work}
 use Rattle.oc_deeds.specs.declared.work.Work.TheVariants as works
 
--- there is a place for the address of each node, and an address can stand in a request as its host
+-- the address of each node has a place, and may be the host of a request
 pub record IsPlaced (nodes : ℕ) (addresses : List (Option (List ℕ))) : Type 0 where
   pub count : length addresses ≡ nodes
   pub hosts : (x : ℕ) → 0 < length (address_of addresses x) → IsHost (address_of addresses x)
 
--- what is asked is within its ranges, and so is the input
+-- a request that waits is within its ranges, and so is its input
 pub record IsLawfulWaiting (nodes me : ℕ) (w : Waiting) : Type 0 where
   pub asks : IsAsked w.request.asked.operation
   pub input : IfSome (client_input w.request.asked.operation w.request.asked.hint) (IsInput nodes me)
@@ -41,14 +41,14 @@ IsLawfulErrand nodes (errands.Probe peer since) = IsNode nodes peer
 abbrev pub IsLawfulDial : ℕ → Dialling → Type 0
 IsLawfulDial nodes d = IsLawfulErrand nodes d.errand
 
--- what came asks what can be asked of the node `me` of `nodes` nodes
+-- news of an operation that can be asked of the node `me` of `nodes` nodes
 abbrev pub IsLawfulCame : ℕ → ℕ → Came → Type 0
 IsLawfulCame nodes me (comes.Request c count verdict) = IsLawfulVerdict nodes me verdict
 IsLawfulCame nodes me (comes.Reply input taken) = IfSome input (IsInput nodes me)
 IsLawfulCame nodes me (comes.Probed peer since fault) = IsNode nodes peer
 IsLawfulCame nodes me came = Unit {0}
 
--- what is kept to probe was made for `nodes` nodes: it has the rates of each, and the peers are among them
+-- the state kept for probes is that of `nodes` nodes: it has the rates of each, and the peers are among them
 pub record IsMadeFor (nodes : ℕ) (probing : Probing) : Type 0 where
   pub rates : length probing.gauge ≡ nodes
   pub peers : AllByRecursion (IsNode nodes) probing.rotation.coming

@@ -1,11 +1,11 @@
--- The median of what was measured.
+-- The median of the rates that were measured.
 use Rattle.std.specs.Prelude.{◌≡◌, ℕ, Option, None, Some}
 use Rattle.oc_probe.specs.Rates.{IsMedian, rate_of, rates_of, with_rate}
 use Rattle.oc_probe.specs.declared.probing.Probing.{Probing}
 use Rattle.oc_deeds.specs.declared.came.Came.{Came}
 use Rattle.oc_deeds.specs.declared.came.Came.TheVariants as comes
 
--- it is the median of the rates of a peer with this one, where they are measured
+-- the median of the rates of a peer with this one, where they are measured
 abbrev pub IsMedianOf : Option Probing → ℕ → ℕ → ℕ → Type 0
 IsMedianOf None peer rate median = Unit {0}
 IsMedianOf (Some probing) peer rate median = IsMedian (with_rate (rates_of probing.gauge peer) rate) median

@@ -16,16 +16,16 @@ asks_again m older = is_fetch m.body && is_fetch older.body && older.to == m.to
 abbrev pub older_fetch : List Message → Message → Option ℕ
 older_fetch ms m = position (asks_again m) ms
 
--- with another one in the place of that, or after all
+-- the messages with another one in the place of that, or after all
 abbrev pub put_at : List Message → Option ℕ → Message → List Message
 put_at ms None m = latest (ms ++ m ∷ [])
 put_at ms (Some place) m = slice_set ms place m
 
--- with another one
+-- the messages with another one
 abbrev pub with_message : List Message → Message → List Message
 with_message ms m = put_at ms (older_fetch ms m) m
 
--- with further ones, one after another
+-- the messages with further ones, one after another
 abbrev pub with_messages : List Message → List Message → List Message
 with_messages ms [] = ms
 with_messages ms (m ∷ more) = with_messages (with_message ms m) more

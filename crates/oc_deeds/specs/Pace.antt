@@ -1,4 +1,4 @@
--- When a tick is due.
+-- The times at which a tick is due.
 use Rattle.std.specs.Prelude.{ℕ, ◌+◌, ◌-◌, ◌*◌, ◌%◌, min, max, nat_lt, Bool, true, false, if◌then◌else◌, Option, None, Some}
 use Rattle.oc_deeds.specs.declared.pace.Pace.{Pace}
 use Rattle.oc_deeds.specs.declared.pace.TheConstants.{LEAST_INTERVAL, MOST_INTERVAL}
@@ -20,12 +20,12 @@ rest_of now interval (Some last) = interval - (now - last)
 abbrev pub wait_until : Pace → ℕ → ℕ
 wait_until p now = rest_of now p.interval p.last
 
--- at least the least interval, where the clock has to pass a second
+-- the wait, and at least the least interval where the clock has to pass a second
 abbrev pub at_least : Option ℕ → ℕ → ℕ
 at_least None wait = wait
 at_least (Some second) wait = max LEAST_INTERVAL wait
 
--- how long a turn waits for a tick
+-- the time that a turn waits for a tick
 abbrev pub tick_wait : Pace → ℕ → ℕ
 tick_wait p now = at_least p.second (wait_until p now)
 

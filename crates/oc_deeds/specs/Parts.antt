@@ -2,7 +2,7 @@
 use Rattle.std.specs.Prelude.{List, [], ◌∷◌, ◌++◌}
 use Rattle.oc_deeds.specs.Deeds.{Deed, Running, Setting, after_all}
 
--- the deeds that are done by what the node is when the part begins
+-- the deeds that are done by the state of the node when the part begins
 abbrev pub Part : Type 0
 Part = Setting → Running → List Deed
 

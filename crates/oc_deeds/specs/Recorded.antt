@@ -1,4 +1,4 @@
--- What the lines of a record tell: the inputs of the deeds, in their order, and between them why requests were refused or replies not sent.
+-- The lines of a record: the inputs of the deeds, in their order, and notes on refused requests and unsent replies between them.
 use Rattle.std.specs.Prelude.{◌≡◌, ℕ, Bool, true, false, Option, None, Some, List, [], ◌∷◌, ◌++◌, codes}
 use Rattle.oc_base.specs.Groups.{shelf}
 use Rattle.oc_model.specs.declared.input.Input.{Input}
@@ -14,7 +14,7 @@ pub data RecordLine : Type 0 where
   Taken : Input → RecordLine
   Noted : List ℕ → RecordLine
 
--- as it is written
+-- the text of a line
 abbrev pub record_line_text : ℕ → RecordLine → List ℕ
 record_line_text me (Taken i) = input_line me i
 record_line_text me (Noted line) = line
@@ -50,25 +50,25 @@ abbrev pub record_lines : List Deed → List RecordLine
 record_lines [] = []
 record_lines (d ∷ ds) = record_lines_of d ++ record_lines ds
 
--- and the line of the input that is taken next
+-- the line of the input that is taken next
 abbrev pub line_of_next : Option Input → List RecordLine
 line_of_next None = []
 line_of_next (Some i) = Taken i ∷ []
 
--- nothing is said of it, or the first of these deeds takes it
+-- the input that the first of these deeds takes, or none
 abbrev pub IsNext : Option Input → List Deed → Type 0
 IsNext None ds = Unit {0}
 IsNext (Some i) [] = ⊥
 IsNext (Some i) (d ∷ ds) = deed_input d ≡ Some i
 
--- After the beginning of a record come the lines of these deeds, and perhaps the line of one more input, which the deeds after it begin with.
+-- The record has its beginning, then the lines of these deeds, and perhaps the line of one more input, which the deeds after it begin with.
 pub record IsRecorded (s : Setting) (head : List ℕ) (deeds behind : List Deed) : Type 0 where
   pub next : Option Input
   pub follows : IsNext next behind
   pub text : lines s deeds ≡ head ++ record_text s.me (record_lines deeds ++ line_of_next next)
   pub inputs : inputs_in (record_lines deeds) ≡ inputs_of deeds
 
--- Of a node that begins so, a record is nothing yet, or its beginning and these lines.
+-- The record of a node that begins in this state, once a deed was done: its beginning and these lines.
 abbrev pub IsRecordOf : Setting → Node → List Deed → List Deed → Type 0
 IsRecordOf s n [] behind = Unit {0}
 IsRecordOf s n (d ∷ ds) behind = s.log ≡ Record → IsRecorded s (record_head n.control (shelf n.groups)) (d ∷ ds) behind

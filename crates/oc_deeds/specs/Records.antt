@@ -1,4 +1,4 @@
--- A record: what a node writes that a schedule can be made of. Its beginning says among which nodes it is and which files it has, and after
+-- A record: lines of a node that a schedule can be made of. Its beginning tells the network of the node and its files, and after
 -- that there is a line for each input, written before its frame.
 use Rattle.std.specs.Prelude.{ℕ, Bool, true, false, List, [], ◌++◌, codes, decimal}
 use Rattle.oc_base.specs.declared.shelf.Shelf.{Shelf}
@@ -14,7 +14,7 @@ abbrev pub is_record : Log → Bool
 is_record logs.Record = true
 is_record log = false
 
--- what is written of an input before its frame: in a record its line
+-- the text of an input before its frame: in a record its line
 abbrev pub told_ahead : Log → ℕ → Input → List ℕ
 told_ahead logs.Record me i = input_line me i
 told_ahead log me i = []
@@ -31,6 +31,6 @@ network_text h = script_text (record { header = h; events = [] })
 abbrev pub up_line : ℕ → List ℕ
 up_line me = codes "up " ++ decimal me ++ codes "\n"
 
--- How a record begins: the line `#`, the header and the areas, `up ID`, and `# ID has H` of the files of the node.
+-- The beginning of a record: the line `#`, the header and the areas, `up ID`, and `# ID has H` of the files of the node.
 abbrev pub record_head : Control → List Shelf → List ℕ
 record_head n shelves = codes "#\n" ++ network_text (network_of n) ++ up_line n.me ++ has_line n.me n.kept shelves

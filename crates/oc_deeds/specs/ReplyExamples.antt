@@ -1,4 +1,4 @@
--- Worked examples of what a connection is given.
+-- Worked examples of the bytes that a connection is given.
 use Rattle.std.specs.Prelude.{◌≡◌, ℕ, true, false, None, Some, List, [], ◌∷◌, codes}
 use Rattle.oc_link.specs.Traffic.{given}
 use Rattle.oc_http.specs.declared.framing.Persistence.TheVariants.{Keep}
@@ -26,14 +26,14 @@ holds_three = record {
   config = two_nodes;
 }
 
--- on connection 8 a client is told six bytes of it
+-- a deed that promises a client six bytes of a group on connection 8
 abbrev head_of_six : Deed
 head_of_six = Replies
     (record { connection = 8; count = 40; asked = record { operation = asks.Client (codes "/a") 0 0 Follow; hint = Of 6 }; last = false; told = true; waited = false })
     (record { text = codes "200:"; content = Some (record { start = 0; count = 6; chunked = false }); connection = Keep })
     5
 
--- what is left of them after the first three
+-- the transfer after the first three bytes
 abbrev other_three : Transfer
 other_three = record { connection = 8; content = record { group = codes "/a"; at = 3; end = 6; chunked = false }; keeps = true; told = true; since = 5 }
 
@@ -41,7 +41,7 @@ other_three = record { connection = 8; content = record { group = codes "/a"; at
 abbrev six : List Deed
 six = head_of_six ∷ Accepts (inputs.Publish (codes "/a") (codes "def")) ∷ Gives other_three 9 ∷ []
 
--- or the connection is broken off
+-- deeds after which the connection is broken off
 abbrev cut_off : List Deed
 cut_off = head_of_six ∷ Accepts (inputs.Publish (codes "/a") (codes "def")) ∷ BreaksOff 8 ∷ []
 

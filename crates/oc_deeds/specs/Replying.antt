@@ -1,4 +1,4 @@
--- What each connection is given over a list of deeds: the replies to its requests.
+-- The bytes that each connection is given over a list of deeds: the replies to its requests.
 use Rattle.std.specs.Prelude.{◌≡◌, ◌⊎◌, ℕ, ◌==◌, Bool, true, false, if◌then◌else◌, Option, None, Some, List, [], ◌∷◌, ◌++◌, filter}
 use Rattle.oc_base.specs.declared.group.Group.{Group}
 use Rattle.oc_link.specs.Stands.{standing_of}
@@ -23,13 +23,13 @@ use Rattle.oc_deeds.specs.declared.work.Waiting.{Waiting}
 use Rattle.oc_deeds.specs.declared.work.Work.{Work}
 use Rattle.oc_deeds.specs.declared.work.Work.TheVariants as works
 
--- Which deeds may be done, after these calls
+-- The deeds that may be done after these calls
 
 -- the state of a connection
 abbrev pub phase_on : ℕ → List Call → Phase
 phase_on c made = (standing_of c made).phase
 
--- what is under way on a connection
+-- the works on a connection
 abbrev pub works_on : ℕ → List Work → List Work
 works_on c ws = filter (λ w. connection_of w == c) ws
 
@@ -38,7 +38,7 @@ abbrev pub MayAnswer : Bool → ℕ → List Call → List Work → Type 0
 MayAnswer false c made ws = phase_on c made ≡ Awaiting
 MayAnswer true c made ws = (phase_on c made ≡ Answering) × (w : Waiting) × (works_on c ws ≡ works.Waits w ∷ [])
 
--- what is given as chunks is there
+-- a content that is given as chunks is there
 abbrev pub IsGivable : Option UnderWay → List Group → Type 0
 IsGivable None groups = Unit {0}
 IsGivable (Some u) groups = u.chunked ≡ true → IsThere u groups
@@ -64,7 +64,7 @@ abbrev pub IsOrdered : Setting → List Call → List Deed → Running → Type 
 IsOrdered s made [] a = Unit {0}
 IsOrdered s made (d ∷ ds) a = MayDo d made a × IsOrdered s (made ++ calls s d a) ds (after d a)
 
--- The replies to the requests of a connection, whole: of a content what the group has in the end
+-- The replies to the requests of a connection, whole: of a content the bytes that the group has in the end
 
 abbrev pub text_or_none : Option (List ℕ) → List ℕ
 text_or_none None = []
@@ -73,14 +73,14 @@ text_or_none (Some text) = text
 abbrev pub whole_reply : Pending → Response → List Group → List ℕ
 whole_reply r response groups = response.text ++ owed (content_in r.asked.operation response.content) groups
 
--- by one deed
+-- the replies of one deed
 abbrev pub replied : ℕ → Deed → List Group → List ℕ
 replied c (Permits d) groups = if d == c then CONTINUE.now else []
 replied c (Replies r response now) groups = if r.connection == c then whole_reply r response groups else []
 replied c (Refuses d count refusal) groups = if d == c then text_or_none (refusal_text refusal) else []
 replied c d groups = []
 
--- by one deed after another
+-- the replies of one deed after another
 abbrev pub replied_all : ℕ → List Deed → List Group → List ℕ
 replied_all c [] groups = []
 replied_all c (d ∷ ds) groups = replied c d groups ++ replied_all c ds groups

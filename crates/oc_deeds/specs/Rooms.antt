@@ -1,4 +1,4 @@
--- What becomes of contents under way, and of connections that are over.
+-- The fate of contents under way, and of connections that are over.
 use Rattle.std.specs.Prelude.{ℕ, Bool, true, false, ◌&&◌, Option, Some, None, List, [], ◌∷◌}
 use Rattle.oc_base.specs.Groups.{shelf}
 use Rattle.oc_link.specs.declared.event.Loss.{Loss}
@@ -33,7 +33,7 @@ abbrev pub room_for : Option Transfer → ℕ → Part
 room_for None now = nothing
 room_for (Some p) now = goes_on p now
 
--- there is room for more of the content on the connection c
+-- the part for room on the connection c, for more of its content
 abbrev pub takes_room : ℕ → ℕ → Part
 takes_room c now s a = room_for (transfer_of (work_on c a.works)) now s a
 

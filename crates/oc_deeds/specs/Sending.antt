@@ -1,4 +1,4 @@
--- Which messages can be sent.
+-- Messages that can be sent.
 use Rattle.std.specs.Prelude.{ℕ, Bool, true, ◌&&◌, nat_le, nat_lt, IsTrue, List, length}
 use Rattle.std.specs.List.{list_all}
 use Rattle.oc_model.specs.declared.message.Body.{Body}

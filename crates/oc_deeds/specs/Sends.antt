@@ -5,7 +5,7 @@ use Rattle.oc_deeds.specs.Choices.{free_number, next_to_dial}
 use Rattle.oc_deeds.specs.Deeds.{Dials}
 use Rattle.oc_deeds.specs.Parts.{Part, nothing, ◌>>◌}
 
--- this message of the outbox is dialled, if it is there
+-- the part that dials this message of the outbox, if it is there
 abbrev pub dials_it : ℕ → Option Message → Part
 dials_it place None s a = []
 dials_it place (Some m) s a = Dials place m (free_number a.dials) ∷ []
@@ -19,7 +19,7 @@ dials_at (Some place) s a = dials_it place (slice_get a.outbox place) s a
 abbrev pub dials_next : Part
 dials_next s a = dials_at (next_to_dial a.outbox a.dials) s a
 
--- this many messages are dialled, the oldest first of those that may be, or all that may
+-- the part that dials this many messages, the oldest first of those that may be dialled, or all that may
 unfoldable pub sends : ℕ → Part
 sends zero = nothing
 sends (suc n) = dials_next >> sends n

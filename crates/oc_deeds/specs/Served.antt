@@ -3,7 +3,7 @@ use Rattle.std.specs.Prelude.{ℕ, Bool, true, false, Option, None, Some}
 use Rattle.oc_deeds.specs.declared.came.Came.{Came}
 use Rattle.oc_deeds.specs.declared.came.Came.TheVariants as comes
 
--- whether something was served by what came
+-- whether this news is something
 abbrev pub is_something : Came → Bool
 is_something comes.Nothing = false
 is_something came = true

@@ -1,4 +1,4 @@
--- Inputs that are taken, with what is told of them.
+-- Inputs that are taken, with their lines.
 use Rattle.std.specs.Prelude.{◌≡◌, ℕ, Option, None, Some, List, [], ◌∷◌, ◌++◌}
 use Rattle.oc_model.specs.declared.answer.Answer.{Answer}
 use Rattle.oc_model.specs.declared.input.Input.{Input}
@@ -11,7 +11,7 @@ use Rattle.oc_deeds.specs.declared.log.Log.{Log}
 use Rattle.oc_deeds.specs.declared.log.Log.TheVariants as logs
 use Rattle.oc_deeds.specs.declared.brief.Before.{Before}
 
--- what is told of an input before its frame
+-- the part that writes the text of an input before its frame
 abbrev pub says_ahead : Input → Part
 says_ahead i s a = Says (told_ahead s.log s.me i) ∷ []
 
@@ -19,7 +19,7 @@ says_ahead i s a = Says (told_ahead s.log s.me i) ∷ []
 abbrev pub takes_ahead : Input → Part
 takes_ahead i s a = Says (told_ahead s.log s.me i) ∷ Takes i ∷ []
 
--- an input is taken, and what is told after it is said
+-- the part that takes an input, and writes the lines after it
 abbrev pub takes_told : Input → Part
 takes_told i s a = Takes i ∷ Says (told_of s.log a.node i) ∷ []
 
@@ -27,7 +27,7 @@ takes_told i s a = Takes i ∷ Says (told_of s.log a.node i) ∷ []
 abbrev pub accepts_told : Input → Part
 accepts_told i s a = Accepts i ∷ Says (told_of s.log a.node i) ∷ []
 
--- an input is taken, and what is told of it is said, before it and after it
+-- the part that takes an input, and writes the lines before it and after it
 abbrev pub takes_in : Input → Part
 takes_in i = says_ahead i >> takes_told i
 
@@ -35,9 +35,9 @@ takes_in i = says_ahead i >> takes_told i
 abbrev pub accepts_in : Input → Part
 accepts_in i = says_ahead i >> accepts_told i
 
--- What is known before an input
+-- The facts before an input
 
--- all that is to be told of it, but for what it changes
+-- the facts for all lines of an input, except for its changes
 pub record IsNoted (n : Control) (i : Input) (b : Before) : Type 0 where
   pub told : b.told.items ≡ told_input n.me i
   pub leased : b.leased.items ≡ at_stake n i
@@ -49,11 +49,11 @@ IsBefore logs.Record n i before = before ≡ None
 IsBefore logs.Brief n i None = ⊥
 IsBefore logs.Brief n i (Some b) = IsNoted n i b
 
--- what is told by that, of a node that is so after the input and answered so
+-- the lines by these facts, of a node with this state and this answer after the input
 abbrev pub told_after : Option Before → Control → Answer → List ℕ
 told_after None n answer = []
 told_after (Some b) n answer = asked_line b.told.items answer ++ lost_lines n b.leased.items ++ moved_line b.mode n
 
--- and it is said
+-- the part that writes these lines
 abbrev pub says_after : Option Before → Answer → Part
 says_after before answer s a = Says (told_after before a.node.control answer) ∷ []

@@ -60,11 +60,11 @@ look = record { from = 1; to = 2; body = bodies.Look }
 abbrev fetch : Message
 fetch = record { from = 1; to = 2; body = bodies.Fetch [] }
 
--- what a quiet turn is told
+-- the news of a quiet turn
 abbrev quiet : Observation
 quiet = record { before = 0; event = events.Quiet; bytes = []; came = comes.Nothing; now = 5; median = 0; started = 5; seconds = 7; look = looks.Nothing; reread = rereads.Nothing }
 
--- a client that follows the group has all of it
+-- a request of a client that follows the group and has all of its bytes
 abbrev follows : Request
 follows = record { count = 40; asked = record { operation = asks.Client (codes "/a") 0 3 Follow; hint = Plain }; input = Some (inputs.Client 0 3 (codes "/a")); last = false }
 
@@ -90,7 +90,7 @@ abbrev elsewhere : Settings
 elsewhere = record two_nodes { addresses = None ∷ Some (codes "b:2") ∷ [] }
 
 pub record AreTurns : Type 0 where
-  -- a content is given what is there, and is laid aside until there is more
+  -- a content is given the bytes that are there, and is laid aside until there are more
   pub gives : takes_room 8 9 example (held (works.Content (place 0) ∷ [])) ≡ Gives (place 0) 9 ∷ []
   pub lays_aside : takes_room 8 9 example (held (works.Content (place 3) ∷ [])) ≡ LaysAside (place 3) ∷ []
   pub breaks : takes_room 8 30005 example (held (works.Content (place 3) ∷ [])) ≡ BreaksOff 8 ∷ []
@@ -102,13 +102,13 @@ pub record AreTurns : Type 0 where
   pub not_due : due_index (works.Aside (place 3) ∷ []) (shelf_line 3) 100 ≡ None
   pub grown : due_index (works.Aside (place 3) ∷ []) (shelf_line 4) 100 ≡ Some 0
   pub late : due_index (works.Content (place 0) ∷ works.Aside (place 3) ∷ []) (shelf_line 3) 30005 ≡ Some 1
-  -- how long a turn waits
+  -- the waits of a turn
   pub first_wait : wait_for (first_pace false 1000) [] 5 ≡ 0
   pub tick_wait : wait_for ticked_once (works.Aside (place 3) ∷ []) 10 ≡ 90
   pub work_wait : wait_for ticked_once (works.Aside (place 3) ∷ []) 29990 ≡ 0
   pub second_wait : wait_for ticked_at_seven [] 130 ≡ 100
   pub interval_wait : wait_for ticked_at_seven [] 10 ≡ 100
-  -- to one receiver a message may be dialled, and besides it one that asks for content
+  -- a message may be dialled to one receiver, and besides it one that asks for content
   pub oldest : next_to_dial (look ∷ fetch ∷ []) [] ≡ Some 0
   pub besides : next_to_dial (look ∷ fetch ∷ []) (dialling 0 (errands.Message 2 false) ∷ []) ≡ Some 1
   pub neither : next_to_dial (look ∷ fetch ∷ []) (dialling 0 (errands.Message 2 false) ∷ dialling 1 (errands.Message 2 true) ∷ []) ≡ None
@@ -117,7 +117,7 @@ pub record AreTurns : Type 0 where
   pub next : free_number (dialling 0 (errands.Probe 2 0) ∷ dialling 1 (errands.Probe 2 0) ∷ []) ≡ 2
   -- a permission
   pub permits : obeys 7 30 verdicts.Permit 9 example (started []) ≡ Permits 7 ∷ []
-  -- a client that follows a group and has all of it waits
+  -- a client that follows a group and has all of its bytes waits
   pub waits : obeys 7 40 (verdicts.Ask follows) 9 example (held []) ≡ Waits (waiting 7 follows 9) ∷ []
   -- a tick
   pub first_tick : ticks (first_pace false 1000) 5 7 example (started []) ≡ Tells 7 ∷ Says [] ∷ Takes (inputs.Tick 7) ∷ Says [] ∷ []

@@ -1,4 +1,4 @@
--- What a running node does in a turn, by what the link and the clock tell.
+-- The deeds of a running node in a turn, by the news of the link and the clock.
 use Rattle.std.specs.Prelude.{◌≡◌, ℕ, ◌-◌, min, Bool, true, false, ◌==◌, if◌then◌else◌, Option, Some, None, Result, List, [], ◌∷◌, ◌++◌, codes, decimal, length, slice_get, slice_set}
 use Rattle.std.specs.Option.{option_map}
 use Rattle.oc_base.specs.Groups.{shelf}
@@ -40,7 +40,7 @@ use Rattle.oc_deeds.specs.declared.pace.Pace.{Pace}
 use Rattle.oc_deeds.specs.declared.reread.Reread.{Reread}
 use Rattle.oc_deeds.specs.declared.work.Work.{Work}
 
--- What came
+-- News
 
 -- the terms by which a running node reads requests
 abbrev pub terms_in : Setting → Running → NodeTerms
@@ -51,7 +51,7 @@ abbrev pub MeansBack : NodeTerms → List ℕ → Option Errand → Coming → C
 MeansBack t lent (Some errand) coming came = (reading : Result Reply HttpFault) × IsReading lent coming reading × HadMemory reading × (came ≡ comes_back t.me t.nodes t.keys errand reading)
 MeansBack t lent None coming came = came ≡ comes.Nothing
 
--- What an event is that lends these bytes, to a node that reads requests by these terms, where the dial whose reply it is was made for this.
+-- The news of an event that lends these bytes, to a node that reads requests by these terms, where the dial whose reply it is was made for this.
 abbrev pub Means : NodeTerms → List ℕ → Option Errand → LinkEvent → Came → Type 0
 Means t lent errand (events.Request a) came = (v : Verdict) × IsVerdict t a lent v × (came ≡ comes.Request a.connection (length lent) v)
 Means t lent errand (events.Room c) came = came ≡ comes.Room c
@@ -59,11 +59,11 @@ Means t lent errand (events.Gone c loss) came = came ≡ comes.Gone c loss
 Means t lent errand (events.Reply d coming) came = MeansBack t lent errand coming came
 Means t lent errand events.Quiet came = came ≡ comes.Nothing
 
--- What the link and the clock tell in a turn. What a turn does not ask for may be anything.
+-- The news of the link and the clock in a turn. News that a turn does not ask for may be anything.
 pub record Observation : Type 0 where
   -- the time when it begins
   pub before : ℕ
-  -- what happened, by which bytes, and what that is
+  -- the event, its bytes, and its meaning
   pub event : LinkEvent
   pub bytes : List ℕ
   pub came : Came
@@ -102,7 +102,7 @@ abbrev pub takes_median : Option Probing → ℕ → ℕ → Part
 takes_median None peer median = nothing
 takes_median (Some probing) peer median = takes_measure peer (min median MAX_RATE)
 
--- what was measured is taken, or a line tells why there is nothing
+-- the part that takes a measure, or writes the line with the fault
 abbrev pub measures : Option Probing → ℕ → Option ProbeFault → ℕ → Part
 measures probing peer None median = takes_median probing peer median
 measures probing peer (Some fault) median = notes_fault peer fault
@@ -120,14 +120,14 @@ probes_it (Some peer) started s a = Reads started ∷ Probes peer (free_number a
 abbrev pub probes_next : Option Probing → ℕ → Part
 probes_next probing started s a = probes_it (next_peer probing a.dials) started s a
 
--- What is done
+-- The deeds of a turn
 
 -- the input that results from a message's reply is taken
 abbrev pub takes_brought : Option Input → Part
 takes_brought None s a = []
 takes_brought (Some i) s a = takes_in i s a
 
--- what is done with what came: at this time, with the median of the rates of a peer that was probed, and the time when a probe begins
+-- the part for this news: at this time, with the median of the rates of a peer that was probed, and the time when a probe begins
 abbrev pub happens : Option Probing → Came → ℕ → ℕ → ℕ → Part
 happens probing (comes.Request c count verdict) now median started = obeys c count verdict now
 happens probing (comes.Room c) now median started = takes_room c now
@@ -148,14 +148,14 @@ ticked second seconds = one (Tells seconds) >> ticks_if (has_passed second secon
 abbrev pub ticks : Pace → ℕ → ℕ → Part
 ticks pace now seconds = if wait_until pace now == 0 then ticked pace.second seconds else nothing
 
--- and then messages are dialled
+-- the part that takes a tick, and dials messages
 abbrev pub ticks_and_sends : Pace → ℕ → ℕ → Part
 ticks_and_sends pace now seconds = ticks pace now seconds >> sends MAX_DIALS
 
 abbrev pub quickened : Bool → Pace → Pace
 quickened hurries pace = if hurries then hurried pace else pace
 
--- what came is dealt with, and then a tick is taken and messages are dialled
+-- the part that deals with this news, takes a tick and dials messages
 abbrev pub deals : Pace → Option Probing → Came → ℕ → ℕ → ℕ → ℕ → Part
 deals pace probing came now median started seconds s a =
     (happens probing came now median started >> ticks_and_sends (quickened (came_hurries came a.node) pace) now seconds) s a
@@ -187,7 +187,7 @@ dealt pace probing t = one (Reads t.before) >> takes_one pace probing t
 abbrev pub turn : Pace → Option Probing → Observation → Part
 turn pace probing t = dealt pace probing t >> looks_again t.look t.reread
 
--- After a turn
+-- The state after a turn
 
 abbrev pub paced : Pace → ℕ → ℕ → Pace
 paced pace now seconds = if wait_until pace now == 0 then looked now seconds pace else pace
@@ -197,7 +197,7 @@ abbrev pub pace_after : Option ℕ → Pace → Observation → Node → Pace
 pace_after None pace t n = paced (quickened (came_hurries t.came n) pace) t.now t.seconds
 pace_after (Some place) pace t n = paced pace t.before t.seconds
 
--- with another rate of a peer
+-- the state for probes with another rate of a peer
 abbrev pub with_measure : ℕ → ℕ → Probing → Probing
 with_measure peer rate p = record p { gauge = slice_set p.gauge (peer - 1) (with_rate (rates_of p.gauge peer) rate) }
 
@@ -210,7 +210,7 @@ abbrev pub rotated : List Dialling → Probing → Probing
 rotated [] p = record p { rotation = record p.rotation { coming = turned p.rotation.coming } }
 rotated ds p = p
 
--- what it probes with, after what came at this time while these dials were under way
+-- the state for probes after this news at this time, while these dials were under way
 abbrev pub probed : Came → ℕ → List Dialling → Option Probing → Option Probing
 probed (comes.Probed peer since fault) now ds p = gauged fault peer (rate_of since now) p
 probed comes.Nothing now ds p = option_map (rotated ds) p

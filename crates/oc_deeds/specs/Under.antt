@@ -1,4 +1,4 @@
--- What is under way where deeds end partway through: an input or a line; and which deeds were done before it.
+-- The input or the line under way where deeds end partway through, and the deeds that were done before it.
 use Rattle.std.specs.Prelude.{◌≡◌, ℕ, true, List, [], ◌∷◌, ◌++◌, codes}
 use Rattle.oc_model.specs.declared.input.Input.{Input}
 use Rattle.oc_routes.specs.Refusals.{why_text}
@@ -19,7 +19,7 @@ under_line s (Noting line) = line
 
 -- Fronts of deeds
 
--- What is under way in the midst of a deed: its input, or its line.
+-- The input or the line under way in the midst of a deed.
 abbrev pub under_of : Deed → Under
 under_of (Takes i) = Taking i
 under_of (Accepts i) = Taking i
@@ -29,7 +29,7 @@ under_of (Refuses c count refusal) = Noting (note_line (why_text refusal.why))
 under_of (Drops c true) = Noting (note_line (codes "write"))
 under_of d = Idle
 
--- nothing, or what the first of these deeds has under way
+-- nothing, or the input or the line of the first of these deeds
 abbrev pub IsUnder : Under → List Deed → Type 0
 IsUnder Idle ds = Unit {0}
 IsUnder under [] = ⊥

@@ -12,7 +12,7 @@ abbrev pub HasBytes : Body → Type 0
 HasBytes (Chunk group start bytes last) = IsBytes bytes
 HasBytes body = Unit {0}
 
--- and those that an input brings
+-- the bytes of an input
 abbrev pub BringsBytes : Input → Type 0
 BringsBytes (inputs.Publish group bytes) = IsBytes bytes
 BringsBytes (inputs.Delivered message) = HasBytes message.body

@@ -1,4 +1,4 @@
--- What is under way by connection.
+-- The works by connection.
 use Rattle.std.specs.Prelude.{ℕ, ◌==◌, Bool, Option, None, Some, List, position}
 use Rattle.oc_model.specs.declared.input.Input.{Input}
 use Rattle.oc_model.specs.declared.input.Input.TheVariants as inputs
@@ -18,11 +18,11 @@ connection_of (works.Content p) = p.connection
 connection_of (works.Aside p) = p.connection
 connection_of (works.Waits w) = w.connection
 
--- the index of what is under way on the connection c
+-- the place of the work on the connection c
 abbrev pub index_on : ℕ → List Work → Option ℕ
 index_on c ws = position (λ w. connection_of w == c) ws
 
--- what is under way on the connection c
+-- the work on the connection c
 abbrev pub work_on : ℕ → List Work → Option Work
 work_on c ws = element_at ws (index_on c ws)
 

@@ -1,4 +1,4 @@
-//! What is known of a request by itself: how it waits, what of a shelf it asks for, and to whom its reply goes.
+//! Facts of a request by itself: its wait, its group in a shelf, and the receiver of its reply.
 
 ghost use Rattle.std.specs.Prelude.{◌≡◌};
 ghost use Rattle.oc_deeds.specs.Asks.{holding_in};
@@ -13,7 +13,7 @@ use oc_link::ConnectionId;
 use oc_model::{Answer, Input, Message};
 use oc_routes::{Holding, Operation, Request, split_reply};
 
-/// What a request's input brought: the answer of its step, and the message that goes back to its sender.
+/// The result of a request's input: the answer of its step, and the message back to its sender.
 #[derive(Drop)]
 pub struct Accepted {
     pub answer: Answer,
@@ -36,7 +36,7 @@ pub fn waiting(connection: ConnectionId, request: Request, now: u64) -> Waiting
     }
 }
 
-/// What the node holds of the group that was asked for.
+/// The node's holding of the group that was asked for.
 pub fn holding_in(operation: &Operation, shelf: &[Shelf]) -> Holding
     ensures { result ≡ holding_in operation.now shelf.now }
 {
@@ -50,7 +50,7 @@ pub fn holding_in(operation: &Operation, shelf: &[Shelf]) -> Holding
     }
 }
 
-/// Whether the next tick is to come soon after this answer: what was asked added to a group, or closed it.
+/// Whether the next tick is to come soon after this answer: the operation added to a group, or closed it.
 pub fn hurries(operation: &Operation, answer: Answer) -> bool
     ensures { result ≡ hurries operation.now answer }
 {
@@ -61,7 +61,7 @@ pub fn hurries(operation: &Operation, answer: Answer) -> bool
     }
 }
 
-/// Who sent the message that an input is.
+/// The sender of the message that an input is.
 pub fn sender_of(input: &Input) -> Option<NodeId>
     ensures { result ≡ deeds.sender_of input.now }
 {
@@ -71,7 +71,7 @@ pub fn sender_of(input: &Input) -> Option<NodeId>
     }
 }
 
-/// Splits messages into what goes back to a sender and all others.
+/// Splits messages into the one back to a sender and all others.
 pub fn held_back(sender: Option<NodeId>, sends: Vec<Message>) -> (Option<Message>, Vec<Message>)
     ensures back { result.0 ≡ back_to sender sends.items }
     ensures others { result.1.items ≡ others_than sender sends.items }

@@ -13,20 +13,20 @@ use oc_state::children::children;
 use oc_state::modes::{in_tree, is_asking, is_idle};
 use std::alloc::Global;
 
-/// What is known before an input of what is to be told of it.
+/// The facts before an input that its lines need.
 #[derive(Drop)]
 pub struct Before {
-    /// What is told of the input itself, without its answer.
+    /// The text of the input itself, without its answer.
     told: Vec<u8>,
     /// The children that it may lose.
     leased: Vec<Child>,
-    /// Where the node is in the tree.
+    /// The place of the node in the tree.
     mode: Mode,
 }
 
 // Before an input
 
-/// What is known before an input of what is to be told of it, where something is told. `Memory` where it runs out.
+/// The facts before an input that its lines need, where it has lines. `Memory` where it runs out.
 pub fn known_before(
     alloc: Global,
     log: Log,
@@ -41,7 +41,7 @@ pub fn known_before(
     }
 }
 
-/// What is known before an input of what is to be told of it.
+/// The facts before an input that its lines need.
 fn noted(alloc: Global, node: &Node, input: &Input) -> Result<Before, Memory>
     ensures { IfOk result (IsNoted node.now.control input.now) }
 {
@@ -54,7 +54,7 @@ fn noted(alloc: Global, node: &Node, input: &Input) -> Result<Before, Memory>
     })
 }
 
-/// Puts what is told of an input, without its answer.
+/// Puts the text of an input, without its answer.
 fn put_told(out: &mut Vec<u8>, me: NodeId, input: &Input) -> Result<(), Memory>
     ensures { OnOk result (out.new.items ≡ out.old.items ++ told_input me input.now) }
 {
@@ -104,9 +104,9 @@ fn at_stake(alloc: Global, node: &Node, input: &Input) -> Result<Vec<Child>, Mem
     }
 }
 
-// After it
+// After an input
 
-/// What is told of an input that was taken, by what was known before it. `Memory` where it runs out.
+/// The lines of an input that was taken, by the facts before it. `Memory` where it runs out.
 pub fn told_after(
     alloc: Global,
     before: &Option<Before>,
@@ -122,7 +122,7 @@ pub fn told_after(
     Ok(text)
 }
 
-/// Puts what is told of an input that was taken, by what was known before it.
+/// Puts the lines of an input that was taken, by the facts before it.
 fn put_told_after(
     out: &mut Vec<u8>,
     before: &Before,
@@ -189,7 +189,7 @@ fn has_lease(node: &Node, peer: NodeId) -> bool
     node.table().leased_by(node.id(), peer).is_some()
 }
 
-// Where the node is
+// The place of the node
 
 /// Puts where the node is in the tree, where its mode is not this one any more.
 fn put_moved(out: &mut Vec<u8>, before: Mode, node: &Node) -> Result<(), Memory>

@@ -6,10 +6,10 @@ use oc_model::Input;
 use oc_probe::ProbeFault;
 use oc_routes::Verdict;
 
-/// What came by an event, once its bytes were read.
+/// The news of an event, once its bytes were read.
 #[derive(Debug, Drop)]
 pub enum Came {
-    /// This many bytes of a request, with what is to be done with them.
+    /// This many bytes of a request, with the verdict on them.
     Request {
         connection: ConnectionId,
         count: u64,

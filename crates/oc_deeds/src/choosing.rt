@@ -1,4 +1,4 @@
-//! What is due by itself, for how long a turn may wait, and what may be dialled.
+//! Works that are due by themselves, the longest wait of a turn, and messages that may be dialled.
 
 ghost use Rattle.std.specs.Prelude.{◌≡◌, ◌<◌, IfSome, length};
 ghost use Rattle.oc_deeds.specs.Choices.{due_index, first_free, free_number, has_number, has_room, holds_up, is_held_up, is_over, is_work_due, next_to_dial, prospect_of, shorter, wait_for};
@@ -14,10 +14,10 @@ use oc_model::Message;
 use oc_routes::{FOLLOW_MILLIS, Follower, Holding, IDLE_MILLIS, Operation, Prospect, millis_left};
 use std::collections::VecDeque;
 
-/// How many dials may be under way.
+/// The number of dials that may be under way.
 pub const MAX_DIALS: usize = 32;
 
-/// How many of them may be others than those that ask for content.
+/// The number of them that may be others than those that ask for content.
 pub const MAX_OTHER_DIALS: usize = 16;
 
 /// The index of the oldest work that is due by itself at this time, in milliseconds.
@@ -55,7 +55,7 @@ fn is_over(waiting: &Waiting, shelf: &[Shelf], now: u64) -> bool
     }
 }
 
-/// What becomes of a content at this time, in milliseconds.
+/// The prospect of a content at this time, in milliseconds.
 pub fn prospect_of(transfer: &Transfer, shelf: &[Shelf], now: u64) -> Prospect
     ensures { result ≡ prospect_of transfer.now shelf.now now }
 {
@@ -65,14 +65,14 @@ pub fn prospect_of(transfer: &Transfer, shelf: &[Shelf], now: u64) -> Prospect
         .prospect(holding, now.saturating_sub(transfer.since))
 }
 
-/// For how many milliseconds a turn may wait at this time, in milliseconds: until a tick or some work is due.
+/// The number of milliseconds that a turn may wait at this time, in milliseconds: until a tick or some work is due.
 pub fn wait_for(pace: &Pace, works: &[Work], now: u64) -> u64
     ensures { result ≡ wait_for pace.now works.now now }
 {
     works.iter().fold(pace.tick_wait(now), |least, work| shorter(least, work, now))
 }
 
-/// The shorter of this time and what some work has left.
+/// The shorter of this time and the rest of some work's time.
 fn shorter(least: u64, work: &Work, now: u64) -> u64
     ensures { result ≡ shorter now least work.now }
 {

@@ -53,7 +53,7 @@ fn content_at(group: GroupName, range: Option<GroupRange>) -> Option<UnderWay>
     Some(UnderWay::begun(group, range))
 }
 
-/// What is left of a content is under way. Where memory runs out, all is as before.
+/// Puts the rest of a content under way. Where memory runs out, all is as before.
 pub fn begin_rest(works: &mut Works, left: &Option<Transfer>) -> Result<(), Memory>
     ensures begun { OnOk result (works.new ≡ with_content left.now works.old) }
     ensures fails { OnErr result (works.new ≡ works.old) }
@@ -88,7 +88,7 @@ pub fn transfer_after(transfer: &Transfer, count: usize, now: u64) -> Option<Tra
     })
 }
 
-/// Bytes of a content as they are sent: plain, or as chunks; what ends a reply goes with its last piece. `Memory`
+/// Bytes of a content as they are sent: plain, or as chunks; the end of a reply goes with its last piece. `Memory`
 /// where it runs out.
 pub fn piece_text(alloc: Global, content: &UnderWay, bytes: Vec<u8>) -> Result<Vec<u8>, Memory>
     ensures { IfOk result (λ text. text.items ≡ contents.piece_text content.now bytes.items) }

@@ -7,12 +7,12 @@ use oc_link::{DialId, LinkEvent};
 use std::alloc::Global;
 use std::marker::Model;
 
-/// For what a dial was made.
+/// The purpose of a dial.
 #[derive(Clone, Copy, Debug)]
 pub enum Errand {
-    /// To bring a message to a node; `fetch` where it asks for content.
+    /// A message to a node; `fetch` where it asks for content.
     Message { to: NodeId, fetch: bool },
-    /// To measure the rate to a node, begun at this time in milliseconds.
+    /// A measure of the rate to a node, begun at this time in milliseconds.
     Probe { peer: NodeId, since: u64 },
 }
 
@@ -70,7 +70,7 @@ impl Dials {
         }
     }
 
-    /// All of them.
+    /// All dials.
     pub fn list(&self) -> &[Dialling]
         ensures { result.now ≡ self.now }
     {

@@ -1,4 +1,4 @@
-//! What does deeds: a running node with its files, its link and its output, or what stands for one.
+//! A doer of deeds: a running node with its files, its link and its output, or a stand-in for one.
 
 ghost use Rattle.std.specs.Prelude.{◌≡◌, ◌<◌, IfErr, IfOk, IfSome, List, OnOk, [], length};
 ghost use Rattle.std.specs.List.{AllByRecursion};
@@ -35,18 +35,18 @@ use oc_node::Node;
 use oc_routes::{Refusal, Request};
 use std::alloc::Global;
 
-/// What does deeds, one after another. What is decided of them asks it for what the node is, and then for a deed.
+/// A doer of deeds, one after another. The code that decides asks it for the state of the node, and then for a deed.
 pub trait Doer {
     /// The running node.
     ghost running: { Self → Running };
 
-    /// Which node it is.
+    /// The setting of the node.
     ghost setting: { Self → Setting };
 
-    /// Its disks keep the disk model.
+    /// The disks keep the disk model.
     ghost honest: { Self → Type 0 };
 
-    /// What holds between any two deeds.
+    /// The facts that hold between any two deeds.
     ghost serving: { Self → Type 0 };
 
     /// A part of a turn was done.
@@ -55,16 +55,16 @@ pub trait Doer {
     /// A front of a part was done, and then it ended so.
     ghost stops: { TurnEnd → Part → Self → Self → Type 0 };
 
-    // What the node is
+    // The state of the node
 
-    /// What allocates for it.
+    /// The allocator of the node.
     fn alloc(&self) -> Global;
 
-    /// Its control state.
+    /// The control state of the node.
     fn node(&self) -> &Node
         ensures { result.now.control ≡ (running self.now).node.control };
 
-    /// What it holds of each group.
+    /// The node's holding of each group.
     fn shelf(&self) -> &[Shelf]
         ensures { honest self.now → result.now ≡ shelf (running self.now).node.groups };
 
@@ -72,15 +72,15 @@ pub trait Doer {
     fn outbox(&self) -> &Outbox
         ensures { result.now ≡ (running self.now).outbox };
 
-    /// What is under way on its connections.
+    /// The works on the connections of the node.
     fn works(&self) -> &[Work]
         ensures { result.now ≡ (running self.now).works };
 
-    /// What it has dialled.
+    /// The dials of the node.
     fn dials_made(&self) -> &[Dialling]
         ensures { result.now ≡ (running self.now).dials };
 
-    /// What it writes of its inputs.
+    /// The form of the node's log of inputs.
     fn log(&self) -> Log
         ensures { result ≡ (setting self.now).log };
 
@@ -100,7 +100,7 @@ pub trait Doer {
         requires { serving self.old }
         ensures { does (one (Tells result)) self.old self.new };
 
-    /// Takes an input. It answers what the step does.
+    /// Takes an input. Gives the answer of the step.
     fn takes(&mut self, input: Input) -> Result<Answer, TurnEnd>
         requires serving { serving self.old }
         requires input { IsInput (running self.old).node.control.nodes (running self.old).node.control.me input }
@@ -108,7 +108,7 @@ pub trait Doer {
         ensures answer { IfOk result (λ answer. honest self.old → answer ≡ (step (running self.old).node input).answer) }
         ensures breaks { IfErr result (λ end. stops end (one (Takes input)) self.old self.new) };
 
-    /// Takes the input of a request. It answers what the step does, and the message that goes back to its sender.
+    /// Takes the input of a request. Gives the answer of the step, and the message back to its sender.
     fn accepts(&mut self, input: Input) -> Result<Accepted, TurnEnd>
         requires serving { serving self.old }
         requires input { IsInput (running self.old).node.control.nodes (running self.old).node.control.me input }
@@ -118,14 +118,14 @@ pub trait Doer {
         ensures text { IfOk result (λ accepted. IfSome accepted.back (λ m. HasSpelling m.body)) }
         ensures breaks { IfErr result (λ end. stops end (one (Accepts input)) self.old self.new) };
 
-    /// Writes what is told of an input before its frame.
+    /// Writes the text of an input before its frame.
     fn says_ahead(&mut self, input: &Input) -> Result<(), TurnEnd>
         requires serving { serving self.old }
         requires input { IsInput (running self.old).node.control.nodes (running self.old).node.control.me input.now }
         ensures did { OnOk result (does (says_ahead input.now) self.old self.new) }
         ensures breaks { IfErr result (λ end. stops end (says_ahead input.now) self.old self.new) };
 
-    /// Writes what is told of an input that was taken, by what was known before it.
+    /// Writes the lines of an input that was taken, by the facts before it.
     fn says_after(&mut self, before: Option<Before>, answer: Answer) -> Result<(), TurnEnd>
         requires { serving self.old }
         ensures did { OnOk result (does (says_after before answer) self.old self.new) }
@@ -149,7 +149,7 @@ pub trait Doer {
         ensures did { OnOk result (does (one (Waits waiting)) self.old self.new) }
         ensures breaks { IfErr result (λ end. stops end (one (Waits waiting)) self.old self.new) };
 
-    /// Answers a request by what its input brought.
+    /// Answers a request by the result of its input.
     fn replies(&mut self, pending: Pending, accepted: &Accepted, now: u64) -> Result<(), TurnEnd>
         requires serving { serving self.old }
         requires asks { IsAsked pending.asked.operation }
@@ -185,7 +185,7 @@ pub trait Doer {
         ensures did { OnOk result (does (one (LaysAside transfer)) self.old self.new) }
         ensures breaks { IfErr result (λ end. stops end (one (LaysAside transfer)) self.old self.new) };
 
-    /// What is under way on a connection is over. A line says so where `told`.
+    /// Ends the work on a connection, with a line where `told`.
     fn drops(&mut self, connection: ConnectionId, told: bool) -> Result<(), TurnEnd>
         requires { serving self.old }
         ensures did { OnOk result (does (one (Drops connection told)) self.old self.new) }
@@ -233,7 +233,7 @@ pub trait Doer {
 
     // Laws, which do nothing
 
-    /// Whatever was to be done, memory may run out before it.
+    /// Memory may run out before any deed.
     fn may_end(&self)
         requires { serving self.now }
         ensures { (p : Part) → stops MemoryEnd p self.now self.now };
@@ -250,13 +250,13 @@ pub trait Doer {
         ensures as_same { (p q : Part) (a b : Self) → (honest a → q (setting a) (running a) ≡ p (setting a) (running a)) → does p a b → does q a b }
         ensures follows { (p q r : Part) (a b c : Self) → does p a b → (honest a → r (setting b) (running b) ≡ q (setting b) (running b)) → does r b c → does (in_turn p q) a c };
 
-    /// And end partway through.
+    /// A part may end partway through.
     fn parts_stop()
         ensures as_same { (end : TurnEnd) (p q : Part) (a c : Self) → (honest a → q (setting a) (running a) ≡ p (setting a) (running a)) → stops end p a c → stops end q a c }
         ensures in_first { (end : TurnEnd) (p q : Part) (a c : Self) → stops end p a c → stops end (in_turn p q) a c }
         ensures follows { (end : TurnEnd) (p q r : Part) (a b c : Self) → does p a b → (honest a → r (setting b) (running b) ≡ q (setting b) (running b)) → stops end r b c → stops end (in_turn p q) a c };
 
-    /// What is under way is lawful, which node it is, and among how many.
+    /// The works are lawful, and the setting has the id of the node.
     fn is_lawful()
         ensures lawful_works { (a : Self) → serving a → AllByRecursion (IsLawfulWork (running a).node.control.nodes (running a).node.control.me) (running a).works }
         ensures same_me { (a : Self) → (setting a).me ≡ (running a).node.control.me }

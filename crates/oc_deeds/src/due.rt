@@ -1,4 +1,4 @@
-//! What is to be done with work that is due by itself.
+//! Works that are due by themselves.
 
 ghost use Rattle.std.specs.Prelude.{◌≡◌, is_some, slice_get, true};
 ghost use Rattle.oc_deeds.specs.Asks.{due_of};
@@ -6,7 +6,7 @@ ghost use Rattle.oc_deeds.specs.Works.{client_input, pending};
 
 use crate::work::{Pending, Transfer, Waiting, Work, client_input, pending_of};
 
-/// What is to be done with work that is due by itself.
+/// The next step of a work that is due by itself.
 #[derive(Debug, Drop)]
 pub enum Due {
     /// A content goes on.
@@ -16,7 +16,7 @@ pub enum Due {
     Nothing,
 }
 
-/// What is to be done with the work at an index.
+/// The next step of the work at an index.
 pub fn due_of(works: &[Work], index: usize) -> Due
     ensures { result ≡ due_of (slice_get works.now index) }
 {

@@ -3,7 +3,7 @@ ghost use Rattle.oc_deeds.specs.declared.ends.TurnEnd.TheVariants.{Memory as Mem
 
 use oc_base::Memory;
 
-/// How a turn ended, or turns did.
+/// The end of a turn, or of turns.
 #[derive(Clone, Copy, Debug, PartialEq, Eq)]
 pub enum TurnEnd {
     /// All turns were made.

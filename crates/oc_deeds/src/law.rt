@@ -24,8 +24,8 @@ pub fn examples_compute()
     ensures { AreRuns }
 {}
 
-/// Whatever a running node does from a moment at which nothing is under way: each connection was given a beginning of the
-/// replies to its requests, one after another, and all of them where its next request is awaited or its last reply is
+/// Each connection of a running node was given a beginning of the replies to its requests, one after another, since a
+/// moment without works, whatever the node does, and all of them where its next request is awaited or its last reply is
 /// whole.
 pub fn connections_are_given_their_replies()
     ensures front { (s : Setting) (made : List Call) (deeds : List Deed) (a : Running) (c : ℕ)
@@ -38,7 +38,7 @@ pub fn connections_are_given_their_replies()
     ensures examples { AreReplied }
 {}
 
-/// What a client is given in chunks is there when it is answered, by the answer of its step or by the node itself.
+/// The bytes given to a client in chunks are there when it is answered, by the answer of its step or by the node itself.
 pub fn what_is_given_in_chunks_is_there()
     ensures step { (n : Node) (group : List ℕ) (area start : ℕ) (manner : Manner) (hint : Hint) (last : Bool) (addresses : List (Option (List ℕ)))
         → IsGivable (client_content (Client group area start manner) hint last (step n (ClientInput area start group)).answer (step n (ClientInput area start group)).node.groups addresses)

@@ -1,23 +1,23 @@
-//! What a running node decides, as values: which deeds it does, and what is under way. No disk, link or output is here.
+//! The decisions of a running node, as values: its deeds, and its works. No disk, link or output is here.
 //!
-//! `specs/Deeds` says of each deed what it makes of a running node, which line it writes and which calls it makes on the
-//! link. `specs/Turns` says which deeds make a turn, by what the link and the clock tell, in parts (`specs/Parts`): what is
-//! done with requests (`specs/Asks`), with room and with loss (`specs/Rooms`), with the replies to messages and probes
-//! (`specs/Brought`), at a tick, and which messages are dialled (`specs/Sends`). The functions beside them decide by values:
-//! what is due by itself and how long a turn may wait ([`choosing`]), what came back on a dial ([`reading`]), from which
-//! place a content is given ([`contents`]), and what is told of an input ([`brief`], [`record`]).
+//! `specs/Deeds` has for each deed the running node after it, the line that it writes and its calls on the
+//! link. `specs/Turns` has the deeds of a turn, by the news of the link and the clock, in parts (`specs/Parts`): those
+//! for requests (`specs/Asks`), for room and loss (`specs/Rooms`), for the replies to messages and probes
+//! (`specs/Brought`), at a tick, and for the messages to dial (`specs/Sends`). The functions beside them decide by values:
+//! the work that is due by itself and the longest wait of a turn ([`choosing`]), the news of a dial ([`reading`]), the
+//! place from which a content is given ([`contents`]), and the lines of an input ([`brief`], [`record`]).
 //!
-//! What a turn does is decided over a [`Doer`], which says what the node is and does one deed at a time. [`takes_due`] takes up
-//! work that is due by itself, and [`deals`] deals with what came; both end with a tick, where one is due, and with the messages
-//! that are dialled. Their contracts speak of parts alone: the part was done (`does`), or a front of it was, and then it ended
-//! (`stops`). What a deed does to files, to a link and to an output is said where a `Doer` is made.
+//! The deeds of a turn are decided over a [`Doer`], which has the state of the node and does one deed at a time.
+//! [`takes_due`] takes up work that is due by itself, and [`deals`] deals with news; both end with a tick, where one is
+//! due, and with the messages to dial. Their contracts speak of parts alone: the part was done (`does`), or a front of it
+//! was, and then the turn ended (`stops`). The effect of a deed on files, link and output is defined where a `Doer` is made.
 //!
-//! What is under way is a list of [`Works`], of [`Dials`] and of messages ([`Outbox`]). A content under way is a place in a
-//! group and not bytes ([`Transfer`]), so nothing grows with its length. A follower that has all of a group waits
-//! ([`Waiting`]).
+//! The works are a list [`Works`], the dials [`Dials`] and the messages to send an [`Outbox`]. A content under way is a
+//! place in a group and not bytes ([`Transfer`]), so nothing grows with its length. A follower that has all of a group
+//! waits ([`Waiting`]).
 //!
-//! [`connections_are_given_their_replies`] says that whatever is done in whatever order, each connection is given the replies
-//! to its requests.
+//! [`connections_are_given_their_replies`] says that each connection is given the replies to its requests, whatever
+//! deeds are done in whatever order.
 #![tactic(auto)]
 
 pub mod asked;

@@ -17,7 +17,7 @@ pub fn put_note(out: &mut Vec<u8>, why: &[u8]) -> Result<(), Memory>
     put(out, b"\n")
 }
 
-/// Why a probe took nothing. `Memory` where it runs out.
+/// The cause for which a probe took nothing. `Memory` where it runs out.
 pub fn probe_note(alloc: Global, peer: NodeId, fault: ProbeFault) -> Result<Vec<u8>, Memory>
     ensures { IfOk result (λ why. why.items ≡ probe_note peer fault) }
 {

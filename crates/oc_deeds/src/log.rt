@@ -1,14 +1,14 @@
 ghost use Rattle.std.specs.Prelude.{◌≡◌};
 
-/// What a running node writes of its inputs.
+/// The form of a running node's log of inputs.
 #[derive(Clone, Copy, Debug, PartialEq, Eq)]
 pub enum Log {
     /// A line for each.
     Inputs,
     /// A record, which a schedule can be made of: a line for each, written before its frame.
     Record,
-    /// For people and log collectors: what was published and who failed, children that were lost, and where the node is
-    /// in the tree where that changes.
+    /// Lines for people and log collectors: publishes and seals, nodes that failed, children that were lost, and the place
+    /// of the node in the tree where it changes.
     Brief,
 }
 

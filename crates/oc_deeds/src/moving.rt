@@ -1,4 +1,4 @@
-//! What becomes of connections: room, loss, and contents that go on.
+//! The fate of connections: room, loss, and contents that go on.
 
 ghost use Rattle.std.specs.Prelude.{IfErr, OnOk};
 ghost use Rattle.oc_deeds.specs.Rooms.{goes_on, takes_loss, takes_room};

@@ -1,4 +1,4 @@
-//! What is done with a request.
+//! The deeds for a request.
 
 ghost use Rattle.std.specs.Prelude.{◌≡◌, IfErr, IfOk, IfSome, OnOk};
 ghost use Rattle.oc_model.specs.Lawful.{IsInput};
@@ -16,7 +16,7 @@ use oc_link::ConnectionId;
 use oc_model::{Answer, Input};
 use oc_routes::{Request, Verdict, unmet};
 
-/// Does what a verdict says on this many bytes of a request. It answers whether that hurries the next tick.
+/// Does the part of a verdict on this many bytes of a request. Gives whether this hurries the next tick.
 pub fn obeys<W: Doer>(
     doer: &mut W,
     connection: ConnectionId,

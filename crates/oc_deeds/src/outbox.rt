@@ -9,7 +9,7 @@ use std::alloc::Global;
 use std::collections::VecDeque;
 use std::marker::Model;
 
-/// How many messages are kept.
+/// The number of messages that are kept.
 pub const MAX_OUTBOX: usize = 1_024;
 
 /// The messages that are to be sent, oldest first. Its room is taken once.
@@ -43,7 +43,7 @@ impl Outbox {
         })
     }
 
-    /// How many messages there are.
+    /// The number of messages.
     pub fn len(&self) -> usize
         ensures { result ≡ length self.now }
     {
@@ -90,7 +90,7 @@ impl Outbox {
             .position(|older| asks_again(message, older))
     }
 
-    /// All of them, the oldest first.
+    /// All messages, the oldest first.
     pub fn messages(&self) -> &VecDeque<Message>
         ensures { result.now.items ≡ self.now }
     {

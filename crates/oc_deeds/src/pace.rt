@@ -9,12 +9,12 @@ pub const LEAST_INTERVAL: u64 = 100;
 /// The greatest, where a node does not probe its peers.
 pub const MOST_INTERVAL: u64 = 1_000;
 
-/// When a tick is due: at first, and when the interval has passed since the last one. Each tick doubles the
-/// interval, and what keeps a node busy makes it the least again. Times are in milliseconds. Where ticks are whole seconds
-/// apart, the clock has to pass the second of the last one too.
+/// The times at which a tick is due: at first, and when the interval has passed since the last one. Each tick doubles
+/// the interval, and work that keeps a node busy makes it the least again. Times are in milliseconds. Where ticks are
+/// whole seconds apart, the clock has to pass the second of the last one too.
 #[derive(Clone, Copy, Debug)]
 pub struct Pace {
-    /// When the last tick was taken.
+    /// The time of the last tick.
     pub last: Option<u64>,
     pub interval: u64,
     /// The greatest interval.
@@ -54,7 +54,7 @@ impl Pace {
         }
     }
 
-    /// How long it is at this time until the interval has passed; 0 where it has.
+    /// The time from now until the interval has passed; 0 where it has.
     pub fn wait(&self, now: u64) -> u64
         ensures { result ≡ wait_until self.now now }
     {
@@ -64,7 +64,7 @@ impl Pace {
         }
     }
 
-    /// For how long a turn waits for a tick.
+    /// The time that a turn waits for a tick.
     pub fn tick_wait(&self, now: u64) -> u64
         ensures { result ≡ tick_wait self.now now }
     {

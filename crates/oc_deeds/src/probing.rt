@@ -1,4 +1,4 @@
-//! What is probed next, and what was measured.
+//! The next probe, and the measures.
 
 ghost use Rattle.std.specs.Prelude.{◌≡◌, IfSome, length, option_map};
 ghost use Rattle.oc_base.specs.Lawful.{IsNode};

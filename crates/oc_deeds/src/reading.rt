@@ -1,4 +1,4 @@
-//! What came back on a dial.
+//! The response that came back on a dial.
 
 ghost use Rattle.std.specs.Prelude.{◌≡◌, Result, IfOk, IfSome, OnOk, option_map};
 ghost use Rattle.oc_base.specs.Lawful.{IsNode};
@@ -22,7 +22,7 @@ use oc_probe::{PROBE_BYTES, ProbeFault};
 use oc_wire::{WireFault, decode, is_authentic};
 use std::alloc::Global;
 
-/// A node that hears back: its id, among how many nodes it is, and the keys of the network, where it has some.
+/// A node that hears back: its id, the number of nodes, and the keys of the network, where it has some.
 #[derive(Clone, Copy, Drop)]
 pub struct Hearer<'a> {
     pub me: NodeId,
@@ -30,7 +30,7 @@ pub struct Hearer<'a> {
     pub keys: Option<&'a Keyring>,
 }
 
-/// What came back on a dial that was made for this: these bytes, which end so. `Memory` where it runs out.
+/// The news of a dial that was made for this: these bytes, with this end. `Memory` where it runs out.
 pub fn comes_back(
     alloc: Global,
     heads: &mut HeadReader,
@@ -58,7 +58,7 @@ pub fn comes_back(
     }
 }
 
-/// Whether what was read is a response of 200 that has its MAC.
+/// Whether a reading is a response of 200 that has its MAC.
 fn is_taken(keys: Option<&Keyring>, reply: &Result<ReplyInPlace, HttpFault>) -> bool
     ensures { result ≡ is_taken (option_map (λ k. k.now) keys.entry) (reading reply.now) }
 {
@@ -75,8 +75,8 @@ fn brings_message(keys: Option<&Keyring>, reply: &ReplyInPlace) -> bool
     reply.head.status == 200 && is_authentic(keys, reply.head.mac.as_ref(), reply.body)
 }
 
-/// The input that results from what a peer replied to a message. `taken` is whether it is a response of 200 that has its MAC,
-/// which is computed once, since it takes as long as all else.
+/// The input that results from the reply of a peer to a message. `taken` is whether it is a response of 200 that has its
+/// MAC, which is computed once, since it takes as long as all else.
 fn input_of(
     alloc: Global,
     hearer: &Hearer<'_>,
@@ -163,7 +163,7 @@ fn message_to(alloc: Global, hearer: &Hearer<'_>, bytes: &[u8]) -> Result<Option
     }
 }
 
-/// Why what came is no answer to a probe, if it is none.
+/// The fault of a reply that is no answer to a probe.
 fn fault_of(reply: Result<ReplyInPlace, HttpFault>) -> Option<ProbeFault>
     ensures { result ≡ fault_of (reading reply.entry) }
 {

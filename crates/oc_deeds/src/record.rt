@@ -1,4 +1,4 @@
-//! How a record begins.
+//! The beginning of a record.
 
 ghost use Rattle.std.specs.Prelude.{◌≡◌, ◌++◌, IfOk, OnOk};
 ghost use Rattle.oc_deeds.specs.Brief.{told_first};
@@ -13,7 +13,7 @@ use oc_replay::put_has_line;
 use oc_schedule::{EventList, Schedule, print};
 use std::alloc::Global;
 
-/// What is told of a node that begins, which is among nodes of these areas and holds these groups. `Memory` where
+/// The lines of a node that begins, which is among nodes of these areas and holds these groups. `Memory` where
 /// it runs out.
 pub fn told_first(
     alloc: Global,

@@ -10,7 +10,7 @@ use oc_base::MAX_BODY_BYTES;
 use oc_http::{HeadReader, HttpFault, ReplyHead, body_length};
 use oc_link::{Arrived, Coming};
 
-/// A response in the bytes that came: what its head says, and its body.
+/// A response in the bytes that came: the contents of its head, and its body.
 #[derive(Drop)]
 pub struct ReplyInPlace<'a> {
     pub head: ReplyHead,
@@ -32,7 +32,7 @@ pub fn read_in_place<'a>(
     Ok(ReplyInPlace { head, body })
 }
 
-/// The first bytes of what came, `length` of them, or all where there is no length.
+/// The first bytes of those that came, `length` of them, or all where there is no length.
 fn content_in_place(rest: &[u8], coming: Coming, length: Option<u64>) -> Result<&[u8], HttpFault>
     ensures gives { IfOk result (λ body. (end : ArrivedView) × GivesFront (arrived rest.now coming) body.now end
         × IsLong length body.now × (length ≡ None → IsAtEnd end)) }
@@ -51,7 +51,7 @@ fn content_in_place(rest: &[u8], coming: Coming, length: Option<u64>) -> Result<
     }
 }
 
-/// All of what came, up to its end.
+/// All bytes that came, up to their end.
 fn all_of(rest: &[u8], coming: Coming) -> Result<&[u8], HttpFault>
     ensures gives { IfOk result (λ body. (end : ArrivedView) × GivesFront (arrived rest.now coming) body.now end
         × IsLong None body.now × IsAtEnd end) }

@@ -1,4 +1,4 @@
-//! What is under way on a connection that has room, or that is over.
+//! The work on a connection that has room, or that is over.
 
 ghost use Rattle.std.specs.Prelude.{◌≡◌, ◌&&◌};
 ghost use Rattle.std.specs.Option.{option_copied};
@@ -21,7 +21,7 @@ pub fn transfer_of(works: &[Work], connection: ConnectionId) -> Option<Transfer>
     }
 }
 
-/// What is under way on a connection.
+/// The work on a connection.
 fn work_on(works: &[Work], connection: ConnectionId) -> Option<&Work>
     ensures { option_copied result ≡ work_on connection works.now }
 {

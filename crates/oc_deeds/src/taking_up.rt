@@ -1,4 +1,4 @@
-//! What is due by itself, and what came back on dials.
+//! Works that are due by themselves, and responses on dials.
 
 ghost use Rattle.std.specs.Prelude.{◌≡◌, ℕ, IfErr, IfOk, IfSome, OnOk, Some, slice_get};
 ghost use Rattle.oc_base.specs.Lawful.{IsNode, IsRate};

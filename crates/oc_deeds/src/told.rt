@@ -1,4 +1,4 @@
-//! Inputs that are taken, with what is told of them.
+//! Inputs that are taken, with their lines.
 
 ghost use Rattle.std.specs.Prelude.{◌≡◌, IfErr, IfOk, IfSome, OnOk};
 ghost use Rattle.oc_model.specs.Lawful.{IsInput};
@@ -13,7 +13,7 @@ use crate::doer::Doer;
 use crate::ends::TurnEnd;
 use oc_model::Input;
 
-/// Takes an input, and writes what is told of it, before it and after it.
+/// Takes an input, and writes its lines, before it and after it.
 pub fn takes_in<W: Doer>(doer: &mut W, input: Input) -> Result<(), TurnEnd>
     requires serving { W.serving doer.old }
     requires input { IsInput (W.running doer.old).node.control.nodes (W.running doer.old).node.control.me input }
@@ -26,7 +26,7 @@ pub fn takes_in<W: Doer>(doer: &mut W, input: Input) -> Result<(), TurnEnd>
     takes_told(doer, input)
 }
 
-/// Takes the input of a request, and writes what is told of it, before it and after it.
+/// Takes the input of a request, and writes its lines, before it and after it.
 pub fn accepts_in<W: Doer>(doer: &mut W, input: Input) -> Result<Accepted, TurnEnd>
     requires serving { W.serving doer.old }
     requires input { IsInput (W.running doer.old).node.control.nodes (W.running doer.old).node.control.me input }
@@ -42,7 +42,7 @@ pub fn accepts_in<W: Doer>(doer: &mut W, input: Input) -> Result<Accepted, TurnE
     accepts_told(doer, input)
 }
 
-/// Takes an input of which nothing is told after it, and writes before it what is told there.
+/// Takes an input without lines after it, and writes those before it.
 pub fn takes_ahead<W: Doer>(doer: &mut W, input: Input) -> Result<(), TurnEnd>
     requires serving { W.serving doer.old }
     requires input { IsInput (W.running doer.old).node.control.nodes (W.running doer.old).node.control.me input }
@@ -56,7 +56,7 @@ pub fn takes_ahead<W: Doer>(doer: &mut W, input: Input) -> Result<(), TurnEnd>
     Ok(())
 }
 
-/// Takes an input, and writes what is told after it.
+/// Takes an input, and writes the lines after it.
 fn takes_told<W: Doer>(doer: &mut W, input: Input) -> Result<(), TurnEnd>
     requires serving { W.serving doer.old }
     requires input { IsInput (W.running doer.old).node.control.nodes (W.running doer.old).node.control.me input }
@@ -71,7 +71,7 @@ fn takes_told<W: Doer>(doer: &mut W, input: Input) -> Result<(), TurnEnd>
     doer.says_after(before, answer)
 }
 
-/// Takes the input of a request, and writes what is told after it.
+/// Takes the input of a request, and writes the lines after it.
 fn accepts_told<W: Doer>(doer: &mut W, input: Input) -> Result<Accepted, TurnEnd>
     requires serving { W.serving doer.old }
     requires input { IsInput (W.running doer.old).node.control.nodes (W.running doer.old).node.control.me input }

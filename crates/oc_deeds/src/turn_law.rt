@@ -13,7 +13,7 @@ pub fn turns_compute()
     ensures { AreTurns }
 {}
 
-/// Worked examples of what is told to people come out as they should, and of what was measured nothing is told.
+/// Worked examples of lines for people come out as they should, and no line tells of a measure.
 pub fn brief_lines_compute()
     ensures examples { AreBrief }
     ensures measures { (log : Log) (n : Node) (peer rate hops : ℕ) → told_of log n (Measured peer rate hops) ≡ [] }

@@ -1,4 +1,4 @@
-//! What a turn does with what came or was due, and then: a tick, and messages that are dialled.
+//! The deeds of a turn for news or due work, and then: a tick, and messages that are dialled.
 
 ghost use Rattle.std.specs.Prelude.{◌≡◌, ℕ, IfErr, IfOk, IfSome, OnOk, option_map, slice_get};
 ghost use Rattle.oc_base.specs.Lawful.{IsNode};
@@ -38,7 +38,7 @@ pub fn takes_due<W: Doer>(
     ticks_and_sends(doer, pace, before)
 }
 
-/// Deals with what came. Then it takes a tick, where one is due, and dials messages.
+/// Deals with news. Then it takes a tick, where one is due, and dials messages.
 pub fn deals<W: Doer>(
     doer: &mut W,
     pace: &mut Pace,
@@ -63,7 +63,7 @@ pub fn deals<W: Doer>(
     ticks_and_sends(doer, pace, now)
 }
 
-/// Does what is to be done with what came. It answers whether that hurries the next tick.
+/// Does the part for news. Gives whether this hurries the next tick.
 fn happens<W: Doer>(
     doer: &mut W,
     probing: &mut Option<Probing>,
@@ -111,7 +111,7 @@ fn happens<W: Doer>(
     }
 }
 
-/// Takes what a probe measured, or tells why there is nothing.
+/// Takes the measure of a probe, or writes the line with its fault.
 fn measures<W: Doer>(
     doer: &mut W,
     probing: &mut Option<Probing>,

@@ -9,13 +9,13 @@ use oc_routes::{Asked, Hint, Operation, Request, UnderWay};
 #[derive(Clone, Copy, Debug)]
 pub struct Transfer {
     pub connection: ConnectionId,
-    /// What is still to be given of which group.
+    /// The group and the place of the bytes that are still to be given.
     pub content: UnderWay,
     /// Whether the connection's next request is awaited after it.
     pub keeps: bool,
     /// Whether a line was written for its request, so that a line says where it can't be sent.
     pub told: bool,
-    /// When it began or was given its last piece, in milliseconds.
+    /// The time when it began or was given its last piece, in milliseconds.
     pub since: u64,
 }
 
@@ -23,23 +23,23 @@ pub struct Transfer {
 #[derive(Clone, Copy, Debug)]
 pub struct Pending {
     pub connection: ConnectionId,
-    /// How many bytes it has.
+    /// The number of its bytes.
     pub count: u64,
     pub asked: Asked,
-    /// It is the last of its connection whatever it asks.
+    /// Whether the request is the last of its connection whatever it asks.
     pub last: bool,
     /// A line was written for it.
     pub told: bool,
-    /// It has waited, and was taken before.
+    /// Whether the request has waited, and was taken before.
     pub waited: bool,
 }
 
-/// A request of a client that follows a group and has all of it. Its input is not kept: it is made when it is taken.
+/// A request of a client that follows a group and has all of its bytes. Its input is not kept: it is made when it is taken.
 #[derive(Debug, Drop)]
 pub struct Waiting {
     pub connection: ConnectionId,
     pub request: Request,
-    /// When it came, in milliseconds.
+    /// The time when the request came, in milliseconds.
     pub since: u64,
 }
 
@@ -82,7 +82,7 @@ pub fn client_input(operation: &Operation, hint: Hint) -> Option<Input>
     }
 }
 
-/// What is under way on a connection.
+/// The work on a connection.
 #[derive(Debug, Drop)]
 pub enum Work {
     /// A content, whose next piece is given when there is room.

@@ -7,7 +7,7 @@ use oc_link::ConnectionId;
 use std::alloc::Global;
 use std::marker::Model;
 
-/// What is under way, the oldest first.
+/// The works of a node, the oldest first.
 #[derive(Debug, Drop)]
 pub struct Works {
     list: Vec<Work>,
@@ -43,7 +43,7 @@ impl Works {
         Ok(())
     }
 
-    /// Takes out what is under way on a connection, if anything is.
+    /// Takes out the work on a connection, if there is one.
     pub fn take(&mut self, connection: ConnectionId) -> Option<Work>
         ensures work { result ≡ work_on connection self.old }
         ensures rest { self.new ≡ without_work connection self.old }
@@ -54,7 +54,7 @@ impl Works {
         }
     }
 
-    /// All of it.
+    /// All works.
     pub fn list(&self) -> &[Work]
         ensures { result.now ≡ self.now }
     {
@@ -62,7 +62,7 @@ impl Works {
     }
 }
 
-/// The index of what is under way on a connection, if anything is.
+/// The place of the work on a connection, if there is one.
 pub fn index_on(works: &[Work], connection: ConnectionId) -> Option<usize>
     ensures { result ≡ index_on connection works.now }
 {

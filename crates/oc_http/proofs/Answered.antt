@@ -1,4 +1,4 @@
--- What a whole head says is the answer, or what it is refused for.
+-- The contents of a whole head are the answer, or the fault that it is refused for.
 use Rattle.std.proofs.Common.{◌≡◌, ℕ, ◌≤◌, Bool, true, false, cond, List, [], ◌++◌, length, Option, Some, None, Result, Ok, Err, subst}
 use Rattle.std.specs.Prelude.{IfOk, IfErr, IsErrOf, ⊤, ◌&&◌, not, nat_lt, unwrap_or}
 use Rattle.oc_base.specs.declared.limits.TheConstants.{MAX_HEAD_BYTES, MAX_FIELDS, MAX_BODY_BYTES}
@@ -23,7 +23,7 @@ IsFieldFault (Length missing) = ⊤
 IsFieldFault BodyLong = ⊤
 IsFieldFault fault = ⊥
 
--- a reader of heads refuses a whole one for nothing else
+-- a reader of heads that refuses a whole head for such faults only
 abbrev pub RefusesFields : {H A : Type 0} → (H → Result A HttpFault) → Type 0
 RefusesFields {H} read = (head : H) (fault : HttpFault) → read head ≡ Err fault → IsFieldFault fault
 
@@ -32,11 +32,11 @@ pub chain : (b : Bool) (first : HttpFault) (rest : Option HttpFault) (fault : Ht
 chain true first rest fault good later h = let e : first ≡ fault = cc in subst IsFieldFault e good
 chain false first rest fault good later h = later h
 
--- there is no fault
+-- an absent fault is none of any kind
 pub none : (fault : HttpFault) → None ≡ Some fault → IsFieldFault fault
 none fault h = cc
 
--- what is no value is the first fault
+-- an error is the first fault
 pub first_fault : {A : Type 0} (value : A) (first : Option HttpFault) (fault : HttpFault) → fault_or value first ≡ Err fault → first ≡ Some fault
 first_fault value None fault h = cc
 first_fault value (Some first) fault h = cc
@@ -62,7 +62,7 @@ request_fields head fault h = head_fault-field (method_of head.method) head.mino
 pub reply_head_fields : RefusesFields read_reply_head
 reply_head_fields head fault h = reply_head_fault-field (named head.fields) fault (first_fault _ _ fault h)
 
--- what was read is what the head says
+-- the contents that were read are those of the head
 pub says : {S H A : Type 0} (gives : S → List ℕ → S → Type 0) (Reads : List ℕ → H → List ℕ → Type 0) (read : H → Result A HttpFault) (old new : S) (bytes : List ℕ) (head : H) (answer : Result A HttpFault) → gives old bytes new → Reads bytes head [] → length bytes ≤ MAX_HEAD_BYTES → Gives answer (read head) → IfOk answer (λ value. (taken : List ℕ) × gives old taken new × IsAnswered Reads read taken (Ok value))
 says gives Reads read old new bytes head (Ok value) came whole fits said = (bytes, came, record { head = head; whole = whole; fits = fits; answer_is = said })
 says gives Reads read old new bytes head (Err fault) came whole fits said = tt
@@ -82,7 +82,7 @@ refuses gives fails Reads read good old new done bytes head (Err Memory) came wh
 refuses gives fails Reads read good old new done bytes head (Err fault) came whole fits said =
     refusal gives fails Reads read old new done bytes head came whole fits fault (good head fault said) said
 
--- where reading stopped before a whole head, that is what the head is refused for
+-- a head before whose end reading stopped is refused for that fault
 pub RefusesHead-stopped : {H A : Type 0} (Reads : List ℕ → H → List ℕ → Type 0) (read : H → Result A HttpFault) (bytes : List ℕ) (done : Type 0) (fault : HttpFault) → StopsInHead Reads bytes done fault → RefusesHead Reads read bytes done fault
 RefusesHead-stopped Reads read bytes done Source stops = stops
 RefusesHead-stopped Reads read bytes done Ended stops = stops
@@ -91,13 +91,13 @@ RefusesHead-stopped Reads read bytes done HeadLong stops = stops
 RefusesHead-stopped Reads read bytes done Memory stops = tt
 RefusesHead-stopped Reads read bytes done fault stops = absurd stops
 
--- what a whole head says is no failure of the source
+-- the contents of a whole head are no failure of the source
 pub never_source : {H A : Type 0} (read : H → Result A HttpFault) → RefusesFields read → (head : H) (answer : Result A HttpFault) → Gives answer (read head) → IsErrOf answer Source → ⊥
 never_source read good head (Ok value) said is = cc
 never_source read good head (Err Source) said is = good head Source said
 never_source read good head (Err fault) said is = cc
 
--- bytes, and then bytes before a fault
+-- bytes that came, and others after them before a fault
 pub took_then : {S : Type 0} {gives fails : S → List ℕ → S → Type 0} → Joins gives fails → (old middle new : S) (before behind : List ℕ) → gives old before middle → (fault : HttpFault) → Took gives fails middle behind new fault → Took gives fails old (before ++ behind) new fault
 took_then joins old middle new before behind came Source took = joins.last old middle new before behind came took
 took_then joins old middle new before behind came fault took = joins.both old middle new before behind came took

@@ -11,7 +11,7 @@ use Rattle.oc_http.specs.declared.fault.HttpFault.{HttpFault}
 use Rattle.oc_http.specs.declared.fault.HttpFault.TheVariants.{Fields, Host, Coding, Length, BodyLong}
 use Rattle.oc_http.specs.declared.head.Method.{Method}
 
--- the first fault of what is told of the length
+-- the first fault of the lengths that are told
 abbrev length_fault : Bool → List (List ℕ) → Option HttpFault
 length_fault wanted told = cond (is_unusable told) (Some (Length false)) (cond (wanted && not (is_present told)) (Some (Length true)) (cond (nat_lt MAX_BODY_BYTES (unwrap_or (length_of told) 0)) (Some BodyLong) None))
 
@@ -26,7 +26,7 @@ one true wanted count = refl
 one false true count = great (nat_lt MAX_BODY_BYTES count) count
 one false false count = great (nat_lt MAX_BODY_BYTES count) count
 
--- what is told of the length, without a transfer coding
+-- the lengths that are told, without a transfer coding
 told_is : (wanted : Bool) (told : List (List ℕ)) → (checked_length [] told >>= wanted_length wanted) ≡ fault_or (unwrap_or (length_of told) 0) (length_fault wanted told)
 told_is true [] = refl
 told_is false [] = refl
@@ -40,6 +40,6 @@ tests false true wanted coded told = refl
 tests false false wanted [] told = told_is wanted told
 tests false false wanted (value ∷ more) told = refl
 
--- the two definitions of it are one
+-- the two definitions of the length of a body are one
 pub length_is : (method : Method) (minor : ℕ) (fields : List Named) → body_length method minor fields ≡ fault_or (unwrap_or (length_of (lengths fields)) 0) (head_fault method minor fields)
 length_is method minor fields = tests (nat_lt MAX_FIELDS (length fields)) (has_host_fault minor (hosts fields)) (is_post method) (codings fields) (lengths fields)

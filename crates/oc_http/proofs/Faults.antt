@@ -7,27 +7,27 @@ use Rattle.oc_http.specs.Gives.{Gives, Fails}
 use Rattle.oc_http.specs.declared.fault.HttpFault.{HttpFault}
 use Rattle.oc_http.specs.declared.fault.HttpFault.TheVariants.{Memory}
 
--- where there is a value there is no fault, and any other value would do
+-- a value means that there is no fault, and any other value would do
 pub fault_or-ok : {A B : Type 0} (value : A) (other : B) (first : Option HttpFault) (got : A) → Ok got ≡ fault_or value first → (value ≡ got) × (fault_or other first ≡ Ok other)
 fault_or-ok value other None got h = (cc, refl)
 fault_or-ok value other (Some fault) got h = cc
 
--- where there is a fault it is that of any value
+-- a fault is that of any value
 pub fault_or-err : {A B : Type 0} (value : A) (other : B) (first : Option HttpFault) (fault : HttpFault) → Err fault ≡ fault_or value first → fault_or other first ≡ Err fault
 fault_or-err value other None fault h = cc
 fault_or-err value other (Some first) fault h = cc
 
--- a fault that is the one that is said
+-- the fault that is said
 pub Fails-same : {A : Type 0} (fault : HttpFault) (said : Result A HttpFault) → said ≡ Err fault → Fails fault said
 Fails-same Memory said h = tt
 Fails-same fault said h = h
 
--- what is returned as it is said
+-- the result that is said
 pub Gives-same : {A : Type 0} (returned said : Result A HttpFault) → said ≡ returned → Gives returned said
 Gives-same (Ok value) said h = h
 Gives-same (Err fault) said h = Fails-same fault said h
 
--- a fault has its cause whatever else there was to give
+-- a fault has its cause whatever value there was to give
 pub same_cause : {A B R : Type 0} (fault cause : HttpFault) → (IsErrOf {T = A} (Err fault) cause → R) → IsErrOf {T = B} (Err fault) cause → R
 same_cause fault cause told is = let same : fault ≡ cause = cc in told (ap Err same)
 

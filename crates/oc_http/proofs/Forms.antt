@@ -1,4 +1,4 @@
--- The two forms of heads, and what `httparse` says of bytes that end in a line feed.
+-- The two forms of heads, and the answer of `httparse` to bytes that end in a line feed.
 use Rattle.std.proofs.Common.{◌≡◌, ℕ, ◌*◌, ◌<◌, ◌≤◌, inl, inr, true, List, [], ◌∷◌, ◌++◌, length, refl, sym, ap, ◌∙◌, arith, length-append}
 use Rattle.std.specs.Prelude.{All}
 use Rattle.std.specs.List.{AllByRecursion, flat_map}
@@ -99,7 +99,7 @@ long_field f field =
     let end = long_end f.end in
     omega (arith, field.name.0, length-append f.name (58 ∷ f.raw), length-append (f.name ++ 58 ∷ f.raw) (print_end f.end))
 
--- and fields three times their number
+-- the fields of a head take at least three times their number in bytes
 pub long_fields : (fields : List Field) → AllByRecursion IsField fields → 3 * length fields ≤ length (flat_map print_field fields)
 long_fields [] all = omega arith
 long_fields (f ∷ fields) all =

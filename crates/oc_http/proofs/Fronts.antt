@@ -1,7 +1,7 @@
 -- Two prefixes of the same bytes.
 use Rattle.std.proofs.Common.{◌≡◌, ℕ, ◌≤◌, List, [], ◌∷◌, ◌++◌, length, refl, arith}
 
--- of two prefixes the shorter is a prefix of the other
+-- the shorter of two prefixes is a prefix of the other
 pub shorter_front : (x y r s : List ℕ) → x ++ r ≡ y ++ s → length x ≤ length y → (z : List ℕ) × (y ≡ x ++ z)
 shorter_front [] y r s e less = (y, refl)
 shorter_front (a ∷ x) [] r s e less = absurd (omega (arith, less))
@@ -10,7 +10,7 @@ shorter_front (a ∷ x) (b ∷ y) r s e less =
     let found = shorter_front x y r s inner (omega (arith, less)) in
     (found.0, cc (found.1))
 
--- two prefixes that are equally long are one, and so is what follows them
+-- two prefixes that are equally long are one, and the bytes after them too
 pub same_front : (x y r s : List ℕ) → x ++ r ≡ y ++ s → length x ≡ length y → (x ≡ y) × (r ≡ s)
 same_front [] [] r s e long = (refl, e)
 same_front [] (b ∷ y) r s e long = absurd (omega (arith, long))

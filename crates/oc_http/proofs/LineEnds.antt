@@ -8,7 +8,7 @@ use Rattle.oc_http.specs.Lines.{HasNoLineEnd}
 abbrev pub ended : List ℕ → List ℕ
 ended line = line ++ line_feed ∷ []
 
--- nothing that ends a line is empty
+-- a text that ends a line is not empty
 pub ended-some : (line rest : List ℕ) → ended line ++ rest ≡ [] → ⊥
 ended-some [] rest h = cc
 ended-some (b ∷ line) rest h = cc
@@ -17,7 +17,7 @@ ended-some (b ∷ line) rest h = cc
 pub longer : (before line after : List ℕ) → after ≡ before ++ ended line → length before < length after
 longer before line after grown = omega (arith, ap length grown, length-append before (ended line), length-append line (line_feed ∷ []))
 
--- what ends a line at the front of bytes with a line that has not ended comes before that line
+-- a line end in bytes whose last line has not ended comes before that last line
 pub ends_before : (line rest before piece : List ℕ) → HasNoLineEnd piece → ended line ++ rest ≡ before ++ piece → (behind : List ℕ) × (before ≡ ended line ++ behind)
 ends_before [] rest [] [] none h = cc
 ends_before [] rest [] (c ∷ piece) none h = absurd (none.0 cc)
@@ -32,7 +32,7 @@ ends_before (a ∷ line) rest (b ∷ before) piece none h =
     let found = ends_before line rest before piece none inner in
     (found.0, cc (found.1))
 
--- the same where that line has just ended, unless all bytes are the front
+-- a line end in bytes whose last line has just ended comes before that last line, or is the end of all bytes
 pub ends_or_whole : (line rest before piece : List ℕ) → HasNoLineEnd piece → ended line ++ rest ≡ before ++ ended piece → (rest ≡ []) ⊎ ((behind : List ℕ) × (before ≡ ended line ++ behind))
 ends_or_whole [] rest [] [] none h = inl cc
 ends_or_whole [] rest [] (c ∷ piece) none h = absurd (none.0 cc)

@@ -13,7 +13,7 @@ use Rattle.oc_http.proofs.Fronts.{shorter_front, same_front}
 use Rattle.oc_http.proofs.LineEnds.{ended, ends_or_whole}
 use Rattle.oc_http.proofs.Heads.{IsForm}
 
--- how the reading of a head ends, apart from failures and want of memory
+-- the end of the reading of a head, apart from failures and want of memory
 record IsEnd {H A : Type 0} (Reads : List ℕ → H → List ℕ → Type 0) (bytes rest : List ℕ) (answer : Result A HttpFault) : Type 0 where
   unfinished : IsUnfinished Reads bytes
   short : length bytes < MAX_HEAD_BYTES
@@ -54,7 +54,7 @@ whole_not_unfinished form bytes rest other behind answer same answered unfinishe
     let text : other ≡ ended (form.line answered.head) ++ found.0 = found.1 ∙ ap (λ (x : List ℕ). x ++ found.0) (form.front bytes answered.head [] answered.whole ∙ append-nil (ended (form.line answered.head))) in
     unfinished.no_tree answered.head found.0 (form.again bytes other answered.head [] found.0 answered.whole text)
 
--- where bytes are a whole head, it is at the front of all that begins with them
+-- bytes that are a whole head are read at the front of all bytes that begin with them
 reads_left : {H A : Type 0} {Reads : List ℕ → H → List ℕ → Type 0} {read : H → Result A HttpFault} → IsForm Reads → (bytes rest left : List ℕ) (answer : Result A HttpFault) → left ≡ bytes ++ rest → (answered : IsAnswered Reads read bytes answer) → Reads left answered.head rest
 reads_left form bytes rest left answer e answered =
     form.again bytes left answered.head [] rest answered.whole (e ∙ ap (λ (x : List ℕ). x ++ rest) (form.front bytes answered.head [] answered.whole ∙ append-nil (ended (form.line answered.head))))

@@ -13,12 +13,12 @@ use Rattle.oc_http.proofs.Forms.{response_form}
 use Rattle.oc_http.proofs.Fronts.{same_front}
 use Rattle.oc_http.proofs.OneAnswer.{one_answer}
 
--- a body that is whole
+-- a whole body
 record IsBody (told : Option ℕ) (body rest : List ℕ) : Type 0 where
   long : IsLong told body
   whole : told ≡ None → rest ≡ []
 
--- a body that is not, for another cause than a failed call and want of memory
+-- a body that is not whole, for another cause than a failed call and want of memory
 record IsCut (told : Option ℕ) (body rest : List ℕ) (fault : HttpFault) : Type 0 where
   stops : RefusesContent told body (rest ≡ []) fault
   own : IsDecided {A = Reply} (Err fault)
@@ -43,7 +43,7 @@ never_cut None body rest other behind Source e x y = y.own
 never_cut None body rest other behind Memory e x y = y.own
 never_cut None body rest other behind fault e x y = y.stops
 
--- where a body is cut, the fault goes by whether its length is told
+-- the fault of a body that is cut, which depends on whether its length is told
 cut_fault : (told : Option ℕ) → HttpFault
 cut_fault (Some count) = Ended
 cut_fault None = BodyLong
@@ -73,7 +73,7 @@ record Begun (left rest : List ℕ) (answer : Result Reply HttpFault) : Type 0 w
   start : AnswersHead ReadsResponse read_reply_start left (body ++ rest) (Ok head)
   ends : (IsBody (body_length head) body rest × (answer ≡ Ok (reply_of head body))) ⊎ ((fault : HttpFault) × IsCut (body_length head) body rest fault × (answer ≡ Err fault))
 
--- what is decided of a response is of its head
+-- a fault that is decided for a response is decided for its head
 decided : (fault : HttpFault) → IsDecided {A = Reply} (Err fault) → IsDecided {A = ReplyHead} (Err fault)
 decided Source own = own
 decided Memory own = own
@@ -105,7 +105,7 @@ ending left rest (Err fault) h own = elim h.2 [
       })
 ]
 
--- two that have one head have one answer
+-- two responses with one head have one answer
 same_ends : (left r s : List ℕ) (first second : Result Reply HttpFault) → (x : Begun left r first) (y : Begun left s second) → first ≡ second
 same_ends left r s first second x y =
     let start = one_answer read_reply_start response_form left (x.body ++ r) (y.body ++ s) (Ok x.head) (Ok y.head) x.start y.start tt tt in

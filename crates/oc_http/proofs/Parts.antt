@@ -24,7 +24,7 @@ pub get_joined : (get path mark query version name host end close target two thr
     get ++ (path ++ (mark ++ (query ++ (two ++ (host ++ (three ++ [])))))) ≡ get ++ (path ++ target) ++ version ++ (name ++ host ++ end) ++ close ++ end
 get_joined get path mark query version name host end close target two three a b c = rw (a, b, c) (simp (append_assoc, append-nil))
 
--- the same of one that follows a group
+-- a request that follows a group, in parts
 pub follow_joined : (get path start digits follow mark area version name host end close target two three : List ℕ) → two ≡ version ++ name → three ≡ end ++ close ++ end → target ≡ mark ++ area →
     get ++ (path ++ (start ++ (digits ++ (follow ++ (mark ++ (area ++ (two ++ (host ++ (three ++ []))))))))) ≡ get ++ (path ++ start ++ digits ++ follow ++ target) ++ version ++ (name ++ host ++ end) ++ close ++ end
 follow_joined get path start digits follow mark area version name host end close target two three a b c = rw (a, b, c) (simp (append_assoc, append-nil))
@@ -34,7 +34,7 @@ head_joined : (v d s n e l1 l2 l3 a h r1 r2 r3 t q1 q2 q3 g1 g2 g3 c1 c2 c3 k m1
     v ++ (d ++ ((s ++ n ++ e) ++ (l1 ++ (l2 ++ (l3 ++ (a ++ (h ++ (r1 ++ (r2 ++ (r3 ++ (t ++ (q1 ++ (q2 ++ (q3 ++ (g1 ++ (g2 ++ (g3 ++ (c1 ++ (c2 ++ (c3 ++ (k ++ (m1 ++ (m2 ++ (m3 ++ (e ++ []))))))))))))))))))))))))) ≡ (v ++ d ++ s ++ n ++ e) ++ (l1 ++ l2 ++ l3) ++ a ++ h ++ (r1 ++ r2 ++ r3) ++ t ++ (q1 ++ q2 ++ q3) ++ (g1 ++ g2 ++ g3) ++ (c1 ++ c2 ++ c3) ++ k ++ ((m1 ++ m2 ++ m3) ++ e)
 head_joined v d s n e l1 l2 l3 a h r1 r2 r3 t q1 q2 q3 g1 g2 g3 c1 c2 c3 k m1 m2 m3 = simp (append_assoc, append-nil)
 
--- the same with the lines that the parts make
+-- a reply's head in the lines that the parts make
 pub head_is : (v d s p e l1 l2 l3 a h r1 r2 r3 t q1 q2 q3 g1 g2 g3 c1 c2 c3 k m1 m2 m3 number phrase location allow challenge rule type range group content connection mac : List ℕ) →
     d ≡ number → p ≡ s ++ phrase ++ e → l1 ++ l2 ++ l3 ≡ location → a ≡ allow → h ≡ challenge → r1 ++ r2 ++ r3 ≡ rule → t ≡ type → q1 ++ q2 ++ q3 ≡ range → g1 ++ g2 ++ g3 ≡ group → c1 ++ c2 ++ c3 ≡ content → k ≡ connection → m1 ++ m2 ++ m3 ≡ mac →
     v ++ (d ++ (p ++ (l1 ++ (l2 ++ (l3 ++ (a ++ (h ++ (r1 ++ (r2 ++ (r3 ++ (t ++ (q1 ++ (q2 ++ (q3 ++ (g1 ++ (g2 ++ (g3 ++ (c1 ++ (c2 ++ (c3 ++ (k ++ (m1 ++ (m2 ++ (m3 ++ (e ++ []))))))))))))))))))))))))) ≡ (v ++ number ++ s ++ phrase ++ e) ++ location ++ allow ++ challenge ++ rule ++ type ++ range ++ group ++ content ++ connection ++ (mac ++ e)

@@ -12,7 +12,7 @@ use Rattle.oc_http.specs.Writing.{query_text}
 use Rattle.oc_http.specs.declared.escapes.TheConstants.{ESCAPED}
 use Rattle.oc_http.proofs.PathTexts.{escaped, read_again, written}
 
--- the byte does not begin a query
+-- a byte that does not begin a query
 abbrev IsInPath : ℕ → Type 0
 IsInPath b = (b == 63) ≡ false
 
@@ -22,14 +22,14 @@ plain_in_path b plain = grind (arith, nat_tests)
 escape_in_path : (b : ℕ) → IsEscapeByte b → IsInPath b
 escape_in_path b escape = grind (arith, nat_tests)
 
--- nothing that is written of a path begins a query
+-- the text of a path begins no query
 in_path : (path : List ℕ) → AllByRecursion IsInPath (path_text path)
 in_path path =
     recursion_from_All IsInPath (path_text path)
     (subst (λ (text : List ℕ). All IsInPath text) (written path)
     (All-percent_encode IsInPath ESCAPED path (λ b kept. plain_in_path b (subst (λ (t : Bool). t ≡ false) (escaped b) kept)) escape_in_path))
 
--- how many bytes come before a query
+-- the number of bytes before a query
 abbrev before_query : List ℕ → ℕ
 before_query bytes = prefix_len (λ b. not (b == 63)) bytes
 
@@ -50,6 +50,6 @@ path_is rest query =
     let count : before_query (text ++ query_text query) ≡ length text + 0 = path_first text (query_text query) (in_path (47 ∷ rest)) ∙ ap (λ (n : ℕ). length text + n) (query_first query) in
     ap (λ (n : ℕ). take n (text ++ query_text query)) count ∙ (take-append-add text (query_text query) 0 ∙ append-nil text)
 
--- so it is read as the path that was written
+-- the text is read as the path that was written
 pub target_read_again : (rest : List ℕ) (query : Option (List ℕ)) → AreBytes (47 ∷ rest) → decoded (path_of (path_text (47 ∷ rest) ++ query_text query)) ≡ Some (47 ∷ rest)
 target_read_again rest query small = ap decoded (path_is rest query) ∙ read_again (47 ∷ rest) small

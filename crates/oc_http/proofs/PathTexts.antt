@@ -1,4 +1,4 @@
--- What is written of a path, and that it is read as that path.
+-- The text of a path, and that it is read as that path.
 use Rattle.std.proofs.Common.{◌≡◌, ℕ, ◌+◌, ◌*◌, ◌/◌, ◌%◌, ◌<◌, true, false, not, ◌&&◌, ◌||◌, ◌==◌, List, [], ◌∷◌, ◌++◌, Some, refl, sym, ap, ap₂, ◌∙◌, ⊎_elim, arith}
 use Rattle.std.specs.Prelude.{Bool, if◌then◌else◌}
 use Rattle.std.specs.Char.{digit_value, is_digit}
@@ -12,11 +12,11 @@ use Rattle.percent_encoding.proofs.PercentLemmas.{IsByte, round_trip}
 use Rattle.oc_http.specs.Escapes.{AreBytes, are_digits_first, byte_text, decoded, is_barred, is_escaped_well, is_plain, path_text}
 use Rattle.oc_http.specs.declared.escapes.TheConstants.{ESCAPED}
 
--- below 128 the set has what is not plain
+-- bytes below 128 are in the set where they are not plain
 low_escaped : (b : ℕ) → b < 128 → contains ESCAPED b ≡ not (is_plain b)
 low_escaped b low = agree_below_at (contains ESCAPED) (λ k. not (is_plain k)) 128 b refl low
 
--- what is not plain is escaped, and nothing else
+-- a byte is escaped just where it is not plain
 pub escaped : (b : ℕ) → should_percent_encode ESCAPED b ≡ not (is_plain b)
 unfolding should_percent_encode
 escaped b =
@@ -33,7 +33,7 @@ turned false x y = refl
 same_byte : (b : ℕ) → encode_byte ESCAPED b ≡ byte_text b
 same_byte b = ap (λ (t : Bool). if t then percent_encode_byte b else b ∷ []) (escaped b) ∙ turned (is_plain b) (percent_encode_byte b) (b ∷ [])
 
--- what is written is the path with these bytes escaped
+-- the text is the path with these bytes escaped
 pub written : (path : List ℕ) → percent_encode ESCAPED path ≡ path_text path
 unfolding percent_encode
 written [] = refl
@@ -79,7 +79,7 @@ well_other b rest small other =
     let second = digit_glyph true (b % 16) in
     well_escape first second rest (good_digits first second rest (glyph_is_digit _ high) (glyph_is_digit _ low) may) (glyph_is_no_mark _ high) (glyph_is_no_mark _ low)
 
--- what is written of a byte spoils no path
+-- the text of a byte spoils no path
 well_byte : (b : ℕ) (rest : List ℕ) → (0 < b) × (b < 256) → is_escaped_well (byte_text b ++ rest) ≡ is_escaped_well rest
 well_byte b rest small =
     cond_both (is_plain b) (b ∷ []) (percent_encode_byte b) (λ (text : List ℕ). is_escaped_well (text ++ rest) ≡ is_escaped_well rest)
@@ -89,12 +89,12 @@ well_byte b rest small =
 abbrev IsGoodByte : ℕ → Type 0
 IsGoodByte b = (0 < b) × (b < 256)
 
--- so each `%` that is written begins an escape
+-- each `%` that is written begins an escape
 well : (path : List ℕ) → AreBytes path → is_escaped_well (path_text path) ≡ true
 well [] small = refl
 well (b ∷ path) small = well_byte b (path_text path) (All-head IsGoodByte b path small) ∙ well path (All-tail IsGoodByte b path small)
 
--- and reading gives the path
+-- reading gives the path
 pub read_again : (path : List ℕ) → AreBytes path → decoded (path_text path) ≡ Some path
 read_again path small =
     let bytes = All-weaker IsGoodByte IsByte (λ b both. both.1) path small in

@@ -1,4 +1,4 @@
--- Where a line of a head is cut off, the head is.
+-- A head is cut off where one of its lines is.
 use Rattle.std.proofs.Common.{ℕ, ◌<◌, List, ◌++◌, subst, sym, ◌∙◌, length-append}
 use Rattle.oc_base.specs.declared.limits.TheConstants.{MAX_HEAD_BYTES}
 use Rattle.oc_http.specs.Lines.{IsLineCut}
@@ -13,7 +13,7 @@ pub record Joins {S : Type 0} (gives fails : S → List ℕ → S → Type 0) : 
   pub both : (a b c : S) (x y : List ℕ) → gives a x b → gives b y c → gives a (x ++ y) c
   pub last : (a b c : S) (x y : List ℕ) → gives a x b → fails b y c → fails a (x ++ y) c
 
--- what was taken of a head that was cut off, and why
+-- the bytes that were taken of a head that was cut off, and the cause
 pub record IsHeadCut {S H : Type 0} (gives fails : S → List ℕ → S → Type 0) (Reads : List ℕ → H → List ℕ → Type 0) (old new : S) (done : Type 0) (fault : HttpFault) : Type 0 where
   pub taken : List ℕ
   pub took : Took gives fails old taken new fault

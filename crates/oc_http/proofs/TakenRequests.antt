@@ -1,4 +1,4 @@
--- What is known at the end of each line of a head of a request.
+-- Facts at the end of each line of a head of a request.
 use Rattle.std.proofs.Common.{◌≡◌, ◌≢◌, ℕ, ◌≤◌, List, [], ◌∷◌, ◌++◌, length, drop, refl, sym, ◌∙◌, subst}
 use Rattle.std.proofs.lemmas.List.{append_assoc}
 use Rattle.httparse.specs.declared.Error.{Error}
@@ -36,7 +36,7 @@ open_request bytes before line grown none may =
     let can = CanBecome-request (before ++ line) (subst MayBecomeRequest text may) in
     IsUnfinished-open bytes none (subst (CanBecome ReadsRequest) (sym text) can)
 
--- each error but one says that no head can come, and that one cannot be
+-- each error but one says that no head can come, and the last cannot be
 never_request : (bytes : List ℕ) (room : ℕ) (error : Error) → (error ≢ errors.TooManyHeaders → NeverHasRequest bytes) → (RequestExceeds room bytes → ⊥) → (error ≡ errors.TooManyHeaders → RequestExceeds room bytes) → NeverHasRequest bytes
 never_request bytes room errors.TooManyHeaders never few exceeds = absurd (few (exceeds refl))
 never_request bytes room error never few exceeds = never (λ same. cc)

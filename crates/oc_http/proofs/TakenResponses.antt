@@ -1,4 +1,4 @@
--- What is known at the end of each line of a head of a response.
+-- Facts at the end of each line of a head of a response.
 use Rattle.std.proofs.Common.{◌≡◌, ◌≢◌, ℕ, ◌≤◌, List, ◌++◌, length, drop, refl, sym, subst}
 use Rattle.httparse.specs.declared.Error.{Error}
 use Rattle.httparse.specs.declared.Error.TheVariants as errors
@@ -32,7 +32,7 @@ pub open_response : (bytes : List ℕ) → HasNoResponse bytes → MayBecomeResp
 open_response bytes none may =
     IsUnfinished-open bytes none may
 
--- each error but one says that no head can come, and that one cannot be
+-- each error but one says that no head can come, and the last cannot be
 never_response : (bytes : List ℕ) (room : ℕ) (error : Error) → (error ≢ errors.TooManyHeaders → NeverHasResponse bytes) → (ResponseExceeds room bytes → ⊥) → (error ≡ errors.TooManyHeaders → ResponseExceeds room bytes) → NeverHasResponse bytes
 never_response bytes room errors.TooManyHeaders never few exceeds = absurd (few (exceeds refl))
 never_response bytes room error never few exceeds = never (λ same. cc)

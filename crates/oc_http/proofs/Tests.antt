@@ -8,7 +8,7 @@ use Rattle.std.proofs.lemmas.List.Elements.{All-nil, All-cons}
 use Rattle.httparse.specs.Grammar.{AllPass, IsToken, is_token, is_token_byte, is_ows, skip_ows, trim_ows}
 use Rattle.httparse.proofs.TrimLemmas.{trim_ows_space}
 
--- what passes a test passes a weaker one
+-- bytes that pass a test pass a weaker one
 pub list_all-weaker : (p q : ℕ → Bool) → ((b : ℕ) → p b ≡ true → q b ≡ true) → (xs : List ℕ) → list_all p xs ≡ true → list_all q xs ≡ true
 list_all-weaker p q weak [] all = refl
 list_all-weaker p q weak (x ∷ xs) all =
@@ -40,7 +40,7 @@ skip_ows-visible p visible (x ∷ xs) all =
     let parts = and_parts (p x) (list_all p xs) all in
     ap (λ (t : Bool). cond t (skip_ows xs) (x ∷ xs)) (visible x parts.0)
 
--- a value without spaces is what is left of it after a space
+-- a value without spaces is left when a space before it is trimmed
 pub trim_ows-visible : (p : ℕ → Bool) → ((b : ℕ) → p b ≡ true → is_ows b ≡ false) → (xs : List ℕ) → list_all p xs ≡ true → trim_ows (32 ∷ xs) ≡ xs
 trim_ows-visible p visible xs all =
     trim_ows_space xs (skip_ows-visible p visible xs all) (skip_ows-visible p visible (reverse xs) (list_all-reverse p xs all))

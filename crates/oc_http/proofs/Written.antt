@@ -1,4 +1,4 @@
--- What a node's request says to who reads it.
+-- The contents of a node's request for its reader.
 use Rattle.std.proofs.Common.{◌≡◌, ℕ, ◌^◌, ◌<◌, ◌≤◌, true, false, ◌&&◌, List, [], ◌∷◌, ◌++◌, length, Option, Some, None, Result, Ok, refl, sym, ap, ◌∙◌, arith, length-append}
 use Rattle.std.specs.Prelude.{codes, decimal, nat_lt, IfSome}
 use Rattle.std.specs.Char.{is_ascii_digit}
@@ -33,7 +33,7 @@ use Rattle.oc_http.proofs.Tests.{list_all-weaker, AllPass-from_test, IsToken-fro
 abbrev written_field : List ℕ → List ℕ → Field
 written_field name value = record { name = name; raw = 32 ∷ value; end = crlf }
 
--- the field of a MAC, where there is one
+-- the MAC field, where there is one
 abbrev mac_fields : Option (List ℕ) → List Field
 mac_fields None = []
 mac_fields (Some mac) = written_field (codes "Overcast-Mac") mac ∷ []
@@ -50,21 +50,21 @@ head_with mac host digits = record {
   last = crlf;
 }
 
--- the name and value of that field
+-- the name and value of the MAC field
 abbrev mac_named : Option (List ℕ) → List Named
 mac_named None = []
 mac_named (Some mac) = (codes "Overcast-Mac", mac) ∷ []
 
--- the names and values of its fields
+-- the names and values of all fields
 abbrev fields_with : Option (List ℕ) → List ℕ → List ℕ → List Named
 fields_with mac host digits =
     (codes "Host", host) ∷ (codes "Content-Type", codes "application/octet-stream") ∷ (codes "Content-Length", digits) ∷ (codes "Connection", codes "close") ∷ mac_named mac
 
--- what is written, with the host and the digits between texts
+-- the written text, with the host and the digits between texts
 shape_of_text : (host digits end kind length close mac : List ℕ) → ((((host ++ end) ++ kind) ++ ((length ++ digits) ++ end)) ++ close) ++ (mac ++ end) ≡ host ++ ((end ++ (kind ++ length)) ++ (digits ++ (end ++ (close ++ (mac ++ end)))))
 shape_of_text host digits end kind length close mac = simp append_assoc
 
--- and what the grammar prints
+-- the text that the grammar prints, in the same parts
 shape_of_print : (host digits end middle close mac : List ℕ) → (((host ++ end) ++ (middle ++ ((digits ++ end) ++ (close ++ mac)))) ++ end) ++ [] ≡ host ++ ((end ++ middle) ++ (digits ++ (end ++ (close ++ (mac ++ end)))))
 shape_of_print host digits end middle close mac = simp (append_assoc, append-nil)
 
@@ -96,7 +96,7 @@ printed-parts mac host digits =
     ap (λ (x : List ℕ). opening ++ x) (shape_of_print host digits line_end (type_line ++ length_name) closing (flat_map print_field (mac_fields mac)))
     ∙ ap (λ (x : List ℕ). opening ++ (host ++ ((line_end ++ (type_line ++ length_name)) ++ (digits ++ (line_end ++ (closing ++ (x ++ line_end))))))) (mac_printed mac)
 
--- its text is what is written
+-- the text of the head is the text that is written
 text_with : (mac : Option (List ℕ)) (host : List ℕ) (count : ℕ) → request_head_with mac host count ≡ print_request (head_with mac host (decimal count)) ++ []
 text_with mac host count = written-parts mac host count ∙ sym (printed-parts mac host (decimal count))
 
@@ -130,7 +130,7 @@ target_text : IsUtf8 (codes "/!overcast")
 unfolding encode
 target_text = (codes "/!overcast", (refl, refl))
 
--- so is that of a MAC
+-- the field of a MAC is of its class
 good_mac : (mac : Option (List ℕ)) → IfSome mac IsMac → AllByRecursion IsField (mac_fields mac)
 unfolding httparse_on_literals
 good_mac None good = tt
@@ -167,7 +167,7 @@ unfolding httparse_on_literals
 found_mac None good = refl
 found_mac (Some mac) good = ap (λ (value : List ℕ). (codes "Overcast-Mac", value) ∷ []) (trim_ows-visible is_mac_digit mac_visible mac good.digits)
 
--- the fields that are found are those
+-- the fields that are found are those that were written
 found_fields : (mac : Option (List ℕ)) (host digits : List ℕ) → IfSome mac IsMac → list_all is_host_byte host ≡ true → list_all is_ascii_digit digits ≡ true → named (head_with mac host digits).fields ≡ fields_with mac host digits
 unfolding httparse_on_literals
 found_fields mac host digits good hosts numbers =
@@ -181,7 +181,7 @@ plain_path : decoded message_path ≡ Some message_path
 unfolding percent_encoding_on_literals
 plain_path = refl
 
--- the fields say this
+-- the fields give this head
 said_with : (mac : Option (List ℕ)) (host digits : List ℕ) (count : ℕ) → is_length digits ≡ true → digits_value 10 digits ≡ count → nat_lt MAX_BODY_BYTES count ≡ false → read_request_parts (codes "POST") (codes "/!overcast") 1 (fields_with mac host digits) ≡ Ok (written_head mac count)
 unfolding httparse_on_literals
 said_with None host digits count good value few = rw (good, value, few, plain_path) refl
@@ -209,7 +209,7 @@ short_head mac host count made good few =
     let middle = line_end ++ (type_line ++ length_name) in
     omega (arith, short_mac mac made, length-append (mac_line mac) line_end, ap length (written-parts mac host count), length-append opening (host ++ (middle ++ (decimal count ++ behind))), length-append host (middle ++ (decimal count ++ behind)), length-append middle (decimal count ++ behind), length-append (decimal count) behind, good.most, digits)
 
--- the head that is written says this
+-- the head that is written has these contents
 pub written_says : (mac : Option (List ℕ)) (host : List ℕ) (count : ℕ) → IfSome mac IsMac → IsHost host → count ≤ MAX_BODY_BYTES → SaysRequest (request_head_with mac host count) (written_head mac count)
 written_says mac host count made good few =
     let fits : count < 2 ^ 64 = omega (arith, few) in
@@ -224,7 +224,7 @@ written_says mac host count made good few =
           ∙ said_with mac host (decimal count) count (good_digits count few) (digits_value-decimal numerals count fits) no_more;
     }
 
--- and nothing else is answered
+-- the answer to the written text is nothing else
 pub written_read : (mac : Option (List ℕ)) (host body rest : List ℕ) (answer : Result Head HttpFault) → IfSome mac IsMac → IsHost host → length body ≤ MAX_BODY_BYTES → AnswersRequest (request_with mac host body) rest answer → IsDecided answer → (answer ≡ Ok (written_head mac (length body))) × (rest ≡ body)
 written_read mac host body rest answer made good few answered own =
     one_answer read_request request_form (request_with mac host body) rest body answer (Ok (written_head mac (length body))) answered (request_head_with mac host (length body), refl, written_says mac host (length body) made good few) own tt

@@ -116,7 +116,7 @@ pub record AreTexts : Type 0 where
   pub kept : head_text (record (reply 200) { content_type = Some Octets }) framings.Chunked Keep
       ≡ codes "HTTP/1.1 200 OK\r\nContent-Type: application/octet-stream\r\nTransfer-Encoding: chunked\r\n\r\n"
 
--- paths, and what is written of them
+-- paths and their texts
 pub record ArePaths : Type 0 where
   pub plain : decoded (codes "/a+b") ≡ Some (codes "/a+b")
   pub either_case : decoded (codes "/%41%2b%2B%fF") ≡ Some (codes "/A++" ++ 255 ∷ [])

@@ -1,4 +1,4 @@
--- What the fields of a head say.
+-- The fields of a head.
 use Rattle.std.specs.Prelude.{ℕ, ◌^◌, Bool, true, false, not, ◌&&◌, ◌||◌, ◌==◌, nat_lt, if◌then◌else◌, Option, Some, None, List, [], ◌∷◌, length, map, codes}
 use Rattle.std.specs.Char.{is_ascii_digit}
 use Rattle.std.specs.List.{list_all, list_any, slice_split}
@@ -24,28 +24,28 @@ abbrev pub values : List ℕ → List Named → List (List ℕ)
 values name [] = []
 values name (field ∷ fields) = if is_alike field.0 name then field.1 ∷ values name fields else values name fields
 
--- there is such a field
+-- presence of the field
 abbrev pub is_present : List (List ℕ) → Bool
 is_present [] = false
 is_present (value ∷ more) = true
 
--- there is such a field more than once
+-- presence of the field more than once
 abbrev pub is_repeated : List (List ℕ) → Bool
 is_repeated [] = false
 is_repeated (value ∷ more) = is_present more
 
--- the value of the first such field
+-- the value of the first field
 abbrev pub first_of : List (List ℕ) → Option (List ℕ)
 first_of [] = None
 first_of (value ∷ more) = Some value
 
--- the value of such a field, where there is just one
+-- the value of the field, where there is just one
 abbrev pub only_of : List (List ℕ) → Option (List ℕ)
 only_of [] = None
 only_of (value ∷ []) = Some value
 only_of (value ∷ second ∷ more) = None
 
--- there is one such field, and its value is this text in upper or lower case
+-- a single field, whose value is this text in upper or lower case
 abbrev pub is_only : List ℕ → List (List ℕ) → Bool
 is_only text [] = false
 is_only text (value ∷ []) = is_alike value text
@@ -78,39 +78,39 @@ macs = values (codes "overcast-mac")
 abbrev pub group_lengths : List Named → List (List ℕ)
 group_lengths = values (codes "overcast-length")
 
--- a request has one Host, and one of version 1.0 may have none
+-- a Host other than the one that a request has; one of version 1.0 may have none
 abbrev pub has_host_fault : ℕ → List (List ℕ) → Bool
 has_host_fault minor values = is_repeated values || (minor == 1 && not (is_present values))
 
--- some digits and nothing else, of a number that fits a u64; leading zeros are allowed
+-- digits and nothing else, of a number that fits a u64; leading zeros are allowed
 abbrev pub is_length : List ℕ → Bool
 is_length value = nat_lt 0 (length value) && list_all is_ascii_digit value && nat_lt (digits_value 10 value) (2 ^ 64)
 
--- there is a Content-Length, but not just one that is a number
+-- a Content-Length that is not just one number
 abbrev pub is_unusable : List (List ℕ) → Bool
 is_unusable [] = false
 is_unusable (value ∷ []) = not (is_length value)
 is_unusable (value ∷ second ∷ more) = true
 
--- the number of the first Content-Length, and none where there is no field
+-- the number of the first Content-Length; none where there is no field
 abbrev pub length_of : List (List ℕ) → Option ℕ
 length_of [] = None
 length_of (value ∷ more) = Some (digits_value 10 value)
 
--- the number that a value is, if it is one
+-- the number of a value that is one
 abbrev pub number_in : List ℕ → Option ℕ
 number_in value = if is_length value then Some (digits_value 10 value) else None
 
--- the number of such a field, where there is just one, which is a number
+-- the number of the field, where there is just one and its value is a number
 abbrev pub number_of : List (List ℕ) → Option ℕ
 number_of [] = None
 number_of (value ∷ []) = number_in value
 number_of (value ∷ second ∷ more) = None
 
--- some part of a list at commas is `close`
+-- a list at commas with a part `close`
 abbrev pub lists_close : List ℕ → Bool
 lists_close value = list_any (λ part. is_alike (trim_ows part) (codes "close")) (slice_split (λ b. b == byte ",") value)
 
--- some Connection field lists `close`
+-- fields with a Connection field that lists `close`
 abbrev pub closes : List Named → Bool
 closes fields = list_any lists_close (connections fields)

@@ -1,4 +1,4 @@
--- How the lines of a head are taken from a source.
+-- The lines of a head, as they are taken from a source.
 use Rattle.std.specs.Prelude.{◌≡◌, ◌≢◌, ℕ, ◌+◌, ◌<◌, ◌≤◌, List, [], ◌∷◌, ◌++◌, length}
 use Rattle.std.specs.List.{AllByRecursion}
 use Rattle.httparse.specs.Ascii.{line_feed}
@@ -12,11 +12,11 @@ use Rattle.oc_http.specs.Taking.{Took}
 use Rattle.oc_http.specs.declared.fault.HttpFault.{HttpFault}
 use Rattle.oc_http.specs.declared.fault.HttpFault.TheVariants.{Source, Ended, HeadLong}
 
--- no byte is the end of a line
+-- bytes without the end of a line
 abbrev pub HasNoLineEnd : List ℕ → Type 0
 HasNoLineEnd line = AllByRecursion (λ b. b ≢ line_feed) line
 
--- a line and its end came, and follow the bytes before it
+-- a line and its end that came, after the bytes before them
 pub record IsLineTaken {S : Type 0} (gives : S → List ℕ → S → Type 0) (old new : S) (before after : List ℕ) : Type 0 where
   pub line : List ℕ
   pub one : HasNoLineEnd line
@@ -24,21 +24,21 @@ pub record IsLineTaken {S : Type 0} (gives : S → List ℕ → S → Type 0) (o
   pub grown : after ≡ before ++ (line ++ line_feed ∷ [])
   pub fits : length after ≤ MAX_HEAD_BYTES
 
--- why a line was cut off after `count` bytes of a head; done says that the source ended
+-- the cause that cut a line off after `count` bytes of a head; `done` says that the source ended
 abbrev pub CutsLine : ℕ → Type 0 → HttpFault → Type 0
 CutsLine count done Source = count < MAX_HEAD_BYTES
 CutsLine count done Ended = (count < MAX_HEAD_BYTES) × done
 CutsLine count done HeadLong = count ≡ MAX_HEAD_BYTES
 CutsLine count done fault = ⊥
 
--- a piece of a line came, and then it was cut off
+-- a piece of a line that came before the line was cut off
 pub record IsLineCut {S : Type 0} (gives fails : S → List ℕ → S → Type 0) (old new : S) (before : List ℕ) (done : Type 0) (fault : HttpFault) : Type 0 where
   pub piece : List ℕ
   pub one : HasNoLineEnd piece
   pub came : Took gives fails old piece new fault
   pub cause : CutsLine (length before + length piece) done fault
 
--- the bytes are the head of a request, and the spans lie in it and cover its parts
+-- bytes that are the head of a request, and spans that lie in them and cover its parts
 pub record IsRequestTaken (bytes : List ℕ) (spans : List HeaderSpan) (parts : RequestSpans) : Type 0 where
   pub head : RequestHead
   pub whole : ReadsRequest bytes head []
@@ -46,7 +46,7 @@ pub record IsRequestTaken (bytes : List ℕ) (spans : List HeaderSpan) (parts : 
   pub within : IsRequestWithin bytes spans parts
   pub cover : IsRequestAt bytes spans parts head
 
--- the same for a response
+-- bytes that are the head of a response, and spans that lie in them and cover its parts
 pub record IsResponseTaken (bytes : List ℕ) (spans : List HeaderSpan) (parts : ResponseSpans) : Type 0 where
   pub head : ResponseHead
   pub whole : ReadsResponse bytes head []

@@ -1,4 +1,4 @@
--- What a fault of the reading of a source is to the reading of a body.
+-- Faults of the reading of a source, as faults of the reading of a body.
 use Rattle.oc_io.specs.declared.read_fault.ReadFault.{ReadFault}
 use Rattle.oc_io.specs.declared.read_fault.ReadFault.TheVariants as reads
 use Rattle.oc_http.specs.declared.fault.HttpFault.{HttpFault}

@@ -1,4 +1,4 @@
--- What the head of a request says, and which faults it has.
+-- The head of a request, and its faults.
 use Rattle.std.specs.Prelude.{ℕ, Bool, true, false, not, ◌&&◌, ◌==◌, nat_lt, if◌then◌else◌, Option, Some, None, unwrap_or, Result, Ok, Err, List, [], ◌∷◌, length, take, codes}
 use Rattle.std.specs.Str.{bytes_eq}
 use Rattle.httparse.specs.Grammar.{RequestHead}
@@ -14,7 +14,7 @@ use Rattle.oc_http.specs.declared.head.Head.{Head}
 use Rattle.oc_http.specs.declared.head.Method.{Method}
 use Rattle.oc_http.specs.declared.head.Method.TheVariants as methods
 
--- the method that this text names
+-- the method that a text names
 abbrev pub method_of : List ℕ → Method
 method_of method =
     if bytes_eq method (codes "GET") then methods.Get
@@ -35,7 +35,7 @@ after_empty_lines (a ∷ b ∷ rest) =
     else if a == 13 && b == 10 then after_empty_lines rest
     else a ∷ b ∷ rest
 
--- the bytes of a request, empty lines aside, begin with `HEAD`
+-- bytes of a request that begin with `HEAD`, empty lines aside
 abbrev pub begins_with_head : List ℕ → Bool
 begins_with_head bytes = bytes_eq (take 4 (after_empty_lines bytes)) (codes "HEAD")
 
@@ -50,7 +50,7 @@ head_fault method minor fields =
     else if nat_lt MAX_BODY_BYTES (unwrap_or (length_of (lengths fields)) 0) then Some faults.BodyLong
     else None
 
--- the length that is given, 0 where none is; one that is required and missing, or too great, is a fault
+-- the length that is given, 0 where none is; a required length that is missing, or one that is too great, is a fault
 abbrev pub wanted_length : Bool → Option ℕ → Result ℕ HttpFault
 wanted_length wanted None = if wanted then Err (faults.Length true) else Ok 0
 wanted_length wanted (Some count) = if nat_lt MAX_BODY_BYTES count then Err faults.BodyLong else Ok count
@@ -62,11 +62,11 @@ body_length method minor fields =
     else if has_host_fault minor (hosts fields) then Err faults.Host
     else (checked_length (codings fields) (lengths fields) >>= wanted_length (is_post method))
 
--- a request of version 1.1 waits for 100 Continue before it sends the body
+-- a request of version 1.1 that waits for 100 Continue before it sends the body
 abbrev pub expects : ℕ → List Named → Bool
 expects minor fields = minor == 1 && is_only (codes "100-continue") (expectations fields)
 
--- what the head of a request says
+-- the head that these parts give
 abbrev pub head_of : List ℕ → List ℕ → ℕ → List Named → Head
 head_of method target minor fields = record {
   method = method_of method;
@@ -81,11 +81,11 @@ head_of method target minor fields = record {
   mac = only_of (macs fields);
 }
 
--- what these parts of a head say, or its first fault
+-- the head that these parts give, or its first fault
 abbrev pub read_request_parts : List ℕ → List ℕ → ℕ → List Named → Result Head HttpFault
 read_request_parts method target minor fields =
     fault_or (head_of method target minor fields) (head_fault (method_of method) minor fields)
 
--- what a whole head says, or its first fault
+-- the contents of a whole head, or its first fault
 abbrev pub read_request : RequestHead → Result Head HttpFault
 read_request head = read_request_parts head.method head.target head.minor (named head.fields)

@@ -1,4 +1,4 @@
--- What the head of a response says, which faults it has, and how long its body is.
+-- The head of a response, its faults, and the length of its body.
 use Rattle.std.specs.Prelude.{◌≡◌, ℕ, ◌≤◌, Bool, false, not, ◌&&◌, ◌==◌, nat_lt, if◌then◌else◌, Option, Some, None, unwrap_or, Result, List, length, codes}
 use Rattle.httparse.specs.Grammar.{ResponseHead, status_code}
 use Rattle.oc_base.specs.declared.limits.TheConstants.{MAX_FIELDS, MAX_BODY_BYTES}
@@ -9,7 +9,7 @@ use Rattle.oc_http.specs.declared.fault.HttpFault.TheVariants as faults
 use Rattle.oc_http.specs.declared.reply.Reply.{Reply}
 use Rattle.oc_http.specs.declared.reply.ReplyHead.{ReplyHead}
 
--- the body is sent in chunks, and nothing else is said of it
+-- a body that is sent in chunks, with no length beside
 abbrev pub is_chunked : List Named → Bool
 is_chunked fields = is_only (codes "chunked") (codings fields) && not (is_present (lengths fields))
 
@@ -30,14 +30,14 @@ reply_fault fields =
     else if nat_lt MAX_BODY_BYTES (unwrap_or (length_of (lengths fields)) 0) then Some faults.BodyLong
     else None
 
--- the fault that a head that has no other can still have for a reader of whole messages
+-- the fault that a head without any other can still have for a reader of whole messages
 abbrev pub whole_fault : ReplyHead → Option HttpFault
 whole_fault head =
     if head.chunked then Some (faults.Coding false)
     else if nat_lt MAX_BODY_BYTES (unwrap_or head.length 0) then Some faults.BodyLong
     else None
 
--- what the head of a response says
+-- the head that a status and fields give
 abbrev pub reply_head_of : ℕ → List Named → ReplyHead
 reply_head_of status fields = record {
   status = status;
@@ -49,21 +49,21 @@ reply_head_of status fields = record {
   mac = only_of (macs fields);
 }
 
--- what a whole head says, or its first fault
+-- the contents of a whole head, or its first fault
 abbrev pub read_reply_head : ResponseHead → Result ReplyHead HttpFault
 read_reply_head head =
     fault_or (reply_head_of (status_code head) (named head.fields)) (reply_head_fault (named head.fields))
 
--- the same for a reader of whole messages
+-- the contents of a whole head, or its first fault, for a reader of whole messages
 abbrev pub read_reply_start : ResponseHead → Result ReplyHead HttpFault
 read_reply_start head =
     fault_or (reply_head_of (status_code head) (named head.fields)) (reply_fault (named head.fields))
 
--- how many bytes the body has, and none where it goes to the end of the source; a 204 has no body
+-- the length of the body in bytes; none where it goes to the end of the source; a 204 has no body
 abbrev pub body_length : ReplyHead → Option ℕ
 body_length head = if head.status == 204 then Some 0 else head.length
 
--- these bytes are as long as a body is, which without a length goes to the end
+-- a body of the length that is told, or without one a body of at most `MAX_BODY_BYTES`
 abbrev pub IsLong : Option ℕ → List ℕ → Type 0
 IsLong (Some count) body = length body ≡ count
 IsLong None body = length body ≤ MAX_BODY_BYTES

@@ -4,19 +4,19 @@ use Rattle.std.specs.List.{before_first, after_first, position}
 use Rattle.std.specs.Str.{byte}
 use Rattle.oc_http.specs.Fields.{is_alike}
 
--- how a target that has scheme and authority begins, in upper or lower case
+-- the beginning of a target that has scheme and authority, in upper or lower case
 abbrev pub scheme : List ℕ
 scheme = codes "http://"
 
 abbrev pub is_absolute : List ℕ → Bool
 is_absolute target = is_alike (take (length scheme) target) scheme
 
--- from that place on, or a slash where there is none
+-- the bytes from a place on, or a slash where there is none
 abbrev pub from_place : List ℕ → Option ℕ → List ℕ
 from_place rest None = codes "/"
 from_place rest (Some at) = drop at rest
 
--- from the first slash on, or a slash where there is none
+-- the bytes from the first slash on, or a slash where there is none
 abbrev pub from_slash : List ℕ → List ℕ
 from_slash rest = from_place rest (position (λ b. b == byte "/") rest)
 
@@ -24,10 +24,10 @@ from_slash rest = from_place rest (position (λ b. b == byte "/") rest)
 abbrev pub origin_form : List ℕ → List ℕ
 origin_form target = if is_absolute target then from_slash (drop (length scheme) target) else target
 
--- the target up to the first question mark
+-- the path of a target, without its query
 abbrev pub path_of : List ℕ → List ℕ
 path_of target = before_first (λ b. b == byte "?") (origin_form target)
 
--- what follows that question mark
+-- the query of a target: the bytes after the first question mark
 abbrev pub query_of : List ℕ → List ℕ
 query_of target = after_first (λ b. b == byte "?") (origin_form target)

@@ -1,17 +1,17 @@
--- Bytes that come line by line, of which a whole is to be read: what is still unfinished, and what has become hopeless.
+-- Bytes that come line by line to make a whole: those that are unfinished, and those that are hopeless.
 use Rattle.std.specs.Prelude.{◌≡◌, ℕ, List, [], ◌∷◌, ◌++◌}
 use Rattle.httparse.specs.Ascii.{line_feed}
 
--- bytes can follow that make these a whole one
+-- bytes that become a whole with others after them
 abbrev pub CanBecome : {T : Type 0} → (List ℕ → T → List ℕ → Type 0) → List ℕ → Type 0
 CanBecome {T} Reads bytes = (more : List ℕ) × (tree : T) × Reads (bytes ++ more) tree []
 
--- the bytes begin with no whole one, and at the end of each line they could still become one
+-- bytes that begin with no whole, and at the end of each line could still become one
 pub record IsUnfinished {T : Type 0} (Reads : List ℕ → T → List ℕ → Type 0) (bytes : List ℕ) : Type 0 where
   pub no_tree : (tree : T) (rest : List ℕ) → ¬ (Reads bytes tree rest)
   pub goes_on : (line rest : List ℕ) → bytes ≡ line ++ line_feed ∷ rest → CanBecome Reads (line ++ line_feed ∷ [])
 
--- since the end of the last line no bytes can follow with which there is one
+-- bytes that the end of their last line made hopeless: no bytes can follow with which there is a whole
 pub record IsHopeless {T : Type 0} (Reads : List ℕ → T → List ℕ → Type 0) (bytes : List ℕ) : Type 0 where
   pub before : List ℕ
   pub ends : bytes ≡ before ++ line_feed ∷ []

@@ -16,7 +16,7 @@ use Rattle.oc_http.specs.declared.framing.Persistence.TheVariants.{Close, Keep}
 abbrev pub line_end : List ℕ
 line_end = codes "\r\n"
 
--- a letter, a digit, `.`, `-`, `:`, or a bracket, which stand round an address of IPv6
+-- a letter, a digit, `.`, `-`, `:`, or one of the brackets around an address of IPv6
 abbrev pub is_host_byte : ℕ → Bool
 is_host_byte b = is_ascii_alphanumeric b || b == byte "." || b == byte "-" || b == byte ":" || b == byte "[" || b == byte "]"
 
@@ -102,7 +102,7 @@ abbrev pub follow_text : List ℕ → ℕ → Option (List ℕ) → List ℕ →
 follow_text path start area host =
     get_request_text (path ++ codes "?start=" ++ decimal start ++ codes "&follow" ++ area_text area) host Keep
 
--- what a status is called
+-- the name of a status
 abbrev pub phrase : ℕ → Option (List ℕ)
 phrase status =
     if status == 200 then Some (codes "OK")
@@ -122,11 +122,11 @@ phrase status =
     else if status == 503 then Some (codes "Service Unavailable")
     else None
 
--- the status has a phrase
+-- a status that has a name here
 abbrev pub HasPhrase : ℕ → Type 0
 HasPhrase status = IsSome (phrase status)
 
--- what a status is called, between the space before it and the end of its line
+-- the name of a status, between the space before it and the end of its line
 abbrev pub phrase_text : ℕ → List ℕ
 phrase_text status = codes " " ++ unwrap_or (phrase status) [] ++ line_end
 
@@ -152,7 +152,7 @@ abbrev pub rule_line : Option ℕ → List ℕ
 rule_line None = []
 rule_line (Some rule) = codes "Overcast-Rule: " ++ decimal rule ++ line_end
 
--- what a type of content is called
+-- the name of a type of content
 abbrev pub type_name : ContentType → List ℕ
 type_name Octets = codes "application/octet-stream"
 type_name Json = codes "application/json"
@@ -165,7 +165,7 @@ abbrev pub content_type_line : Option ContentType → List ℕ
 content_type_line None = []
 content_type_line (Some type) = codes "Content-Type: " ++ type_name type ++ line_end
 
--- `Content-Range`, where a content of this length ends before what was asked for begins
+-- `Content-Range`, where a content of this length ends before the asked part begins
 abbrev pub content_range_line : Option ℕ → List ℕ
 content_range_line None = []
 content_range_line (Some count) = codes "Content-Range: bytes */" ++ decimal count ++ line_end
@@ -175,12 +175,12 @@ abbrev pub group_length_line : Option ℕ → List ℕ
 group_length_line None = []
 group_length_line (Some count) = codes "Overcast-Length: " ++ decimal count ++ line_end
 
--- where the content ends
+-- the line that tells the end of the content
 abbrev pub framing_line : Framing → List ℕ
 framing_line (framings.Length count) = length_line count
 framing_line framings.Chunked = codes "Transfer-Encoding: chunked\r\n"
 
--- the same, except for a 204, which has no content
+-- the line that tells the end of the content, except for a 204, which has no content
 abbrev pub content_line : ℕ → Framing → List ℕ
 content_line status framing = if status == 204 then [] else framing_line framing
 

@@ -3,12 +3,12 @@
 pub enum ContentType {
     /// Bytes of a group, or a message.
     Octets,
-    /// What a node tells of itself, for programs.
+    /// The state of a node, for programs.
     Json,
-    /// The same as samples of metrics, in the text format of Prometheus.
+    /// Samples of metrics, in the text format of Prometheus.
     Metrics,
     /// A page.
     Html,
-    /// Lines of plain text, such as why a request is refused.
+    /// Lines of plain text, such as the cause of a refusal.
     Text,
 }

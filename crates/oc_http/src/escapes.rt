@@ -18,7 +18,7 @@ const ESCAPED: AsciiSet = ascii_set!(
         .remove(b'~')
 );
 
-/// The bytes that a path stands for: `%` and two hexadecimal digits are a byte, every other byte is itself. `None` where
+/// The decoded bytes of a path: `%` and two hexadecimal digits are a byte, every other byte is itself. `None` where
 /// a `%` does not begin an escape, and where an escape is one of NUL or `/`.
 pub(crate) fn decoded(alloc: Global, path: &[u8]) -> Result<Option<Text>, Memory>
     ensures { IfOk result (λ text. text ≡ decoded path.now) }
@@ -65,7 +65,7 @@ fn digit_of(byte: u8) -> Option<u32>
     char::from(byte).to_digit(16)
 }
 
-/// Whether no escape may stand for this byte.
+/// Whether no escape may give this byte.
 fn is_barred(byte: u32) -> bool
     ensures { result ≡ is_barred byte }
 {

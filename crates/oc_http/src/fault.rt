@@ -6,14 +6,14 @@ use oc_base::Memory;
 use oc_io::{Failed, ReadFault};
 use std::alloc::{AllocError, AllocFailed};
 
-/// Why a message was not read. The faults that a head can have at once come in this order.
+/// The cause for which a message was not read. The faults that a head can have at once come in this order.
 #[derive(Clone, Copy)]
 pub enum HttpFault {
     /// A call on the source failed.
     Source,
     /// The source ended before the head or the body was whole.
     Ended,
-    /// The bytes are no head, and none that follow make them one.
+    /// The bytes are no head, and no bytes after them make them one.
     Head,
     /// The head is longer than `MAX_HEAD_BYTES`.
     HeadLong,

@@ -4,7 +4,7 @@ ghost use Rattle.std.specs.Prelude.{◌≡◌, [], ◌++◌, option_map};
 ghost use Rattle.oc_http.specs.Parts.{line_text};
 ghost use Rattle.oc_http.specs.Writing.{line_end, mac_line};
 
-/// A line of a head, all of it empty where the head has no such line.
+/// A line of a head; all three parts are empty where the head has no such line.
 #[derive(Clone, Copy)]
 pub(crate) struct FieldLine<'a> {
     /// The name, with the colon and the space after it.

@@ -1,13 +1,13 @@
-/// How a reply tells where its content ends (RFC 9112, section 6).
+/// The end of the content of a reply, as its head tells it (RFC 9112, section 6).
 #[derive(Clone, Copy)]
 pub enum Framing {
-    /// By its length in bytes.
+    /// The length in bytes.
     Length(u64),
-    /// By chunks.
+    /// Chunks, the last of which is empty.
     Chunked,
 }
 
-/// What becomes of the connection after a message (RFC 9112, sections 9.3 and 9.6).
+/// The fate of the connection after a message (RFC 9112, sections 9.3 and 9.6).
 #[derive(Clone, Copy, Debug)]
 pub enum Persistence {
     Close,

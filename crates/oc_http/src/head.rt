@@ -1,6 +1,6 @@
 use oc_base::Text;
 
-/// What a request's method is, as far as it matters here.
+/// The method of a request, as far as it matters here.
 #[derive(Clone, Copy, PartialEq, Eq)]
 pub enum Method {
     Get,
@@ -9,14 +9,14 @@ pub enum Method {
     Other,
 }
 
-/// What the head of a request says.
+/// The contents of a request's head.
 #[derive(Drop)]
 pub struct Head {
     pub method: Method,
-    /// What the target stands for up to the first `?`, without scheme and authority; `None` where it has a `%` that does
-    /// not begin an escape, or an escape of NUL or `/`.
+    /// The decoded path of the target, without scheme and authority; `None` where it has a `%` that does not begin an
+    /// escape, or an escape of NUL or `/`.
     pub path: Option<Text>,
-    /// What follows that `?`, as it came.
+    /// The query: the bytes after the first `?`, as they came.
     pub query: Text,
     /// The length of the body in bytes.
     pub length: u64,

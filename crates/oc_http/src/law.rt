@@ -15,7 +15,7 @@ ghost use Rattle.oc_http.specs.declared.reply.Reply.{Reply};
 ghost use Rattle.oc_http.specs.declared.reply.ReplyHead.{ReplyHead};
 
 /// There is one answer to the bytes of a source, however they come: the head of a request that is read, or
-/// the fault, and what is left after it. Failed calls and a want of memory are left out.
+/// the fault, and the bytes left after it. Failed calls and a want of memory are left out.
 pub fn a_request_has_one_answer()
     ensures { (left r s : List ℕ) (first second : Result Head HttpFault) → AnswersRequest left r first → AnswersRequest left s second
         → IsDecided first → IsDecided second → (first ≡ second) × (r ≡ s) }
@@ -27,13 +27,13 @@ pub fn a_response_head_has_one_answer()
         → IsDecided first → IsDecided second → (first ≡ second) × (r ≡ s) }
 {}
 
-/// The same for a whole response, but not for what is left after it: more of a body that is too long may be taken.
+/// The same for a whole response, but not for the bytes left after it: more of a body that is too long may be taken.
 pub fn a_response_has_one_answer()
     ensures { (left r s : List ℕ) (first second : Result Reply HttpFault) → AnswersReply left r first → AnswersReply left s second
         → IsDecided first → IsDecided second → first ≡ second }
 {}
 
-/// What `write_request` writes is read as the head of a POST to `/!overcast` with the body's length and its MAC, and
+/// The text of `write_request` is read as the head of a POST to `/!overcast` with the body's length and its MAC, and
 /// after it the body is left.
 pub fn a_written_request_is_read()
     ensures says { (mac : Option (List ℕ)) (host : List ℕ) (count : ℕ) → IfSome mac IsMac → IsHost host → count ≤ MAX_BODY_BYTES
@@ -44,7 +44,7 @@ pub fn a_written_request_is_read()
         → (answer ≡ Ok (written_head mac (length body))) × (rest ≡ body) }
 {}
 
-/// What `put_path` writes of a path is read as that path, alone, and where a query follows it in a target.
+/// The text that `put_path` writes is read as the same path, alone and where a query follows it in a target.
 pub fn a_written_path_is_read()
     ensures path { (path : List ℕ) → AreBytes path → decoded (path_text path) ≡ Some path }
     ensures target { (rest : List ℕ) (query : Option (List ℕ)) → AreBytes (byte "/" ∷ rest)

@@ -3,19 +3,18 @@
 //!
 //! The bytes of a head are taken one at a time, so nothing after it is taken; `httparse` is asked at the
 //! end of each line. [`read_head`] and its kin read one message, and a [`HeadReader`] reads the messages
-//! of a connection, with the memory taken once. [`Fields`] answers what the fields of a head say.
+//! of a connection, with the memory taken once. [`Fields`] gives the values of the fields of a head.
 //!
-//! The contracts used above: where [`read_head`] gives a head, the bytes that came are a head that says
-//! so, and where it gives an [`HttpFault`], that is the first fault of the bytes that came; [`read_body`]
-//! gives the next bytes, as many as the head says; what is written is exactly the text. There is one
-//! answer to the bytes of a source, however they come ([`a_request_has_one_answer`]); what
-//! [`write_request`] writes is read as that request ([`a_written_request_is_read`]), and what [`put_path`]
-//! writes as that path ([`a_written_path_is_read`]).
+//! The contracts used above: where [`read_head`] gives a head, the bytes that came are a head with these
+//! contents, and where it gives an [`HttpFault`], that is the first fault of the bytes that came; [`read_body`]
+//! gives the next bytes, as many as the head tells; a text that is written is exactly that of `specs/Writing`.
+//! There is one answer to the bytes of a source, however they come ([`a_request_has_one_answer`]); the text of
+//! [`write_request`] is read as that request ([`a_written_request_is_read`]), and the text of [`put_path`]
+//! as that path ([`a_written_path_is_read`]).
 //!
-//! `specs/Fields` says what the fields of a head say, `specs/Targets` what the path and the query of a
-//! target are, `specs/Escapes` which bytes a path stands for and how they are written, `specs/Requests`
-//! and `specs/Responses` what a head says and which fault it has first, `specs/Taking` which bytes are
-//! taken for each answer, and `specs/Writing` has the texts.
+//! `specs/Fields` has the fields of a head, `specs/Targets` the path and the query of a target, `specs/Escapes`
+//! the bytes of a path and their text, `specs/Requests` and `specs/Responses` the contents of a head and its
+//! first fault, `specs/Taking` the bytes that are taken for each answer, and `specs/Writing` the texts.
 #![tactic(auto)]
 
 mod body;

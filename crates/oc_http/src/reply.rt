@@ -1,7 +1,7 @@
 use crate::content_type::ContentType;
 use oc_base::{Bytes, Text};
 
-/// A response that is written, or what is read from one.
+/// A response to write, or the contents of one that was read.
 #[derive(Drop)]
 pub struct Reply {
     /// The status code (RFC 9110, section 15).
@@ -13,16 +13,16 @@ pub struct Reply {
     pub body: Bytes,
     /// The number of the access rule that denied the request.
     pub rule: Option<u32>,
-    /// The length in bytes of a content that ends before what was asked for begins: what the Content-Range of a 416 tells
+    /// The length in bytes of a content that ends before the asked part begins: the number in the Content-Range of a 416
     /// (RFC 9110, section 14.4).
     pub content_range: Option<u64>,
-    /// How many bytes a group has: what the Overcast-Length field tells, where there is just one, of a number.
+    /// The length of a group in bytes: the number in the Overcast-Length field, where there is just one.
     pub group_length: Option<u64>,
     /// The MAC of the body: the value of the Overcast-Mac field, where there is just one.
     pub mac: Option<Text>,
 }
 
-/// What the head of a response says.
+/// The contents of a response's head.
 #[derive(Drop)]
 pub struct ReplyHead {
     /// The status code (RFC 9110, section 15).
@@ -35,7 +35,7 @@ pub struct ReplyHead {
     pub chunked: bool,
     /// The server closes the connection after this response (RFC 9112, section 9.6).
     pub closes: bool,
-    /// How many bytes a group has: what the Overcast-Length field tells, where there is just one, of a number.
+    /// The length of a group in bytes: the number in the Overcast-Length field, where there is just one.
     pub group_length: Option<u64>,
     /// The value of the Overcast-Mac field, where there is just one.
     pub mac: Option<Text>,

@@ -1,4 +1,4 @@
-//! What the head of a request says.
+//! The head of a request.
 
 ghost use Rattle.std.specs.Prelude.{◌≡◌, [], IfOk};
 ghost use Rattle.httparse.specs.Grammar.{ReadsRequest, RequestHead};
@@ -18,7 +18,7 @@ use httparse::spans::{HeaderSpan, RequestSpans};
 use oc_base::{MAX_BODY_BYTES, Memory, Text};
 use std::alloc::Global;
 
-/// What the head of a request says, or its first fault. The head is all of the bytes.
+/// The contents of a request's head, or its first fault. The head is all of the bytes.
 pub(crate) fn read_request(
     alloc: Global,
     bytes: &[u8],
@@ -34,7 +34,7 @@ pub(crate) fn read_request(
     read_parts(alloc, method, target, parts.version, &fields)
 }
 
-/// What the parts of a head say, or its first fault.
+/// The contents of a head with these parts, or its first fault.
 fn read_parts(
     alloc: Global,
     method: &[u8],
@@ -64,7 +64,7 @@ fn read_parts(
     })
 }
 
-/// What the path of a target stands for, and its query as it is, each as a text of its own.
+/// The decoded path of a target, and its query as it is, each as a text of its own.
 fn path_and_query(alloc: Global, target: &[u8]) -> Result<(Option<Text>, Text), Memory>
     ensures { IfOk result (λ texts. (texts.0 ≡ decoded (path_of target.now)) × (texts.1 ≡ query_of target.now)) }
 {

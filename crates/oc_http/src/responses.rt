@@ -1,4 +1,4 @@
-//! What the head of a response says.
+//! The head of a response.
 
 ghost use Rattle.std.specs.Prelude.{◌≡◌, ◌&&◌, [], not, IfOk};
 ghost use Rattle.httparse.specs.Grammar.{ReadsResponse, ResponseHead};
@@ -17,7 +17,7 @@ use httparse::spans::{HeaderSpan, ResponseSpans};
 use oc_base::{MAX_BODY_BYTES, Memory, Text};
 use std::alloc::Global;
 
-/// What the head of a response says, or its first fault, for a reader that understands chunks. The head
+/// The contents of a response's head, or its first fault, for a reader that understands chunks. The head
 /// is all of the bytes.
 pub(crate) fn read_response_head(
     alloc: Global,
@@ -45,7 +45,7 @@ pub(crate) fn whole_fault(head: &ReplyHead) -> Option<HttpFault>
     }
 }
 
-/// How many bytes the body has, `None` where it goes to the end of the source (RFC 9112, section 6.3). A 204 has none.
+/// The length of the body in bytes, `None` where it goes to the end of the source (RFC 9112, section 6.3). A 204 has none.
 pub fn body_length(head: &ReplyHead) -> Option<u64>
     ensures { result ≡ body_length head.now }
 {
@@ -56,7 +56,7 @@ pub fn body_length(head: &ReplyHead) -> Option<u64>
     }
 }
 
-/// What a status and fields say, or their first fault, for a reader that understands chunks.
+/// The head that a status and fields give, or their first fault, for a reader that understands chunks.
 fn read_reply_head(alloc: Global, status: u16, fields: &Fields) -> Result<ReplyHead, HttpFault>
     ensures { Gives result (fault_or (reply_head_of status fields.now) (reply_head_fault fields.now)) }
 {
@@ -94,14 +94,14 @@ fn has_strange_coding(fields: &Fields) -> bool
     fields.is_present("transfer-encoding") && !is_chunked(fields)
 }
 
-/// Whether the body is sent in chunks, and nothing else is said of it.
+/// Whether the body is sent in chunks, with no length beside.
 fn is_chunked(fields: &Fields) -> bool
     ensures { result ≡ is_chunked fields.now }
 {
     fields.has_only("transfer-encoding", "chunked") && !fields.is_present("content-length")
 }
 
-/// The number of the Overcast-Length field, where there is just one, of a number.
+/// The number in the Overcast-Length field, where there is just one.
 fn group_length(fields: &Fields) -> Option<u64>
     ensures { result ≡ number_of (group_lengths fields.now) }
 {

@@ -13,7 +13,7 @@ use httparse::spans::{HeaderSpan, RequestSpans, ResponseSpans, parse_request, pa
 use oc_base::MAX_HEAD_BYTES;
 use oc_io::Source;
 
-/// How many fields there is room for: more than `MAX_HEAD_BYTES` hold, since each takes three bytes.
+/// The number of fields that there is room for: more than `MAX_HEAD_BYTES` bytes hold, since each takes three.
 pub(crate) const FIELD_ROOM: usize = 2_731;
 
 /// Takes the head of a request, and nothing after it. No memory is taken.

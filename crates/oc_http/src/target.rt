@@ -6,10 +6,10 @@ ghost use Rattle.oc_http.specs.Targets.{is_absolute, from_slash, origin_form, pa
 use crate::text::is_alike;
 use oc_base::{cut_at_first, place_of};
 
-/// How a target that has scheme and authority begins, in upper or lower case.
+/// The beginning of a target that has scheme and authority, in upper or lower case.
 const SCHEME: &str = "http://";
 
-/// The target up to the first `?`, and what follows it, without scheme and authority.
+/// The target up to the first `?`, and the bytes after it, without scheme and authority.
 pub fn path_and_query(target: &[u8]) -> (&[u8], &[u8])
     ensures path { result.0.now ≡ path_of target.now }
     ensures query { result.1.now ≡ query_of target.now }

@@ -67,7 +67,7 @@ pub(crate) fn lists_close(value: &[u8]) -> bool
     }
 }
 
-/// The number of a Content-Length: some digits, of a number that fits (RFC 9110, section 8.6).
+/// The number of a Content-Length: digits of a number that fits a `u64` (RFC 9110, section 8.6).
 pub fn length_of(value: &[u8]) -> Option<u64>
     ensures { result ≡ (if is_length value.now then Some (digits_value 10 value.now) else None) }
 {

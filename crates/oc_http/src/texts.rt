@@ -17,7 +17,7 @@ pub(crate) fn join(alloc: Global, parts: &[&[u8]]) -> Result<Vec<u8>, Memory>
     Ok(text)
 }
 
-/// How many bytes the parts have. No more fit into memory than can be counted.
+/// The length of the parts together. Memory holds no more bytes than can be counted.
 fn room_for(parts: &[&[u8]]) -> usize {
     let mut room = 0_usize;
     for part in parts {

@@ -98,7 +98,7 @@ pub fn write_reply_head(
     )
 }
 
-/// What a status is called, between the space before it and the end of its line.
+/// The name of a status, between the space before it and the end of its line.
 fn phrase_of<'a>(status: u16) -> &'a str
     requires { HasPhrase status }
     ensures { result.now ≡ phrase_text status }
@@ -189,7 +189,7 @@ fn content_type_line<'a>(content_type: Option<ContentType>) -> &'a [u8]
     }
 }
 
-/// `Content-Range`, where a content ends before what was asked for begins.
+/// `Content-Range`, where a content ends before the asked part begins.
 fn content_range_line(length: Option<u64>, digits: &mut Buffer) -> FieldLine<'_>
     ensures { line_text result ≡ content_range_line length }
 {
@@ -219,7 +219,7 @@ fn body_mac_line(mac: &Option<Text>) -> FieldLine<'_>
     }
 }
 
-/// Where the content ends, except for a 204.
+/// The line that tells the end of the content, except for a 204.
 fn content_line(status: u16, framing: Framing, digits: &mut Buffer) -> FieldLine<'_>
     ensures { line_text result ≡ content_line status framing }
 {

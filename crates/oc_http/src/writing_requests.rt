@@ -74,7 +74,7 @@ pub fn write_probe(alloc: Global, address: &str) -> Result<Vec<u8>, Memory>
 }
 
 /// The request of a download that follows a group: a GET from byte `start` on, which keeps the
-/// connection. `area` is what the URL says of it, as it is written there.
+/// connection. `area` is the area in the URL, as it is written there.
 pub fn write_follow<'a>(
     alloc: Global,
     path: &'a str,

@@ -34,7 +34,7 @@ groups_of_shelf ks is = groups_ascend ks is.0
 pub lines_at : (ks : List Group) (i : ℕ) (k : Group) → i < length ks → k ≡ get_or ks i k → shelf (drop i ks) ≡ shelf_of k ∷ shelf (drop (i + 1) ks)
 lines_at ks i k within at = ap shelf (drop_at ks i k within at)
 
--- Where a name is found
+-- The index of a name that is found
 
 -- a group is put after one of a lesser name
 put_behind : (k j : Group) (js : List Group) → slice_cmp nat_cmp k.name j.name ≡ Greater → with_group k (j ∷ js) ≡ j ∷ with_group k js
@@ -63,7 +63,7 @@ put_found (j ∷ js) g zero k new start bytes closes found at is =
 put_found (j ∷ js) g (suc i) k new start bytes closes found at is =
     ap (λ (rest : List Group). j ∷ rest) (put_found js g i k new start bytes closes found.1 at is) ∙ sym (grown_behind g j js start bytes closes found.0)
 
--- and one that stays as it was changes nothing
+-- a group that stays as it was changes nothing
 pub put_same : (ks : List Group) (i : ℕ) (k new : Group) → i < length ks → k ≡ get_or ks i k → new ≡ k → set ks i new ≡ ks
 put_same [] i k new within at is = absurd (omega (arith, within))
 put_same (j ∷ js) zero k new within at is = ap (λ (n : Group). n ∷ js) (is ∙ at)
@@ -74,9 +74,9 @@ found_within [] g i found = absurd found
 found_within (k ∷ ks) g zero found = omega arith
 found_within (k ∷ ks) g (suc i) found = let rest = found_within ks g i found.1 in omega (arith, rest)
 
--- Where it would be
+-- The index of a name that is not found
 
--- there is none among greater names, and one is put before them
+-- no group of the name is among greater names, and a group is put before them
 none_above : (ks : List Group) (g : List ℕ) → AreAbove g ks → group_of g ks ≡ None
 none_above [] g above = refl
 none_above (k ∷ ks) g above = rw above.0 (none_above ks g above.1)
@@ -100,14 +100,14 @@ free_within ks g zero free = omega arith
 free_within [] g (suc i) free = absurd free
 free_within (k ∷ ks) g (suc i) free = let rest = free_within ks g i free.1 in omega (arith, rest)
 
--- What a step keeps
+-- The bytes that a step keeps
 
 pub kept_is : (ks new : List Group) (i : Input) (start : Option ℕ) (at : ℕ) (closes : Bool) (g bytes : List ℕ) → start ≡ Some at → piece_of i ≡ record { group = g; bytes = bytes } → new ≡ with_group (grown (group_or_empty g ks) at bytes closes) ks
     → new ≡ kept_at start ks (piece_of i) closes
 kept_is ks new i start at closes g bytes some is put =
     put ∙ sym (ap (λ (p : Piece). kept_at (Some at) ks p closes) is) ∙ sym (ap (λ (s : Option ℕ). kept_at s ks (piece_of i) closes) some)
 
--- its group has a name
+-- the group of kept bytes has a name
 pub kept_named : (ls : List Shelf) (i : Input) (start : Option ℕ) (at : ℕ) (closes : Bool) → start ≡ Some at → piece_of i ≡ record { group = []; bytes = [] } → CanKeep ls (piece_of i) start closes → ⊥
 kept_named ls i start at closes some none can =
     let can_put : CanPut ls (piece_of i) at closes = subst (λ (s : Option ℕ). CanKeep ls (piece_of i) s closes) some can in

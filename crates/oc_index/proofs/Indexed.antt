@@ -19,7 +19,7 @@ pub number_within : (net : List Message) (k : ℕ) (m : Message) → message_at 
 number_within net zero m is = absurd cc
 number_within net (suc k) m is = let within = get_within net k m is in (omega arith, omega (arith, within))
 
--- and each number of the net is one
+-- each number of the net is that of a message
 pub number_there : (net : List Message) (k : ℕ) → 1 ≤ k → k ≤ length net → message_at net k ≡ None → ⊥
 number_there net zero some few none = absurd (omega (arith, some))
 number_there net (suc k) some few none = get_there net k (omega (arith, few)) none where
@@ -28,7 +28,7 @@ number_there net (suc k) some few none = get_there net k (omega (arith, few)) no
   get_there (x ∷ net) zero within none = absurd cc
   get_there (x ∷ net) (suc k) within none = get_there net k (omega (arith, within)) none
 
--- and is the same where the net grows
+-- the message of a number is the same where the net grows
 get_kept : (net more : List Message) (k : ℕ) → k < length net → slice_get (net ++ more) k ≡ slice_get net k
 get_kept [] more k within = absurd (omega (arith, within))
 get_kept (x ∷ net) more zero within = refl
@@ -110,7 +110,7 @@ with_one net old new h m index at is put =
           let apart : q ≢ h = eqb-false q h e in
           subst (IsFirstWith net (old.count + 1) q) (sym (put.others q apart)) (wider net old.count q h m (least_with old q) at is apart (each net old index q))
 
--- and none more
+-- no message more leaves the index
 pub with_none : (net : List Message) (old new : NumbersView) → IsIndex net old → IsSame old new → IsIndex net new
 with_none net old new index same =
     index_of net new (omega (arith, index.few, same.count))
@@ -122,7 +122,7 @@ pub with_next : (net : List Message) (old new : NumbersView) (number h : ℕ) (m
 with_next net old new number h m spelled index next at spells is put =
     with_one net old new h m index (ap (message_at net) next ∙ sym at) (sym (is ∙ ap hash spells)) put
 
--- From where on a hash is searched
+-- The number from which a hash is searched
 
 pub from_none : (net : List Message) (n : NumbersView) (h from : ℕ) → IsIndex net n → None ≡ least_with n h → from ≡ n.count + 1 → IsFirstFrom net h from
 from_none net n h from index lacks is = subst (IsFirstFrom net h) (sym is) (index.lacks h (sym lacks))

@@ -76,7 +76,7 @@ groups_of_plan n ks groups lines i p keeps closes is made here seals kept =
     kept ∙ ap (λ (k : Option ℕ). kept_at k ks (piece_of i) closes) here ∙ ap (λ (b : Bool). kept_at p.keeps ks (piece_of i) b) seals
     ∙ ap (λ (o : Plan). kept_at o.keeps ks (piece_of i) o.seals) (made_of n ks lines i p is made)
 
--- and the control state too
+-- the node after a plan is that of the step
 pub step_of_plan : (n : Node) (between control : Control) (groups : List Group) (lines : List Shelf) (i : Input) (p : PlanView) (keeps : Option ℕ) (closes : Bool) → lines ≡ shelf n.groups → planned n.control p ≡ plan n.control lines i
     → keeps ≡ p.keeps → closes ≡ p.seals → groups ≡ kept_at keeps n.groups (piece_of i) closes → between ≡ n.control → control ≡ control_after between p → record { control = control; groups = groups } ≡ (step n i).node
 step_of_plan n between control groups lines i p keeps closes is made here seals kept same after =
@@ -84,7 +84,7 @@ step_of_plan n between control groups lines i p keeps closes is made here seals 
     ∙ ap (λ (o : Plan). whole o.node groups) (made_of n.control n.groups lines i p is made)
     ∙ ap (whole (step n i).node.control) (groups_of_plan n.control n.groups groups lines i p keeps closes is made here seals kept)
 
--- and are a shelf
+-- the groups after a plan are a shelf
 pub shelf_after : (n : Control) (ks groups : List Group) (lines : List Shelf) (i : Input) (p : PlanView) (keeps : Option ℕ) (closes : Bool) → groups ≡ kept_at keeps ks (piece_of i) closes → lines ≡ shelf ks → planned n p ≡ plan n lines i
     → keeps ≡ p.keeps → closes ≡ p.seals → IsReached n → IsShelf (shelf ks) → IsInput n.nodes n.me i → n.kept.log.length ≤ MAX_BASE_ACKED → IsShelf (shelf groups)
 shelf_after n ks groups lines i p keeps closes kept is made here seals reached fit input short =
@@ -121,7 +121,7 @@ records_again n h x new list is same short lawful =
     let all : AreRecords n.nodes list = lawful (omega arith, omega arith) short in
     subst (λ (k : ℕ). AreRecords k list) (sym (ap (λ (c : Control). c.nodes) is ∙ same)) all
 
--- a new node with records that stand for all that is durable is one that starts
+-- a new node with the records of all that is durable is the node that starts
 pub start_of_records : (n : Control) (nodes chain chunk me : ℕ) (areas own : List ℕ) (new made : Control) (list : List Record) → made ≡ record new { kept = folded new.kept list }
     → new ≡ new_control (record { nodes = nodes; chain = chain; chunk = chunk; areas = areas }) me → nodes ≡ n.nodes → chain ≡ n.chain → chunk ≡ n.chunk → me ≡ n.me → areas ≡ own → own ≡ n.areas
     → ((any : Durable) → length any.measures ≡ n.nodes → folded any list ≡ n.kept) → made ≡ (restarted (record { control = n; groups = [] })).control
@@ -131,6 +131,6 @@ start_of_records n nodes chain chunk me areas own new made list folds is a b c x
     folds ∙ ap (λ (c : Control). record c { kept = folded c.kept list }) begins
     ∙ ap (started_with (header n.nodes n.chain n.chunk n.areas) n.me) (stands (new_durable n.nodes) (length-replicate n.nodes no_reading))
 
--- and has its areas
+-- the node that starts has its areas
 pub start_areas : (h : Header) (x : ℕ) (new made : Control) (list : List Record) (own : List ℕ) → made ≡ record new { kept = folded new.kept list } → new ≡ new_control h x → h.areas ≡ own → own ≡ made.areas
 start_areas h x new made list own folds is a = sym a ∙ sym (ap (λ (c : Control). c.areas) is) ∙ sym (ap (λ (c : Control). c.areas) folds)

@@ -12,7 +12,7 @@ use Rattle.oc_index.specs.Index.{IsIndex, NumbersView}
 use Rattle.oc_index.proofs.Indexed.{grown}
 use Rattle.oc_world.specs.Inside.{IsLeftBy}
 
--- it asks nothing of the clocks
+-- an event that a merge plays asks nothing of the clocks
 pub played_time : (w : World) (e : Event) → IsPlayed e → HasTimeFor w e
 played_time w (Up x) played = tt
 played_time w (Crash x) played = tt
@@ -39,6 +39,6 @@ index_behind old new e n is index =
     let (more, grows) = net-next_world old e in
     subst (λ (w : World). IsIndex w.net n) (sym is) (grown old.net more (next_world old e).net n grows index)
 
--- and so where nothing happened
+-- the index is one of the net where nothing happened
 pub index_left : (old new : World) (e : Event) (n : NumbersView) → IsPlayed e → IsLeftBy e old new → IsIndex old.net n → IsIndex new.net n
 index_left old new e n played left index = subst (λ (w : World). IsIndex w.net n) (sym (left_same e old new played left)) index

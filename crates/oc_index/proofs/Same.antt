@@ -59,7 +59,7 @@ found_first net m k same before decides found =
     let here = decides.0 found in
     (here, λ j within is. before j within (is ∙ here))
 
--- and where none is among all, there is none
+-- no number is found where no message of the net is equal
 pub found_none : (net : List Message) (m : Message) (k : ℕ) → IsNoneBefore net m k → length net + 1 ≤ k → IsNumberOf net m None
 found_none net m k before all = λ j here. let within = number_within net j m here in before j (omega (arith, all, within.1)) here
 

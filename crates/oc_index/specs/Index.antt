@@ -53,7 +53,7 @@ pub record IsWith (old : NumbersView) (h : ℕ) (new : NumbersView) : Type 0 whe
   pub this : least_with new h ≡ or_number (least_with old h) (old.count + 1)
   pub others : (q : ℕ) → q ≢ h → least_with new q ≡ least_with old q
 
--- none was
+-- no message was indexed: all entries are unchanged
 pub record IsSame (old new : NumbersView) : Type 0 where
   pub count : new.count ≡ old.count
   pub least : (q : ℕ) → least_with new q ≡ least_with old q

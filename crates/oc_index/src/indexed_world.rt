@@ -48,7 +48,7 @@ impl IndexedWorld {
         requires spelled { spelled.now ≡ spelling message.now }
         ensures { IfOk result (λ same. IsTrue same ↔ (message_at self.now.world.world.net number ≡ Some message.now)) }
     {
-        // This call has clauses by which there are few nodes, so lawful messages have spellings.
+        // The clauses of this call say that there are few nodes, so lawful messages have spellings.
         let _nodes = self.world.count();
         match self.world.message(number)? {
             Some(found) => {
@@ -81,7 +81,7 @@ impl IndexedWorld {
     fn first_with(&self, hash: u64) -> u64
         ensures { IsFirstFrom self.now.world.world.net hash result }
     {
-        // At most the messages that were sent are indexed, and this call has a clause by which
+        // The messages that are indexed are at most those that were sent, and a clause of this call says that
         // those are few.
         let _sent = self.world.sent_count();
         match self.numbers.least(hash) {
@@ -97,7 +97,7 @@ fn index_all(alloc: Global, world: &World, numbers: &mut Numbers) -> Result<(), 
     requires { IsIndex world.now.world.net numbers.old }
     ensures { IsIndex world.now.world.net numbers.new }
 {
-    // This call has clauses by which there are few nodes, so lawful messages have spellings.
+    // The clauses of this call say that there are few nodes, so lawful messages have spellings.
     let _nodes = world.count();
     let sent = world.sent_count();
     for number in numbers.next()..sent + 1 {
@@ -138,7 +138,7 @@ impl Nodes for IndexedWorld {
 
     #[tactic(auto, using(crate::proofs::Same::has_spelling, crate::proofs::Same::none_of_hash))]
     fn number(&self, message: &Message) -> Result<Option<u64>, Memory> {
-        // This call has clauses by which there are few nodes, so lawful messages have spellings.
+        // The clauses of this call say that there are few nodes, so lawful messages have spellings.
         let _nodes = self.world.count();
         let spelled = encode(self.alloc, message)?;
         let from = self.first_with(hash_of(&spelled));

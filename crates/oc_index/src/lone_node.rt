@@ -105,7 +105,7 @@ fn started_again(alloc: Global, node: &Node, areas: &[u8]) -> Result<Node, Memor
     if !has_short_log(node) {
         return Err(Memory);
     }
-    // This call has a clause by which the node is one of a header.
+    // A clause of this call says that the node is one of a header.
     let nodes = node.nodes();
     let list = node.snapshot(1)?;
     let mut made = Node::new(
@@ -134,7 +134,7 @@ fn take_into(
     ensures shelf { IsShelf (shelf groups.new.items) }
     ensures areas { node.old.control.areas ≡ node.new.control.areas }
 {
-    // This call has a clause by which the node is lawful.
+    // A clause of this call says that the node is lawful.
     let _nodes = node.nodes();
     if !has_short_log(node) {
         return Err(Memory);

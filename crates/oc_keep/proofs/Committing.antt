@@ -1,4 +1,4 @@
--- What a commit leaves, at its end and at every moment of it.
+-- The files that a commit leaves, at its end and at every moment.
 use Rattle.std.proofs.Common.{◌≡◌, ◌⊎◌, inl, inr, ℕ, ◌+◌, ◌≤◌, ◌<◌, ◌^◌, true, false, IsTrue, Bool, List, [], ◌∷◌, ◌++◌, length, Option, Some, None, option_map, unwrap_or, refl, sym, ap, subst, ◌∙◌, ⊎_elim, arith}
 use Rattle.std.proofs.lemmas.List.{append-nil}
 use Rattle.oc_base.specs.declared.group.Group.{Group}
@@ -47,35 +47,35 @@ use Rattle.oc_keep.proofs.Sides.{honest_store, related_sides, reliable_store}
 use Rattle.oc_keep.proofs.Sizes.{records_fewer}
 use Rattle.oc_keep.proofs.Stays.{Law, all_stay, all_go_on, all_were_honest}
 
--- lawful records are read of the frame that they are written to
+-- lawful records are read from the frame that they are written to
 abbrev pub Reads : Type 0
 Reads = (nodes : ℕ) (list : List Record) → nodes < 2 ^ 32 → AreRecords nodes list → records_in nodes (records_bytes list) ≡ list
 
--- and no frame of them is bad
+-- such a frame is good
 abbrev pub Goods : Type 0
 Goods = (nodes : ℕ) (list : List Record) → nodes < 2 ^ 32 → AreRecords nodes list → first_bad nodes (records_bytes list ∷ []) ≡ None
 
 -- Before a commit
 
--- what was made ready can be put
+-- a prepared write can be put
 pub can_put : {D : Type 0} (view : D → DiskView) (k : KeptView D) (p : PlanView) (w : Write) → CanWrite view k p w → CanPutWrite k.store k.content w
 can_put view k p writes.Nothing can = tt
 can_put view k p (writes.Records frame) can = can.1
 can_put view k p (writes.Content piece) can = (can.1.prepared, can.1.adds)
 
--- on reliable disks it cannot fail
+-- a prepared write cannot fail on reliable disks
 pub has_room : {D : Type 0} (view : D → DiskView) (k : KeptView D) (p : PlanView) (w : Write) → CanWrite view k p w → AreReliable view (disks_of k) → HasRoomFor view k.store k.content w
 has_room view k p writes.Nothing can sure = tt
 has_room view k p (writes.Records frame) can sure = record { reliable = (reliable_store view k.store sure.control sure.alternate).0; room = can.2.room; calls = can.2.calls }
 has_room view k p (writes.Content piece) can sure = record { reliable = sure.content; room = can.1.room.room; calls = can.1.room.calls }
 
--- nor is it too long
+-- a prepared write is not too long on reliable disks
 pub fits_file : {D : Type 0} (view : D → DiskView) (k : KeptView D) (p : PlanView) (w : Write) → CanWrite view k p w → AreReliable view (disks_of k) → ¬ IsTooLong k.store k.content w
 fits_file view k p writes.Nothing can sure long = long
 fits_file view k p (writes.Records frame) can sure long = can.2.fits (reliable_store view k.store sure.control sure.alternate).0 long
 fits_file view k p (writes.Content piece) can sure long = can.1.room.fits sure.content long
 
--- Going on
+-- Disks that go on
 
 store_goes_on : {D : Type 0} (view : D → DiskView) (s s2 : StoreView D) → GoesOn (view s.current.disk) (view s2.current.disk) → s2.other ≡ s.other → s2.side ≡ s.side
     → GoesOn (view (first_disk s)) (view (first_disk s2)) × GoesOn (view (second_disk s)) (view (second_disk s2))
@@ -101,7 +101,7 @@ write_goes_on view k k2 (writes.Content piece) safe =
     subst (λ s. AllGoOn view (disks_of k) (disks_of (record k2 { store = s }))) (sym safe.1)
     (record { control = (StaysAsItWas-none (view (first_disk k.store))).goes_on; alternate = (StaysAsItWas-none (view (second_disk k.store))).goes_on; content = safe.0.takes.goes_on })
 
--- What the files give
+-- The contents of the files
 
 -- the groups of a content file with one more piece
 pub groups_more : (bodies : List (List ℕ)) (lines : List Shelf) (body : List ℕ) (e : Entry) → IsShelved bodies lines → entry_of body ≡ Some e → fits (line_of e.group lines) (length lines) e.start (length e.bytes) e.seals ≡ true
@@ -125,7 +125,7 @@ piece_fits : (lines : List Shelf) (piece : PieceView) → IsTrue (adds piece) �
     → fits (line_of piece.entry.group lines) (length lines) piece.entry.start (length piece.entry.bytes) piece.entry.seals ≡ true
 piece_fits lines piece some fit = fit some
 
--- what is durable with one more frame of records
+-- the durable state with one more frame of records
 pub records_more : Reads → (n : Control) (rs : List Record) (bodies : List (List ℕ)) (frame : List ℕ) → n.nodes < 2 ^ 32 → AreRecords n.nodes rs → frame ≡ records_bytes rs → n.kept ≡ folded (new_durable n.nodes) (records_of n.nodes bodies)
     → folded (new_durable n.nodes) (records_of n.nodes (bodies ++ frame ∷ [])) ≡ folded n.kept rs
 records_more reads n rs bodies frame few lawful spells folds =
@@ -151,7 +151,7 @@ commit_grows view k k2 (writes.Content piece) did safe honest = record {
 
 -- After a commit
 
--- what a commit leaves, except for the node
+-- the effect of a commit, except on the node
 record After {D : Type 0} (view : D → DiskView) (k k2 : KeptView D) (rs : List Record) : Type 0 where
   open_store : k2.store.closed ≡ false
   open_content : k2.content.journal.closed ≡ false
@@ -236,7 +236,7 @@ module _ {D : Type 0} (view : D → DiskView) (reads : Reads) (k : KeptView D) (
   after goods k2 p (writes.Records frame) lawful can wrote safe fits = after_records goods k2 p.records frame lawful can.0 wrote safe.0.other safe.1 fits
   after goods k2 p (writes.Content piece) lawful can wrote safe fits = after_piece k2 p.records piece wrote.0 can.0 wrote.1 safe.1
 
-  -- the node is kept
+  -- the invariant of the node on its files holds after a commit
   pub commit_kept : (goods : Goods) (k2 : KeptView D) (p : PlanView) (w : Write) → CanApply k.node p → CanWrite view k p w → Writes view w k.store k.content k2.store k2.content → WritesSafely view w k.store k.content k2.store k2.content → ¬ IsTooLong k.store k.content w
       → k2.node.control ≡ control_after n p → ((IsTrue (view k.content.journal.disk).honest → IsShelved k.content.journal.frames k.content.shelves) → IsTrue (view k2.content.journal.disk).honest → IsShelved k2.content.journal.frames k2.content.shelves)
       → IsKept view k2
@@ -258,7 +258,7 @@ module _ {D : Type 0} (view : D → DiskView) (reads : Reads) (k : KeptView D) (
         short = omega (arith, so.short, ap (λ (d : Durable). d.log.length) kept);
       }
 
-  -- the generation of its control files stays
+  -- the generation of the control files stays
   pub commit_generation : (k2 : KeptView D) (p : PlanView) (w : Write) → AreRecords n.nodes p.records → begun_generation p.records ≡ 0 → CanWrite view k p w → Writes view w k.store k.content k2.store k2.content → WritesSafely view w k.store k.content k2.store k2.content
       → IsHonest view k → k2.store.generation ≡ k.store.generation
   commit_generation k2 p writes.Nothing lawful plain can wrote safe honest = ap (λ s. s.generation) safe.0
@@ -268,7 +268,7 @@ module _ {D : Type 0} (view : D → DiskView) (reads : Reads) (k : KeptView D) (
     by_frames [] none = wrote.generation_first none ∙ ap generation_in can.0 ∙ generation_spelled n.nodes p.records lawful ∙ plain ∙ sym (wrote.generation_none (current_honest honest).0 none)
     by_frames (body ∷ bodies) some = wrote.generation (omega (arith, ap length some))
 
-  -- its groups are those of the step
+  -- the groups are those of the step
   pub commit_node : (k2 : KeptView D) (p : PlanView) (w : Write) → Writes view w k.store k.content k2.store k2.content → WritesSafely view w k.store k.content k2.store k2.content
       → k2.node.control ≡ control_after n p → IsHonest view k → node_of k2 ≡ (outcome_of (node_of k) (record { plan = p; write = w })).node
   commit_node k2 p w wrote safe control honest =
@@ -289,7 +289,7 @@ module _ {D : Type 0} (view : D → DiskView) (reads : Reads) (k : KeptView D) (
     groups = ap groups_in content;
   }
 
-  -- what is left of the control files where they were not touched, and of the content file
+  -- the control files, where they were not written, and the content file are as left before
   control_left : (law : Law view) (s2 : StoreView D) (a b : List ℕ) → s2 ≡ k.store → IsHonest view k → (view (first_disk s2)).since (view (first_disk k.store)).moment a → (view (second_disk s2)).since (view (second_disk k.store)).moment b → recovered_frames a b ≡ k.store.current.frames
   control_left law s2 a b same honest left left_b =
       is.control_files was_open honest a b
@@ -339,9 +339,9 @@ module _ {D : Type 0} (view : D → DiskView) (reads : Reads) (k : KeptView D) (
         }))
         ((safe.0.any_moment (is.open_content was_open) honest.content).each c left.content)
 
--- Where a disk failed
+-- A failed disk
 
--- the lines tell the frames that stay
+-- the lines still tell the frames of the content file
 failed_lines : {D : Type 0} (view : D → DiskView) (k k2 : KeptView D) (w : Write) → IsKept view k → FailsToWrite view w k.store k.content k2.store k2.content → WritesSafely view w k.store k.content k2.store k2.content → IsTrue (view k2.content.journal.disk).honest → IsShelved k2.content.journal.frames k2.content.shelves
 failed_lines view k k2 writes.Nothing is failed safe honest = absurd failed
 failed_lines view k k2 (writes.Records frame) is failed safe honest =
@@ -352,7 +352,7 @@ failed_lines view k k2 (writes.Content piece) is failed safe honest =
     subst (λ (bodies : List (List ℕ)). IsShelved bodies k2.content.shelves) (sym (failed.journal.frames before))
     (subst (λ (ls : List Shelf). IsShelved k.content.journal.frames ls) (sym failed.shelves) (is.shelved before))
 
--- the node is closed
+-- the invariant holds after a disk failed, which closes the node
 pub failed_kept : {D : Type 0} (view : D → DiskView) (k k2 : KeptView D) (w : Write) → IsKept view k → k2.node ≡ k.node → k2.closed ≡ true → FailsToWrite view w k.store k.content k2.store k2.content → WritesSafely view w k.store k.content k2.store k2.content → IsKept view k2
 failed_kept view k k2 w is node closes failed safe = record {
   reached = subst (λ (n : NodeView). IsReached n.control) (sym node) is.reached;
@@ -367,7 +367,7 @@ failed_kept view k k2 w is node closes failed safe = record {
   short = omega (arith, is.short, ap (λ (n : NodeView). n.control.kept.log.length) node);
 }
 
--- a disk's count of faults rose
+-- the count of faults of one disk rose
 pub failed_rose : {D : Type 0} (view : D → DiskView) (k k2 : KeptView D) (w : Write) → FailsToWrite view w k.store k.content k2.store k2.content → WritesSafely view w k.store k.content k2.store k2.content → OneRose view (disks_of k) (disks_of k2)
 failed_rose view k k2 writes.Nothing failed safe = absurd failed
 failed_rose view k k2 (writes.Records frame) failed safe =
@@ -387,7 +387,7 @@ failed_groups view k k2 writes.Nothing failed safe honest = absurd failed
 failed_groups view k k2 (writes.Records frame) failed safe honest = ap (λ c. groups_in c.journal.frames) safe.1
 failed_groups view k k2 (writes.Content piece) failed safe honest = ap groups_in (failed.journal.frames honest.content)
 
--- and the generation
+-- the generation stays
 pub failed_generation : {D : Type 0} (view : D → DiskView) (k k2 : KeptView D) (w : Write) → FailsToWrite view w k.store k.content k2.store k2.content → WritesSafely view w k.store k.content k2.store k2.content → k2.store.generation ≡ k.store.generation
 failed_generation view k k2 writes.Nothing failed safe = absurd failed
 failed_generation view k k2 (writes.Records frame) failed safe = failed.generation

@@ -1,4 +1,4 @@
--- The files of a node on honest disks are refused only where memory is wanting.
+-- Loads of a node from honest disks: they are refused only where memory runs out.
 use Rattle.std.proofs.Common.{◌≡◌, ◌∙◌, ℕ, suc, inl, inr, refl, sym, subst, ap, List, [], ◌∷◌, ◌++◌, take, drop, fold, Option, Some, None, IsSome}
 use Rattle.std.proofs.lemmas.List.{take-append-drop}
 use Rattle.oc_base.specs.declared.group.Group.{Group}
@@ -17,7 +17,7 @@ use Rattle.oc_store.specs.Promises.{RefusesSide}
 use Rattle.oc_store.specs.declared.errors.Side.{Side}
 use Rattle.oc_store.specs.declared.errors.Side.TheVariants.{First, Second}
 
--- frames after a bad one mean nothing
+-- frames after a bad one have no meaning
 still_none : (bodies : List (List ℕ)) → fold more None bodies ≡ None
 still_none [] = refl
 still_none (body ∷ bodies) = still_none bodies

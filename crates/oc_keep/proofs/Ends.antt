@@ -1,4 +1,5 @@
--- What a call answers, and so does not: each is told here of a few variables, since it would cost far more where all facts of a call are known.
+-- Facts about the answers of a call. Each is proved here about a few variables, since a proof among all facts of a call costs
+-- far more.
 use Rattle.std.proofs.Common.{◌≡◌, ◌↔◌, Bool, true, false, IsTrue, IsErrOf, Result, Ok, Err, refl, ap, ◌∙◌}
 use Rattle.oc_content.specs.declared.errors.ReadError.{ReadError}
 use Rattle.oc_content.specs.declared.errors.ReadError.TheVariants as reads
@@ -14,15 +15,15 @@ use Rattle.oc_keep.specs.declared.errors.KeepLoad.{KeepLoad}
 use Rattle.oc_keep.specs.declared.errors.KeptRead.TheVariants as kepts
 use Rattle.oc_keep.specs.declared.errors.TidyError.TheVariants as tidies
 
--- one that is closed is not open
+-- a closed node is not open
 pub shut_open : (closed : Bool) → closed ≡ true → closed ≡ false → ⊥
 shut_open closed shut is_open = absurd cc
 
--- one that is open is not said to be closed
+-- the error of a closed node is not answered by an open one
 pub still_open : {T E : Type 0} (r : Result T E) (e : E) (closed : Bool) → (IsErrOf r e → ⊥) → closed ≡ false → IsErrOf r e ↔ IsTrue closed
 still_open r e closed not is_open = (λ wrong. absurd (not wrong), λ shut. absurd (shut_open closed shut is_open))
 
--- what was done did not fail
+-- a success is no failure
 pub done : {T E : Type 0} (x : T) (e : E) → IsErrOf (Ok x) e → ⊥
 done x e wrong = absurd cc
 
@@ -32,7 +33,7 @@ commit_unfull e disk wrong = absurd cc
 pub read_unfailed : {T : Type 0} (e : ReadError) → e ≡ reads.NoGroup → IsErrOf {T = T} (Err e) reads.Disk → ⊥
 read_unfailed e none wrong = absurd cc
 
--- a trial that ended since a file is full
+-- a trial ended since a file is full
 pub ended_full : (e : KeepError) → ends.Take e ≡ ends.Take keeps.Full → e ≡ keeps.Full
 ended_full e ended = cc
 
@@ -42,18 +43,18 @@ ended_all ended = absurd cc
 pub ended_load : (e : KeepLoad) → ends.Load e ≡ ends.Take keeps.Full → ⊥
 ended_load e ended = absurd cc
 
--- a read that failed is not one of a closed node
+-- an error of a group that is not held is not that of a closed node
 pub kept_none : {T : Type 0} → IsErrOf {T = T} (Err kepts.NoGroup) kepts.Closed → ⊥
 kept_none wrong = absurd cc
 
 pub kept_disk : {T : Type 0} → IsErrOf {T = T} (Err kepts.Disk) kepts.Closed → ⊥
 kept_disk wrong = absurd cc
 
--- a node that is closed did not just fail
+-- the error of a closed node is not that of a disk that failed now
 pub tidy_closed : {T : Type 0} → IsErrOf {T = T} (Err tidies.Closed) tidies.Disk → ⊥
 tidy_closed wrong = absurd cc
 
--- a frame that is told as too long is too long for its file, and the other way round
+-- a frame is answered to be too long exactly where its append was refused as too long
 append_full : {T : Type 0} (e : AppendError) (r : CommitError) → r ≡ of_append e → IsErrOf {T = T} (Err r) commits.Full → e ≡ appends.Full
 append_full appends.Full r is full = refl
 append_full appends.Disk r is full = absurd cc

@@ -1,4 +1,4 @@
--- The change log grows by one certificate a record at most.
+-- The growth of the change log: at most one certificate for each record.
 use Rattle.std.proofs.Common.{ℕ, ◌+◌, ◌≤◌, ◌==◌, List, [], ◌∷◌, length, arith}
 use Rattle.std.proofs.lemmas.Bool.{cond_both}
 use Rattle.oc_base.specs.declared.cert.Cert.{Cert}
@@ -23,7 +23,7 @@ noted_log modes.Acting l c = omega arith
 acked_log : (l : Log) (upto : ℕ) → (ack l upto).length ≤ l.length
 acked_log l upto = cond_both (is_ahead l upto) _ l (λ (m : Log). m.length ≤ l.length) (λ _. omega arith) (λ _. omega arith)
 
--- above what a base may have, one record makes the log longer by one at most
+-- one record makes the log longer by at most one, above the greatest length at a base
 log_one : (nodes : ℕ) (d : Durable) (r : Record) (b : ℕ) → IsRecord nodes r → IsKept nodes d → MAX_BASE_ACKED ≤ b → d.log.length ≤ b → (fold_one d r).log.length ≤ b + 1
 log_one nodes d (records.Ask s p) b ok kept most h = omega arith
 log_one nodes d (records.Joined p r) b ok kept most h =
@@ -45,7 +45,7 @@ log_one nodes d (records.Snapshot g) b ok kept most h = omega arith
 log_one nodes d (records.Entry c) b ok kept most h = omega (arith, h, noted_log d.mode d.log c)
 log_one nodes d (records.Info number clients) b ok kept most h = omega (arith, h)
 
--- and so do these
+-- a list of records makes the log longer by at most their number
 pub log_grows : (nodes : ℕ) (d : Durable) (rs : List Record) (b : ℕ) → AreRecords nodes rs → IsKept nodes d → MAX_BASE_ACKED ≤ b → d.log.length ≤ b → (folded d rs).log.length ≤ b + length rs
 log_grows nodes d [] b ok kept most h = omega (arith, h)
 log_grows nodes d (r ∷ rs) b ok kept most h =

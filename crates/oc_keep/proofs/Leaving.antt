@@ -1,4 +1,4 @@
--- Every crash leaves files of a node, as full as the node finds them.
+-- The files that a crash leaves: files of a node, as full as the node finds them.
 use Rattle.std.proofs.Common.{◌≡◌, ℕ, Bool, true, false, if◌then◌else◌, IsSome, List, [], ◌∷◌, ◌++◌, Option, Some, None, option_map, refl, sym, ap, subst, ◌∙◌, arith}
 use Rattle.oc_base.specs.declared.group.Group.{Group}
 use Rattle.oc_base.specs.declared.shelf.Shelf.{Shelf}
@@ -33,14 +33,14 @@ use Rattle.oc_keep.proofs.Stops.{mem_honest}
 good_journal : (nodes : ℕ) (bodies : List (List ℕ)) (file : List ℕ) → IsJournalOf bodies file → first_bad nodes bodies ≡ None → IsGood nodes file
 good_journal nodes bodies file is good = (is.journal, ap (first_bad nodes) is.frames ∙ good)
 
--- frames that lines tell mean something
+-- frames that lines tell have a meaning
 pub told : (bodies : List (List ℕ)) (lines : List Shelf) → IsShelved bodies lines → IsSome (content_of bodies)
 told bodies lines shelved = by_content (content_of bodies) shelved where
   by_content : (found : Option (List Group)) → option_map shelf found ≡ Some lines → IsSome found
   by_content None h = absurd cc
   by_content (Some ks) h = refl
 
--- a journal with frames that lines tell
+-- a journal whose frames the lines tell
 content_journal : (bodies : List (List ℕ)) (lines : List Shelf) (file : List ℕ) → IsJournalOf bodies file → IsShelved bodies lines → IsContentFile file
 content_journal bodies lines file is shelved = (is.journal, subst (λ (frames : List (List ℕ)). IsSome (content_of frames)) (sym is.frames) (told bodies lines shelved))
 
@@ -51,7 +51,7 @@ both_good : (nodes : ℕ) (side : Side) (current other : List (List ℕ)) (a b :
 both_good nodes First current other a b x y good good_other = (good_journal nodes current a x good, good_journal nodes other b y good_other)
 both_good nodes Second current other a b x y good good_other = (good_journal nodes other a y good_other, good_journal nodes current b x good)
 
--- images of the first disk and the second are those of the current one and the other
+-- images of the first and the second disk are images of the current and the other one
 side_images : {D : Type 0} (view : D → DiskView) (side : Side) (x y : JournalView D) (a b : List ℕ) → HoldsJournal view x → HoldsJournal view y → (view (at_side side x.disk y.disk)).may_leave a → (view (at_side side y.disk x.disk)).may_leave b
     → IsJournalOf x.frames (at_side side a b) × IsJournalOf y.frames (at_side side b a)
 side_images view First x y a b current other left left_b = (current.images a left, other.images b left_b)
@@ -78,7 +78,7 @@ module _ {D : Type 0} (view : D → DiskView) (k : KeptView D) (is : IsKept view
         content = content_journal k.content.journal.frames k.content.shelves c (content.images c left.content) (is.shelved honest.content);
       }
 
-  -- an input for which a file is full is one for which the file of each image is
+  -- an input for which a file is full is one for which the file of each image is full
   pub kept_full : HoldsJournal view k.content.journal → (i : Input) → IsFullAt k i → IsFullOn view (disks_of k) (node_of k) i
   kept_full content i full = λ a b c left.
       let control_end : k.store.current.end ≡ end_of (recovered_frames a b) = store.current.end ∙ ap end_of (sym (is.control_files was_open honest a b left.control left.alternate)) in
@@ -90,7 +90,7 @@ module _ {D : Type 0} (view : D → DiskView) (k : KeptView D) (is : IsKept view
 
 -- A commit that was stopped
 
--- the frames with one more or without it
+-- a list of frames with one more or without it
 after_good : (n : ℕ) (bodies : List (List ℕ)) (frame : List ℕ) (kept : Bool) → first_bad n bodies ≡ None → first_bad n (frame ∷ []) ≡ None → first_bad n (if kept then bodies ++ frame ∷ [] else bodies) ≡ None
 after_good n bodies frame true good one = good_more n bodies frame good one
 after_good n bodies frame false good one = good
@@ -99,7 +99,7 @@ module _ (k : KeptView MemDiskView) (is : IsKept view_of k) (was_open : k.closed
   abbrev count : ℕ
   count = k.node.control.nodes
 
-  -- nothing was to be written
+  -- no frame was to be written
   pub unwritten_files : (d : Disks MemDiskView) → d ≡ disks_of k → HoldsJournals view_of k.store → HoldsJournal view_of k.content.journal → LeavesFiles view_of count d
   unwritten_files d same store content = subst (LeavesFiles view_of count) (sym same) (kept_files view_of k is was_open (mem_honest k) store content)
 

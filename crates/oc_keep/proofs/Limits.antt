@@ -1,4 +1,4 @@
--- What the rule Content keeps is within the limits of the content log.
+-- The pieces that a step keeps of an input are within the limits of the content log.
 use Rattle.std.proofs.Common.{◌≡◌, ℕ, ◌+◌, ◌-◌, ◌≤◌, Bool, true, false, not, ◌&&◌, ◌||◌, ◌==◌, nat_lt, nat_le, if◌then◌else◌, Option, Some, None, is_some, option_map, List, [], ◌∷◌, ◌++◌, length, drop, refl, sym, ap, subst, ◌∙◌, arith}
 use Rattle.std.proofs.lemmas.Bool.{cond_both}
 use Rattle.std.proofs.lemmas.Bool.Decides.{nat_tests}
@@ -41,12 +41,12 @@ use Rattle.oc_keep.specs.Puts.{entry_for, CanPut, CanKeep}
 
 -- Tests
 
--- what is chosen where a test passes, and where it fails
+-- a property of the chosen one of two plans
 either_if : (b : Bool) (P : Plan → Type 0) (o q : Plan) → (b ≡ true → P o) → (b ≡ false → P q) → P (if b then o else q)
 either_if true P o q h k = h refl
 either_if false P o q h k = k refl
 
--- a seal that is added is added once
+-- a seal that is added twice is added once
 seal_again : (a b c : Bool) → (a && b && c && b && c) ≡ (a && b && c)
 seal_again true true true = refl
 seal_again true true false = refl
@@ -59,11 +59,11 @@ limit_free true b h = absurd cc
 limit_free false true h = absurd cc
 limit_free false false h = (refl, refl)
 
--- the first of four tests that passes is none
+-- a piece that passes four tests has no fault
 no_fault : (s : GroupState) (start count : ℕ) → nat_lt s.held start ≡ false → (s.sealed && nat_lt s.held (start + count)) ≡ false → s.one_too_many ≡ false → nat_lt MAX_GROUP_BYTES (start + count) ≡ false → fault_of s start count ≡ None
 no_fault s start count gap shut many long = rw (gap, shut, many, long) refl
 
--- What is known of a group by its line
+-- A group by its line
 
 held_is : (g : List ℕ) (line : Option Shelf) (n : ℕ) → (group_state line n).held ≡ (line_or_none g line).held
 held_is g None n = refl
@@ -97,7 +97,7 @@ short_line (Some l) n ok = ok.1
 -- Publish and seal
 
 module _ (ls : List Shelf) (g bytes : List ℕ) (named : IsGroupName g) (few : length bytes ≤ MAX_PUBLISH_BYTES) (ok : AreLines ls) where
-  -- the group's line, and what is to be shown
+  -- the line of the group, and the statement to prove
   abbrev the_line : Shelf
   the_line = line_at g ls
 
@@ -113,7 +113,7 @@ module _ (ls : List Shelf) (g bytes : List ℕ) (named : IsGroupName g) (few : l
   held_short : (group_state_in ls g).held ≤ MAX_GROUP_BYTES
   held_short = short_line (line_of g ls) (length ls) (line_found g ls ok)
 
-  -- nothing refuses a piece that is within the limits
+  -- a piece within the limits is not refused
   within_limits : (at : ℕ) → nat_lt the_line.held at ≡ false → (the_line.sealed && nat_lt the_line.held (at + length bytes)) ≡ false → limit ls g (at + length bytes) ≡ None → fault_of (group_state_in ls g) at (length bytes) ≡ None
   within_limits at gap shut free =
       let parts = limit_free (not (is_some (line_of g ls)) && nat_le MAX_GROUPS (length ls)) (nat_lt MAX_GROUP_BYTES (at + length bytes)) free in
@@ -159,7 +159,7 @@ module _ (ls : List Shelf) (g bytes : List ℕ) (named : IsGroupName g) (few : l
 
   -- Chunks
 
-  -- a chunk that adds something does so past what is held
+  -- a chunk that adds something adds it past the held bytes
   chunk_adds : (b shut : Bool) (n held start : ℕ) → nat_lt held start ≡ false → (b || nat_lt held (start + n) || shut) ≡ true → (b || nat_lt 0 (n - (held - start)) || shut) ≡ true
   chunk_adds true shut n held start gap h = refl
   chunk_adds false true n held start gap h = or_true (nat_lt 0 (n - (held - start)))
@@ -204,7 +204,7 @@ module _ (ls : List Shelf) (g bytes : List ℕ) (named : IsGroupName g) (few : l
       (subst (λ (name : List ℕ). limit ls name end ≡ None) (line_named g ls) free)
       (subst (λ (name : List ℕ). (not (is_some (line_of name ls)) || nat_lt the_line.held end || adds_seal the_line end last) ≡ true) (line_named g ls) more))) (λ _. nothing))))
 
--- a seal closes a group that is held
+-- a seal closes a held group
 seal_fits : (ls : List Shelf) (g : List ℕ) (l : Shelf) → IsGroupName g → line_of g ls ≡ Some l → l.sealed ≡ false → l.held ≤ MAX_GROUP_BYTES → CanPut ls (record { group = g; bytes = [] }) l.held true
 seal_fits ls g l named there is_open short =
     let state_is : group_state_in ls g ≡ group_state (Some l) (length ls) = ap (λ (o : Option Shelf). group_state o (length ls)) there in
@@ -235,7 +235,7 @@ seal_keeps ls g o (Some l) named none there ok =
 
 -- The rules
 
--- every other rule keeps nothing
+-- every other rule keeps no piece
 nothing_kept : (ls : List Shelf) (p : Piece) (e k : ℕ) (n : Control) (q : Plan) → Goes e k (begun n) q → CanKeep ls p q.keeps q.seals
 nothing_kept ls p e k n q h = rw h.by.keeps tt
 
@@ -260,7 +260,7 @@ received_fits nodes n ls p (bodies.Chunk g start bytes last) body ok =
     either (n.me == 1) (λ (q : Plan). CanKeep ls (record { group = g; bytes = bytes }) q.keeps q.seals) (ignored (begun n)) (chunk_to (begun n) ls p (line_at g ls) start (start + length bytes) last)
     tt (chunk_keeps ls g bytes body.0 (omega (arith, body.2)) ok (begun n) p start last refl)
 
--- what a step keeps can be put
+-- a piece that a step keeps can be put
 pub keeps_fit : (nodes : ℕ) (n : Control) (ls : List Shelf) (i : Input) → IsInput nodes n.me i → IsShelf ls → CanKeep ls (piece_of i) (plan n ls i).keeps (plan n ls i).seals
 keeps_fit nodes n ls (inputs.Tick t) fair ok = nothing_kept ls none (length n.kept.table) 2 n _ (goes_tick (begun n) ls t)
 keeps_fit nodes n ls inputs.CheckNow fair ok = nothing_kept ls none 0 2 n _ (goes_checks (begun n))
@@ -277,7 +277,7 @@ keeps_fit nodes n ls (inputs.Seal g) fair ok =
 keeps_fit nodes n ls (inputs.Client area start g) fair ok = nothing_kept ls none 0 0 n _ (goes_client (begun n) ls area start g)
 keeps_fit nodes n ls (inputs.Delivered m) fair ok = received_fits nodes n ls m.from m.body fair.0.body ok.0
 
--- What is put is what the step makes of the groups
+-- The groups of a step are those with the put piece
 
 group_named : (g : List ℕ) (ks : List Group) → (group_or_empty g ks).name ≡ g
 group_named g [] = refl

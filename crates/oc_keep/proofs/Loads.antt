@@ -1,4 +1,4 @@
--- What a load leaves.
+-- The effect of a load.
 use Rattle.std.proofs.Common.{◌≡◌, ℕ, ◌+◌, ◌≤◌, false, IsSome, IsTrue, List, refl, sym, ap, subst, ◌∙◌}
 use Rattle.oc_base.specs.declared.limits.TheConstants.{MAX_BASE_ACKED, MAX_LOG_LENGTH}
 use Rattle.oc_content.specs.ContentFile.{content_of, groups_in}
@@ -22,14 +22,14 @@ use Rattle.oc_keep.specs.Promises.{IsNodeOf, LoadsSafely}
 use Rattle.oc_keep.proofs.Leaving.{told}
 use Rattle.oc_keep.proofs.Stays.{Law, all_honest, kept_survives, was_honest}
 
--- a disk that is not loaded yet
+-- a disk that was not loaded yet
 loads_none : (u : DiskView) → (IsTrue u.honest → IsConsistent u) → journals.LoadsSafely u u
 loads_none u law = record {
   goes_on = (StaysAsItWas-none u).goes_on;
   any_moment = λ honest. LeavesOnly-start u (IsLikeAnImage u) (law honest) (λ c left. (c, left, refl));
 }
 
--- files of the same frames recover the same node
+-- files with the same frames recover the same node
 recovered_same : (h : Header) (me : ℕ) (a b c x y z : List ℕ) → frames_of a ≡ frames_of x → frames_of b ≡ frames_of y → frames_of c ≡ frames_of z → recovered h me a b c ≡ recovered h me x y z
 recovered_same h me a b c x y z ea eb ec =
     ap (λ (bodies : List (List ℕ)). record { control = started_with h me (folded (new_durable h.nodes) (records_of h.nodes (current_frames bodies (frames_of b)))); groups = groups_in (frames_of c) }) ea
@@ -60,7 +60,7 @@ loads_all view h me d e first second third = record {
 pub loads_controls : {D : Type 0} (view : D → DiskView) (h : Header) (me : ℕ) (x y z x2 y2 : D) → Law view → LoadBothSafely (view x) (view y) (view x2) (view y2) → LoadsSafely view h me (disks x y z) (disks x2 y2 z)
 loads_controls view h me x y z x2 y2 law both = loads_all view h me (disks x y z) (disks x2 y2 z) both.first both.second (loads_none (view z) (law z))
 
--- a load of all three, whose disks these are
+-- a load of all three files, with the disks that come back
 pub loads_files : {D : Type 0} (view : D → DiskView) (h : Header) (me : ℕ) (x y z x2 y2 z2 : D) (s : StoreView D) (disk : D) → LoadBothSafely (view x) (view y) (view (first_disk s)) (view (second_disk s)) → journals.LoadsSafely (view z) (view disk)
     → x2 ≡ first_disk s → y2 ≡ second_disk s → z2 ≡ disk → LoadsSafely view h me (disks x y z) (disks x2 y2 z2)
 loads_files {D} view h me x y z x2 y2 z2 s disk both content first second third = loads_all view h me (disks x y z) (disks x2 y2 z2)
@@ -70,7 +70,7 @@ loads_files {D} view h me x y z x2 y2 z2 s disk both content first second third 
 
 -- A node that is loaded
 
--- what is read of three honest disks, and what it is kept in
+-- the parts that were read from three honest disks, and the views that have them
 module _ {D : Type 0} (view : D → DiskView) (h : Header) (me : ℕ) (x y z : D) (node : NodeView) (s : StoreView D) (l : ContentView D) (list : List Record)
     (started : node.control ≡ started_with h me (folded (new_durable h.nodes) list)) (store : IsStoreOf view h.nodes x y s list) (safely : LoadBothSafely (view x) (view y) (view (first_disk s)) (view (second_disk s)))
     (content : IsContentOf view z l) (content_safely : journals.LoadsSafely (view z) (view l.journal.disk)) where

@@ -1,4 +1,4 @@
--- A snapshot in the place of all records.
+-- A snapshot that takes the place of all records.
 use Rattle.std.proofs.Common.{◌≡◌, ◌⊎◌, inl, inr, ℕ, ◌+◌, ◌-◌, ◌^◌, ◌<◌, ◌≤◌, Bool, false, IsTrue, List, [], ◌∷◌, length, sym, ap, subst, ◌∙◌, ⊎_elim, arith}
 use Rattle.std.proofs.lemmas.List.{length-replicate}
 use Rattle.oc_base.specs.Lawful.{IsCount}
@@ -37,11 +37,11 @@ use Rattle.oc_keep.proofs.Stays.{Law, all_were_honest}
 
 -- Moments
 
--- what one disk had left since the earlier time it had left since the later one, if no call went by between
+-- the images of one disk since the earlier time are its images since the later time, where no call came between
 same_moment : (u v w : DiskView) (a : List ℕ) → StaysAsItWas u v → IsTrue u.honest → w.since u.moment a → w.since v.moment a
 same_moment u v w a stays honest left = subst (λ (t : ℕ). w.since t a) (sym (stays.moment honest)) left
 
--- room was made in the other file of a store, and then it went on
+-- a reservation in the other file of a store, and then a change of the store
 reserved_first : {D : Type 0} (view : D → DiskView) (s m s2 : StoreView D) (F G : List (List ℕ)) → ReservesOther view s m → stores.AreHonest view s → RecoversEither view m s2 F G → RecoversEither view s s2 F G
 reserved_first view s m s2 F G reserves honest either = λ a b left left_b.
     let moved = moments s.side (sym reserves.side) in
@@ -60,7 +60,7 @@ reserved_first view s m s2 F G reserves honest either = λ a b left left_b.
 
 -- The store
 
--- the sides change places
+-- the two files change sides
 turned_sides : {A : Type 0} (R : A → A → Type 0) (side : Side) (x y x2 y2 : A) → R x y2 → R y x2 → R (at_side side x y) (at_side (opposite side) x2 y2) × R (at_side side y x) (at_side (opposite side) y2 x2)
 turned_sides R First x y x2 y2 h k = (h, k)
 turned_sides R Second x y x2 y2 h k = (k, h)
@@ -108,7 +108,7 @@ replaces_made view s m s2 rs frame reserves turns moments spells generation = re
         subst (λ (side : Side). ((view (first_disk s)).moment ≤ (view (at_side side s2.current.disk s2.other.disk)).moment) × ((view (second_disk s)).moment ≤ (view (at_side side s2.other.disk s2.current.disk)).moment)) (sym (turns.side ∙ ap opposite reserves.side))
         (turned_sides (λ x y. (view x).moment ≤ (view y).moment) s.side s.current.disk s.other.disk s2.current.disk s2.other.disk here there)
 
--- its disk failed
+-- the disk of the other file failed
 pub closes_made : {D : Type 0} (view : D → DiskView) (s m s2 : StoreView D) (rs : List Record) (frame : List ℕ) → ReservesOther view s m → ClosesByTurn view frame m s2 → (stores.AreHonest view m → RecoversEither view m s2 m.current.frames (frame ∷ []))
     → frame ≡ records_bytes rs → ClosesByTurning view rs s s2
 closes_made view s m s2 rs frame reserves closes moments spells = record {
@@ -152,7 +152,7 @@ closes_made view s m s2 rs frame reserves closes moments spells = record {
     by_side First = inr rose
     by_side Second = inl rose
 
--- what is reserved for a frame is enough
+-- the reserved room is enough for the frame
 pub sure_room : {D : Type 0} (view : D → DiskView) (j m : JournalView D) (rs : List Record) (frame : List ℕ) → OnlyReads view j m → HasRoom view m (length (records_bytes rs)) → frame ≡ records_bytes rs → IsTrue (view j.disk).reliable → CannotFail (length frame + 7) 6 (view m.disk)
 sure_room view j m rs frame same room spells sure = record {
   reliable = subst (λ (b : Bool). IsTrue b) (sym same.disk.goes_on.reliable) sure;
@@ -160,7 +160,7 @@ sure_room view j m rs frame same room spells sure = record {
   calls = omega (arith, room.calls);
 }
 
--- it is that of the snapshot
+-- the written frame is the snapshot's
 pub spells_made : (frame : List ℕ) (now items rs : List Record) → frame ≡ records_bytes now → now ≡ items → items ≡ rs → frame ≡ records_bytes rs
 spells_made frame now items rs spells same is = spells ∙ ap (λ (qs : List Record). records_bytes qs) (same ∙ is)
 
@@ -175,9 +175,9 @@ next_above generation next = (omega arith, omega (arith, next))
 pub snapshot_generation : (nodes generation : ℕ) (d : Durable) (frame : List ℕ) → AreRecords nodes (snapshot generation d) → frame ≡ records_bytes (snapshot generation d) → generation_in frame ≡ generation
 snapshot_generation nodes generation d frame lawful spells = ap generation_in spells ∙ generation_spelled nodes (snapshot generation d) lawful
 
--- The node
+-- The node on its files
 
--- snapshots give what they are of
+-- a snapshot gives the state from which it was made
 abbrev pub Stands : Type 0
 Stands = (nodes generation : ℕ) (state any : Durable) → IsSoundDurable nodes state → length any.measures ≡ nodes → folded any (snapshot generation state) ≡ state
 
@@ -185,7 +185,7 @@ Stands = (nodes generation : ℕ) (state any : Durable) → IsSoundDurable nodes
 snapshot_lawful : (n : Control) (generation : ℕ) → IsReached n → IsCount generation → n.kept.log.length ≤ MAX_BASE_ACKED → AreRecords n.nodes (snapshot generation n.kept)
 snapshot_lawful n generation reached count based = lawful_snapshot n.nodes generation n.kept reached.header.some count reached.sound.kept.measures based reached.lawful.kept
 
--- what is recovered of the frame of a node's snapshot
+-- the durable state recovered from the frame of a node's snapshot
 frame_stands : Reads → Stands → (n : Control) (generation : ℕ) → IsReached n → IsCount generation → n.kept.log.length ≤ MAX_BASE_ACKED → folded (new_durable n.nodes) (records_of n.nodes (records_bytes (snapshot generation n.kept) ∷ [])) ≡ n.kept
 frame_stands reads stands n generation reached count based =
     let lawful = snapshot_lawful n generation reached count based in
@@ -202,7 +202,7 @@ module _ {D : Type 0} (view : D → DiskView) (reads : Reads) (stands : Stands) 
   pub turned_goes_on : (s2 : StoreView D) (closed : Bool) → StoreGoesOn view k.store s2 → AllGoOn view (disks_of k) (disks_of (record k { store = s2; closed = closed }))
   turned_goes_on s2 closed on = record { control = on.first; alternate = on.second; content = (StaysAsItWas-none (view k.content.journal.disk)).goes_on }
 
-  -- the node is kept
+  -- the invariant of the node on its files holds
   pub turned_kept : (goods : Goods) (s2 : StoreView D) (closed : Bool) → Replaces view rs k.store s2 → IsKept view (record k { store = s2; closed = closed })
   turned_kept goods s2 closed turns = record {
     reached = is.reached;
@@ -228,7 +228,7 @@ module _ {D : Type 0} (view : D → DiskView) (reads : Reads) (stands : Stands) 
       before : IsHonest view (record k { store = s2; closed = closed }) → stores.AreHonest view k.store
       before honest = honest_store view k.store (was honest).control (was honest).alternate
 
-  -- at every moment the same node is recovered
+  -- the same node is recovered at every moment
   pub turned_moments : Law view → (s2 : StoreView D) (closed : Bool) → (stores.AreHonest view k.store → StoreIsLater view k.store s2) → (stores.AreHonest view k.store → RecoversEither view k.store s2 k.store.current.frames (records_bytes rs ∷ [])) → IsHonest view k → AtAnyMoment view k (record k { store = s2; closed = closed }) (SameDurable (node_of k))
   turned_moments law s2 closed later moments honest = record {
     later =

@@ -1,4 +1,4 @@
--- Taking inputs one after another.
+-- A run of inputs, one after another.
 use Rattle.std.proofs.Common.{◌≡◌, inl, inr, ℕ, ◌+◌, ◌-◌, ◌<◌, false, true, IsTrue, List, [], ◌∷◌, ◌++◌, length, reverse, take, drop, refl, sym, ap, subst, ◌∙◌, arith, append_assoc}
 use Rattle.std.specs.List.{AllByRecursion}
 use Rattle.std.proofs.lemmas.List.{append-nil, drop_at, length-append, reverse-append}
@@ -24,7 +24,7 @@ use Rattle.oc_keep.proofs.Stays.{AllStay, Law, all_honest, all_were_honest, leav
 
 -- Lists of inputs
 
--- one input more
+-- one more input
 after_push : (n : Node) (t : List Input) (i : Input) → after_inputs n (t ++ i ∷ []) ≡ (step (after_inputs n t) i).node
 after_push n [] i = refl
 after_push n (x ∷ t) i = after_push (step n x).node t i
@@ -34,7 +34,7 @@ take_front : (t rest : List Input) → take (length t) (t ++ rest) ≡ t
 take_front [] rest = refl
 take_front (x ∷ t) rest = ap (λ (xs : List Input). x ∷ xs) (take_front t rest)
 
--- what is left is fewer by one
+-- one input fewer is left
 pub one_fewer : (m n : ℕ) → m + 1 ≡ n → m < n
 one_fewer m n is = omega (arith, is)
 
@@ -54,13 +54,13 @@ all_reliable view a b on sure = record {
   content = still_reliable (view a.content) (view b.content) on.content sure.content;
 }
 
--- a count that rose after others
+-- a count that rose after other changes
 pub one_rose_after : {D : Type 0} (view : D → DiskView) (a b c : Disks D) → AllGoOn view a b → OneRose view b c → OneRose view a c
 one_rose_after view a b c on (inl rose) = inl (Rose-after _ _ _ on.control.count rose)
 one_rose_after view a b c on (inr (inl rose)) = inr (inl (Rose-after _ _ _ on.alternate.count rose))
 one_rose_after view a b c on (inr (inr rose)) = inr (inr (Rose-after _ _ _ on.content.count rose))
 
--- nothing was written, so every crash leaves what it left
+-- disks without a write are left by every crash as before
 leaves_stays : {D : Type 0} (view : D → DiskView) (h : Header) (me : ℕ) (old new : Disks D) (P : Node → Type 0) → AreHonest view old → AllStay view old new → Leaves view h me old P → Leaves view h me new P
 leaves_stays view h me old new P honest stay leaves = record {
   each = λ a b c left. leaves.each a b c (record {
@@ -70,7 +70,7 @@ leaves_stays view h me old new P honest stay leaves = record {
   });
 }
 
--- where nothing was changed a file is as full as it was
+-- a file stays as full as it was where nothing changed
 stays_full : {D : Type 0} (view : D → DiskView) (k k2 : KeptView D) (i : Input) → ChangesNothing view k k2 → IsFullAt k i → IsFullAt k2 i
 stays_full view k k2 i same full =
     subst (λ (n : Control). IsFullByPlan k2.store.current.end k2.content.journal.end k2.content.shelves i (plan n k2.content.shelves i)) (sym same.control)
@@ -78,12 +78,12 @@ stays_full view k k2 i same full =
     (subst (λ (n : ℕ). IsFullByPlan k2.store.current.end n k.content.shelves i (plan k.node.control k.content.shelves i)) (sym same.content.journal.end)
     (subst (λ (n : ℕ). IsFullByPlan n k.content.journal.end k.content.shelves i (plan k.node.control k.content.shelves i)) (sym same.store.current.end) full)))
 
--- what begins with one with P begins with one with Q
+-- a list that begins with an input with P begins with one with Q, where P gives Q
 pub begins_with : (P Q : Input → Type 0) (is : List Input) → ((i : Input) → P i → Q i) → BeginsWith P is → BeginsWith Q is
 begins_with P Q [] f h = h
 begins_with P Q (i ∷ is) f h = f i h
 
--- what a run that ended so says of the disks that are handed back
+-- the disks that a run hands back, where it ended at a full file
 pub full_on : {D : Type 0} (view : D → DiskView) (first : Node) (k : KeptView D) (d : Disks D) (is : List Input) (done : ℕ) (old : KeptView D) → EndsFull old is k done → node_of old ≡ first → d ≡ disks_of k
     → ((i : Input) → IsFullAt k i → IsFullOn view (disks_of k) (node_of k) i) → BeginsWith (IsFullOn view d (after_inputs first (take done is))) (drop done is)
 full_on view first k d is done old ends node same full =
@@ -93,7 +93,7 @@ full_on view first k d is done old ends node same full =
 
 -- A run
 
--- these inputs were taken, and these are left
+-- the inputs taken so far, and those that are left
 pub record IsSoFar {D : Type 0} (view : D → DiskView) (first now : KeptView D) (all rest : List Input) (done : ℕ) : Type 0 where
   pub taken : List Input
   pub split : all ≡ taken ++ rest
@@ -106,7 +106,7 @@ pub record IsSoFar {D : Type 0} (view : D → DiskView) (first now : KeptView D)
   pub lawful : AllByRecursion (IsInput first.node.control.nodes first.node.control.me) rest
 
 module _ {D : Type 0} (view : D → DiskView) (law : Law view) (first : KeptView D) (all : List Input) where
-  -- before the first
+  -- the run before the first input
   pub so_far_none : first.closed ≡ false → (IsHonest view first → NodeSurvives view first (node_of first)) → AllByRecursion (IsInput first.node.control.nodes first.node.control.me) all → IsSoFar view first first all all 0
   so_far_none is_open survives lawful = record {
     taken = [];
@@ -127,22 +127,22 @@ module _ {D : Type 0} (view : D → DiskView) (law : Law view) (first : KeptView
         content = record { honest = refl; reliable = refl; name = refl; listed = refl; count = omega arith };
       }
 
-  -- the last of the list is the next
+  -- the last item of the reversed list is the next input
   pub popped : (now : KeptView D) (inputs rest : List Input) (i : Input) (done : ℕ) → inputs ≡ rest ++ i ∷ [] → IsSoFar view first now all (reverse inputs) done → IsSoFar view first now all (i ∷ reverse rest) done
   popped now inputs rest i done is so = subst (λ (left : List Input). IsSoFar view first now all left done) (ap reverse is ∙ reverse-append rest (i ∷ [])) so
 
-  -- there is none
+  -- no input is left
   pub popped_none : (now : KeptView D) (inputs rest : List Input) (done len : ℕ) → inputs ≡ rest ++ [] → rest ≡ take (len - 1) inputs → len ≡ 0 → IsSoFar view first now all (reverse inputs) done → IsSoFar view first now all [] done
   popped_none now inputs rest done len is front none so =
       subst (λ (left : List Input). IsSoFar view first now all (reverse left) done) (is ∙ append-nil rest ∙ front ∙ ap (λ (n : ℕ). take (n - 1) inputs) none) so
 
-  -- the next input is one of this node
+  -- the next input is an input of this node
   pub next_lawful : (now : KeptView D) (i : Input) (rest : List Input) (done : ℕ) → IsSoFar view first now all (i ∷ rest) done → IsInput now.node.control.nodes now.node.control.me i
   next_lawful now i rest done so =
       subst (λ (me : ℕ). IsInput now.node.control.nodes me i) (sym so.same.me)
       (subst (λ (h : Header). IsInput h.nodes first.node.control.me i) (sym so.same.header) so.lawful.0)
 
-  -- it was taken
+  -- the next input was taken
   pub so_far_on : (now new : KeptView D) (i : Input) (rest : List Input) (done : ℕ) → IsSoFar view first now all (i ∷ rest) done
       → new.closed ≡ now.closed → IsSameNode now.node.control new.node.control → AllGoOn view (disks_of now) (disks_of new)
       → (IsHonest view now → node_of new ≡ (step (node_of now) i).node) → (IsHonest view now → NodeSurvives view new (node_of new))
@@ -162,7 +162,7 @@ module _ {D : Type 0} (view : D → DiskView) (law : Law view) (first : KeptView
       later : IsHonest view first → IsHonest view now
       later honest = all_honest view (disks_of first) (disks_of now) so.on honest
 
-  -- all were taken
+  -- all inputs were taken
   pub so_far_all : (now : KeptView D) (done : ℕ) → IsSoFar view first now all [] done → (done ≡ length all) × (IsHonest view first → Survives view (header_of first.node.control) first.node.control.me (disks_of now) (after_inputs (node_of first) all))
   so_far_all now done so =
       let whole : all ≡ so.taken = so.split ∙ append-nil so.taken in (
@@ -176,7 +176,7 @@ module _ {D : Type 0} (view : D → DiskView) (law : Law view) (first : KeptView
       named : (now : KeptView D) → IsSameNode first.node.control now.node.control → (P : Header → ℕ → Type 0) → P (header_of now.node.control) now.node.control.me → P (header_of first.node.control) first.node.control.me
       named now same P p = subst (λ (me : ℕ). P (header_of first.node.control) me) same.me (subst (λ (h : Header). P h now.node.control.me) same.header p)
 
-  -- the next was refused
+  -- the next input was refused
   pub refused_count : (now : KeptView D) (i : Input) (rest : List Input) (done : ℕ) → IsSoFar view first now all (i ∷ rest) done → done < length all
   refused_count now i rest done so = omega (arith, so.count, ap length so.split, length-append so.taken (i ∷ rest))
 
@@ -231,7 +231,7 @@ module _ {D : Type 0} (view : D → DiskView) (law : Law view) (first : KeptView
     by_error keeps.Full refused = kept refused.why.1.nothing
     by_error keeps.Disk refused = failed
 
-  -- since its file is full
+  -- the next input was refused since its file is full
   pub refused_full : (now new : KeptView D) (i : Input) (rest : List Input) (done : ℕ) → IsSoFar view first now all (i ∷ rest) done → IsFullAt now i → ChangesNothing view now new → new.closed ≡ now.closed → IsHonest view first → EndsFull first all new done
   refused_full now new i rest done so full same still honest = record {
     unclosed = still ∙ so.is_open;
@@ -254,20 +254,20 @@ taken_full view keeps.Disk i old new is refused = absurd cc
 
 -- A trial
 
--- the inputs of a node that is loaded
+-- the inputs of a loaded node
 pub inputs_of : (n : Control) (h : Header) (me : ℕ) (is : List Input) → header_of n ≡ h → n.me ≡ me → AllByRecursion (IsInput h.nodes me) is → AllByRecursion (IsInput n.nodes n.me) is
 inputs_of n h me is header id lawful =
     subst (λ (m : ℕ). AllByRecursion (IsInput n.nodes m) is) (sym id)
     (subst (λ (x : Header). AllByRecursion (IsInput x.nodes me) is) (sym header) lawful)
 
 module _ {D : Type 0} (view : D → DiskView) (h : Header) (me : ℕ) (d : Disks D) (k : KeptView D) (loaded : IsNodeOf view h me d k) (safely : LoadsSafely view h me d (disks_of k)) where
-  -- it survives
+  -- a loaded node survives every crash
   pub loaded_survives : IsHonest view k → NodeSurvives view k (node_of k)
   loaded_survives honest =
       subst (λ (m : ℕ). Survives view (header_of k.node.control) m (disks_of k) (node_of k)) (sym loaded.id)
       (subst (λ (x : Header). Survives view x me (disks_of k) (node_of k)) (sym loaded.header) (loaded.survives (all_were_honest view d (disks_of k) safely.goes_on honest)))
 
-  -- what a run leaves of it in the disks that are handed back
+  -- the disks that are handed back after the run
   pub ran_leaves : (last : KeptView D) (e : Disks D) (is : List Input) (t : Trial) → e ≡ disks_of last → AreHonest view d → RunLeaves view k is last t → LeavesAfter view h me d is e t
   ran_leaves last e is t same honest leaves =
       by_end t.end
@@ -281,7 +281,7 @@ module _ {D : Type 0} (view : D → DiskView) (h : Header) (me : ℕ) (d : Disks
       by_end (Load error) left = absurd left
       by_end (Take error) left = left
 
-  -- why it ended
+  -- the cause at which the trial ended
   pub ran_cause : (last : KeptView D) (e : Disks D) (end : TrialEnd) → e ≡ disks_of last → HasRunCause view (disks_of k) (disks_of last) end → HasCause view h.nodes d e end
   ran_cause last e end same why = by_end end (subst (λ (x : Disks D). HasRunCause view (disks_of k) x end) (sym same) why) where
     by_error : (error : KeepError) → HasTakeCause view (disks_of k) e error → HasTakeCause view d e error

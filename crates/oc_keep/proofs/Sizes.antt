@@ -1,4 +1,4 @@
--- The bytes that records take in a frame.
+-- The number of bytes that records take in a frame.
 use Rattle.std.proofs.Common.{◌≡◌, ℕ, ◌+◌, ◌*◌, ◌≤◌, ◌==◌, Option, Some, None, List, [], ◌∷◌, ◌++◌, length, map, refl, ap, ◌∙◌, arith}
 use Rattle.std.specs.Prelude.{option_to_list}
 use Rattle.std.specs.List.{flat_map, AllByRecursion}
@@ -28,7 +28,7 @@ ids_size : (ids : List ℕ) → length (flat_map four ids) ≡ 4 * length ids
 ids_size [] = refl
 ids_size (x ∷ ids) = ap length (flat_map-cons four x ids) ∙ (let rest = ids_size ids in omega (arith, rest))
 
--- what a record takes is its size
+-- the bytes of a record are as many as its size
 record_size : (r : Record) → length (record_bytes r) ≡ size_of r
 record_size (records.Ask s p) = refl
 record_size (records.Joined p r) = refl
@@ -45,7 +45,7 @@ record_size (records.Snapshot g) = refl
 record_size (records.Entry c) = refl
 record_size (records.Info n c) = refl
 
--- what records take is their sizes together
+-- the bytes of records are as many as their sizes together
 pub records_size : (rs : List Record) → length (records_bytes rs) ≡ total size_of rs
 records_size [] = refl
 records_size (r ∷ rs) =
@@ -55,7 +55,7 @@ records_size (r ∷ rs) =
 pub frame_size : (rs : List Record) → FitsFrame rs → length (records_bytes rs) ≤ MAX_FRAME_BYTES
 frame_size rs fits = omega (arith, records_size rs, fits.bytes)
 
--- a record takes a byte
+-- a record takes at least one byte
 size_least : (r : Record) → 1 ≤ size_of r
 size_least (records.Ask s p) = omega arith
 size_least (records.Joined p r) = omega arith
@@ -72,7 +72,7 @@ size_least (records.Snapshot g) = omega arith
 size_least (records.Entry c) = omega arith
 size_least (records.Info n c) = omega arith
 
--- there are no more records than bytes
+-- the records are at most as many as their bytes
 pub records_fewer : (rs : List Record) → length rs ≤ length (records_bytes rs)
 records_fewer rs = omega (arith, records_size rs, by_sizes rs)
   where
@@ -82,7 +82,7 @@ records_fewer rs = omega (arith, records_size rs, by_sizes rs)
 
 -- Snapshots
 
--- a record of a snapshot that is no list of ancestors is small
+-- a record of a snapshot other than a list of ancestors is small
 abbrev IsSmall : Record → Type 0
 IsSmall r = size_of r ≤ 34
 
@@ -114,7 +114,7 @@ small_mode (modes.Asking p) d = tt
 small_mode (modes.Joined p) d = (omega arith, (omega arith, small_entries d.log.waiting))
 small_mode modes.Acting d = (omega arith, tt)
 
--- the ancestors take four bytes each
+-- the ancestors take at most four bytes each, and three more
 ancestors_total : (xs : List ℕ) → total size_of (ancestor_records xs) ≤ 3 + 4 * length xs
 ancestors_total [] = omega arith
 ancestors_total (x ∷ xs) = omega arith
@@ -138,10 +138,10 @@ snapshot_total g d =
     let small : AllByRecursion IsSmall a = all_append IsSmall a4 (rank_records d.mode d) small4 (small_rank d.mode d) in
     omega (arith, small_total a small, ancestors_total d.ancestors, small_total c (small_rates 1 d.measures), total-append size_of a b, total-append size_of (a ++ b) c, length-append a b, length-append (a ++ b) c)
 
--- a snapshot of no more records than a frame may have fits one
+-- a snapshot with at most as many records as a frame may have fits in a frame
 pub snapshot_fits : (g : ℕ) (d : Durable) → length d.ancestors ≤ MAX_ANCESTORS → length (snapshot g d) ≤ MAX_FRAME_RECORDS → length (records_bytes (snapshot g d)) ≤ MAX_FRAME_BYTES
 snapshot_fits g d few short = omega (arith, records_size (snapshot g d), snapshot_total g d, few, short)
 
--- how many records a snapshot has does not depend on its running number
+-- the number of a snapshot's records does not depend on its generation
 pub snapshot_count : (g k : ℕ) (d : Durable) → length (snapshot g d) ≡ length (snapshot k d)
 snapshot_count g k d = refl

@@ -1,4 +1,4 @@
--- Calls that wrote nothing to the disks of a node.
+-- Calls that wrote nothing to a node's disks.
 use Rattle.std.proofs.Common.{◌≡◌, inl, ◌≤◌, ℕ, true, false, IsTrue, Bool, List, refl, sym, ap, subst, ◌∙◌, ⊎_elim, arith}
 use Rattle.oc_io.specs.DiskView.{DiskView, GoesOn, StaysAsItWas, IsConsistent}
 use Rattle.oc_io.proofs.DiskMoments.{StaysAsItWas-none, still_honest}
@@ -31,15 +31,15 @@ pub record AllStay {D : Type 0} (view : D → DiskView) (old new : Disks D) : Ty
   pub alternate : StaysAsItWas (view old.alternate) (view new.alternate)
   pub content : StaysAsItWas (view old.content) (view new.content)
 
--- what each disk keeps
+-- the law of the disk model: an honest disk is consistent
 abbrev pub Law : {D : Type 0} → (D → DiskView) → Type 0
 Law {D} view = (x : D) → IsTrue (view x).honest → IsConsistent (view x)
 
--- what one disk had left since is what it may leave
+-- the images of an unwritten disk are those that a crash left before
 pub left_before : (v w : DiskView) (a : List ℕ) → IsConsistent v → IsTrue v.honest → StaysAsItWas v w → w.since v.moment a → v.may_leave a
 left_before v w a law honest stays left = ⊎_elim (law.only_now a) (stays.images honest a) ((stays.time honest).nothing_else v.moment a (omega arith) left)
 
--- the same of all of them
+-- the same for all three disks
 pub all_left_before : {D : Type 0} (view : D → DiskView) (old new : Disks D) (a b c : List ℕ) → Law view → AreHonest view old → AllStay view old new → HadLeft view old new a b c → MayLeave view old a b c
 all_left_before view old new a b c law honest stay left = record {
   control = left_before (view old.control) (view new.control) a (law old.control honest.control) honest.control stay.control left.control;
@@ -47,14 +47,14 @@ all_left_before view old new a b c law honest stay left = record {
   content = left_before (view old.content) (view new.content) c (law old.content honest.content) honest.content stay.content left.content;
 }
 
--- so what every crash leaves it leaves at any moment
+-- a property that every crash leaves is left at any moment
 pub always_stays : {D : Type 0} (view : D → DiskView) (h : Header) (me : ℕ) (old new : Disks D) (P : Node → Type 0) → Law view → AreHonest view old → AllStay view old new → Leaves view h me old P → AlwaysLeaves view h me old new P
 always_stays view h me old new P law honest stay leaves = record {
   later = record { control = (stay.control.time honest.control).later; alternate = (stay.alternate.time honest.alternate).later; content = (stay.content.time honest.content).later };
   each = λ a b c left. leaves.each a b c (all_left_before view old new a b c law honest stay left);
 }
 
--- what every crash at any moment leaves a crash now leaves
+-- a property that every crash at any moment leaves is left by a crash now
 pub leaves_now : {D : Type 0} (view : D → DiskView) (h : Header) (me : ℕ) (old new : Disks D) (P : Node → Type 0) → Law view → AreHonest view new → AlwaysLeaves view h me old new P → Leaves view h me new P
 leaves_now view h me old new P law honest always = record {
   each = λ a b c left. always.each a b c (record {
@@ -70,7 +70,7 @@ all_go_on view old new stay = record { control = stay.control.goes_on; alternate
 pub all_stay : {D : Type 0} (view : D → DiskView) (d : Disks D) → AllStay view d d
 all_stay view d = record { control = StaysAsItWas-none (view d.control); alternate = StaysAsItWas-none (view d.alternate); content = StaysAsItWas-none (view d.content) }
 
--- they stay honest, and were so before
+-- the disks stay honest, and were honest before
 pub all_honest : {D : Type 0} (view : D → DiskView) (old new : Disks D) → AllGoOn view old new → AreHonest view old → AreHonest view new
 all_honest view old new on honest = record {
   control = still_honest (view old.control) (view new.control) on.control honest.control;
@@ -90,7 +90,7 @@ all_were_honest view old new on honest = record {
 
 -- Stores
 
--- room was made in the current file, or in the other one
+-- room was reserved in the current file, or in the other one
 pub keeps_current : {D : Type 0} (view : D → DiskView) (s s2 : StoreView D) → ReservesCurrent view s s2 → KeepsStore view s s2
 keeps_current view s s2 r = record {
   current = r.current;
@@ -112,20 +112,20 @@ keeps_other view s s2 r = record {
 pub keeps_none : {D : Type 0} (view : D → DiskView) (s : StoreView D) → KeepsStore view s s
 keeps_none view s = record { current = OnlyReads-none view s.current; other = OnlyReads-none view s.other; side = refl; generation = refl; closed = refl }
 
--- the disks of a store of which only room was made
+-- the disks of a store in which only room was reserved
 store_stays : {D : Type 0} (view : D → DiskView) (s s2 : StoreView D) → KeepsStore view s s2
     → StaysAsItWas (view (first_disk s)) (view (first_disk s2)) × StaysAsItWas (view (second_disk s)) (view (second_disk s2))
 store_stays view s s2 keeps =
     subst (λ (side : Side). StaysAsItWas (view (first_disk s)) (view (at_side side s2.current.disk s2.other.disk)) × StaysAsItWas (view (second_disk s)) (view (at_side side s2.other.disk s2.current.disk))) (sym keeps.side)
     (related_sides (λ x y. StaysAsItWas (view x) (view y)) s.side s.current.disk s.other.disk s2.current.disk s2.other.disk keeps.current.disk keeps.other.disk)
 
--- a content log to which nothing was done
+-- an unchanged content log
 pub puts_none : {D : Type 0} (view : D → DiskView) (c : ContentView D) → PutsNothing view c c
 puts_none view c = record { journal = OnlyReads-none view c.journal; shelves = refl; rooms = λ i. omega arith; memory = omega arith }
 
 -- Nodes
 
--- a node of which nothing changed
+-- a node on its files of which nothing changed
 pub nothing_stays : {D : Type 0} (view : D → DiskView) (k k2 : KeptView D) → ChangesNothing view k k2 → AllStay view (disks_of k) (disks_of k2)
 nothing_stays view k k2 same =
     let store = store_stays view k.store k2.store same.store in
@@ -136,11 +136,11 @@ nothing_node view k k2 same honest =
     ap (λ (n : Control). record { control = n; groups = groups_in k2.content.journal.frames }) same.control
     ∙ ap (λ (bodies : List (List ℕ)). record { control = k.node.control; groups = groups_in bodies }) (same.content.journal.frames honest)
 
--- a node whose content file alone was read
+-- a node on its files of which only the content file was read
 pub only_read : {D : Type 0} (view : D → DiskView) (node : NodeView) (s : StoreView D) (c c2 : ContentView D) (closed closed2 : Bool) → PutsNothing view c c2 → ChangesNothing view (kept_of node s c closed) (kept_of node s c2 closed2)
 only_read view node s c c2 closed closed2 same = record { control = refl; store = keeps_none view s; content = same }
 
--- Every crash leaves an open node
+-- An open node, which every crash leaves
 
 pub kept_survives : {D : Type 0} (view : D → DiskView) (k : KeptView D) → IsKept view k → k.closed ≡ false → IsHonest view k → NodeSurvives view k (node_of k)
 kept_survives view k is is_open honest = record {
@@ -152,7 +152,7 @@ kept_survives view k is is_open honest = record {
   };
 }
 
--- at any moment of a call that changed nothing
+-- the node at any moment of a call that changed nothing
 pub nothing_moments : {D : Type 0} (view : D → DiskView) (k k2 : KeptView D) → Law view → IsKept view k → ChangesNothing view k k2 → k.closed ≡ false → IsHonest view k → AtAnyMoment view k k2 (SameDurable (node_of k))
 nothing_moments view k k2 law is same is_open honest =
     always_stays view (header_of k.node.control) k.node.control.me (disks_of k) (disks_of k2) (SameDurable (node_of k)) law honest (nothing_stays view k k2 same) (kept_survives view k is is_open honest)
@@ -166,7 +166,7 @@ nothing_same view k k2 law is nothing = record {
   any_moment = nothing_moments view k k2 law is nothing;
 }
 
--- nor does one that does nothing to it
+-- no call at all leaves the same node
 pub none_keeps : {D : Type 0} (view : D → DiskView) (k : KeptView D) → Law view → IsKept view k → KeepsNode view k k
 none_keeps view k law is = record {
   control = refl;
@@ -175,7 +175,7 @@ none_keeps view k law is = record {
   any_moment = nothing_moments view k k law is (record { control = refl; store = keeps_none view k.store; content = puts_none view k.content });
 }
 
--- the node is still kept, unless it is closed
+-- the invariant of the node on its files holds, also where the node is closed now
 pub nothing_kept : {D : Type 0} (view : D → DiskView) (k k2 : KeptView D) → IsKept view k → ChangesNothing view k k2 → (k2.closed ≡ false → (k.closed ≡ false) × (k2.content.journal.closed ≡ k.content.journal.closed)) → IsKept view k2
 nothing_kept view k k2 is same still = record {
   reached = subst IsReached (sym same.control) is.reached;
@@ -221,7 +221,7 @@ nothing_kept view k k2 is same still = record {
     other_honest : IsHonest view k → IsTrue (view k.store.other.disk).honest
     other_honest honest = (honest_store view k.store honest.control honest.alternate).1
 
--- a closed node keeps what it says of its control state and its groups
+-- the invariant of a closed node speaks only of its control state and its groups
 pub closed_kept : {D : Type 0} (view : D → DiskView) (k : KeptView D) (s : StoreView D) → IsKept view k → IsKept view (kept_of k.node s k.content true)
 closed_kept view k s is = record {
   reached = is.reached;
@@ -238,7 +238,7 @@ closed_kept view k s is = record {
 
 -- Calls after one that wrote nothing
 
--- what every crash leaves at any moment since such a call it leaves at any moment since the start
+-- a property that every crash leaves since such a call is left since the start
 since_stays : {D : Type 0} (view : D → DiskView) (h : Header) (me : ℕ) (old mid new : Disks D) (P : Node → Type 0) → AreHonest view old → AllStay view old mid → AlwaysLeaves view h me mid new P → AlwaysLeaves view h me old new P
 since_stays view h me old mid new P honest stay always =
     let first = stay.control.moment honest.control in
@@ -257,7 +257,7 @@ since_stays view h me old mid new P honest stay always =
       });
     }
 
--- an input that was made ready, and was then taken or not
+-- an input that was made ready, and was then taken or refused
 pub ready_moments : {D : Type 0} (view : D → DiskView) (old mid new : KeptView D) (ready : ReadyView) (after : Outcome) → ChangesNothing view old mid → IsHonest view old
     → node_of mid ≡ node_of old → outcome_of (node_of old) ready ≡ after
     → (IsHonest view mid → AtAnyMoment view mid new (SameAsEither (node_of mid) (outcome_of (node_of mid) ready).node)) → AtAnyMoment view old new (SameAsEither (node_of old) after.node)

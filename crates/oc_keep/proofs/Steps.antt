@@ -1,4 +1,4 @@
--- An input made ready is its step.
+-- An input made ready: its effect is that of its step.
 use Rattle.std.proofs.Common.{◌≡◌, ◌↔◌, ℕ, zero, suc, ◌+◌, ◌-◌, ◌≤◌, ◌<◌, ◌^◌, Bool, true, false, not, IsTrue, List, [], ◌∷◌, length, take, drop, get_or, Option, Some, None, is_some, option_map, unwrap_or, refl, sym, ap, subst, ◌∙◌, arith}
 use Rattle.std.specs.List.{AllByRecursion}
 use Rattle.std.proofs.lemmas.List.{take_all}
@@ -52,7 +52,7 @@ use Rattle.oc_keep.proofs.Wants.{wants_alone}
 
 -- Pieces
 
--- a name that is found is there
+-- a name that is found is in the list
 found_there : (ls : List Shelf) (g : List ℕ) (i : ℕ) → IsLineAt ls g i → is_some (line_of g ls) ≡ true
 found_there [] g i h = absurd h
 found_there (l ∷ ls) g zero h = let same : same_name g l.group ≡ true = ap (same_name g) h ∙ same_name-itself g in rw same refl
@@ -63,7 +63,7 @@ free_is : (ls : List Shelf) (g : List ℕ) (place : Lookup) → LooksUpLine ls g
 free_is ls g (Found i) at = ap not (sym (found_there ls g i at))
 free_is ls g (Free i) at = ap (λ (l : Option Shelf). not (is_some l)) (sym (line_of-goes ls g i at))
 
--- the room that was made for a frame
+-- the room that was reserved for a frame
 pub room_for : {D : Type 0} (view : D → DiskView) (j : JournalView D) (n : ℕ) → (IsTrue (view j.disk).reliable → IsReliable (view j.disk)) → HasRoom view j n → IsRoomFor view j n
 room_for view j n law has = record {
   room = omega (arith, has.room);
@@ -71,7 +71,7 @@ room_for view j n law has = record {
   fits = λ sure full. omega (arith, (law sure).fits (omega (arith, has.room)), has.room, has.within, full);
 }
 
--- a piece that is prepared of what can be put
+-- a piece that was prepared and can be put
 pub put_as : {D : Type 0} (view : D → DiskView) (law : (x : D) → IsTrue (view x).reliable → IsReliable (view x)) (c c2 : ContentView D) (of : Piece) (at : ℕ) (closes : Bool) (piece : PieceView) → CanPut c.shelves of at closes → PutsNothing view c c2
     → Prepares view of.group at of.bytes closes c c2 piece → IsPutAs view c.shelves c2 of at closes piece
 put_as view law c c2 of at closes piece can same made = record {
@@ -91,9 +91,9 @@ put_as view law c c2 of at closes piece can same made = record {
     start : piece.entry.start < 2 ^ 64
     start = omega (arith, ap (λ (e : Entry). e.start) made.entry, can.short)
 
--- Bytes that are read
+-- Read bytes
 
--- bytes that are all there are those that were asked for
+-- read bytes that are all there are the requested ones
 pub fetched_whole : (new whole : List ℕ) (count start : ℕ) → length new ≡ count → start + count ≤ length whole → take (length whole - start) new ≡ take count (drop start whole) → new ≡ take count (drop start whole)
 fetched_whole new whole count start long within read =
     sym (take_all (length whole - start) new (omega (arith, long, within))) ∙ read
@@ -105,18 +105,18 @@ held_there g ks l there = by_group (group_of g ks) (sym (line_of-shelf g ks) ∙
   by_group None e = absurd cc
   by_group (Some k) e = let same : shelf_of k ≡ l = cc in ap (λ (x : Shelf). x.held) (sym same)
 
--- bytes that were put into the chunk of what is wanted
+-- the bytes put into the chunk of a plan
 pub filled_sent : (wants : Option Want) (w : Want) (p q : PlanView) (bytes : List ℕ) → Some w ≡ wants → length bytes ≡ w.count → q ≡ filled_with bytes p → AreSent wants p.sends q.sends
 filled_sent wants w p q bytes is long fills = subst (λ (o : Option Want). AreSent o p.sends q.sends) is (bytes, long, ap (λ (x : PlanView). x.sends) fills)
 
--- nothing is wanted, and nothing was put
+-- no bytes are wanted, and none were put
 pub none_sent : {D : Type 0} (view : D → DiskView) (c : ContentView D) (p : PlanView) → None ≡ p.wants → Fetches view c p p
 none_sent view c p is = record {
   sends = subst (λ (o : Option Want). AreSent o p.sends p.sends) is refl;
   groups = λ honest. ap (λ (o : Option Want). fetched (groups_in c.journal.frames) o p) is;
 }
 
--- lines that tell the groups of frames
+-- lines that tell the groups of the frames
 pub lines_are : (bodies : List (List ℕ)) (lines : List Shelf) → IsShelved bodies lines → lines ≡ shelf (groups_in bodies)
 lines_are bodies lines shelved = by_content (content_of bodies) shelved where
   by_content : (found : Option (List Group)) → option_map shelf found ≡ Some lines → lines ≡ shelf (unwrap_or found [])
@@ -125,7 +125,7 @@ lines_are bodies lines shelved = by_content (content_of bodies) shelved where
 
 -- The step
 
--- a plan with its bytes, and what it writes
+-- a plan with its bytes, and its prepared write
 finished_by : (n : Control) (ks : List Group) (p : PlanView) (w : Write) (o : Option Want) → outcome_of (record { control = n; groups = ks }) (record { plan = fetched ks o p; write = w })
     ≡ record { node = record { control = control_after n p; groups = groups_with w ks }; records = p.records; sends = filled o ks p.sends; answer = p.answer }
 finished_by n ks p w None = refl
@@ -150,7 +150,7 @@ made_step view s c n bodies lines i p w shelved made can is =
     ∙ ap (λ (gs : List Group). record { node = record { control = control_after n p; groups = gs }; records = p.records; sends = filled p.wants ks p.sends; answer = p.answer }) (groups_kept view s c ks lines p (piece_of i) w are can is)
     ∙ ap (finished (record { control = n; groups = ks }) i) (made ∙ ap (λ (ls : List Shelf). plan n ls i) are)
 
--- what is kept and wanted by the plan of the code
+-- the kept and the wanted bytes of the plan in the code
 pub plan_keeps : (n : Control) (made : PlanView) (o : Plan) (lines : List Shelf) (of : Piece) → planned n made ≡ o → CanKeep lines of o.keeps o.seals → CanKeep lines of made.keeps made.seals
 plan_keeps n made o lines of e can = subst (λ (q : Plan). CanKeep lines of q.keeps q.seals) (sym e) can
 
@@ -170,7 +170,7 @@ made_writes view s c n lines i p w made is = by_write w is ∙ ap has_change mad
   by_write (writes.Records frame) is = rw (empty_is p.records is.some) refl
   by_write (writes.Content piece) is = rw (is.none, is.keeps) refl
 
--- once it has its bytes, it is the control step, whatever they are
+-- the plan with any bytes is that of the control step
 pub made_control : {D : Type 0} (view : D → DiskView) (s : StoreView D) (c : ContentView D) (n : Control) (lines : List Shelf) (i : Input) (p q : PlanView) (w : Write)
     → planned n p ≡ plan n lines i → q ≡ record p { sends = q.sends; room = q.room } → AreSent p.wants p.sends q.sends → IsWriteOf view s lines c p (piece_of i) w
     → DoesControlStep (plan n lines i) n (record { plan = q; write = w })
@@ -186,7 +186,7 @@ made_control view s c n lines i p q w made rest sent is = record {
     same : control_after n q ≡ control_after n p
     same = ap (control_after n) rest
 
--- what a step writes begins with no snapshot
+-- the records of a step do not begin with a snapshot
 no_snapshot : (rs : List Record) → AllByRecursion IsSoundRecord rs → begun_generation rs ≡ 0
 no_snapshot [] sound = refl
 no_snapshot (records.Snapshot g ∷ rs) sound = absurd sound.0
@@ -195,7 +195,7 @@ no_snapshot (r ∷ rs) sound = refl
 pub made_plain : (n : Control) (lines : List Shelf) (i : Input) (p : PlanView) → planned n p ≡ plan n lines i → begun_generation p.records ≡ 0
 made_plain n lines i p made = ap (λ (o : Plan). begun_generation o.records) made ∙ no_snapshot (plan n lines i).records (plan_writes n lines i).sound
 
--- Committing it later
+-- The commit afterwards
 
 pub made_commits : {D : Type 0} (view : D → DiskView) (v : NodeView) (s : StoreView D) (c c2 : ContentView D) (lines : List Shelf) (p q : PlanView) (of : Piece) (w : Write)
     → CanApply v p → begun_generation p.records ≡ 0 → q ≡ record p { sends = q.sends; room = q.room } → PutsNothing view c c2 → IsWriteOf view s lines c p of w → CanCommit view (kept_of v s c2 false) (record { plan = q; write = w })
@@ -260,13 +260,13 @@ made_full view v v2 s s2 c c2 c3 i p w made keeps end is = subst (λ (o : Plan).
       let long : length piece.body ≡ length (written (entry_for c.shelves (piece_of i) is.at p.seals)) = ap length (is.put.body ∙ ap written is.put.entry) in
       rw (is.none, is.keeps) (λ h. omega (arith, h, long, end), λ h. omega (arith, h, long, end))
 
--- where nothing is written no file is full
+-- no file is full where nothing is written
 nothing_fits : (control content : ℕ) (lines : List Shelf) (i : Input) (rs : List Record) (keeps : Option ℕ) (closes : Bool) → rs ≡ [] → keeps ≡ None → IsFullWith control content lines i rs keeps closes → ⊥
 nothing_fits control content lines i [] None closes none nowhere full = full
 nothing_fits control content lines i [] (Some at) closes none nowhere full = absurd cc
 nothing_fits control content lines i (r ∷ rs) keeps closes none nowhere full = absurd cc
 
--- so none is at a step that wants bytes
+-- no file is full for a step that wants bytes
 pub wanting_fits : {D : Type 0} (k : KeptView D) (i : Input) (p : PlanView) → planned k.node.control p ≡ plan k.node.control k.content.shelves i → (p.wants ≡ None → ⊥) → IsFullAt k i → ⊥
 wanting_fits k i p made wanting full = by_want p.wants refl where
   by_want : (w : Option Want) → p.wants ≡ w → ⊥
@@ -276,7 +276,7 @@ wanting_fits k i p made wanting full = by_want p.wants refl where
       let alone = wants_alone k.node.control k.content.shelves i w (ap (λ (q : Plan). q.wants) (sym made) ∙ some) in
       nothing_fits k.store.current.end k.content.journal.end k.content.shelves i o.records o.keeps o.seals alone.0 alone.1 full
 
--- Calls one after another
+-- Calls in a row
 
 pub puts_then : {D : Type 0} (view : D → DiskView) (a b c : ContentView D) → Law view → PutsNothing view a b → PutsNothing view b c → PutsNothing view a c
 puts_then view a b c law first second = record {

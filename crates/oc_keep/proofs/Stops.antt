@@ -1,4 +1,4 @@
--- What a commit that was stopped leaves.
+-- The files that a stopped commit leaves.
 use Rattle.std.proofs.Common.{◌≡◌, inl, inr, ℕ, Bool, true, false, ◌&&◌, if◌then◌else◌, List, [], ◌∷◌, ◌++◌, Option, Some, unwrap_or, refl, sym, ap, subst, ◌∙◌, arith}
 use Rattle.oc_base.specs.declared.group.Group.{Group}
 use Rattle.oc_base.specs.Stops.{is_kept_new}
@@ -73,12 +73,12 @@ module _ (reads : Reads) (k : KeptView MemDiskView) (is : IsKept view_of k) (was
         groups = groups;
       }
 
--- the disks of a store that was stopped
+-- the disks of a stopped store
 pub stopped_disks : (side : Side) (c o x y : MemDiskView) → at_side side x y ≡ disk_of (at_side side x y).bytes → at_side side y x ≡ o → IsLeftAs (at_side side c o) x × IsLeftAs (at_side side o c) y
 stopped_disks First c o x y current other = (inr current, inl other)
 stopped_disks Second c o x y current other = (inl other, inr current)
 
--- and the one of them that is not written
+-- the disk of a stopped store that is not written
 pub other_stays : (side : Side) (c o x y : MemDiskView) → at_side side y x ≡ o → at_side side y x ≡ at_side side (at_side side o c) (at_side side c o)
 other_stays First c o x y other = other
 other_stays Second c o x y other = other

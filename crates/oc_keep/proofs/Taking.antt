@@ -1,4 +1,4 @@
--- A take: an input that is made ready, and then committed.
+-- A take: an input is made ready, and then committed.
 use Rattle.std.proofs.Common.{◌≡◌, ◌↔◌, ℕ, List, ◌++◌, Bool, true, false, IsTrue, IsErrOf, IsErrAnd, Result, Ok, Err, refl, ap, subst, sym, ◌∙◌}
 use Rattle.oc_io.specs.DiskView.{DiskView}
 use Rattle.oc_model.specs.declared.input.Input.{Input}
@@ -22,31 +22,31 @@ use Rattle.oc_keep.proofs.Runs.{all_go_on_then, one_rose_after}
 use Rattle.oc_keep.proofs.Sides.{honest_store}
 use Rattle.oc_keep.proofs.Stays.{all_honest}
 
--- an error that was turned into another
+-- an error that was turned into another error
 pub err_is : {T E : Type 0} (r : Result T E) (x : E) → IsErrAnd r (λ made. made ≡ x) → r ≡ Err x
 err_is (Ok v) x h = absurd h
 err_is (Err y) x h = cc
 
--- what is not closed is open
+-- a node that is not closed is open
 pub unshut : (closed : Bool) → (IsTrue closed → ⊥) → closed ≡ false
 unshut false not = refl
 unshut true not = absurd (not refl)
 
--- the node is the same
+-- the node stays the same
 pub same_node : (n m : Control) → m ≡ n → IsSameNode n m
 same_node n m same = record { me = ap (λ (x : Control). x.me) same; header = ap header_of same }
 
--- it is the same after one call, and so after the next
+-- the node stays the same after one call, and then after the next
 pub same_then : (n m p : Control) → m ≡ n → IsSameNode m p → IsSameNode n p
 same_then n m p same then = subst (λ (x : Control). IsSameNode x p) same then
 
--- a closed node makes nothing ready, and so takes nothing
+-- a closed node makes nothing ready, and takes nothing
 pub unready_closed : {T U : Type 0} (C : Type 0) (e : ReadyError) → IsErrOf {T = T} (Err e) readies.Closed ↔ C → IsErrOf {T = U} (Err (of_ready e)) keeps.Closed ↔ C
 unready_closed C readies.Closed closed = (λ _. closed.0 refl, λ _. refl)
 unready_closed C readies.Memory closed = (λ wrong. absurd cc, λ shut. let no = closed.1 shut in absurd cc)
 unready_closed C readies.Disk closed = (λ wrong. absurd cc, λ shut. let no = closed.1 shut in absurd cc)
 
--- what is made ready is not refused for a closed node
+-- an input that was made ready is not refused for a closed node
 pub uncommitted_closed : {T : Type 0} (e : CommitError) → IsErrOf {T = T} (Err (of_commit e)) keeps.Closed → ⊥
 uncommitted_closed commits.Full wrong = absurd cc
 uncommitted_closed commits.Disk wrong = absurd cc
@@ -55,12 +55,12 @@ uncommitted_closed commits.Disk wrong = absurd cc
 disk_unfull : {T : Type 0} → IsErrOf {T = T} (Err commits.Disk) commits.Full → ⊥
 disk_unfull wrong = absurd cc
 
--- a disk that failed later
+-- a disk that failed in a later call
 pub closes_then : {D : Type 0} (view : D → DiskView) (old mid new : KeptView D) → AllGoOn view (disks_of old) (disks_of mid) → Closes view mid new → Closes view old new
 closes_then view old mid new on closes = record { rose = one_rose_after view (disks_of old) (disks_of mid) (disks_of new) on closes.rose; closes = closes.closes }
 
 module _ {D : Type 0} (view : D → DiskView) where
-  -- the files grew as what was made ready was written
+  -- the files grow by the prepared write
   pub taken_growth : (old mid new : KeptView D) (i : Input) (r : ReadyView) → ChangesNothing view old mid → is_written r.write ≡ has_change (control_step old i) → IsHonest view old → GrowsBy r.write mid new
       → GrowsFor i old new
   taken_growth old mid new i r nothing exactly honest grows = record {
@@ -72,7 +72,7 @@ module _ {D : Type 0} (view : D → DiskView) where
     };
   }
 
-  -- making an input ready leaves the same node on the same files
+  -- the same node is on the same files after an input was made ready
   pub same_ready : (old new : KeptView D) → StaysTheSame view old new → IsSameOnFiles view old new
   same_ready old new same = record {
     node = same_node old.node.control new.node.control same.nothing.control;
@@ -80,7 +80,7 @@ module _ {D : Type 0} (view : D → DiskView) where
     generation = λ honest. same.nothing.store.generation;
   }
 
-  -- and so does committing it then
+  -- the same node is on the same files after the commit
   pub same_taken : (old mid new : KeptView D) → StaysTheSame view old mid → IsSameOnFiles view mid new → IsSameOnFiles view old new
   same_taken old mid new same then = record {
     node = same_then old.node.control mid.node.control new.node.control same.nothing.control then.node;
@@ -103,7 +103,7 @@ module _ {D : Type 0} (view : D → DiskView) where
   unready readies.Memory i old new same why = record { node = same.node; why = record { nothing = same.nothing; still = why } }
   unready readies.Disk i old new same why = record { node = same.node; why = why }
 
-  -- nor was one that was not committed
+  -- an input that was not committed was not taken
   pub uncommitted : {T : Type 0} (e : CommitError) (i : Input) (old mid new : KeptView D) → StaysTheSame view old mid → mid.closed ≡ old.closed → (Full : Type 0)
       → Full ↔ IsFullAt old i → IsErrOf {T = T} (Err e) commits.Full ↔ Full → FailsToCommit view e mid new → RefusesInput view (of_commit e) i old new
   uncommitted commits.Full i old mid new same still Full full is why = record {

@@ -1,4 +1,4 @@
--- What a step wants to send of the content is there.
+-- The bytes of the content that a step wants to send: they are held.
 use Rattle.std.proofs.Common.{◌≡◌, ◌⊎◌, inl, inr, ⊎_elim, ℕ, ◌+◌, ◌<◌, ◌≤◌, IfSome, Bool, true, false, ◌==◌, nat_lt, if◌then◌else◌, Option, Some, None, List, [], ◌∷◌, length, Less, nat_cmp, refl, sym, subst, ◌∙◌, arith}
 use Rattle.std.specs.Cmp.Lexicographic.{slice_cmp}
 use Rattle.std.proofs.lemmas.Bool.{cond_both}
@@ -32,9 +32,9 @@ use Rattle.oc_laws_step.proofs.Serves.{goes_client, goes_measured}
 use Rattle.oc_laws_step.proofs.Steps.{goes_pulled}
 use Rattle.oc_keep.specs.Puts.{CanWant}
 
--- The line that is sent of
+-- The line of the sent bytes
 
--- a line that is found among these is the one of its name, and above what is below them
+-- a line found among these is the line of its name, and is above the lines before
 record IsAmong (ls : List Shelf) (l : Shelf) : Type 0 where
   its : line_of l.group ls ≡ Some l
   above : (g : List ℕ) → AreLinesAbove g ls → slice_cmp nat_cmp g l.group ≡ Less
@@ -43,7 +43,7 @@ abbrev IfAmong : List Shelf → Option Shelf → Type 0
 IfAmong ls None = Unit {0}
 IfAmong ls (Some l) = IsAmong ls l
 
--- one line before it
+-- one more line at the front
 among_more : (k : Shelf) (ls : List Shelf) (l : Option Shelf) → AreLinesAbove k.group ls → IfAmong ls l → IfAmong (k ∷ ls) l
 among_more k ls None up h = tt
 among_more k ls (Some l) up h =
@@ -61,7 +61,7 @@ behind_among chunk have ls all = by_found (next_behind chunk have ls) refl where
   by_found None e = tt
   by_found (Some l) e = line_among l ls all (next-among chunk have ls l e)
 
--- what is wanted of a line is within it
+-- the wanted bytes of a line are within it
 want_held : (most : ℕ) (ls : List Shelf) (l : Shelf) (start : ℕ) → IsAmong ls l → CanWant ls (wanted l start (count_from most l start))
 want_held most ls l start among = by_test (count_from most l start == 0) refl where
   by_test : (b : Bool) → (count_from most l start == 0) ≡ b → CanWant ls (if b then None else Some (record { group = l.group; start = start; count = count_from most l start }))
@@ -70,14 +70,14 @@ want_held most ls l start among = by_test (count_from most l start == 0) refl wh
       let some : 0 < count_from most l start = grind (arith, nat_tests) in
       record { line = l; there = among.its; within = omega (arith, some) }
 
--- it is no more than a chunk has at most
+-- the wanted bytes are at most a chunk
 abbrev IsFew : ℕ → Option Want → Type 0
 IsFew most w = IfSome w (λ x. x.count ≤ most)
 
 want_few : (most : ℕ) (l : Shelf) (start : ℕ) → IsFew most (wanted l start (count_from most l start))
 want_few most l start = cond_both (count_from most l start == 0) None (Some (record { group = l.group; start = start; count = count_from most l start })) (IsFew most) (λ _. tt) (λ _. omega arith)
 
--- a step that answers a fetch from a node that has these
+-- a step that answers a fetch from a node with these lines
 record AnswersFetch (ls : List Shelf) (n : Control) (q : Plan) : Type 0 where
   to : ℕ
   have : List Shelf
@@ -91,22 +91,22 @@ fetch_few : (have : List Shelf) (n : Control) (p : ℕ) (l : Option Shelf) → I
 fetch_few have n p None = tt
 fetch_few have n p (Some l) = want_few n.chunk l (line_at l.group have).held
 
--- it writes nothing
+-- such a step writes nothing
 fetch_alone : (have : List Shelf) (n : Control) (p : ℕ) (l : Option Shelf) → ((answers_fetch (begun n) p have l).records ≡ []) × ((answers_fetch (begun n) p have l).keeps ≡ None)
 fetch_alone have n p None = (refl, refl)
 fetch_alone have n p (Some l) = (refl, refl)
 
 -- The rules
 
--- every other rule wants nothing
+-- every other rule wants no bytes
 nothing_wanted : (ls : List Shelf) (e k : ℕ) (n : Control) (q : Plan) → Goes e k (begun n) q → (q.wants ≡ None) ⊎ AnswersFetch ls n q
 nothing_wanted ls e k n q h = inl h.by.wants
 
--- it wants nothing
+-- the rule wants no bytes
 abbrev WantsNone : Plan → Type 0
 WantsNone q = q.wants ≡ None
 
--- the rules that keep content want none
+-- the rules that keep content want no bytes
 module _ (ls : List Shelf) where
   unless_wants : (a : Option Answer) (o q : Plan) → WantsNone o → WantsNone q → WantsNone (unless a o q)
   unless_wants None o q h k = k
@@ -134,7 +134,7 @@ module _ (ls : List Shelf) where
       (unless_wants (limit ls l.group end) o _ h
       (either (adds ls l end last) WantsNone _ (ignored o) (asks_wants o.node.kept.mode p (with_line (grown_line l end last) ls) (keeps o start (adds_seal l end last)) h) h)))
 
--- a message wants nothing, or is a fetch
+-- a message wants no bytes, or is a fetch
 received_wants : (n : Control) (ls : List Shelf) (p : ℕ) (b : Body) → ((received (begun n) ls p b).wants ≡ None) ⊎ AnswersFetch ls n (received (begun n) ls p b)
 received_wants n ls p bodies.Look = nothing_wanted ls 0 0 n _ (goes_looked (begun n) p)
 received_wants n ls p (bodies.LookIs is_in parent rate children) = nothing_wanted ls 0 2 n _ (goes_sees (begun n) p (record { in_tree = is_in; parent = parent; rate = rate; children = children }))
@@ -149,7 +149,7 @@ received_wants n ls p (bodies.Chunk g start bytes last) =
     inl (either (n.me == 1) WantsNone (ignored (begun n)) (chunk_to (begun n) ls p (line_at g ls) start (start + length bytes) last)
     refl (chunk_wants ls (begun n) p (line_at g ls) start (start + length bytes) last refl))
 
--- a step wants nothing, or answers a fetch
+-- a step wants no bytes, or answers a fetch
 step_wants : (n : Control) (ls : List Shelf) (i : Input) → ((plan n ls i).wants ≡ None) ⊎ AnswersFetch ls n (plan n ls i)
 step_wants n ls (inputs.Tick t) = nothing_wanted ls (length n.kept.table) 2 n _ (goes_tick (begun n) ls t)
 step_wants n ls inputs.CheckNow = nothing_wanted ls 0 2 n _ (goes_checks (begun n))
@@ -165,7 +165,7 @@ step_wants n ls (inputs.Seal g) =
 step_wants n ls (inputs.Client area start g) = nothing_wanted ls 0 0 n _ (goes_client (begun n) ls area start g)
 step_wants n ls (inputs.Delivered m) = received_wants n ls m.from m.body
 
--- what a step wants is held
+-- the wanted bytes of a step are held
 pub wants_held : (n : Control) (ls : List Shelf) (i : Input) → IsShelf ls → CanWant ls (plan n ls i).wants
 wants_held n ls i ok = ⊎_elim none fetch (step_wants n ls i) where
   none : (plan n ls i).wants ≡ None → CanWant ls (plan n ls i).wants
@@ -174,7 +174,7 @@ wants_held n ls i ok = ⊎_elim none fetch (step_wants n ls i) where
   fetch : AnswersFetch ls n (plan n ls i) → CanWant ls (plan n ls i).wants
   fetch f = subst (λ (q : Plan). CanWant ls q.wants) (sym f.is) (fetch_wants ls f.have n f.to (next_behind n.chunk f.have ls) (behind_among n.chunk f.have ls ok.0))
 
--- and is no more than the node's chunk has
+-- the wanted bytes of a step are at most the node's chunk
 pub wants_few : (n : Control) (ls : List Shelf) (i : Input) → IfSome (plan n ls i).wants (λ w. w.count ≤ n.chunk)
 wants_few n ls i = ⊎_elim none fetch (step_wants n ls i) where
   none : (plan n ls i).wants ≡ None → IsFew n.chunk (plan n ls i).wants
@@ -183,7 +183,7 @@ wants_few n ls i = ⊎_elim none fetch (step_wants n ls i) where
   fetch : AnswersFetch ls n (plan n ls i) → IsFew n.chunk (plan n ls i).wants
   fetch f = subst (λ (q : Plan). IsFew n.chunk q.wants) (sym f.is) (fetch_few f.have n f.to (next_behind n.chunk f.have ls))
 
--- and a step that wants anything writes nothing
+-- a step that wants bytes writes nothing
 pub wants_alone : (n : Control) (ls : List Shelf) (i : Input) (w : Want) → (plan n ls i).wants ≡ Some w → ((plan n ls i).records ≡ []) × ((plan n ls i).keeps ≡ None)
 wants_alone n ls i w wants = ⊎_elim none fetch (step_wants n ls i) where
   none : (plan n ls i).wants ≡ None → ((plan n ls i).records ≡ []) × ((plan n ls i).keeps ≡ None)

@@ -1,4 +1,4 @@
--- The control step of an input: what follows from the control state and from the lines of the content that are in memory, whatever the disks do.
+-- The control step of an input: its effect by the control state and the lines of the content in memory, whatever the disks do.
 use Rattle.std.specs.Prelude.{◌≡◌, ℕ, IsTrue, Option, Some, None, List, length, map}
 use Rattle.oc_content.specs.ContentFile.{groups_in}
 use Rattle.oc_content.specs.ContentView.{ContentView}
@@ -20,23 +20,24 @@ use Rattle.oc_keep.specs.Writing.{fetched}
 abbrev pub control_step : {D : Type 0} → KeptView D → Input → Plan
 control_step k i = plan k.node.control k.content.shelves i
 
--- the messages of a step are those of its plan; where it wants bytes of content, its chunk has as many as it wants
+-- the messages of a step are those of its plan; where the plan wants bytes of content, the chunk has the wanted number of bytes
 abbrev pub AreSent : Option Want → List Message → List Message → Type 0
 AreSent None planned sends = sends ≡ planned
 AreSent (Some w) planned sends = (bytes : List ℕ) × (length bytes ≡ w.count) × (sends ≡ map (fill bytes) planned)
 
--- what a control step makes of the control state, what it answers, and what it sends
+-- the control state, the answer and the messages of a control step
 pub record IsControlStep (o : Plan) (after : Control) (outcome : OutcomeView) : Type 0 where
   pub control : after ≡ o.node
   pub answer : outcome.answer ≡ o.answer
   pub sends : AreSent o.wants o.sends outcome.sends
 
--- what was made ready at a node with this control state does this control step, and writes a frame exactly where the step changes something durable
+-- a prepared input at a node with this control state does this control step, and writes a frame exactly where the step changes
+-- something durable
 pub record DoesControlStep (o : Plan) (n : Control) (r : ReadyView) : Type 0 where
   pub step : IsControlStep o (control_after n r.plan) (record { answer = r.plan.answer; sends = r.plan.sends })
   pub writes : is_written r.write ≡ has_change o
 
--- a plan has the bytes in its chunk that it wants; from an honest disk, those of the groups
+-- a plan has the bytes that it wants in its chunk; from an honest disk, those of the groups
 pub record Fetches {D : Type 0} (view : D → DiskView) (c : ContentView D) (old new : PlanView) : Type 0 where
   pub sends : AreSent old.wants old.sends new.sends
   pub groups : IsTrue (view c.journal.disk).honest → new ≡ fetched (groups_in c.journal.frames) old.wants old

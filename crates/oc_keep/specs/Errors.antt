@@ -1,4 +1,4 @@
--- How a fault of a file is named for a node's files.
+-- The names of a file's faults for a node's files.
 use Rattle.std.specs.Prelude.{◌≡◌}
 use Rattle.oc_journal.specs.declared.errors.AppendError.{AppendError}
 use Rattle.oc_journal.specs.declared.errors.AppendError.TheVariants as appends
@@ -13,7 +13,7 @@ use Rattle.oc_keep.specs.declared.errors.KeepLoad.TheVariants as loads
 use Rattle.oc_keep.specs.declared.errors.ReadyError.{ReadyError}
 use Rattle.oc_keep.specs.declared.errors.ReadyError.TheVariants as readies
 
--- why a node was not loaded, whichever of its files it is
+-- the cause for which a node was not loaded, by the file at fault
 abbrev pub cause_of : KeepLoad → FileError
 cause_of (loads.Store error) = error.cause
 cause_of (loads.Content cause) = cause
@@ -31,7 +31,7 @@ abbrev pub of_commit : CommitError → KeepError
 of_commit commits.Full = keeps.Full
 of_commit commits.Disk = keeps.Disk
 
--- of a file that was open
+-- the cause for a file that was open
 abbrev pub of_append : AppendError → CommitError
 of_append appends.Full = commits.Full
 of_append failed = commits.Disk

@@ -1,4 +1,4 @@
--- What the three files of a node recover, and what a crash leaves of it.
+-- The node that three files recover, and the files that a crash leaves.
 use Rattle.std.specs.Prelude.{◌≡◌, ◌⊎◌, ℕ, ◌≤◌, IsTrue, List}
 use Rattle.oc_content.specs.ContentFile.{groups_in}
 use Rattle.oc_journal.specs.JournalFile.{frames_of}
@@ -15,22 +15,22 @@ pub record Disks (D : Type 0) : Type 0 where
   pub alternate : D
   pub content : D
 
--- those of files
+-- the disks of three files
 abbrev pub disks_in : {D : Type 0} → Files D → Disks D
 disks_in f = record { control = f.control; alternate = f.alternate; content = f.content }
 
 abbrev pub disks : {D : Type 0} → D → D → D → Disks D
 disks control alternate content = record { control = control; alternate = alternate; content = content }
 
--- the node that three files give back, as a start makes it: its control parts are the fold of all records of the current one of the
--- two control files, and its groups those of the content file
+-- the node that three files give back, as a start makes it: its control part is the fold of all records of the current control
+-- file, and its groups are those of the content file
 abbrev pub recovered : Header → ℕ → List ℕ → List ℕ → List ℕ → Node
 recovered h me control alternate content = record {
   control = started_with h me (folded (new_durable h.nodes) (recovered_records h.nodes control alternate));
   groups = groups_in (frames_of content);
 }
 
--- all durable parts agree; for a change log those are its length, its acknowledged count and what waits
+-- all durable parts agree; for a change log these are its length, its acknowledged count and the waiting certificates
 pub record SameDurable (n m : Node) : Type 0 where
   pub kept : m.control.kept ≡ n.control.kept
   pub groups : m.groups ≡ n.groups
@@ -47,7 +47,7 @@ pub record AreHonest {D : Type 0} (view : D → DiskView) (d : Disks D) : Type 0
   pub alternate : IsTrue (view d.alternate).honest
   pub content : IsTrue (view d.content).honest
 
--- no call on them that keeps within the size and the spare room fails
+-- no call on the disks fails that keeps within the size and the spare room
 pub record AreReliable {D : Type 0} (view : D → DiskView) (d : Disks D) : Type 0 where
   pub control : IsTrue (view d.control).reliable
   pub alternate : IsTrue (view d.alternate).reliable
@@ -84,7 +84,7 @@ pub record AlwaysLeaves {D : Type 0} (view : D → DiskView) (h : Header) (me : 
 abbrev pub Survives : {D : Type 0} → (D → DiskView) → Header → ℕ → Disks D → Node → Type 0
 Survives view h me d n = Leaves view h me d (SameDurable n)
 
--- what some crash of these disks leaves
+-- the files that some crash of these disks leaves
 pub record IsLeft {D : Type 0} (view : D → DiskView) (h : Header) (me : ℕ) (d : Disks D) (n : Node) : Type 0 where
   pub a : List ℕ
   pub b : List ℕ
@@ -98,7 +98,7 @@ pub record AllGoOn {D : Type 0} (view : D → DiskView) (old new : Disks D) : Ty
   pub alternate : GoesOn (view old.alternate) (view new.alternate)
   pub content : GoesOn (view old.content) (view new.content)
 
--- a disk's count of faults rose
+-- the count of faults of one disk rose
 abbrev pub OneRose : {D : Type 0} → (D → DiskView) → Disks D → Disks D → Type 0
 OneRose view old new =
     Rose (view old.control).faults (view new.control).faults ⊎ Rose (view old.alternate).faults (view new.alternate).faults

@@ -1,4 +1,4 @@
--- A node on its files, as a contract sees it.
+-- A node on its files, as contracts see it.
 use Rattle.std.specs.Prelude.{◌≡◌, ℕ, ◌+◌, ◌-◌, ◌^◌, ◌<◌, ◌≤◌, Bool, false, IsTrue, List, [], ◌∷◌, length, Option, Some, None}
 use Rattle.oc_base.specs.declared.limits.TheConstants.{DUE_BYTES, MAX_BASE_ACKED, MAX_FRAME_RECORDS, MAX_JOURNAL_BYTES, MAX_LOG_LENGTH}
 use Rattle.oc_base.specs.declared.shelf.Shelf.{Shelf}
@@ -30,7 +30,7 @@ pub record KeptView (D : Type 0) : Type 0 where
   pub content : ContentView D
   pub closed : Bool
 
--- among `nodes` nodes, with a chain of this length, chunks of at most that many bytes, and these areas
+-- a network of `nodes` nodes, with a chain of this length, chunks of at most this number of bytes, and these areas
 abbrev pub header : ℕ → ℕ → ℕ → List ℕ → Header
 header nodes chain chunk areas = record { nodes = nodes; chain = chain; chunk = chunk; areas = areas }
 
@@ -38,11 +38,11 @@ header nodes chain chunk areas = record { nodes = nodes; chain = chain; chunk = 
 abbrev pub kept_of : {D : Type 0} → NodeView → StoreView D → ContentView D → Bool → KeptView D
 kept_of node store content closed = record { node = node; store = store; content = content; closed = closed }
 
--- among which nodes a node is
+-- the network that a node belongs to
 abbrev pub header_of : Control → Header
 header_of n = record { nodes = n.nodes; chain = n.chain; chunk = n.chunk; areas = n.areas }
 
--- the disks of its files
+-- the disks of the node's files
 abbrev pub disks_of : {D : Type 0} → KeptView D → Disks D
 disks_of k = record { control = first_disk k.store; alternate = second_disk k.store; content = k.content.journal.disk }
 
@@ -58,13 +58,13 @@ IsHonest view k = AreHonest view (disks_of k)
 abbrev pub NodeSurvives : {D : Type 0} → (D → DiskView) → KeptView D → Node → Type 0
 NodeSurvives view k n = Survives view (header_of k.node.control) k.node.control.me (disks_of k) n
 
--- every crash at any moment since the old disks leaves a node with the property P
+-- a crash at any moment since the old disks leaves a node with the property P
 abbrev pub AtAnyMoment : {D : Type 0} → (D → DiskView) → KeptView D → KeptView D → (Node → Type 0) → Type 0
 AtAnyMoment view old new P = AlwaysLeaves view (header_of old.node.control) old.node.control.me (disks_of old) (disks_of new) P
 
--- While no disk failed: what is durable is the fold of the current control file, all frames of both are lists of records, and every crash
--- of honest disks leaves what is on them.
--- The change log is within its limit, since a certificate that is noted after a base has its own record in the file.
+-- The invariant while no disk failed: the durable state is the fold of the current control file, all frames of both control
+-- files are lists of records, and every crash of honest disks leaves the contents of the disks. The change log is within its
+-- limit, since each certificate that was noted after a base has its own record in the file.
 pub record IsKept {D : Type 0} (view : D → DiskView) (k : KeptView D) : Type 0 where
   pub reached : IsReached k.node.control
   pub open_store : k.closed ≡ false → k.store.closed ≡ false
@@ -80,33 +80,33 @@ pub record IsKept {D : Type 0} (view : D → DiskView) (k : KeptView D) : Type 0
 
 -- Full files
 
--- Where the frames of the current control file and of the content file end at these offsets: with the frame of these records, or else of
--- this piece, its file would pass its limit.
+-- The frames of the current control file and of the content file end at these offsets. With the frame of these records, or else
+-- of this piece, the file would pass its limit.
 abbrev pub IsFullWith : ℕ → ℕ → List Shelf → Input → List Record → Option ℕ → Bool → Type 0
 IsFullWith control content lines i (r ∷ rs) keeps closes = MAX_JOURNAL_BYTES < control + 6 + length (records_bytes (r ∷ rs))
 IsFullWith control content lines i [] (Some at) closes = MAX_JOURNAL_BYTES < content + 6 + length (written (entry_for lines (piece_of i) at closes))
 IsFullWith control content lines i [] None closes = ⊥
 
--- with what a plan writes
+-- the file would pass its limit with the write of this plan
 abbrev pub IsFullByPlan : ℕ → ℕ → List Shelf → Input → Plan → Type 0
 IsFullByPlan control content lines i o = IsFullWith control content lines i o.records o.keeps o.seals
 
--- with what this input writes, its file would pass its limit
+-- the file would pass its limit with the write of this input
 abbrev pub IsFullAt : {D : Type 0} → KeptView D → Input → Type 0
 IsFullAt k i = IsFullByPlan k.store.current.end k.content.journal.end k.content.shelves i (plan k.node.control k.content.shelves i)
 
--- the same for three files and the node that is kept in them
+-- the same for three files and the node that they keep
 abbrev pub IsFullIn : List ℕ → List ℕ → List ℕ → Node → Input → Type 0
 IsFullIn control alternate content n i =
     IsFullByPlan (end_of (recovered_frames control alternate)) (end_of (frames_of content)) (shelf n.groups) i (plan n.control (shelf n.groups) i)
 
--- and of the files that any crash now leaves
+-- the same for the files that any crash now leaves
 abbrev pub IsFullOn : {D : Type 0} → (D → DiskView) → Disks D → Node → Input → Type 0
 IsFullOn view d n i = (a b c : List ℕ) → MayLeave view d a b c → IsFullIn a b c n i
 
--- Turning over
+-- Turning the control files over
 
--- the control files can be turned over: the current one is long, the snapshot fits a frame, and its log a base
+-- the control files can be turned over: the current one is long, the snapshot fits in a frame, and its log in a base
 pub record IsRipe {D : Type 0} (k : KeptView D) : Type 0 where
   pub long : DUE_BYTES < k.store.current.end
   pub next : k.store.generation < 2 ^ 64 - 1

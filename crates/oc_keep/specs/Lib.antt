@@ -9,6 +9,6 @@ pub mod Turning
 pub mod Promises
 pub mod Calls
 pub mod Trials
--- what a clause names of the crates below
+-- the names of the crates below that clauses use
 pub use Rattle.oc_journal.specs.declared.errors.FileError
 pub use Rattle.oc_store.specs.declared.errors.Side

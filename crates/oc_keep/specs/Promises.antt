@@ -1,4 +1,4 @@
--- What the calls of a node on its files promise.
+-- The promises of the calls of a node on its files.
 use Rattle.std.specs.Prelude.{◌≡◌, ℕ, ◌+◌, true, false, IsSome, List, [], ◌∷◌}
 use Rattle.oc_content.specs.ContentFile.{content_of}
 use Rattle.oc_content.specs.Promises.{PutsNothing, RefusesContent}
@@ -22,13 +22,13 @@ use Rattle.oc_keep.specs.Writing.{KeepsStore}
 abbrev pub IsContentFile : List ℕ → Type 0
 IsContentFile file = (¬ IsNoJournal file) × IsSome (content_of (frames_of file))
 
--- the files of a node: in each, every frame belongs there
+-- the files of a node: each frame belongs in its file
 pub record AreFiles (nodes : ℕ) (a b c : List ℕ) : Type 0 where
   pub control : IsGood nodes a
   pub alternate : IsGood nodes b
   pub content : IsContentFile c
 
--- what reads of three disks give are the files of a node
+-- the bytes that a read of each of three disks may give are files of a node
 abbrev pub HoldFiles : {D : Type 0} → (D → DiskView) → ℕ → Disks D → Type 0
 HoldFiles view nodes d = AreFiles nodes (view d.control).seen (view d.alternate).seen (view d.content).seen
 
@@ -36,7 +36,7 @@ HoldFiles view nodes d = AreFiles nodes (view d.control).seen (view d.alternate)
 abbrev pub LeavesFiles : {D : Type 0} → (D → DiskView) → ℕ → Disks D → Type 0
 LeavesFiles view nodes d = (a b c : List ℕ) → MayLeave view d a b c → AreFiles nodes a b c
 
--- the node that the disks give back, started, which every crash now leaves
+-- the node that the disks give back, after a start, and which every crash now leaves
 pub record IsNodeOf {D : Type 0} (view : D → DiskView) (h : Header) (me : ℕ) (d : Disks D) (k : KeptView D) : Type 0 where
   pub header : header_of k.node.control ≡ h
   pub id : k.node.control.me ≡ me
@@ -45,25 +45,25 @@ pub record IsNodeOf {D : Type 0} (view : D → DiskView) (h : Header) (me : ℕ)
   pub files : AreHonest view d → HoldFiles view h.nodes d
   pub unclosed : k.closed ≡ false
 
--- a load: every crash at any moment of it leaves what some crash at its start would have left
+-- a load: a crash at any moment leaves what some crash at the start would have left
 pub record LoadsSafely {D : Type 0} (view : D → DiskView) (h : Header) (me : ℕ) (old new : Disks D) : Type 0 where
   pub goes_on : AllGoOn view old new
   pub any_moment : AreHonest view old → AlwaysLeaves view h me old new (IsLeft view h me old)
 
--- why a node was not loaded: what is said of a file comes only where those before it are good
+-- the cause for which a node was not loaded; the cause of one file is given only where the files before are good
 abbrev pub RefusesNode : {D : Type 0} → (D → DiskView) → ℕ → Disks D → Disks D → KeepLoad → Type 0
 RefusesNode view nodes d e (loads.Store error) = RefusesFiles nodes (view d.control) (view d.alternate) (view e.control) (view e.alternate) error
 RefusesNode view nodes d e (loads.Content cause) = HasGood nodes (view d.control) × HasGood nodes (view d.alternate) × RefusesContent (view d.content) (view e.content) cause
 RefusesNode view nodes d e loads.Memory = Unit {0}
 
--- Changing
+-- Changes
 
--- who the node is stays
+-- the node keeps its id and its network
 pub record IsSameNode (old new : Control) : Type 0 where
   pub me : new.me ≡ old.me
   pub header : header_of new ≡ header_of old
 
--- a call that wrote nothing: the node is as it was, and so is what is on its disks; all room is still there
+-- a call that wrote nothing: the node and the contents of its disks are as they were, and all room is still there
 pub record ChangesNothing {D : Type 0} (view : D → DiskView) (old new : KeptView D) : Type 0 where
   pub control : new.node.control ≡ old.node.control
   pub store : KeepsStore view old.store new.store
@@ -74,9 +74,9 @@ pub record Closes {D : Type 0} (view : D → DiskView) (old new : KeptView D) : 
   pub rose : OneRose view (disks_of old) (disks_of new)
   pub closes : new.closed ≡ true
 
--- Turning over
+-- Turning the control files over
 
--- the other control file has one frame, a snapshot of the node under the next generation, and is current now
+-- the other control file has one frame, a snapshot of the node under the next generation, and is the current one now
 pub record IsTurnedOver {D : Type 0} (view : D → DiskView) (old new : KeptView D) : Type 0 where
   pub side : new.store.side ≡ opposite old.store.side
   pub generation : new.store.generation ≡ old.store.generation + 1

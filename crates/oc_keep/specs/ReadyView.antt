@@ -1,4 +1,4 @@
--- An input made ready, as a contract sees it.
+-- An input made ready, as contracts see it.
 use Rattle.std.specs.Prelude.{◌≡◌, ◌⊎◌, ℕ, ◌<◌, Bool, true, false, List, [], ◌∷◌, ◌++◌, length}
 use Rattle.oc_base.specs.declared.group.Group.{Group}
 use Rattle.oc_content.specs.ContentFile.{with_entry}
@@ -18,7 +18,7 @@ use Rattle.oc_keep.specs.Files.{Disks}
 use Rattle.oc_keep.specs.KeptView.{KeptView}
 use Rattle.oc_keep.specs.Writing.{CanPutPiece, IsRoomFor, IsTooLong}
 
--- the plan of its step, and what the step writes
+-- the plan of the step, and the step's write
 pub record ReadyView : Type 0 where
   pub plan : PlanView
   pub write : Write
@@ -29,27 +29,27 @@ is_written writes.Nothing = false
 is_written (writes.Records frame) = true
 is_written (writes.Content piece) = true
 
--- the groups with what is written
+-- the groups after the write
 abbrev pub groups_with : Write → List Group → List Group
 groups_with (writes.Content piece) ks = with_entry piece.entry ks
 groups_with write ks = ks
 
--- the frame that the current control file gets, if it gets one
+-- the frame that is written to the current control file, if any
 abbrev pub control_frames : Write → List (List ℕ)
 control_frames (writes.Records frame) = frame ∷ []
 control_frames write = []
 
--- the same of the content file
+-- the frame that is written to the content file, if any
 abbrev pub content_frames : Write → List (List ℕ)
 content_frames (writes.Content piece) = piece.body ∷ []
 content_frames write = []
 
--- the files have the frame that was written, once and at the end, and no other one more
+-- the files have the written frame once, at the end, and no other frame more
 pub record GrowsBy {D : Type 0} (write : Write) (old new : KeptView D) : Type 0 where
   pub control : new.store.current.frames ≡ old.store.current.frames ++ control_frames write
   pub content : new.content.journal.frames ≡ old.content.journal.frames ++ content_frames write
 
--- what it does to a node
+-- the effect of a prepared input on a node
 abbrev pub outcome_of : Node → ReadyView → Outcome
 outcome_of n r = record {
   node = record { control = control_after n.control r.plan; groups = groups_with r.write n.groups };
@@ -62,7 +62,7 @@ outcome_of n r = record {
 abbrev pub told_of : Outcome → OutcomeView
 told_of o = record { answer = o.answer; sends = o.sends }
 
--- what is written is the frame of the plan's records, or a piece of content, and there is the room for it
+-- the write is the frame of the plan's records, or a piece of content, and has its room
 abbrev pub CanWrite : {D : Type 0} → (D → DiskView) → KeptView D → PlanView → Write → Type 0
 CanWrite view k p writes.Nothing = p.records ≡ []
 CanWrite view k p (writes.Records frame) =
@@ -70,23 +70,23 @@ CanWrite view k p (writes.Records frame) =
 CanWrite view k p (writes.Content piece) =
     (p.records ≡ []) × CanPutPiece view k.content piece
 
--- it was made ready by this node on its files since the last change of them; its records begin with no snapshot
+-- this node on its files made the input ready since their last change; its records do not begin with a snapshot
 pub record CanCommit {D : Type 0} (view : D → DiskView) (k : KeptView D) (r : ReadyView) : Type 0 where
   pub applies : CanApply k.node r.plan
   pub plain : begun_generation r.plan.records ≡ 0
   pub writes : CanWrite view k r.plan r.write
 
--- with what is written, its file would pass its limit
+-- the file would pass its limit with this write
 abbrev pub IsFullToWrite : {D : Type 0} → KeptView D → Write → Type 0
 IsFullToWrite k w = IsTooLong k.store k.content w
 
--- what is written can be stopped partway through
+-- the write can be stopped partway
 abbrev pub CanStopWrite : KeptView MemDiskView → Write → Type 0
 CanStopWrite k writes.Nothing = Unit {0}
 CanStopWrite k (writes.Records frame) = CanStop (length frame) k.store.current
 CanStopWrite k (writes.Content piece) = CanStop (length piece.body) k.content.journal
 
--- a disk that was stopped is left new, and another one as it was
+-- a stopped disk is left new, and any other disk as it was
 abbrev pub IsLeftAs : MemDiskView → MemDiskView → Type 0
 IsLeftAs old new = (new ≡ old) ⊎ (new ≡ disk_of new.bytes)
 
@@ -95,7 +95,7 @@ pub record AreLeftAs (old new : Disks MemDiskView) : Type 0 where
   pub alternate : IsLeftAs old.alternate new.alternate
   pub content : IsLeftAs old.content new.content
 
--- the disks of the files that are not written are as they were, where the current control file is that of this side
+-- the disks of the unwritten files are as they were, where the current control file is on this side
 abbrev pub OthersStay : Write → Side → Disks MemDiskView → Disks MemDiskView → Type 0
 OthersStay writes.Nothing side old new = new ≡ old
 OthersStay (writes.Records frame) side old new =

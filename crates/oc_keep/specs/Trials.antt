@@ -1,4 +1,4 @@
--- What a trial leaves.
+-- The effect of a trial.
 use Rattle.std.specs.Prelude.{◌≡◌, ℕ, ◌+◌, ◌<◌, false, List, [], ◌∷◌, length, take, drop}
 use Rattle.oc_model.specs.declared.input.Input.{Input}
 use Rattle.oc_model.specs.Node.{Header, Node}
@@ -19,16 +19,17 @@ abbrev pub after_inputs : Node → List Input → Node
 after_inputs n [] = n
 after_inputs n (i ∷ is) = after_inputs (step n i).node is
 
--- the node that reads of three disks recover
+-- the node recovered from a read of three disks
 abbrev pub first_node : {D : Type 0} → (D → DiskView) → Header → ℕ → Disks D → Node
 first_node view h me d = recovered h me (view d.control).seen (view d.alternate).seen (view d.content).seen
 
--- what every crash leaves of a node that took the first of these inputs, and then met this refusal: where a disk failed, one more may be taken
+-- the node that every crash leaves after the first of these inputs were taken and one was refused; where a disk failed, one
+-- more input may be taken
 abbrev pub LeavesTaken : {D : Type 0} → (D → DiskView) → Header → ℕ → Node → List Input → Disks D → ℕ → KeepError → Type 0
 LeavesTaken view h me n is d done keeps.Disk = Leaves view h me d (SameAsEither (after_inputs n (take done is)) (after_inputs n (take (done + 1) is)))
 LeavesTaken view h me n is d done error = Survives view h me d (after_inputs n (take done is))
 
--- what every crash leaves after a trial that loaded this node
+-- the node that every crash leaves after a trial that loaded this node
 abbrev pub LeavesEnd : {D : Type 0} → (D → DiskView) → Header → ℕ → Node → List Input → Disks D → ℕ → TrialEnd → Type 0
 LeavesEnd view h me n is d done All = Survives view h me d (after_inputs n is)
 LeavesEnd view h me n is d done (Load error) = ⊥
@@ -37,7 +38,8 @@ LeavesEnd view h me n is d done (Take error) = LeavesTaken view h me n is d done
 abbrev pub RunLeaves : {D : Type 0} → (D → DiskView) → KeptView D → List Input → KeptView D → Trial → Type 0
 RunLeaves view old is new t = LeavesEnd view (header_of old.node.control) old.node.control.me (node_of old) is (disks_of new) t.done t.end
 
--- and after a trial: where the node was not loaded, what some crash at its start would have left
+-- the files that every crash leaves after a trial; where the node was not loaded, those that some crash at the start would have
+-- left
 abbrev pub LeavesBy : {D : Type 0} → (D → DiskView) → Header → ℕ → Disks D → List Input → Disks D → ℕ → TrialEnd → Type 0
 LeavesBy view h me old is new done (Load error) = Leaves view h me new (IsLeft view h me old)
 LeavesBy view h me old is new done end = LeavesEnd view h me (first_node view h me old) is new done end
@@ -45,7 +47,7 @@ LeavesBy view h me old is new done end = LeavesEnd view h me (first_node view h 
 abbrev pub LeavesAfter : {D : Type 0} → (D → DiskView) → Header → ℕ → Disks D → List Input → Disks D → Trial → Type 0
 LeavesAfter view h me old is new t = LeavesBy view h me old is new t.done t.end
 
--- how many inputs were taken: all, none, or fewer than all
+-- the number of taken inputs: all, none, or fewer than all
 abbrev pub IsCount : List Input → ℕ → TrialEnd → Type 0
 IsCount is done All = done ≡ length is
 IsCount is done (Load error) = done ≡ 0
@@ -54,7 +56,7 @@ IsCount is done (Take error) = done < length is
 abbrev pub IsCounted : List Input → Trial → Type 0
 IsCounted is t = IsCount is t.done t.end
 
--- why a trial ended: a node was not loaded, or an input was not taken, for one of its causes; a node that is loaded is not closed
+-- the end of a trial: the node was not loaded, or an input was not taken, for one of the causes; a loaded node is not closed
 abbrev pub HasTakeCause : {D : Type 0} → (D → DiskView) → Disks D → Disks D → KeepError → Type 0
 HasTakeCause view old new keeps.Closed = ⊥
 HasTakeCause view old new keeps.Disk = OneRose view old new
@@ -74,13 +76,13 @@ abbrev pub BeginsWith : (Input → Type 0) → List Input → Type 0
 BeginsWith P [] = ⊥
 BeginsWith P (i ∷ is) = P i
 
--- a run that came to an input for which a file is full, and did nothing of it
+-- a run that came to an input for which a file is full, and did nothing for the input
 pub record EndsFull {D : Type 0} (old : KeptView D) (is : List Input) (new : KeptView D) (done : ℕ) : Type 0 where
   pub unclosed : new.closed ≡ false
   pub node : node_of new ≡ after_inputs (node_of old) (take done is)
   pub next : BeginsWith (IsFullAt new) (drop done is)
 
--- all were taken, or memory ran out
+-- all inputs were taken, or memory ran out
 abbrev pub EndsSurely : TrialEnd → Type 0
 EndsSurely All = Unit {0}
 EndsSurely (Load error) = IsOutOfMemory error

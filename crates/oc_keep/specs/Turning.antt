@@ -10,7 +10,7 @@ use Rattle.oc_record.specs.Spelling.{records_bytes}
 use Rattle.oc_store.specs.Sides.{opposite}
 use Rattle.oc_store.specs.StoreView.{StoreView, first_disk, second_disk, AreHonest, Recovers, RecoversEither}
 
--- the snapshot of a node fits a frame, and its log a base
+-- the snapshot of a node fits in a frame, and its log in a base
 pub record IsShort (generation : ℕ) (kept : Durable) : Type 0 where
   pub based : kept.log.length ≤ MAX_BASE_ACKED
   pub few : length (snapshot generation kept) ≤ MAX_FRAME_RECORDS
@@ -20,12 +20,12 @@ pub record StoreGoesOn {D : Type 0} (view : D → DiskView) (old new : StoreView
   pub first : GoesOn (view (first_disk old)) (view (first_disk new))
   pub second : GoesOn (view (second_disk old)) (view (second_disk new))
 
--- the same disks no earlier
+-- the same disks at no earlier time
 pub record StoreIsLater {D : Type 0} (view : D → DiskView) (old new : StoreView D) : Type 0 where
   pub first : (view (first_disk old)).moment ≤ (view (first_disk new)).moment
   pub second : (view (second_disk old)).moment ≤ (view (second_disk new)).moment
 
--- these records are the one frame of the other file, which is current now, and every crash leaves them
+-- these records are the one frame of the other file, which is the current one now, and every crash leaves them
 pub record Replaces {D : Type 0} (view : D → DiskView) (rs : List Record) (old new : StoreView D) : Type 0 where
   pub frames : AreHonest view old → new.current.frames ≡ records_bytes rs ∷ []
   pub kept : AreHonest view old → Recovers view new (records_bytes rs ∷ [])
@@ -37,7 +37,7 @@ pub record Replaces {D : Type 0} (view : D → DiskView) (rs : List Record) (old
   pub later : AreHonest view old → StoreIsLater view old new
   pub any_moment : AreHonest view old → RecoversEither view old new old.current.frames (records_bytes rs ∷ [])
 
--- a disk failed, and at every moment a crash leaves the frames before or these records
+-- a disk failed, and a crash at any moment leaves the old frames or these records
 pub record ClosesByTurning {D : Type 0} (view : D → DiskView) (rs : List Record) (old new : StoreView D) : Type 0 where
   pub any_moment : AreHonest view old → RecoversEither view old new old.current.frames (records_bytes rs ∷ [])
   pub rose : Rose (view (first_disk old)).faults (view (first_disk new)).faults ⊎ Rose (view (second_disk old)).faults (view (second_disk new)).faults

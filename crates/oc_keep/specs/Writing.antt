@@ -1,4 +1,4 @@
--- What a step writes, made ready and then written.
+-- The write of a step, made ready and then done.
 use Rattle.std.specs.Prelude.{◌≡◌, ℕ, ◌+◌, ◌<◌, ◌≤◌, Bool, IsTrue, List, [], length, Option, Some, None}
 use Rattle.oc_base.specs.declared.shelf.Shelf.{Shelf}
 use Rattle.oc_base.specs.declared.group.Group.{Group}
@@ -20,33 +20,33 @@ use Rattle.oc_keep.specs.Puts.{entry_for}
 
 -- Making ready
 
--- there is the spare room that a frame with a body of n bytes takes, and on a reliable disk its file does not pass its limit
+-- the spare room for a frame with a body of n bytes is there, and on a reliable disk the file does not pass its limit
 pub record IsRoomFor {D : Type 0} (view : D → DiskView) (j : JournalView D) (n : ℕ) : Type 0 where
   pub room : n + 6 ≤ (view j.disk).room
   pub calls : 4 ≤ (view j.disk).calls
   pub fits : IsTrue (view j.disk).reliable → ¬ IsFullFor n j
 
--- a piece of content is prepared, adds something, is what its body says, and there is the room for it
+-- a piece of content is prepared, adds something, is the piece of its body, and has its room
 pub record CanPutPiece {D : Type 0} (view : D → DiskView) (c : ContentView D) (piece : PieceView) : Type 0 where
   pub prepared : IsPrepared c piece
   pub adds : IsTrue (adds piece)
   pub says : entry_of piece.body ≡ Some piece.entry
   pub room : IsRoomFor view c.journal (length piece.body)
 
--- bytes of a group from this offset on, made ready to be put there, with the memory and the room for them
+-- bytes of a group from this offset on are ready to be put, with the memory and the room for them
 pub record IsPutAs {D : Type 0} (view : D → DiskView) (shelves : List Shelf) (c : ContentView D) (of : Piece) (at : ℕ) (closes : Bool) (piece : PieceView) : Type 0 where
   pub entry : piece.entry ≡ entry_for shelves of at closes
   pub body : piece.body ≡ written piece.entry
   pub can : CanPutPiece view c piece
 
--- the same for what a plan keeps
+-- the same for the piece that a plan keeps
 pub record IsPieceOf {D : Type 0} (view : D → DiskView) (shelves : List Shelf) (c : ContentView D) (p : PlanView) (of : Piece) (piece : PieceView) : Type 0 where
   pub none : p.records ≡ []
   pub at : ℕ
   pub keeps : p.keeps ≡ Some at
   pub put : IsPutAs view shelves c of at p.seals piece
 
--- the frame of the records of a plan, with the room for it
+-- the frame of a plan's records, with its room
 pub record IsFrameOf {D : Type 0} (view : D → DiskView) (s : StoreView D) (p : PlanView) (frame : List ℕ) : Type 0 where
   pub some : 0 < length p.records
   pub none : p.keeps ≡ None
@@ -54,18 +54,18 @@ pub record IsFrameOf {D : Type 0} (view : D → DiskView) (s : StoreView D) (p :
   pub spare : 0 < s.current.spare
   pub room : IsRoomFor view s.current (length frame)
 
--- what a plan writes, made ready: the frame of its records, the piece that it keeps, or nothing
+-- the prepared write of a plan: the frame of its records, the piece that it keeps, or nothing
 abbrev pub IsWriteOf : {D : Type 0} → (D → DiskView) → StoreView D → List Shelf → ContentView D → PlanView → Piece → Write → Type 0
 IsWriteOf view s shelves c p of writes.Nothing = (p.records ≡ []) × (p.keeps ≡ None)
 IsWriteOf view s shelves c p of (writes.Records frame) = IsFrameOf view s p frame
 IsWriteOf view s shelves c p of (writes.Content piece) = IsPieceOf view shelves c p of piece
 
--- the plan with the bytes that it wants of these groups in its chunk
+-- the plan with the bytes of these groups that it wants in its chunk
 abbrev pub fetched : List Group → Option Want → PlanView → PlanView
 fetched ks None p = p
 fetched ks (Some w) p = filled_with (bytes_wanted ks w) p
 
--- a call that only reserved room of a store: what is on its disks is as it was
+-- a call that only reserved room in a store: the contents of the disks are as they were
 pub record KeepsStore {D : Type 0} (view : D → DiskView) (old new : StoreView D) : Type 0 where
   pub current : OnlyReads view old.current new.current
   pub other : OnlyReads view old.other new.other
@@ -75,37 +75,37 @@ pub record KeepsStore {D : Type 0} (view : D → DiskView) (old new : StoreView 
 
 -- Writing
 
--- a write that was made ready can be written
+-- a prepared write can be done
 abbrev pub CanPutWrite : {D : Type 0} → StoreView D → ContentView D → Write → Type 0
 CanPutWrite s c writes.Nothing = Unit {0}
 CanPutWrite s c (writes.Records frame) = 0 < s.current.spare
 CanPutWrite s c (writes.Content piece) = IsPrepared c piece × IsTrue (adds piece)
 
--- it was written
+-- the write was done
 abbrev pub Writes : {D : Type 0} → (D → DiskView) → Write → StoreView D → ContentView D → StoreView D → ContentView D → Type 0
 Writes view writes.Nothing s c s2 c2 = Unit {0}
 Writes view (writes.Records frame) s c s2 c2 = Commits view frame s s2
 Writes view (writes.Content piece) s c s2 c2 = (held : ℕ) × CommitsPiece view piece held c c2
 
--- as it is written, one file is touched, and at every moment its images have its frame or not
+-- the write at every moment: one file is touched, and its images have the frame or not
 abbrev pub WritesSafely : {D : Type 0} → (D → DiskView) → Write → StoreView D → ContentView D → StoreView D → ContentView D → Type 0
 WritesSafely view writes.Nothing s c s2 c2 = (s2 ≡ s) × (c2 ≡ c)
 WritesSafely view (writes.Records frame) s c s2 c2 = CommitsSafely view frame s s2 × (c2 ≡ c)
 WritesSafely view (writes.Content piece) s c s2 c2 = AppendsSafely view piece.body c.journal c2.journal × (s2 ≡ s)
 
--- its disk failed
+-- the disk of the write failed
 abbrev pub FailsToWrite : {D : Type 0} → (D → DiskView) → Write → StoreView D → ContentView D → StoreView D → ContentView D → Type 0
 FailsToWrite view writes.Nothing s c s2 c2 = ⊥
 FailsToWrite view (writes.Records frame) s c s2 c2 = ClosesByCommit view frame s s2
 FailsToWrite view (writes.Content piece) s c s2 c2 = ClosesByPiece view piece.body c c2
 
--- its file would pass its limit
+-- the file of the write would pass its limit
 abbrev pub IsTooLong : {D : Type 0} → StoreView D → ContentView D → Write → Type 0
 IsTooLong s c writes.Nothing = ⊥
 IsTooLong s c (writes.Records frame) = IsFullFor (length frame) s.current
 IsTooLong s c (writes.Content piece) = IsFullFor (length piece.body) c.journal
 
--- its calls cannot fail
+-- the calls of the write cannot fail
 abbrev pub HasRoomFor : {D : Type 0} → (D → DiskView) → StoreView D → ContentView D → Write → Type 0
 HasRoomFor view s c writes.Nothing = Unit {0}
 HasRoomFor view s c (writes.Records frame) = CannotFail (length frame + 6) 4 (view s.current.disk)

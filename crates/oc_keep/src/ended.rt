@@ -1,14 +1,14 @@
 use crate::errors::{KeepError, KeepLoad};
 
-/// How far a trial came.
+/// The result of a trial.
 #[derive(Clone, Copy)]
 pub struct Trial {
-    /// How many inputs were taken.
+    /// The number of inputs that were taken.
     pub done: u64,
     pub end: TrialEnd,
 }
 
-/// How a trial ended.
+/// The end of a trial.
 #[derive(Clone, Copy, Debug)]
 pub enum TrialEnd {
     /// All inputs were taken.

@@ -7,7 +7,7 @@ use oc_base::Memory;
 use oc_store::{FileError, StoreError};
 use std::alloc::AllocError;
 
-/// Why a node was not loaded from its files.
+/// The cause for which a node was not loaded from its files.
 #[derive(Clone, Copy, Debug, PartialEq, Eq)]
 pub enum KeepLoad {
     /// A control file was not loaded.
@@ -18,7 +18,7 @@ pub enum KeepLoad {
     Memory,
 }
 
-/// Why an input was not taken.
+/// The cause for which an input was not taken.
 #[derive(Clone, Copy, Debug)]
 pub enum KeepError {
     /// A disk failed in an earlier call.
@@ -31,7 +31,7 @@ pub enum KeepError {
     Disk,
 }
 
-/// Why an input was not made ready.
+/// The cause for which an input was not made ready.
 #[derive(Clone, Copy)]
 pub enum ReadyError {
     /// A disk failed in an earlier call.
@@ -42,7 +42,7 @@ pub enum ReadyError {
     Disk,
 }
 
-/// Why an input that was made ready was not taken.
+/// The cause for which an input that was made ready was not taken.
 #[derive(Clone, Copy)]
 pub enum CommitError {
     /// The file would pass 2^48 bytes, and nothing was changed.
@@ -51,7 +51,7 @@ pub enum CommitError {
     Disk,
 }
 
-/// Why the control files were not turned over.
+/// The cause for which the control files were not turned over.
 #[derive(Clone, Copy, Debug)]
 pub enum TidyError {
     /// A disk failed in an earlier call.
@@ -62,7 +62,7 @@ pub enum TidyError {
     Disk,
 }
 
-/// Why bytes were not read.
+/// The cause for which bytes were not read.
 #[derive(Clone, Copy, Debug)]
 pub enum KeptRead {
     /// A disk failed in an earlier call.
@@ -74,7 +74,7 @@ pub enum KeptRead {
 }
 
 impl KeepLoad {
-    /// The cause, whichever of the files it is.
+    /// The cause, for any of the files.
     pub fn cause(self) -> FileError
         ensures { result ≡ cause_of self }
     {

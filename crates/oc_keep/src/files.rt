@@ -5,7 +5,7 @@ use oc_io::Disk;
 pub struct Files<D: Disk> {
     /// The first control file.
     pub control: D,
-    /// The second control file, which takes the place of the first when it is long, and the other way round.
+    /// The second control file. Each of the two takes the place of the other when that is long.
     pub alternate: D,
     /// The content file.
     pub content: D,

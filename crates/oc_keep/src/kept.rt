@@ -57,9 +57,8 @@ impl<D: Disk> Model for Kept<D> {
 }
 
 impl<D: Disk> Kept<D> {
-    /// Loads a node from its three files, and starts it. The files are read in order, each whole before
-    /// the next; one of at most 9 bytes is new, and its header is written. On a refusal the disks come
-    /// back.
+    /// Loads a node from its three files, and starts it. The files are read in order, each whole before the next; a
+    /// file of at most 9 bytes is new, and its header is written. On a refusal the disks come back.
     pub fn load(alloc: Global, files: Files<D>, seat: Seat) -> Result<Kept<D>, (Files<D>, KeepLoad)>
         requires header { IsHeader seat.header }
         requires id { IsNode seat.header.nodes seat.id }
@@ -67,11 +66,11 @@ impl<D: Disk> Kept<D> {
         // The node is the one that the files recover, and every crash now leaves it.
         ensures loaded { IfOk result (λ kept. IsNodeOf D.view seat.header seat.id (disks_in files) kept) }
 
-        // At every moment a crash leaves what a crash at the start would have left.
+        // A crash at any moment leaves what a crash at the start would have left.
         ensures safely { IfOk result (λ kept. LoadsSafely D.view seat.header seat.id (disks_in files) (disks_of kept)) }
         ensures safely_err { IfErr result (λ refused. LoadsSafely D.view seat.header seat.id (disks_in files) (disks_in refused.0)) }
 
-        // When it refuses.
+        // The causes of a refusal.
         ensures refuses { IfErr result (λ refused. RefusesNode D.view seat.header.nodes (disks_in files) (disks_in refused.0) refused.1) }
 
         // The files of a node on reliable disks are loaded.
@@ -132,23 +131,23 @@ impl<D: Disk> Kept<D> {
         }
     }
 
-    /// Takes an input: makes it ready, and commits it. The messages are handed out only once what is
-    /// durable of the step is safe. After `Disk` the node is closed.
+    /// Takes an input: makes it ready, and commits it. The messages are handed out only once the durable part of
+    /// the step is safe. After `Disk` the node is closed.
     pub fn take(&mut self, input: Input) -> Result<Outcome, KeepError>
         requires { IsInput self.old.node.control.nodes self.old.node.control.me input }
 
-        // The outcome and the node are those of the step; else the node is as it was, for this cause.
+        // The outcome and the node are those of the step; otherwise the node is as it was, for this cause.
         ensures took { IfOk result (λ outcome. TakesInput D.view input outcome self.old self.new) }
         ensures refused { IfErr result (λ error. RefusesInput D.view error input self.old self.new) }
         ensures closed { IsErrOf result KeepError.Closed ↔ IsTrue self.old.closed }
 
-        // At every moment a crash leaves the node before the input or after it.
+        // A crash at any moment leaves the node before the input or after it.
         ensures same { IsSameOnFiles D.view self.old self.new }
         ensures any_moment { self.old.closed ≡ false → IsHonest D.view self.old
             → AtAnyMoment D.view self.old self.new
             (SameAsEither (node_of self.old) (step (node_of self.old) input).node) }
 
-        // An open node on reliable disks takes it, if there is the memory.
+        // An open node on reliable disks takes the input, if there is the memory.
         ensures works { self.old.closed ≡ false → AreReliable D.view (disks_of self.old)
             → IfErr result (λ error. error ≡ KeepError.Memory) }
     {
@@ -159,12 +158,12 @@ impl<D: Disk> Kept<D> {
         Ok(self.commit(ready)?)
     }
 
-    /// Makes an input ready: takes all memory for its step, reads what the step sends, and changes
+    /// Makes an input ready: takes all memory for its step, reads the bytes that the step sends, and changes
     /// nothing. After `Disk` the node is closed.
     pub fn ready(&mut self, input: &Input) -> Result<Ready, ReadyError>
         requires { IsInput self.old.node.control.nodes self.old.node.control.me input.now }
 
-        // What it will do is the step, and it can be committed.
+        // The prepared input will do the step, and can be committed.
         ensures made { IfOk result (λ ready. IsReadyFor D.view input.now ready self.old self.new) }
         ensures refused { IfErr result (λ error. FailsToReady D.view error input.now self.old self.new) }
         ensures closed { IsErrOf result ReadyError.Closed ↔ IsTrue self.old.closed }
@@ -172,7 +171,7 @@ impl<D: Disk> Kept<D> {
         // Nothing changes, and every crash leaves the same node.
         ensures same { StaysTheSame D.view self.old self.new }
 
-        // On reliable disks it is made ready, if there is the memory.
+        // The input is made ready on reliable disks, if there is the memory.
         ensures works { self.old.closed ≡ false → AreReliable D.view (disks_of self.old)
             → IfErr result (λ error. error ≡ ReadyError.Memory) }
     {
@@ -190,24 +189,23 @@ impl<D: Disk> Kept<D> {
         made
     }
 
-    /// Takes an input that was made ready since the last change: writes what is durable of its step,
-    /// then changes the node, and hands out its messages. It takes no memory. After `Disk` the node is
-    /// closed.
+    /// Takes an input that was made ready since the last change: writes the durable part of its step, then changes
+    /// the node, and hands out its messages. It takes no memory. After `Disk` the node is closed.
     pub fn commit(&mut self, ready: Ready) -> Result<Outcome, CommitError>
         requires open { self.old.closed ≡ false }
         requires ready { CanCommit D.view self.old ready }
 
-        // What was made ready is done, and every crash now leaves the node.
+        // The prepared input is done, and every crash now leaves the node.
         ensures committed { IfOk result (λ outcome. Commits D.view ready outcome self.old self.new) }
         ensures refused { IfErr result (λ error. FailsToCommit D.view error self.old self.new) }
         ensures full { IsErrOf result CommitError.Full ↔ IsFullToWrite self.old ready.write }
 
-        // At every moment a crash leaves the node before the input or after it.
+        // A crash at any moment leaves the node before the input or after it.
         ensures same { IsSameOnFiles D.view self.old self.new }
         ensures any_moment { IsHonest D.view self.old → AtAnyMoment D.view self.old self.new
             (SameAsEither (node_of self.old) (outcome_of (node_of self.old) ready).node) }
 
-        // On reliable disks it is taken.
+        // The input is taken on reliable disks.
         ensures works { AreReliable D.view (disks_of self.old) → IsOk result }
     {
         frames_add_their_records();
@@ -222,19 +220,18 @@ impl<D: Disk> Kept<D> {
         }
     }
 
-    /// Turns the control files over, if they are ripe: writes a snapshot of the node to the control file
-    /// that is not current, which makes it current. It answers whether it did. After `Disk` the node is
-    /// closed.
+    /// Turns the control files over, if they can be: writes a snapshot of the node to the control file that is not
+    /// current, which makes that the current one. It answers whether it did. After `Disk` the node is closed.
     pub fn tidy(&mut self) -> Result<bool, TidyError>
         ensures ripe { IfOk result (λ turned. IsTrue turned ↔ IsRipe self.old) }
         ensures turned { IfOk result (λ turned. Tidies D.view turned self.old self.new) }
         ensures refused { IfErr result (λ error. FailsToTidy D.view error self.old self.new) }
         ensures closed { IsErrOf result TidyError.Closed ↔ IsTrue self.old.closed }
 
-        // The node is as it was, and at every moment a crash leaves it.
+        // The node is as it was, and a crash at any moment leaves it.
         ensures keeps { KeepsNode D.view self.old self.new }
 
-        // Where the current file is not long, nothing is done, and that takes no memory.
+        // Where the current file is not long, nothing is done, which takes no memory.
         ensures idle { self.old.closed ≡ false → ¬ (DUE_BYTES < self.old.store.current.end) → IsOk result }
 
         // On reliable disks the files of an open node are turned over, if there is the memory.
@@ -254,8 +251,8 @@ impl<D: Disk> Kept<D> {
         turned
     }
 
-    /// Reads the bytes of a group from an offset on, as many as fit, and answers how many. After `Disk`
-    /// the node is closed.
+    /// Reads the bytes of a group from an offset on, as many as fit, and answers how many. After `Disk` the node is
+    /// closed.
     pub fn read(&mut self, group: &GroupName, start: u64, buf: &mut [u8]) -> Result<usize, KeptRead>
         ensures within { IfOk result (λ n. n ≤ length buf.old) }
         ensures bytes { IfOk result (λ n. IsHonest D.view self.old
@@ -264,14 +261,14 @@ impl<D: Disk> Kept<D> {
         // Nothing changes, and every crash leaves the same node.
         ensures same { StaysTheSame D.view self.old self.new }
 
-        // When it refuses.
+        // The causes of a refusal.
         ensures closed { IsErrOf result KeptRead.Closed ↔ IsTrue self.old.closed }
         ensures no_group { IsErrOf result KeptRead.NoGroup
             ↔ ((self.old.closed ≡ false) × (held_of group.now self.old.content.shelves ≡ None)) }
         ensures disk { IsErrOf result KeptRead.Disk → Closes D.view self.old self.new }
         ensures stays_open { ¬ IsErrOf result KeptRead.Disk → self.new.closed ≡ self.old.closed }
 
-        // On reliable disks a group that is held is read.
+        // A held group is read on reliable disks.
         ensures works { self.old.closed ≡ false → AreReliable D.view (disks_of self.old)
             → IfErr result (λ error. error ≡ KeptRead.NoGroup) }
     {
@@ -288,18 +285,18 @@ impl<D: Disk> Kept<D> {
         }
     }
 
-    /// Reads what a child is likely to ask for next, so that it is handed out without a read. After an error the node
-    /// is closed.
+    /// Reads ahead the bytes that a child is likely to ask for next, so that they are sent without a read. After an
+    /// error the node is closed.
     pub fn read_ahead(&mut self) -> Result<(), Failed>
         // Nothing changes, and every crash leaves the same node.
         ensures same { StaysTheSame D.view self.old self.new }
 
-        // It fails where the node was closed, and where a disk fails now.
+        // The call fails where the node was closed, and where a disk fails now.
         ensures open { OnOk result ((self.old.closed ≡ false) × (self.new.closed ≡ false)) }
         ensures failed { OnErr result
             ((IsTrue self.old.closed × (self.new ≡ self.old)) ⊎ Closes D.view self.old self.new) }
 
-        // On reliable disks an open node does it.
+        // The call succeeds on reliable disks at an open node.
         ensures works { self.old.closed ≡ false → AreReliable D.view (disks_of self.old) → IsOk result }
     {
         if self.closed {
@@ -321,7 +318,7 @@ impl<D: Disk> Kept<D> {
         self.store.due()
     }
 
-    /// The generation of the current control file, 0 where it has no frame.
+    /// The generation of the current control file; 0 where it has no frame.
     pub fn generation(&self) -> u64
         ensures { result ≡ self.now.store.generation }
     {
@@ -335,16 +332,16 @@ impl<D: Disk> Kept<D> {
         self.closed
     }
 
-    /// The node. [`Kept::recovers`] says what is known of it.
+    /// The node. [`Kept::recovers`] gives the properties of the node.
     pub fn node(&self) -> &Node
         ensures { result.now ≡ self.now.node }
     {
         &self.node
     }
 
-    /// What holds between any two calls: the node is as inputs and starts leave it, its change log is within its
-    /// limit, the lines of the content are those of its groups, and while no disk failed every crash leaves what is
-    /// durable of it.
+    /// The invariant between any two calls: the node is one that inputs and starts lead to, its change log is
+    /// within its limit, the lines of the content are those of its groups, and while no disk failed every crash
+    /// leaves the durable part of the node.
     pub fn recovers(&self)
         ensures reached { IsReached self.now.node.control }
         ensures lawful { IsHonest D.view self.now → IsLawfulNode self.now.node.control.nodes (node_of self.now) }
@@ -353,11 +350,11 @@ impl<D: Disk> Kept<D> {
         ensures survives { self.now.closed ≡ false → IsHonest D.view self.now
             → NodeSurvives D.view self.now (node_of self.now) }
     {
-        // The clause of this call says that the shelf is lawful, and `lawful` rests on it.
+        // The clause of this call says that the shelf is lawful; the property `lawful` uses that.
         let _shelf = self.content.groups();
     }
 
-    /// The groups that are held, ascending by name, with their lengths and seals.
+    /// The held groups, ascending by name, with their lengths and seals.
     pub fn shelf(&self) -> &[Shelf]
         ensures shelf { result.now ≡ self.now.content.shelves }
         ensures groups { IsHonest D.view self.now → result.now ≡ shelf (node_of self.now).groups }
@@ -365,11 +362,12 @@ impl<D: Disk> Kept<D> {
         self.content.groups()
     }
 
-    /// The disks, those of the control files before that of the content.
+    /// The disks: those of the control files, and then that of the content file.
     pub fn into_disks(self) -> (D, D, D)
         ensures disks { disks result.0 result.1 result.2 ≡ disks_of self }
 
-        // While no disk failed, every crash leaves files of a node, full for each input for which these files are full.
+        // While no disk failed, every crash leaves files of a node, which are full for each input for which these
+        // files are full.
         ensures files { self.closed ≡ false → IsHonest D.view self
             → LeavesFiles D.view self.node.control.nodes (disks_of self) }
         ensures full { self.closed ≡ false → IsHonest D.view self
@@ -382,7 +380,7 @@ impl<D: Disk> Kept<D> {
             content,
             closed: _,
         } = self;
-        // Dropping the node by a call takes less to prove than the end of its scope.
+        // Dropping the node by a call takes less to prove than dropping it at the end of its scope.
         drop(node);
         let (control, alternate) = store.into_disks();
         (control, alternate, content.into_disk())
@@ -390,24 +388,24 @@ impl<D: Disk> Kept<D> {
 }
 
 impl Kept<MemDisk> {
-    /// Takes an input that was made ready as `commit` does, with a stop after `calls` of the four calls
-    /// that write its frame, if it writes one, and hands back what a crash leaves then; `image` is the
-    /// byte that is found wherever something was written and not synced. It takes no memory.
+    /// Takes an input that was made ready as `commit` does, with a stop after `calls` of the four calls that write
+    /// its frame, if it writes one, and hands back the files that a crash leaves then. `image` is the byte at each
+    /// place that was written and not synced. It takes no memory.
     pub fn commit_stopped(self, ready: Ready, calls: u8, image: u8) -> (MemDisk, MemDisk, MemDisk)
         requires open { self.closed ≡ false }
         requires ready { CanCommit view_of self ready }
         requires calls { calls ≤ 4 }
         requires stops { CanStopWrite self ready.write }
 
-        // Every crash of the disks leaves the node after the input where a frame is written and kept, and
-        // else the node before it.
+        // Every crash of the disks leaves the node after the input where a frame is written and kept, and otherwise
+        // the node before.
         ensures survives { Survives view_of (header_of self.node.control) self.node.control.me (disks result.0 result.1 result.2)
             (if is_written ready.write && is_kept_new calls image then (outcome_of (node_of self) ready).node else node_of self) }
 
-        // They are files of a node.
+        // The disks have the files of a node.
         ensures files { LeavesFiles view_of self.node.control.nodes (disks result.0 result.1 result.2) }
 
-        // The disk that is written is left new, without a stop or a fault, and the others as they are.
+        // The written disk is left new, without a stop or a fault, and the others are as they were.
         ensures disks { AreLeftAs (disks_of self) (disks result.0 result.1 result.2) }
         ensures others { OthersStay ready.write self.store.side (disks_of self) (disks result.0 result.1 result.2) }
     {
@@ -434,8 +432,8 @@ impl Kept<MemDisk> {
     }
 }
 
-/// The files of a node, and what an input that was made ready writes to them. The rest is dropped here, where
-/// the disk is a parameter: for a disk that is known there is far more to prove.
+/// The files of a node, and the write of a prepared input. The rest is dropped here, where the disk is a parameter:
+/// for a known disk there is far more to prove.
 fn files_of<D: Disk>(kept: Kept<D>, ready: Ready) -> (Store<D>, Content<D>, Write)
     ensures store { result.0 ≡ kept.store }
     ensures content { result.1 ≡ kept.content }

@@ -10,9 +10,8 @@ ghost use Rattle.oc_model.specs.Lawful.{IsInput};
 ghost use Rattle.oc_model.specs.Node.{Control};
 ghost use Rattle.oc_model.specs.Step.{Piece, kept_at, piece_of, plan};
 
-/// What a step keeps of its input's bytes can be put to the content log: the log's limits are those of
-/// the step's rule, so it refuses nothing that a step keeps, and it changes the groups as the step
-/// does.
+/// The piece that a step keeps of its input can be put to the content log: the log's limits are those of the step's
+/// rule, so the log refuses no piece that a step keeps, and changes the groups as the step does.
 pub fn prepare_refuses_nothing_that_is_kept()
     ensures keeps { (nodes : ℕ) (n : Control) (lines : List Shelf) (i : Input) → IsInput nodes n.me i → IsShelf lines
         → CanKeep lines (piece_of i) (plan n lines i).keeps (plan n lines i).seals }

@@ -1,18 +1,17 @@
 //! A node on its three files: nothing that was acknowledged is lost.
 //!
-//! A [`Kept`] is a node with its two control files and its content file. [`Kept::load`] makes of [`Files`] the
-//! node that they recover, and starts it. [`Kept::take`] takes one input: all memory first, then at most one
-//! frame of one file, then the change of the node, and only then the messages. [`Kept::tidy`] puts a snapshot
-//! in the place of all control records, where the current file is long. [`status_of`] is what a replay and
-//! `check` show of the node.
+//! A [`Kept`] is a node with its two control files and its content file. [`Kept::load`] makes the node that
+//! [`Files`] recover, and starts it. [`Kept::take`] takes one input: all memory first, then at most one frame of
+//! one file, then the change of the node, and only then the messages. [`Kept::tidy`] puts a snapshot in the place
+//! of all control records, where the current file is long. [`status_of`] is the status of the node that a replay
+//! and `check` show.
 //!
-//! `specs/Files` says which node three files recover, and what it means that a node survives every crash;
-//! `specs/KeptView` what a contract sees of a [`Kept`]; `specs/Calls` what each call does, and what it leaves
-//! where it fails.
+//! `specs/Files` defines the node that three files recover, and when a node survives every crash; `specs/KeptView`
+//! the view of a [`Kept`] in contracts; `specs/Calls` the effect of each call, also where the call fails.
 //!
-//! The layers above rest on this: a take is the step of the model, and at its end every crash leaves the node
-//! after it; at every moment a crash leaves the node before the input or after it, and at every moment of a
-//! load, a tidy or a read the same node. [`Kept::recovers`] says what holds between calls. So any number of
+//! The layers above rely on this: a take is the step of the model, and at its end every crash leaves the node after
+//! the step; a crash at any moment leaves the node before the input or after it, and at any moment of a load, a
+//! tidy or a read the same node. [`Kept::recovers`] gives the properties between calls. So any number of
 //! interrupted [`trial`]s in a row loses nothing that was answered with `Ok`.
 #![tactic(auto)]
 

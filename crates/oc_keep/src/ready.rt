@@ -9,7 +9,7 @@ use oc_store::Frame;
 use std::alloc::Global;
 use std::marker::Model;
 
-/// What a step writes: one frame of one file at most.
+/// The write of a step: at most one frame of one file.
 #[derive(Drop)]
 pub enum Write {
     Nothing,
@@ -19,15 +19,15 @@ pub enum Write {
     Content(Piece),
 }
 
-/// An input made ready: all memory for its step is taken, and what the step sends is read. A contract
-/// sees the plan of the step, and what the step writes.
+/// An input made ready: all memory for its step is taken, and the bytes that the step sends are read. A contract
+/// sees the plan and the write of the step.
 #[derive(Drop)]
 pub struct Ready {
-    /// On the heap: it is large, and every call that hands it on would copy it.
+    /// The plan is on the heap: it is large, and every call that hands it on would copy it.
     parts: Box<Parts>,
 }
 
-/// The plan of a step, and what the step writes.
+/// The plan of a step, and the step's write.
 #[derive(Drop)]
 pub(crate) struct Parts {
     pub plan: Plan,
@@ -43,7 +43,7 @@ impl Model for Ready {
 }
 
 impl Ready {
-    /// A plan with what it writes.
+    /// A plan with its write.
     pub(crate) fn of(alloc: Global, plan: Plan, write: Write) -> Result<Ready, Memory>
         ensures { IfOk result (λ ready. ready ≡ record { plan = plan; write = write }) }
     {
@@ -51,7 +51,7 @@ impl Ready {
         Ok(Ready { parts })
     }
 
-    /// The plan, and what it writes.
+    /// The plan, and its write.
     pub(crate) fn into_parts(self) -> Parts
         ensures { self ≡ record { plan = result.plan; write = result.write } }
     {
@@ -65,7 +65,7 @@ impl Ready {
         self.parts.plan.sends()
     }
 
-    /// What the step will answer.
+    /// The answer that the step will give.
     pub fn answer(&self) -> Answer
         ensures { result ≡ self.now.plan.answer }
     {

@@ -1,4 +1,4 @@
-//! An input made ready: its plan, what it writes, and the bytes that it sends.
+//! An input made ready: its plan, its write, and the bytes that it sends.
 
 ghost use Rattle.std.specs.Prelude.{◌≡◌, ◌≢◌, ◌↔◌, ◌⊎◌, ◌≤◌, false, IsTrue, IsErrOf, None, Some, IfOk, IfErr, OnOk, OnErr};
 ghost use Rattle.oc_base.specs.declared.limits.TheConstants.{MAX_LOG_LENGTH};
@@ -29,7 +29,7 @@ use oc_record::spellings_are_read;
 use oc_store::Store;
 use std::alloc::Global;
 
-/// Makes an input ready for a node on open files: takes all memory, and reads what the step sends.
+/// Makes an input ready for a node on open files: takes all memory, and reads the bytes that the step sends.
 pub fn make_ready<D: Disk>(
     alloc: Global,
     node: &mut Node,
@@ -54,7 +54,7 @@ pub fn make_ready<D: Disk>(
     prepare_refuses_nothing_that_is_kept();
     spellings_are_read();
     let mut plan = node.plan(input, content.groups())?;
-    // Dropped by calls, the plan and what it writes cost less to prove than out of scope.
+    // Dropped by calls, the plan and its write cost less to prove than dropped at the end of their scope.
     let write = match writing(alloc, store, content, &plan, input) {
         Ok(write) => write,
         Err(Memory) => {
@@ -72,7 +72,7 @@ pub fn make_ready<D: Disk>(
     }
 }
 
-/// Whether a disk failed as an input was made ready.
+/// Whether a disk failed while an input was made ready.
 pub fn making_failed(made: &Result<Ready, ReadyError>) -> bool
     ensures { IsTrue result ↔ IsErrOf made.now ReadyError.Disk }
 {
@@ -107,7 +107,7 @@ fn fetch<D: Disk>(
         }
         Err(FetchError::Disk) => Err(ReadyError::Disk),
         Err(FetchError::Memory) => Err(ReadyError::Memory),
-        // What is wanted is of a group that is held.
+        // The wanted bytes are of a held group.
         Err(FetchError::NoGroup) => unreachable!(),
     }
 }

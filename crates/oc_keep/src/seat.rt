@@ -4,7 +4,7 @@ use oc_base::{Memory, NodeId};
 use oc_model::Header;
 use std::alloc::Global;
 
-/// Which node of which network it is.
+/// The node's id, and its network.
 #[derive(Drop)]
 pub struct Seat {
     pub id: NodeId,

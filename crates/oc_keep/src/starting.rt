@@ -22,7 +22,8 @@ pub fn start(alloc: Global, seat: Seat, list: &[Record], end: u64) -> Result<Nod
     ensures log { IfOk result (λ node. node.control.kept.log.length ≤ MAX_BASE_ACKED + end) }
     ensures short { IfOk result (λ node. node.control.kept.log.length ≤ MAX_LOG_LENGTH) }
 {
-    // A file has no more records than bytes, and a journal no more than its limit: more do not fit memory.
+    // A file has at most as many records as bytes, and a journal at most as many bytes as its limit: more do not
+    // fit in memory.
     let count = list.len() as u64;
     if count > end || count > MAX_JOURNAL_BYTES {
         return Err(Memory);
@@ -33,7 +34,7 @@ pub fn start(alloc: Global, seat: Seat, list: &[Record], end: u64) -> Result<Nod
     match node.recover(list) {
         Ok(()) => Ok(node),
         Err(Memory) => {
-            // Dropping it by a call takes less to prove than the end of its scope.
+            // Dropping the list by a call takes less to prove than dropping it at the end of its scope.
             drop(node);
             Err(Memory)
         }

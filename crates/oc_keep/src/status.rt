@@ -1,4 +1,4 @@
-//! A node's position in the tree, and what it knows of the tree.
+//! A node's position in the tree, and its knowledge of the tree.
 
 ghost use Rattle.std.specs.Prelude.{◌≡◌, ◌++◌, false, IfOk, OnOk};
 ghost use Rattle.std.specs.Option.{option_to_list};
@@ -12,7 +12,7 @@ use oc_model::NodeStatus;
 use oc_updown::Table;
 use std::alloc::Global;
 
-/// What is seen of a node on its files, which is up or not.
+/// The status of a node on its files, which is up or down.
 pub fn status_of<D: Disk>(kept: &Kept<D>, up: bool) -> Result<NodeStatus, Memory>
     ensures { IfOk result (λ status. status ≡ status_of kept.now.node.control up) }
 {
@@ -33,7 +33,7 @@ pub fn status_of<D: Disk>(kept: &Kept<D>, up: bool) -> Result<NodeStatus, Memory
     })
 }
 
-/// What is seen of a node that is down and was recovered to be read.
+/// The status of a node that is down and was recovered to be read.
 pub fn status_recovered<D: Disk + Drop>(kept: Kept<D>) -> Result<NodeStatus, Memory>
     ensures { IfOk result (λ status. status ≡ status_of kept.node.control false) }
 {

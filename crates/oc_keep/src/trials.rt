@@ -28,17 +28,17 @@ pub fn trial<D: Disk>(
     requires id { IsNode seat.header.nodes seat.id }
     requires inputs { AllByRecursion (IsInput seat.header.nodes seat.id) inputs.items }
 
-    // Every crash leaves the node after the inputs that were taken, or where a disk failed after one more;
-    // where the node was not loaded, what some crash at the start would have left.
+    // Every crash leaves the node after the inputs that were taken, or after one more where a disk failed; where
+    // the node was not loaded, the files that some crash at the start would have left.
     ensures leaves { AreHonest D.view (disks_in files)
         → LeavesAfter D.view seat.header seat.id (disks_in files) inputs.items (disks_in result.0) result.1 }
 
-    // How many were taken, and why it ended.
+    // The number of inputs that were taken, and the end of the trial.
     ensures counted { IsCounted inputs.items result.1 }
     ensures cause { HasCause D.view seat.header.nodes (disks_in files) (disks_in result.0) result.1.end }
     ensures goes_on { AllGoOn D.view (disks_in files) (disks_in result.0) }
 
-    // Where an input was refused since its file is full: with it, the file would pass its limit.
+    // The input that was refused since its file is full: with the input the file would pass its limit.
     ensures full { AreHonest D.view (disks_in files) → result.1.end ≡ TrialEnd.Take Full
         → BeginsWith (IsFullOn D.view (disks_in result.0)
         (after_inputs (first_node D.view seat.header seat.id (disks_in files)) (take result.1.done inputs.items)))
@@ -80,7 +80,7 @@ fn run<D: Disk>(kept: &mut Kept<D>, mut inputs: Vec<Input>) -> Trial
     ensures goes_on { AllGoOn D.view (disks_of kept.old) (disks_of kept.new) }
     ensures works { AreReliable D.view (disks_of kept.old) → EndsSurely result.end }
 {
-    // The first is taken off the end.
+    // The first input is at the end of the list, and is taken off there.
     inputs.reverse();
     let mut done = 0;
     while let Some(input) = inputs.pop() {

@@ -16,7 +16,7 @@ use oc_node::Node;
 use oc_record::{Record, spellings_are_read};
 use oc_store::{RestartError, Store};
 
-/// Turns the control files over to a snapshot of the node, if that fits a frame, and answers whether it
+/// Turns the control files over to a snapshot of the node, if the snapshot fits in a frame, and answers whether it
 /// did. The store is open and due.
 pub fn replace<D: Disk>(node: &Node, store: &mut Store<D>) -> Result<bool, TidyError>
     requires open { store.old.closed ≡ false }
@@ -36,7 +36,8 @@ pub fn replace<D: Disk>(node: &Node, store: &mut Store<D>) -> Result<bool, TidyE
         return Ok(false);
     };
     let prepared = store.prepare_snapshot(&list);
-    // Dropping the list, and then the frame, by a call takes less to prove than the end of their scope.
+    // Dropping the list, and then the frame, by a call takes less to prove than dropping them at the end of their
+    // scope.
     drop(list);
     let frame = prepared?;
     let turned = store.turn_over(&frame);
@@ -48,14 +49,14 @@ pub fn replace<D: Disk>(node: &Node, store: &mut Store<D>) -> Result<bool, TidyE
     }
 }
 
-/// Whether a disk failed as the control files were turned over.
+/// Whether a disk failed while the control files were turned over.
 pub fn turning_failed(turned: &Result<bool, TidyError>) -> bool
     ensures { IsTrue result ↔ IsErrOf turned.now TidyError.Disk }
 {
     matches!(turned, Err(TidyError::Disk))
 }
 
-/// The snapshot of a node under this generation, where it fits a frame and its log a base.
+/// The snapshot of a node under this generation, if it fits in a frame and its log in a base.
 fn short_snapshot(node: &Node, generation: u64) -> Result<Option<Vec<Record>>, Memory>
     ensures lawful { IfOk result (λ found. IfSome found (λ list. IsCount generation → AreRecords node.now.control.nodes list.items)) }
     ensures found { IfOk result (λ found. MatchOption found (¬ IsShort generation node.now.control.kept)

@@ -1,4 +1,4 @@
-//! What a step writes: made ready with all its memory and room, and then written.
+//! The write of a step: made ready with all its memory and room, and then done.
 
 ghost use Rattle.std.specs.Prelude.{◌≡◌, ◌≢◌, ◌⊎◌, ◌↔◌, ℕ, [], false, length, IsTrue, IsOk, IsErrOf, None, Some, MatchOption, IfOk, IfErr, OnOk};
 ghost use Rattle.oc_content.specs.ContentFile.{IsShelved};
@@ -23,7 +23,7 @@ use oc_node::Plan;
 use oc_store::{AppendError, Store};
 use std::alloc::Global;
 
-/// Makes ready what a plan writes, with all memory and room for it.
+/// Makes the write of a plan ready, with all memory and room for it.
 pub fn writing<D: Disk>(
     alloc: Global,
     store: &mut Store<D>,
@@ -50,7 +50,7 @@ pub fn writing<D: Disk>(
     }
 }
 
-/// The piece of an input's bytes that a step keeps, from this offset of their group on.
+/// The piece of an input's bytes that a step keeps, from this offset of the group on.
 fn piece<D: Disk>(
     alloc: Global,
     content: &mut Content<D>,
@@ -80,7 +80,7 @@ fn piece<D: Disk>(
     }
 }
 
-/// The group and the bytes that an input brings, if it is one of those that do: a publish, a seal, or a chunk that is delivered.
+/// The group and the bytes of an input that has them: a publish, a seal, or a delivered chunk.
 pub fn brought(input: &Input) -> Option<(&GroupName, &[u8])>
     ensures { MatchOption result (piece_of input.now ≡ record { group = []; bytes = [] })
         (λ piece. piece_of input.now ≡ record { group = piece.0.now; bytes = piece.1.now }) }
@@ -96,7 +96,7 @@ pub fn brought(input: &Input) -> Option<(&GroupName, &[u8])>
     }
 }
 
-/// Writes what was made ready, to its file. It takes no memory.
+/// Does a prepared write. It takes no memory.
 pub fn put<D: Disk>(
     store: &mut Store<D>,
     content: &mut Content<D>,
@@ -114,7 +114,7 @@ pub fn put<D: Disk>(
     ensures disk { IsErrOf result CommitError.Disk
         → FailsToWrite D.view write store.old content.old store.new content.new }
 
-    // On reliable disks with the room it is written.
+    // The write is done on reliable disks with the room.
     ensures works { HasRoomFor D.view store.old content.old write → IsOk result }
 {
     match write {
@@ -130,7 +130,7 @@ pub fn put<D: Disk>(
     }
 }
 
-/// Why a frame was not appended to an open file.
+/// The cause for which a frame was not appended to an open file.
 fn cause(error: AppendError) -> CommitError
     requires { error ≢ AppendError.Closed }
     ensures { result ≡ of_append error }

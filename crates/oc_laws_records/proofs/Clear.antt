@@ -85,7 +85,7 @@ bytes_clear (b ∷ bs) h = digits_clear (b ∷ bs) h
 name_byte_clear : (b : ℕ) → is_name_byte b ≡ true → (b == 35) ≡ false
 name_byte_clear b h = grind (arith, nat_tests)
 
--- where the first that fails is past the end, all pass
+-- all pass, where the first that fails is past the end
 all_pass : (p : ℕ → Bool) (xs : List ℕ) → length xs ≤ position_or_len (λ x. not (p x)) xs → list_all p xs ≡ true
 all_pass p [] h = refl
 all_pass p (x ∷ xs) h = elim (cases_Bool (p x)) [
@@ -95,7 +95,7 @@ all_pass p (x ∷ xs) h = elim (cases_Bool (p x)) [
   | inr is ↦ let short : position_or_len (λ x. not (p x)) (x ∷ xs) ≡ 0 = rw is refl in absurd (omega (arith, h, short))
 ]
 
--- where no place is the first, each is before it
+-- each place is before the first, where there is none
 none_first : (p : ℕ → Bool) (xs : List ℕ) → position p xs ≡ None → length xs ≤ position_or_len p xs
 none_first p xs none = elim (cases_lt (position_or_len p xs) (length xs)) [
   | inl less ↦ let e = rw (lt-ltb _ _ less) at none in cc e

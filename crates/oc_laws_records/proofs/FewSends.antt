@@ -37,7 +37,7 @@ use Rattle.oc_model.specs.Shelves.{limit, line_at}
 use Rattle.oc_model.specs.Table.{is_news}
 use Rattle.oc_model.specs.Step.{filled, plan, received, step, taken}
 
--- so far the node x sent at most this number of messages
+-- a plan in which the node x sent at most this number of messages
 record Few (x most : ℕ) (o : Plan) : Type 0 where
   sent : length o.sends ≤ most
   me : o.node.me ≡ x
@@ -374,7 +374,7 @@ module _ {x k : ℕ} where
   few_measured : (o : Plan) (p rate hops : ℕ) → Few x k o → Few x (k + 1) (measured o p rate hops)
   few_measured o p rate hops f = either _ _ _ (few_answers o _ f) (either _ _ _ (one o f) (one _ (quiet o _ refl refl f)))
 
--- To all before it
+-- Messages to all nodes before x
 
 few_looks : (x k : ℕ) (ys : List ℕ) (o : Plan) → Few x k o → Few x (k + length ys) (looks_at_each ys o)
 few_looks x k [] o f = looser (k + 0) o (omega arith) f

@@ -94,7 +94,7 @@ fields_clear nodes x (inputs.Seal g) few h bytes = (name_clear g h, tt)
 fields_clear nodes x (inputs.Client area start g) few h bytes = (decimal_clear area (omega (arith, h.0)), (decimal_clear start (omega (arith, h.1)), (name_clear g h.2, tt)))
 fields_clear nodes x (inputs.Delivered m) few h bytes = tt
 
--- What lines tell
+-- The statements of lines
 
 own_back : (me : ℕ) (told : Told) → of_own me me told ≡ Ok told
 own_back me told = ap (λ b. cond b (Ok told) (Err causes.Word)) (eq-eqb me me refl)
@@ -208,7 +208,7 @@ module _ (ended : Bool) (h : Header) (few : h.nodes ≤ MAX_NODES) (me : ℕ) (n
     | inr whole ↦ whole_line i (within told) (within told) (33 ∷ t) short whole (note_words told i t limit)
   ]
 
-  -- without a carriage return it begins so too
+  -- a note begins in the same way without a carriage return
   stripped_note : (why : List ℕ) → (t : List ℕ) × (strip_carriage_return (codes "! " ++ why) ≡ 33 ∷ t)
   stripped_note why = by_test (slice_index (codes "! " ++ why) (length (codes "! " ++ why) - 1) == 13) where
     by_test : (b : Bool) → (t : List ℕ) × ((if b then take (length (codes "! " ++ why) - 1) (codes "! " ++ why) else codes "! " ++ why) ≡ 33 ∷ t)
@@ -236,7 +236,7 @@ module _ (ended : Bool) (h : Header) (few : h.nodes ≤ MAX_NODES) (me : ℕ) (n
 
   -- All lines
 
-  -- of x, these lines tell this, where x is the node
+  -- lines that tell this of x, where x is the node, and nothing of another node
   abbrev pub Tell : List ToldLine → List Told → Type 0
   Tell more ts = (x : ℕ) → own_told x more ≡ (if me == x then ts else [])
 

@@ -51,7 +51,7 @@ decimal_one n = digits_one 64 n [] tt
 
 -- Notes
 
--- why a request was refused
+-- the text for the cause of a refusal is within one line
 pub why_one : (why : Refused) → IsOneLine (why_text why)
 why_one refusals.Source = letters_one (codes "source") refl
 why_one refusals.Ended = letters_one (codes "ended") refl
@@ -71,7 +71,7 @@ why_one refusals.Message = letters_one (codes "message") refl
 why_one refusals.Body = letters_one (codes "body") refl
 why_one (refusals.At length) = one_then (codes "at ") (decimal length) (letters_one (codes "at ") refl) (decimal_one length)
 
--- why a probe took nothing
+-- the word for the fault of a probe is within one line
 word_one : (fault : ProbeFault) → IsOneLine (fault_word fault)
 word_one faults.Link = letters_one (codes " link") refl
 word_one other = letters_one (codes " reply") refl

@@ -1,4 +1,4 @@
--- How a record begins: its header and its areas.
+-- The beginning of a record: its header and its areas.
 use Rattle.std.proofs.Common.{◌≡◌, ℕ, zero, suc, ◌+◌, ◌-◌, ◌^◌, ◌<◌, ◌≤◌, Bool, true, false, cond, ◌&&◌, ◌==◌, Option, Some, None, Ok, Err, List, [], ◌∷◌, ◌++◌, length, refl, ap, subst, ◌∙◌, arith, codes, decimal, append_assoc, replicate, length-append}
 use Rattle.std.specs.List.{AllByRecursion}
 use Rattle.std.proofs.lemmas.Bool.{cond_both, eq-eqb}
@@ -40,7 +40,7 @@ abbrev pub header_before : Bool → Header → Option Header
 header_before false h = None
 header_before true h = Some h
 
--- and after it
+-- the header of the network after the header of a record
 abbrev pub header_behind : Bool → Header → Header
 header_behind false h = opened h
 header_behind true h = h

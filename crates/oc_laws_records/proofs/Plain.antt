@@ -201,7 +201,7 @@ verdict_plain t x bytes rest (Err fault) = unread_plain x.coming (is_none bytes)
 read_plain : (t : NodeTerms) (x : Arrival) (bytes : List ℕ) (v : Verdict) → IsVerdict t x bytes v → AsksPlainly v
 read_plain t x bytes v is = subst (λ (w : Verdict). AsksPlainly w) (sym is.verdict) (verdict_plain t x bytes is.rest is.answer)
 
--- What is done with a request
+-- The deeds of a request
 
 plain_responds : (r : Pending) (input : Option Input) (now : ℕ) (s : Setting) (a : Running) → IfSome input IsOfRecord → ArePlain (responds r input now s a)
 plain_responds r None now s a is = (tt, tt)
@@ -225,7 +225,7 @@ obeyed c count verdicts.Permit now s a is = (tt, tt)
 obeyed c count (verdicts.Refuse why) now s a is = (tt, tt)
 obeyed c count (verdicts.Ask request) now s a is = taken_on c request now s a is
 
--- What else came
+-- The deeds of other news
 
 plain_moves : (p : Transfer) (now : ℕ) (what : Prospect) → ArePlain (moves p now what)
 plain_moves p now prospects.Gives = (tt, tt)
@@ -379,7 +379,7 @@ node_plain s calls ms ts m heard =
 
 -- An early end
 
--- where nothing is due a turn begins with three deeds that take nothing
+-- a turn in which nothing is due begins with three deeds that take nothing
 plain_begin : (due : Option ℕ) (s : Setting) (t : Observation) (m : Machine) (more : List Deed) → due ≡ None → ArePlain (take 3 ((Reads t.before ∷ takes_at due m.pace m.probing t s m.running) ++ more))
 plain_begin None s t m more none = (tt, (tt, (tt, tt)))
 plain_begin (Some place) s t m more none = let no : Some place ≡ None = none in absurd (cc no)

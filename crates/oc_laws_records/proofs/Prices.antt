@@ -61,7 +61,7 @@ module _ (price : ℕ → ℕ) where
   events-append [] more = omega arith
   events-append (e ∷ es) more = omega (arith, events-append es more)
 
--- In bytes
+-- Prices in bytes
 
 fields_length : (ws : List (List ℕ)) → length (fields_text ws) ≡ total ws
 fields_length [] = refl
@@ -99,7 +99,7 @@ script_bytes s =
     let areas = areas_text 1 s.header.areas in
     omega (arith, length-append (header ++ areas) (events_text s.events), length-append header areas, header_is, areas_length 1 s.header.areas, events_length s.events)
 
--- In lines
+-- Prices in lines
 
 abbrev pub ArePrinted : List Event → Type 0
 ArePrinted es = AllByRecursion (λ e. AreWords (event_words e)) es

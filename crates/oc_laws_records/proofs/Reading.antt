@@ -49,7 +49,7 @@ use Rattle.oc_laws_records.proofs.Opening.{IsBetween, areas_lead, header_before,
 use Rattle.oc_laws_records.proofs.Starting.{has_leads, start_publishes, told_at, up_leads}
 use Rattle.oc_laws_records.proofs.Step.{Fits, Follows, Leads, cut_line, few_lines, fits_after, follows_cons, follows_front, leads_then, one_line, whole_line}
 
--- Between two runs
+-- Places between two runs
 
 no_end : (bs : List ℕ) → IsOneLine bs → AllByRecursion (λ b. (b == 10) ≡ false) bs
 no_end [] all = tt
@@ -77,7 +77,7 @@ cut_ended cut rest one =
     let kept : strip_carriage_return line ≡ line = ap (λ (c : ℕ). cond (c == 13) (take (length line - 1) line) line) (last_is cut 35) in
     ap lines shape ∙ (lines_more (line ++ 10 ∷ rest) line rest parts ∙ ap (λ (l : List ℕ). l ∷ lines rest) kept)
 
--- it is skipped
+-- the mark is skipped
 mark_read : (i : ℕ) (h : Option Header) (b : Bool) (areas : List ℕ) (place : Place) (told : List ToldLine) → IsBetween place → read_words i (reading h b areas place told) (35 ∷ []) ((35 ∷ []) ∷ []) ≡ Ok (reading h b areas place told)
 mark_read i h b areas Outside told between = refl
 mark_read i h b areas (Within me) told between = refl
@@ -302,7 +302,7 @@ module _ (ended : Bool) (h : Header) (is : IsHeader h) where
       (runs_read runs got.at true h.areas (Within (number_of run)) (told ++ got.more) run.cut all.0.cut all.1 ends tt tt
       (fits_after ended i got.at _ _ _ _ got.leads (subst (Fits i) shape fits)) (omega (arith, all_published, got.published)))
 
--- All of it
+-- The reading of all runs
 
 -- no byte at all is no mark
 no_mark : slice_index [] 0 ≢ 35

@@ -53,8 +53,8 @@ module _ (price : ℕ → ℕ) (nodes : ℕ) where
   abbrev pub opening_cost : Header → ℕ
   opening_cost h = header_cost price h + areas_cost price 1 h.areas
 
-  -- What was read so far costs no more than c: the header with its areas, those of the record that opens the whole; and the lines. Each
-  -- start may have a crash before it; the first has none, and each further one a header of its own, which pays for it.
+  -- The parts that were read so far cost no more than c: the header with its areas, those of the record that opens the whole; and the lines. Each
+  -- start may have a crash before it; the first has none, and each further one a header of its own, which pays for the crash.
   abbrev Pays : ℕ → Place → Bool → Option Header → List ℕ → List ToldLine → Type 0
   Pays c Outside false None areas told = told_costs told ≡ 0
   Pays c Opened false (Some h) areas told = (told_costs told ≡ 0) × (areas_cost price 1 h.areas ≡ 0) × (header_cost price h + areas_cost price 1 areas ≤ c)

@@ -41,7 +41,7 @@ pub record Laws : Type 0 where
   pub folds : (h : Header) (ls : List Line) (es : List Event) → IsMerge h ls → IsScheduleOf (new_world h) ls es → (x : ℕ) → IsNode h.nodes x → node (world_after (new_world h) es) x ≡ own_fold h ls x
   pub hold : (h : Header) (ls : List Line) (es : List Event) → IsMerge h ls → IsScheduleOf (new_world h) ls es → AllHold (new_world h) es
 
--- for records of this header
+-- the replay for records of this header
 replayed_as : Laws → (digest : Node → List ℕ) (h : Header) (runs : List Run) (r : Records) (s : Script) → AreRuns h runs → AreReadBack h.nodes → r.header ≡ h → ((x : ℕ) → own_told x r.lines ≡ told_by x runs)
     → IsMergeOf digest (records_there digest r) s Whole → AreReplayed digest h runs s
 replayed_as laws digest h runs r s are back header own m =

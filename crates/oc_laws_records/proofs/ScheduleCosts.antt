@@ -33,7 +33,7 @@ IsText nodes x Starts = Unit {0}
 IsText nodes x (Takes (Delivered m)) = Unit {0}
 IsText nodes x (Takes i) = IsGiven nodes x i × PublishesBytes (At x i)
 
--- and where it is a message, one to x
+-- an entry within the ranges of texts, or a message to x
 abbrev pub IsOwn : ℕ → ℕ → Entry → Type 0
 IsOwn nodes x (Takes (Delivered m)) = m.to ≡ x
 IsOwn nodes x e = IsText nodes x e

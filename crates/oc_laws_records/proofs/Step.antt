@@ -15,7 +15,7 @@ use Rattle.oc_schedule.proofs.LineBack.{AreWords, line_back, words_back}
 use Rattle.oc_schedule.specs.Texts.{line_text, spaced}
 use Rattle.oc_laws_records.proofs.Clear.{AreClear, clear_spaced, not_cut_off}
 
--- from the line of this number on the lines of this text are within the limit
+-- a text whose lines are within the limit, from the line of this number on
 abbrev pub Fits : ℕ → List ℕ → Type 0
 Fits i text = i + length (lines text) ≤ MAX_RECORD_LINES + 1
 
@@ -23,7 +23,7 @@ Fits i text = i + length (lines text) ≤ MAX_RECORD_LINES + 1
 abbrev pub Follows : Bool → List ℕ → Type 0
 Follows ended rest = (ended || not (is_none (lines rest))) ≡ true
 
--- To read this text from the line i on, after r, is to read that one from the line j on, after s.
+-- Two states of reading with one result: this text from the line i on, after r, and that one from the line j on, after s.
 pub record Leads (ended : Bool) (i : ℕ) (r : Reading) (text : List ℕ) (j : ℕ) (s : Reading) (rest : List ℕ) : Type 0 where
   pub same : read_lines i ended r (lines text) ≡ read_lines j ended s (lines rest)
   pub count : i + length (lines text) ≡ j + length (lines rest)
@@ -42,7 +42,7 @@ or_true : (b : Bool) → (b || true) ≡ true
 or_true true = refl
 or_true false = refl
 
--- where some bytes follow, a line is whole
+-- a line is whole where some bytes follow
 pub follows_some : (ended : Bool) (rest : List ℕ) → 0 < length rest → Follows ended rest
 follows_some ended rest some =
     let there : is_none (lines rest) ≡ false = none_is rest ∙ ne_eqb (length rest) 0 (λ e. absurd (omega (arith, e, some))) in
@@ -66,7 +66,7 @@ one_line ended i r s text line rest cut follows read =
       count = omega (arith, counted);
     }
 
--- within the limit
+-- a line of a text that fits is within the limit
 pub few_lines : (i : ℕ) (text line rest : List ℕ) → lines text ≡ line ∷ lines rest → Fits i text → i ≤ MAX_RECORD_LINES
 few_lines i text line rest cut fits = let counted : length (lines text) ≡ suc (length (lines rest)) = ap length cut in omega (arith, counted, fits)
 

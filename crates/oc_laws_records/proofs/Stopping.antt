@@ -102,7 +102,7 @@ module _ (nodes me : ℕ) (few : nodes ≤ MAX_NODES) (node : IsNode nodes me) w
 
   -- Fronts
 
-  -- of two ways to part a list, one has the other's first part at its front
+  -- one of two ways to part a list has the other's first part at its front
   parted : (a b c d : List ℕ) → a ++ b ≡ c ++ d → ((e : List ℕ) × (c ≡ a ++ e) × (b ≡ e ++ d)) ⊎ ((x : ℕ) × (e : List ℕ) × (a ≡ c ++ x ∷ e) × (d ≡ (x ∷ e) ++ b))
   parted [] b c d same = inl (c, refl, same)
   parted (x ∷ a) b [] d same = inr (x, a, refl, sym same)

@@ -22,7 +22,7 @@ use Rattle.oc_laws_records.specs.Runs.{Run, told_by, told_input}
 use Rattle.oc_laws_records.specs.Stories.{IsStoryOf, IsToldOf, told_of}
 use Rattle.oc_laws_records.proofs.There.{AreReadBack, runs_entries}
 
--- after an input no start comes next
+-- no start comes next after an input
 found_none : (i : Input) (ts : List Told) → found_after (told_input i ∷ ts) ≡ None
 found_none (inputs.Tick t) ts = refl
 found_none inputs.CheckNow ts = refl
@@ -36,7 +36,7 @@ found_none (inputs.Client area start g) ts = refl
 found_none (inputs.Delivered m) ts = refl
 
 module _ (digest : Node → List ℕ) (nodes x : ℕ) (back : AreReadBack nodes) where
-  -- both say of the same inputs that they were missed
+  -- both definitions of a missed input agree
   same_missed : (n : Node) (i : Input) (ms : List missed.Told) → is_missed digest n i (found_after (map told_of ms)) ≡ missed.is_missed digest n i ms
   same_missed n i [] = refl
   same_missed n i (Tells j ∷ ms) = ap (is_missed digest n i) (found_none j (map told_of ms))
@@ -59,7 +59,7 @@ module _ (digest : Node → List ℕ) (nodes x : ℕ) (back : AreReadBack nodes)
     by_test true = without
     by_test false = ap (λ es. Takes i ∷ es) with_it
 
-  -- where the message m came
+  -- the flags of the inputs where the message m came
   abbrev message_flags : Node → List missed.Told → Message → List Bool
   message_flags n ms m =
       if is_missed digest n (inputs.Delivered m) (found_after (map told_of ms)) then false ∷ own_there digest nodes x n (map told_of ms)

@@ -112,7 +112,7 @@ module _ (h : Header) (s : Setting) (n : Node) (me : s.me ≡ n.control.me) (net
     whole = λ last. lawful_run ds is.next within plain last;
   }
 
-  -- where no deed follows, no line of one more input was written
+  -- no line of one more input was written where no deed follows
   whole_run_of : (ds : List Deed) → IsOfThis ds [] → AllByRecursion (IsWithin h.nodes s.me) (inputs_of ds) → ArePlain ds → IsLawfulRunOf h s n ds
   whole_run_of ds is within plain = by_next is.next refl
     where
@@ -130,7 +130,7 @@ recorded_of : (s : Setting) (n : Node) (ds behind : List Deed) (d : Deed) (more 
 recorded_of s n [] behind d more log begins is = let none : [] ≡ d ∷ more = begins in absurd (cc none)
 recorded_of s n (x ∷ ds) behind d more log begins is = is log
 
--- What the run of a node wrote
+-- The text of the run of a node
 
 module _ {D L K : Type 0} (view : D → DiskView) (story : L → Option (List Call)) (counts : L → LinkCounts) (takes fails : K → List ℕ → K → Type 0) (c : Settings) (task : Task) (old new : Disks D) (link after : L) (sink written : K)
     (node : IsNode (length c.addresses) task.me) (log : task.log ≡ Record) (honest : AreHonest view old) where

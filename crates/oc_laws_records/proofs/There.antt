@@ -34,7 +34,7 @@ input_length : (digest : Node → List ℕ) (nodes x : ℕ) (n : Node) (i : Inpu
 input_length digest nodes x n i ts true without with_it = ap suc without
 input_length digest nodes x n i ts false without with_it = ap suc with_it
 
--- it is told of each line whether it is there
+-- there is a flag for each line
 there_length : (digest : Node → List ℕ) (nodes x : ℕ) (n : Node) (ts : List Told) → length (own_there digest nodes x n ts) ≡ length ts
 there_length digest nodes x n [] = refl
 there_length digest nodes x n (Started files ∷ ts) = ap suc (there_length digest nodes x (restarted n) ts)

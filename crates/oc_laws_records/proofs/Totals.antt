@@ -1,4 +1,4 @@
--- How long a line of words is, and that the lines of a text are no longer than it.
+-- The length of a line of words, and that the lines of a text are no longer than the text.
 use Rattle.std.proofs.Common.{◌≡◌, ℕ, suc, ◌+◌, ◌-◌, ◌<◌, ◌≤◌, Bool, true, false, cond, not, ◌||◌, ◌==◌, if◌then◌else◌, List, [], ◌∷◌, length, take, refl, ap, sym, ◌∙◌, arith}
 use Rattle.std.specs.Prelude.{filter, slice_index}
 use Rattle.std.specs.List.{onto_first, slice_split}
@@ -67,7 +67,7 @@ module _ (price : ℕ → ℕ) where
 abbrev pub bytes_of : ℕ → ℕ
 bytes_of n = n
 
--- and one, where lines are counted
+-- the price of a line, where lines are counted: one
 abbrev pub lines_of : ℕ → ℕ
 lines_of n = 1
 
@@ -103,7 +103,7 @@ onto_empty b n (x ∷ y ∷ more) long ends = ends
 abbrev at_ends : List ℕ → List (List ℕ)
 at_ends bytes = slice_split (λ b. b == 10) bytes
 
--- it is where the text ends with a line's end
+-- the last line of a text that ends with a line's end is empty
 ends_empty : (bytes : List ℕ) → (slice_index bytes (length bytes - 1) == 10) ≡ true → EndsEmpty (at_ends bytes)
 ends_empty [] e = absurd (cc e)
 ends_empty (b ∷ []) e = by_test (b == 10) e where

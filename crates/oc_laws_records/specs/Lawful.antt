@@ -19,7 +19,7 @@ use Rattle.oc_deeds.specs.Recorded.{RecordLine, Taken, Noted}
 use Rattle.oc_wire.specs.Spelling.{spelling}
 use Rattle.oc_laws_records.specs.Runs.{Run, network_of, number_of, runs_text, told_by_run}
 
--- no byte ends a line
+-- a text that no byte within ends as a line
 abbrev pub IsOneLine : List ℕ → Type 0
 IsOneLine text = AllByRecursion (λ b. b ≢ byte "\n") text
 

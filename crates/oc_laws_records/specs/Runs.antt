@@ -35,7 +35,7 @@ abbrev pub runs_text : List Run → List ℕ
 runs_text [] = []
 runs_text (run ∷ runs) = run_text run ++ runs_text runs
 
--- What they tell
+-- The statements of runs
 
 -- an input: a message by its bytes
 abbrev pub told_input : Input → Told
@@ -50,7 +50,7 @@ told_start run = Started (Some (digest_text run.node.control.kept (shelf run.nod
 abbrev pub told_by_run : Run → List Told
 told_by_run run = told_start run ∷ map told_input (inputs_in run.lines)
 
--- the runs of the node x, in their order
+-- the statements of the runs of the node x, in their order
 abbrev pub told_by : ℕ → List Run → List Told
 told_by x [] = []
 told_by x (run ∷ runs) = if number_of run == x then told_by_run run ++ told_by x runs else told_by x runs

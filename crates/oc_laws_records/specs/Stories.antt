@@ -18,7 +18,7 @@ abbrev pub IsToldOf : ℕ → ℕ → missed.Told → Type 0
 IsToldOf nodes x (Finds digits) = Unit {0}
 IsToldOf nodes x (Tells i) = IsTaken nodes x i
 
--- the history of x up to its last start: its runs tell the record of it, and each start tells the
+-- the history of x up to its last start: its runs tell the record of the node, and each start tells the
 -- digest of the node in its state then
 pub record IsStoryOf (digest : Node → List ℕ) (h : Header) (x : ℕ) (runs : List Run) (deeds : List Deed) : Type 0 where
   pub story : IsStory digest (new_node h x) deeds

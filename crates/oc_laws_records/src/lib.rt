@@ -12,7 +12,7 @@
 //! has the state of its own entries, and that all laws hold on the way; and
 //! [`recorded_stories_are_replayed`] that a node ends there in its true state.
 //! [`merges_are_no_longer`] says for any records, also for those that no node wrote, that a merge
-//! of them is no longer than they are.
+//! of records is no longer than the records.
 #![tactic(auto)]
 
 mod bounds;

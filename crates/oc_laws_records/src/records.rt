@@ -25,7 +25,7 @@ ghost use Rattle.oc_laws_records.specs.Written.{IsRunOf, IsStopped, head_of};
 use oc_laws_world::{merging_takes_the_most, missed_inputs_are_found, records_are_schedules};
 use oc_wire::spellings_are_read;
 
-/// The record of a node, once the node has done a deed, is the text of a run of it: the inputs of
+/// The record of a node, once the node has done a deed, is the text of a run of the node: the inputs of
 /// the run are those that the node took, and perhaps the next one.
 pub fn records_are_runs()
     ensures { (s : Setting) (n : Node) (d : Deed) (ds behind : List Deed) → s.me ≡ n.control.me → s.log ≡ RecordLog

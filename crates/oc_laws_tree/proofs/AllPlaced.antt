@@ -1,4 +1,4 @@
--- Step 3 of heal: node by node each that is not placed is placed.
+-- Step 3 of heal: each node that is not in place, one after another, is put in place.
 use Rattle.std.proofs.Common.{◌≡◌, ℕ, ◌+◌, ◌*◌, ◌≤◌, ◌<◌, Bool, true, false, not, ◌==◌, nat_lt, nat_le, if◌then◌else◌, List, [], ◌∷◌, ◌⊎◌, inl, inr, filter, length, refl, ap, sym, subst, ◌∙◌, ⊎_elim, arith, ltb-true, lt-ltb, eqb-true, length-append}
 use Rattle.std.proofs.lemmas.Bool.{cases_eq, eqb-false, true≢false, false_from_ne_true, leb-false}
 use Rattle.std.proofs.Common.{leb-true}
@@ -41,7 +41,7 @@ of_members h w x reached one =
 pub in_members : (h : Header) (w : World) (x : ℕ) → Reached h w → IsUp w x → x ≤ h.chain → IsOneOf x (up_members w)
 in_members h w x reached up member = in_filter (λ y. is_member (control_of w y)) (up_ids w) x (is_member_of h w x reached (up_id h w x reached up) member) (among_up w x up)
 
--- the greatest that is up and less than x
+-- p is the greatest chain member that is up and less than x
 record IsMemberBefore (h : Header) (w : World) (x p : ℕ) : Type 0 where
   up : IsUp w p
   member : p ≤ h.chain
@@ -65,7 +65,7 @@ member_is_before h m x w healing past =
 
 -- One turn
 
--- the members that come before x are placed
+-- the members before x are in place
 abbrev AreBefore : Header → ℕ → World → ℕ → Type 0
 AreBefore h m w x = (y : ℕ) → IsUp w y → y ≤ h.chain → y < x → IsPlaced w m y
 
@@ -78,7 +78,7 @@ record CanTurn (h : Header) (m : ℕ) (w : World) (x most : ℕ) : Type 0 where
   room : most + 2 < number_end
   asks : (IsPlaced w m x → ⊥) → seq_of w x + 1 < number_end
 
--- what the turn of x leaves, whether it was placed or not
+-- the effect of the turn of x, whether x was in place or not
 record HasTurned (h : Header) (m : ℕ) (w : World) (x most : ℕ) (r : Run) : Type 0 where
   healing : IsHealing h m r.world
   up : (y : ℕ) → is_up r.world y ≡ is_up w y
@@ -92,7 +92,7 @@ past_root h m x w healing up other = by_test (nat_le x h.chain) refl where
   by_test true e = let least : m ≤ x = healing.least x up (leb-true x h.chain e) in omega (arith, least, other)
   by_test false e = let past : h.chain < x = leb-false x h.chain e in omega (arith, past, healing.member)
 
--- a node that is placed is passed over
+-- a node that is in place is passed over
 turn_placed : (h : Header) (m : ℕ) (w : World) (x most : ℕ) → CanTurn h m w x most → IsPlaced w m x → HasTurned h m w x most (places m x w)
 turn_placed h m w x most can placed =
     let still : places m x w ≡ rests w = ap (λ b. places_if b m x w) ((placed_tested w m x).1 placed) in
@@ -111,7 +111,7 @@ turn_placed h m w x most can placed =
           (let own : epoch_in (own_rank w y) ≤ most = can.low y (sym (ap (λ (r : Run). is_up r.world y) still) ∙ up) in omega (arith, own));
     }
 
--- any other is put under the member before it
+-- any other node is put under the member before it
 turn_unplaced : (h : Header) (m : ℕ) (w : World) (x most : ℕ) → CanTurn h m w x most → (IsPlaced w m x → ⊥) → HasTurned h m w x most (places m x w)
 turn_unplaced h m w x most can unplaced =
     let goes : places m x w ≡ places_under m (member_before w m x) x w = ap (λ b. places_if b m x w) (false_from_ne_true (is_placed w m x) (λ e. unplaced ((placed_tested w m x).0 e))) in
@@ -166,12 +166,13 @@ turn h m w x most can = by_test (is_placed w m x) refl where
 
 -- All turns
 
--- chain members come in their order
+-- chain members are placed in their order
 abbrev pub IsInOrder : Header → List ℕ → Type 0
 IsInOrder h [] = Unit {0}
 IsInOrder h (x ∷ xs) = ((q : ℕ) → IsOneOf q xs → q ≤ h.chain → x < q) × IsInOrder h xs
 
--- before the turns of these nodes: all others that are up are placed; since w0 only nodes that are placed have asked, twice at most
+-- the world before the turns of these nodes: all other nodes that are up are in place, and since w0 only nodes in place have
+-- asked, at most twice
 pub record CanPlace (h : Header) (m : ℕ) (w0 : World) (xs : List ℕ) (most : ℕ) (w : World) : Type 0 where
   pub healing : IsHealing h m w
   pub short : h.chain ≤ 16
@@ -183,7 +184,7 @@ pub record CanPlace (h : Header) (m : ℕ) (w0 : World) (xs : List ℕ) (most : 
   pub room : most + 2 * length xs < number_end
   pub asks : (y : ℕ) → IsUp w y → seq_of w0 y + 1 < number_end
 
--- after them
+-- the world after the turns of these nodes
 pub record HasPlaced (h : Header) (m : ℕ) (w0 : World) (xs : List ℕ) (w : World) (r : Run) : Type 0 where
   pub healing : IsHealing h m r.world
   pub up : (y : ℕ) → is_up r.world y ≡ is_up w y
@@ -192,11 +193,11 @@ pub record HasPlaced (h : Header) (m : ℕ) (w0 : World) (xs : List ℕ) (w : Wo
   pub asked : (y : ℕ) → seq_of r.world y ≤ seq_of w0 y + 2
   pub acts : length r.acts ≤ 51 * length (filter (λ x. not (is_placed w m x)) xs)
 
--- a number that is the same twice
+-- the first and the last of three equal numbers are equal
 both_same : (s t u : ℕ) → s ≡ t → t ≡ u → s ≡ u
 both_same s t u later before = later ∙ before
 
--- who is up throughout
+-- nodes stay up or down throughout
 up_through : (u v w : World) → ((y : ℕ) → is_up u y ≡ is_up v y) → ((y : ℕ) → is_up v y ≡ is_up w y) → (y : ℕ) → is_up u y ≡ is_up w y
 up_through u v w after before y = after y ∙ before y
 
@@ -256,12 +257,12 @@ places_all h m w0 (x ∷ xs) most w can =
         filter_fewer (λ y. not (is_placed v m y)) (λ y. not (is_placed w m y)) xs (λ y loose. still_loose y first.one loose),
       );
     } where
-      -- the acts of the first, if it is not placed
+      -- the turn of x takes at most 51 acts, and none if x is in place
       counted : (b : Bool) → is_placed w m x ≡ b → PlacesOne w m x → length (places m x w).acts + 51 * length (filter (λ y. not (is_placed w m y)) xs) ≤ 51 * length (if not b then x ∷ filter (λ y. not (is_placed w m y)) xs else filter (λ y. not (is_placed w m y)) xs)
       counted true e one = let none : length (places m x w).acts ≡ 0 = one.none ((placed_tested w m x).0 e) in omega (arith, none)
       counted false e one = omega (arith, one.few)
 
-      -- who is not placed then was not before
+      -- a node that is not in place after the turn was not in place before
       still_loose : (y : ℕ) → PlacesOne w m x → not (is_placed (places m x w).world m y) ≡ true → not (is_placed w m y) ≡ true
       still_loose y one loose = by_test (is_placed w m y) refl where
         by_test : (b : Bool) → is_placed w m y ≡ b → not b ≡ true

@@ -1,4 +1,4 @@
--- The effect of a move, of its ask and of the yes, each on the node that takes it.
+-- The effect of a move, an ask and a yes, each on the node that takes it.
 use Rattle.std.proofs.Common.{◌≡◌, ℕ, ◌+◌, ◌≤◌, ◌<◌, Bool, true, false, not, ◌&&◌, ◌||◌, ◌==◌, nat_lt, nat_le, if◌then◌else◌, Option, Some, None, List, [], ◌∷◌, ◌++◌, refl, ap, sym, subst, ◌∙◌, arith, eq-eqb, ne_eqb, lt-ltb}
 use Rattle.std.specs.Option.{option_or}
 use Rattle.oc_base.specs.declared.cert.Cert.{Cert}
@@ -32,7 +32,7 @@ pub record SendsAsk (n : Control) (q : ℕ) (o : Plan) : Type 0 where
   pub rest : HasSameRest n o.node
   pub sends : o.sends ≡ from_to n.me q (Ask (n.kept.seq + 1) n.kept.rank) ∷ []
 
--- a node that may go beneath q, and has a number left, does so
+-- a node that may go beneath q and has a number left asks q
 pub move_sends : (n : Control) (q : ℕ) → (q ≡ n.me → ⊥) → (n.me ≡ 1 → ⊥) → (is_member n ≡ true → nat_lt n.me q ≡ false) → (n.kept.seq ≡ number_end → ⊥) → SendsAsk n q (relocate (begun n) q)
 move_sends n q other first earlier more =
     let o : Plan = begun n in
@@ -57,7 +57,7 @@ move_sends n q other first earlier more =
 abbrev pub raised_host : Control → ℕ → Option Rank → Plan
 raised_host n x r = raises_over (begun n) x (rank_or_last r)
 
--- all but the rank is as before
+-- the same node with another rank
 pub record HasRaised (n : Control) (o : Plan) : Type 0 where
   pub core : core_of o.node ≡ record (core_of n) { rank = o.node.kept.rank }
   pub rest : HasSameRest n o.node
@@ -70,14 +70,14 @@ raised_none n x r other = ap (λ b. if b && not (precedes (rank_or_last n.kept.r
 pub begun_raised : (n : Control) → HasRaised n (begun n)
 begun_raised n = record { core = refl; rest = record { table = refl; leases = refl; clock = refl }; sends = refl }
 
--- a root is above the asker then
+-- a root has risen over the asker
 pub record HasRisenOver (n : Control) (r : Option Rank) (most : ℕ) (o : Plan) : Type 0 where
   pub raised : HasRaised n o
   pub top : IsTop o.node.kept.rank
   pub above : precedes_any (rank_or_last o.node.kept.rank) r ≡ true
   pub epoch : epoch_in o.node.kept.rank ≤ most
 
--- what precedes a rank, where none reads as the last, precedes it
+-- a rank that precedes another one precedes it too where none counts as the last
 any_of : (a : Rank) (r : Option Rank) → precedes a (rank_or_last r) ≡ true → precedes_any a r ≡ true
 any_of a None e = refl
 any_of a (Some b) e = e
@@ -110,7 +110,7 @@ root_raised n x r most acts top other room own more = by_test (precedes (rank_or
         epoch = more;
       }
 
--- the host takes the asker as its child
+-- the host adopts the asker
 pub record MayAdopt (n : Control) (x : ℕ) (r : Option Rank) : Type 0 where
   pub other : x ≡ n.me → ⊥
   pub placed : in_tree n.kept.mode ≡ true
@@ -129,7 +129,7 @@ not_refused n x r may =
     ∙ (ap (λ b. if b then Some refusals.Depth else line) may.shallow
     ∙ (ap (λ c. option_or c (rank_refusal own r)) may.line ∙ ap (λ b. if b then None else Some refusals.Rank) may.above))))
 
--- the lease is granted, and the yes sent
+-- the lease is granted, and the yes is sent
 pub record TakesAsk (n : Control) (x seq : ℕ) (o : Plan) : Type 0 where
   pub core : core_of o.node ≡ core_of n
   pub table : o.node.kept.table ≡ merge n.kept.table (birth x seq n.me)
@@ -150,14 +150,14 @@ ask_taken n x seq r o raised none may fresh news =
     let goes : asked (begun n) x seq r ≡ adopts o x seq = ap (λ q. asked_at q x seq r) raised ∙ ap (λ why. answers_ask why o x seq) (not_refused o.node x r may) in
     subst (TakesAsk o.node x seq) (sym goes) (adopted o x seq none fresh news)
 
--- where it refuses, it is as it was
+-- a host that refuses stays as it is
 pub ask_refused : (n : Control) (x seq : ℕ) (r : Option Rank) (o : Plan) → raised_host n x r ≡ o → (adoption_refusal (host o.node x) x r ≡ None → ⊥) → (asked (begun n) x seq r).node ≡ o.node
 ask_refused n x seq r o raised refuses = ap (λ q. (asked_at q x seq r).node) raised ∙ by_answer (adoption_refusal (host o.node x) x r) refl where
   by_answer : (why : Option Refusal) → adoption_refusal (host o.node x) x r ≡ why → (answers_ask why o x seq).node ≡ o.node
   by_answer None e = absurd (refuses e)
   by_answer (Some why) e = refl
 
--- a refusal for the sake of the line is one
+-- a refusal for the order of the chain is a refusal
 pub line_refuses : (n : Control) (x k : ℕ) (r : Option Rank) → chain_refusal (host n x) x (chain_child n.kept.table n.me n.chain x) ≡ Some (refusals.Chain k) → adoption_refusal (host n x) x r ≡ None → ⊥
 line_refuses n x k r line none = by_tests (x == n.me) (not (in_tree n.kept.mode)) (has n.kept.ancestors x) (nat_le MAX_DEPTH (rank_or_last n.kept.rank).depth) none where
   own : Rank
@@ -175,7 +175,7 @@ line_refuses n x k r line none = by_tests (x == n.me) (not (in_tree n.kept.mode)
 
 -- The yes
 
--- the asker has its parent
+-- the asker is joined to its parent
 pub record TakesYes (n : Control) (q : ℕ) (told : Rank) (xs : List ℕ) (o : Plan) : Type 0 where
   pub core : core_of o.node ≡ record (core_of n) { mode = Joined q; rank = Some (beneath_of told); ancestors = ancestors_by q xs; wish = None }
   pub rest : HasSameRest n o.node

@@ -1,5 +1,5 @@
--- Along a true chain: while a node's parent holds its lease and nothing about it waits above, each node above has the row of
--- that lease, and no older one than the parent's own.
+-- The rows along a true chain: while a node's parent holds its lease and nothing about it waits above, each node above has a
+-- row of that lease, no older than the parent's own.
 use Rattle.std.proofs.Common.{◌≡◌, ℕ, Some, List, [], ◌∷◌, ◌⊎◌, inl, inr, sym, subst, ◌∙◌, arith}
 use Rattle.std.specs.List.{AllByRecursion}
 use Rattle.oc_base.specs.declared.cert.Cert.{Cert}
@@ -12,7 +12,7 @@ use Rattle.oc_laws_tree.proofs.Rising.{HasNoOlder, row_goes, row_rises, row_gran
 use Rattle.oc_laws_tree.proofs.Rows.{IsLiveRow, HasLiveRow, IsPast, IsStill, lease_row, past_later, past_itself, past_or_still}
 use Rattle.oc_laws_tree.proofs.TreeHolds.{TreeHolds}
 
--- y has the row b of its leased child x: no node's row of x is past it
+-- no row of a leased child x makes the parent's row b obsolete
 not_past : (w : World) → TreeHolds w → (x y z : ℕ) (b k : Cert) → IsLiveRow (table_of w y) x y (seq_of w x) b.number b → newest (table_of w z) x ≡ Some k → IsPast k b → ⊥
 not_past w holds x y z b k own found (inl more) = omega (arith, holds.asks x k.seq k.parent (row_goes w z x k found), own.seq)
 not_past w holds x y z b k own found (inr dead) =
@@ -20,7 +20,7 @@ not_past w holds x y z b k own found (inr dead) =
     let same : granted.0 ≡ b = cc (own.found, granted.1) in
     past_itself b own.alive (subst (λ c. IsPast c b) same (past_later granted.0 k b (inr dead) granted.2))
 
--- from a node to that which it is joined to the row goes up, or waits
+-- the row goes from a node up to the node's parent, or it waits
 row_step : (w : World) → TreeHolds w → (x y u z : ℕ) (b : Cert) → IsLiveRow (table_of w y) x y (seq_of w x) b.number b → IsJoined w u z → (WaitsAt w u x → ⊥)
     → HasLiveRow (table_of w u) x y (seq_of w x) b.number → HasLiveRow (table_of w z) x y (seq_of w x) b.number
 row_step w holds x y u z b own joined still row = by_risen (row_rises w holds x u z f joined row.1.found) where
@@ -51,7 +51,7 @@ row_step w holds x y u z b own joined still row = by_risen (row_rises w holds x 
   by_risen (inl waits) = absurd (still waits)
   by_risen (inr risen) = by_age risen.0 risen.1 (past_or_still risen.0 f row.1.alive risen.2)
 
--- so from any node on each node of its true chain has it
+-- each node on the true chain of a node with the row has the row
 row_up : (w : World) → TreeHolds w → (x y u r : ℕ) (b : Cert) (c : List ℕ) → IsLiveRow (table_of w y) x y (seq_of w x) b.number b → IsTrueChain w u r c → (WaitsBelow w c x → ⊥)
     → HasLiveRow (table_of w u) x y (seq_of w x) b.number → AllByRecursion (λ z. HasLiveRow (table_of w z) x y (seq_of w x) b.number) c
 row_up w holds x y u r b [] own chain still row = absurd chain
@@ -62,15 +62,15 @@ row_up w holds x y u r b (a ∷ d ∷ ds) own chain still row = (
       (row_step w holds x y u d b own chain.2 (λ waits. still (inl (subst (λ z. WaitsAt w z x) (sym chain.0) waits))) row),
 )
 
--- while no lease on the true chain of x has ended and nothing waits above, the parent y of x has the row b of its lease, and each node
--- from y up has a row of x that lives and names y and the number of x's ask, and whose own number is that of b at least
+-- where no lease on the true chain of x has ended and nothing waits above, the parent y of x has the row b of its lease, and
+-- each node from y up has a living row of x that names y and the number of x's ask, with an own number no less than that of b
 pub row_along : (w : World) → TreeHolds w → (x y r : ℕ) (ys : List ℕ) → IsTrueChain w x r (x ∷ y ∷ ys) → (HasEndedLease w (x ∷ y ∷ ys) → ⊥) → (HasWaiting w (x ∷ y ∷ ys) → ⊥)
     → (b : Cert) × IsLiveRow (table_of w y) x y (seq_of w x) b.number b × AllByRecursion (λ z. HasLiveRow (table_of w z) x y (seq_of w x) b.number) (y ∷ ys)
 row_along w holds x y r ys chain lasts still = (own.0, own.1, row_up w holds x y y r own.0 (y ∷ ys) own.1 chain.3 (λ waits. still (inl waits)) (own.0, own.1)) where
   own : (b : Cert) × IsLiveRow (table_of w y) x y (seq_of w x) b.number b
   own = lease_row (table_of w y) y x (seq_of w x) (not_denied (lease_decided w y x (seq_of w x)) (λ none. lasts (inl none)))
 
--- what holds of each node of a true chain holds of its root
+-- a property of each node of a true chain holds of its root
 pub at_root : (w : World) (P : ℕ → Type 0) (x r : ℕ) (c : List ℕ) → IsTrueChain w x r c → AllByRecursion P c → P r
 at_root w P x r [] chain all = absurd chain
 at_root w P x r (a ∷ []) chain all = subst P (chain.0 ∙ chain.1) all.0

@@ -1,4 +1,4 @@
--- The effect of one check-in on a node and its parent: three acts, or two if it is not acknowledged.
+-- The effect of one check-in on a node and its parent: three acts, or two if the check-in is not acknowledged.
 use Rattle.std.proofs.Common.{◌≡◌, ℕ, suc, true, false, Option, Some, None, List, [], ◌∷◌, ◌++◌, ◌⊎◌, inl, inr, slice_get, length, refl, ap, ap₂, sym, subst, ◌∙◌, arith, length-append, eq-eqb}
 use Rattle.std.proofs.lemmas.Bool.{cond_both, cases_eq}
 use Rattle.oc_base.specs.declared.cert.Cert.{Cert}
@@ -38,7 +38,7 @@ use Rattle.oc_laws_tree.proofs.Core.{Core, core_of, has_uncounted, with_count, c
 
 -- Acts
 
--- the node x has become this, and has sent these messages; all others are as they were, and who is up stays so
+-- the node x has become n and has sent these messages; all other nodes are as they were, and nodes stay up or down
 pub record Goes (w : World) (x : ℕ) (n : Control) (ms : List Message) (v : World) : Type 0 where
   pub here : control_of v x ≡ n
   pub others : (y : ℕ) → (x ≡ y → ⊥) → control_of v y ≡ control_of w y
@@ -69,7 +69,7 @@ stepped_goes w x i up = record {
 pub act_goes : (w : World) (x : ℕ) (i : Input) → IsUp w x → Goes w x (step (node w x) i).node.control (step (node w x) i).sends (acted w (Some (record { at = x; input = i })))
 act_goes w x i up = rw up (stepped_goes w x i up)
 
--- an input to one that is down
+-- an input to a node that is down
 pub act_rests : (w : World) (x : ℕ) (i : Input) → is_up w x ≡ false → acted w (Some (record { at = x; input = i })) ≡ w
 act_rests w x i down = rw down refl
 
@@ -87,7 +87,7 @@ dry ls = record {
   lists = λ o leases rates counts h. h;
 }
 
--- they send what was planned
+-- a step that sends no bytes sends the planned messages
 pub dry_sends : (n : Node) (i : Input) → (plan n.control (shelf n.groups) i).wants ≡ None → (step n i).sends ≡ (plan n.control (shelf n.groups) i).sends
 dry_sends n i e = ap (λ w. filled w n.groups (plan n.control (shelf n.groups) i).sends) e
 
@@ -115,7 +115,7 @@ last_body_is w m last = ap body_in (last_at w m last)
 last_arrival : (w : World) (m : Message) → IsLast w m → (delivers_last w).world ≡ acted w (Some (record { at = m.to; input = inputs.Delivered m }))
 last_arrival w m last = ap (λ (found : Option Message). acted w (delivery found)) (last_at w m last)
 
--- its delivery
+-- the delivery of the last message
 pub last_goes : (w : World) (m : Message) → IsLast w m → IsUp w m.to
     → Goes w m.to (step (node w m.to) (inputs.Delivered m)).node.control (step (node w m.to) (inputs.Delivered m)).sends (delivers_last w).world
 last_goes w m last up =
@@ -124,7 +124,7 @@ last_goes w m last up =
 pub last_rests : (w : World) (m : Message) → IsLast w m → is_up w m.to ≡ false → (delivers_last w).world ≡ w
 last_rests w m last down = last_arrival w m last ∙ act_rests w m.to (inputs.Delivered m) down
 
--- what goes and sends one message has it as the last
+-- a step that sends one message has it as the last
 pub goes_last : (w : World) (x : ℕ) (n : Control) (ms : List Message) (m : Message) (v : World) → Goes w x n ms v → ms ≡ m ∷ [] → IsLast v m
 goes_last w x n ms m v goes e = (w.net, goes.net ∙ ap (λ (sent : List Message). w.net ++ sent) e)
 
@@ -168,7 +168,7 @@ checks_at w x p up joins =
 
 -- The check-in at the parent
 
--- the lease is there, as the parent tests it
+-- the test by which a parent finds a lease
 pub lease_test : (w : World) (p x s : ℕ) → has_lease (control_of w p) x s ≡ is_number (leased_by (table_of w p) p x) s
 lease_test w p x s = ap (λ (y : ℕ). is_number (leased_by (table_of w p) y x) s) (me_is w p)
 
@@ -233,25 +233,25 @@ acked_at w x p upto told xs last up joins =
 
 -- The three acts
 
--- one acknowledged check-in of x, whose parent p is
+-- one acknowledged check-in of x, whose parent is p
 pub record ChecksIn (w : World) (x p : ℕ) (r : Run) : Type 0 where
   pub acts : length r.acts ≡ 3
   pub up : (y : ℕ) → is_up r.world y ≡ is_up w y
   pub others : (y : ℕ) → (x ≡ y → ⊥) → (p ≡ y → ⊥) → control_of r.world y ≡ control_of w y
-  -- of the child: its own count may rise; its rank, ancestors and place in its log are taken
+  -- the child: its own count may rise, and it takes its rank, its ancestors and its place in the log
   pub child : core_of (control_of r.world x) ≡ record (counted (core_of (control_of w x))) {
     rank = rank_unless (control_of w x).soft.wish (control_of w x).kept.rank (rank_or_last (control_of w p).kept.rank);
     ancestors = ancestors_by p (control_of w p).kept.ancestors;
   }
   pub rest : HasSameRest (control_of w x) (control_of r.world x)
   pub log : log_of r.world x ≡ ack (log_of w x) (place_after (log_of w x))
-  -- of the parent: what the child told is merged, and its lease begins anew
+  -- the parent: the told certificates are merged, and the lease begins anew
   pub parent : core_of (control_of r.world p) ≡ core_of (control_of w p)
   pub table : table_of r.world p ≡ merge_all (table_of w p) (life x (seq_of w x) p (control_of r.world x).kept.number (control_of r.world x).kept.clients ∷ next_certs (log_of w x))
   pub leases : (control_of r.world p).leases ≡ renew (control_of w p).leases x (clock_of w p)
   pub clock : clock_of r.world p ≡ clock_of w p
 
--- counting leaves the place
+-- counting leaves the node's place
 pub counted_joined : (k : Core) → ((counted k).mode ≡ k.mode) × ((counted k).seq ≡ k.seq) × ((counted k).rank ≡ k.rank)
 counted_joined k = cond_both (has_uncounted k) (with_count k) k (λ (j : Core). (j.mode ≡ k.mode) × (j.seq ≡ k.seq) × (j.rank ≡ k.rank)) (λ _. (refl, refl, refl)) (λ _. (refl, refl, refl))
 

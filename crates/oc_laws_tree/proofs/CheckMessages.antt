@@ -1,4 +1,4 @@
--- Check-ins and acknowledgements among messages: which there are once a node has sent one more.
+-- Check-ins and acknowledgements among messages, before and after a node has sent one more.
 use Rattle.std.proofs.Common.{◌≡◌, ℕ, List, [], ◌∷◌, ◌++◌, ◌⊎◌, inl, inr, ap, sym, subst, ⊎_elim}
 use Rattle.std.specs.List.{AllByRecursion}
 use Rattle.oc_base.specs.declared.cert.Cert.{Cert}
@@ -13,21 +13,21 @@ use Rattle.oc_laws_world.proofs.Listed.{all_among, among_either}
 use Rattle.oc_laws_world.proofs.Machine.{IsLoose}
 use Rattle.oc_laws_tree.specs.Sessions.{HasCheckedInAmong, HasCheckedIn, HasAcknowledgedAmong, HasAcknowledged}
 
--- a check-in was sent before, or is one of these; likewise an acknowledgement
+-- a check-in was sent before, or is one of these messages; the same of an acknowledgement
 abbrev pub HasCheckedInNow : World → List Message → ℕ → ℕ → ℕ → ℕ → List Cert → Type 0
 HasCheckedInNow w ms x y s upto certs = HasCheckedIn w x y s upto certs ⊎ HasCheckedInAmong ms x y s upto certs
 
 abbrev pub HasAcknowledgedNow : World → List Message → ℕ → ℕ → ℕ → ℕ → Type 0
 HasAcknowledgedNow w ms y x s upto = HasAcknowledged w y x s upto ⊎ HasAcknowledgedAmong ms y x s upto
 
--- this message is that check-in; it is that acknowledgement
+-- a message is that check-in; a message is that acknowledgement
 abbrev pub IsCheckIn : Message → ℕ → ℕ → ℕ → ℕ → List Cert → Type 0
 IsCheckIn m x y s upto certs = (rate number clients : ℕ) × (m ≡ record { from = x; to = y; body = bodies.CheckIn s upto rate number clients certs })
 
 abbrev pub IsAck : Message → ℕ → ℕ → ℕ → ℕ → Type 0
 IsAck m y x s upto = (r : Rank) × (ancestors : List ℕ) × (m ≡ record { from = y; to = x; body = bodies.CheckAck s upto r ancestors })
 
--- one among these and one more is among these, or is that
+-- a check-in among messages and one more is among them or is the last
 pub check_in_split : (ms : List Message) (m : Message) (x y s upto : ℕ) (certs : List Cert) → HasCheckedInAmong (ms ++ m ∷ []) x y s upto certs → HasCheckedInAmong ms x y s upto certs ⊎ IsCheckIn m x y s upto certs
 check_in_split ms m x y s upto certs a =
     let said : Message = record { from = x; to = y; body = bodies.CheckIn s upto a.0 a.1 a.2 certs } in
@@ -38,7 +38,7 @@ ack_split ms m y x s upto a =
     let said : Message = record { from = y; to = x; body = bodies.CheckAck s upto a.0 a.1 } in
     ⊎_elim (λ (old : IsAmong said ms). inl (a.0, a.1, old)) (λ (e : m ≡ said). inr (a.0, a.1, e)) (among_split said m ms a.2)
 
--- so where these come after what was sent before
+-- the same where the messages come after those sent before
 pub check_in_now : (w : World) (ms : List Message) (m : Message) (x y s upto : ℕ) (certs : List Cert) → HasCheckedInNow w (ms ++ m ∷ []) x y s upto certs
     → HasCheckedInNow w ms x y s upto certs ⊎ IsCheckIn m x y s upto certs
 check_in_now w ms m x y s upto certs (inl old) = inl (inl old)
@@ -57,7 +57,7 @@ abbrev pub IsNoAck : Body → Type 0
 IsNoAck (bodies.CheckAck seq upto rank ancestors) = ⊥
 IsNoAck body = Unit {0}
 
--- of one more that is none, nothing is new
+-- one more message of another kind adds no check-in
 pub check_in_before : (w : World) (ms : List Message) (m : Message) → IsNoCheckIn m.body → (x y s upto : ℕ) (certs : List Cert)
     → HasCheckedInNow w (ms ++ m ∷ []) x y s upto certs → HasCheckedInNow w ms x y s upto certs
 check_in_before w ms m none x y s upto certs a = ⊎_elim (λ old. old) (λ (new : IsCheckIn m x y s upto certs). absurd (subst (λ (l : Message). IsNoCheckIn l.body) new.3 none)) (check_in_now w ms m x y s upto certs a)
@@ -96,18 +96,18 @@ certs_in body = []
 pub check_in_says : (m : Message) (x y s upto : ℕ) (certs : List Cert) → IsCheckIn m x y s upto certs → (number_in m.body ≡ s) × (place_in m.body ≡ upto) × (certs_in m.body ≡ certs)
 check_in_says m x y s upto certs e = (ap (λ (l : Message). number_in l.body) e.3, ap (λ (l : Message). place_in l.body) e.3, ap (λ (l : Message). certs_in l.body) e.3)
 
--- the check-in that an acknowledgement answers, in the words of the acknowledgement
+-- the check-in that an acknowledgement answers, with the values of the acknowledgement
 pub answers : (w : World) (m : Message) (certs : List Cert) (y z s upto : ℕ) → HasCheckedIn w m.to m.from (number_in m.body) (place_in m.body) certs → IsAck m y z s upto → HasCheckedIn w z y s upto certs
 answers w m certs y z s upto sent e = subst (λ (l : Message). HasCheckedIn w l.to l.from (number_in l.body) (place_in l.body) certs) e.2 sent
 
--- who sent these, where one node sent all of them
+-- the sender of these messages, where one node sent all of them
 pub check_in_own : (x : ℕ) (ms : List Message) → AllByRecursion (λ m. m.from ≡ x) ms → (y z s upto : ℕ) (certs : List Cert) → HasCheckedInAmong ms y z s upto certs → y ≡ x
 check_in_own x ms own y z s upto certs a = all_among (λ (m : Message). m.from ≡ x) ms (record { from = y; to = z; body = bodies.CheckIn s upto a.0 a.1 a.2 certs }) own a.3
 
 pub ack_own : (x : ℕ) (ms : List Message) → AllByRecursion (λ m. m.from ≡ x) ms → (y z s upto : ℕ) → HasAcknowledgedAmong ms y z s upto → y ≡ x
 ack_own x ms own y z s upto a = all_among (λ (m : Message). m.from ≡ x) ms (record { from = y; to = z; body = bodies.CheckAck s upto a.0 a.1 }) own a.2
 
--- what was sent stays sent, and what is among those sent before and now is one of them
+-- sent messages stay sent, and each message in the net was sent before or now
 pub check_in_later : (w : World) (ms net : List Message) → net ≡ w.net ++ ms → (x y s upto : ℕ) (certs : List Cert) → HasCheckedIn w x y s upto certs → HasCheckedInAmong net x y s upto certs
 check_in_later w ms net e x y s upto certs a =
     let said : Message = record { from = x; to = y; body = bodies.CheckIn s upto a.0 a.1 a.2 certs } in

@@ -1,4 +1,4 @@
--- What a check-in keeps of the whole world, and what it brings about: the parent knows its child's own number, and the lease is new.
+-- The effect of a check-in on the whole world: the parent knows its child's own number, the lease is new, and the rest is kept.
 use Rattle.std.proofs.Common.{◌≡◌, ℕ, ◌+◌, ◌-◌, ◌<◌, ◌≤◌, Bool, true, false, Option, Some, None, List, ◌∷◌, ◌⊎◌, inl, inr, length, refl, ap, sym, subst, ◌∙◌, ⊎_elim, arith, eqb-true}
 use Rattle.std.proofs.lemmas.Bool.{cases_eq, cases_order, true≢false}
 use Rattle.oc_base.specs.declared.cert.Cert.{Cert}
@@ -75,7 +75,7 @@ reached_checks_in h w x reached =
     let w2 : World = (delivers_last w1).world in
     reached_takes h w2 (last_body w2) (reached_delivers h w1 (reached_act h w (acts.At x inputs.CheckNow) reached))
 
--- nobody is its own parent
+-- no node is its own parent
 pub parent_apart : (h : Header) (w : World) → Reached h w → (x p : ℕ) → IsJoined w x p → x ≡ p → ⊥
 parent_apart h w reached x p joins same =
     let parents : ParentsPrecede w = of_reached ParentsPrecede parents_after h w reached in
@@ -89,12 +89,12 @@ record InVain (w : World) (x : ℕ) (v : World) : Type 0 where
   core : core_of (control_of v x) ≡ counted (core_of (control_of w x))
   rest : HasSameRest (control_of w x) (control_of v x)
 
--- the lease that is tested is there
+-- a lease that passes the test is held
 pub number_held : (found : Option ℕ) (s : ℕ) → is_number found s ≡ true → found ≡ Some s
 number_held None s e = absurd cc
 number_held (Some n) s e = ap Some (eqb-true n s e)
 
--- after it the parent is as it was: it is down, or it sends a rejoin
+-- the parent stays as it was: it is down, or it sends a rejoin
 vain_parent : (w : World) (x p seq upto rate number clients : ℕ) (certs : List Cert) → IsLast w (from_to x p (bodies.CheckIn seq upto rate number clients certs)) → (IsUp w p → HoldsLease w p x seq → ⊥)
     → ((y : ℕ) → control_of (delivers_last w).world y ≡ control_of w y) × ((y : ℕ) → is_up (delivers_last w).world y ≡ is_up w y) × ((takes_any_ack (delivers_last w).world).world ≡ (delivers_last w).world)
 vain_parent w x p seq upto rate number clients certs last none = by_up (is_up w p) refl where
@@ -141,34 +141,34 @@ checks_in_vain w x p apart up joins none =
       rest = subst (λ (k : Control). HasSameRest (control_of w x) k) (sym (second.0 x)) first.rest;
     }
 
--- What a check-in keeps, acknowledged or not
+-- The properties that a check-in keeps, whether acknowledged or not
 
 pub record CheckInKeeps (h : Header) (w : World) (x : ℕ) (v : World) : Type 0 where
   pub began : Reached h w
   pub reached : Reached h v
   pub steady : Steady w v
-  -- no lease is made, and links hold on
+  -- no lease is made, and links still hold
   pub only : (y z s : ℕ) → HoldsLease v y z s → HoldsLease w y z s
   pub held : (y z : ℕ) → IsHeld w y z → IsHeld v y z
   pub rows : (y z : ℕ) → (x ≡ z → ⊥) → IsHeld w y z → newest (table_of v y) z ≡ newest (table_of w y) z
-  -- all others are as they were, and x has counted
+  -- all other nodes are as they were, and x has counted its clients
   pub cores : (z : ℕ) → (x ≡ z → ⊥) → core_of (control_of v z) ≡ core_of (control_of w z)
   pub counted : IsCounted (core_of (control_of v x))
   pub seqs : (z : ℕ) → seq_of v z ≡ seq_of w z
   pub epochs : (most : ℕ) → ((z : ℕ) → IsUp w z → epoch_in (own_rank w z) ≤ most) → (z : ℕ) → IsUp v z → epoch_in (own_rank v z) ≤ most
   pub clocks : (y : ℕ) → clock_of v y ≡ clock_of w y
-  -- the lease of x begins anew, no other does
+  -- the lease of x begins anew, and no other does
   pub ends : (y z : ℕ) → IsId h z → (at (control_of v y).leases z None ≡ at (control_of w y).leases z None) ⊎ ((x ≡ z) × IsHeld w y x)
   pub renewed : (p : ℕ) → IsHeld v p x → at (control_of v p).leases x None ≡ Some (clock_of v p + lease_time)
-  -- its parent knows its own number
+  -- the parent knows the own number of x
   pub told : (p : ℕ) → IsHeld v p x → KnowsNumber v p x
 
 module _ (h : Header) (w : World) (x : ℕ) (v : World) (keeps : CheckInKeeps h w x v) where
-  -- a link that holds then held before
+  -- a link that holds afterwards held before
   pub keeps_before : (y z : ℕ) → IsHeld v y z → IsHeld w y z
   keeps_before y z held = held_before w v keeps.steady y z held (λ leased. keeps.only y z (seq_of w z) leased)
 
--- In vain
+-- Not acknowledged
 
 vain_keeps : (h : Header) (w : World) (x p : ℕ) → Reached h w → IsUp w x → IsJoined w x p → (IsUp w p → HoldsLease w p x (seq_of w x) → ⊥) → CheckInKeeps h w x (checks_in x w).world
 vain_keeps h w x p reached up joins none =
@@ -206,7 +206,7 @@ vain_keeps h w x p reached up joins none =
 
 -- Acknowledged
 
--- no rank that is taken has a greater epoch than both
+-- a taken rank has no epoch above both the old one and the told one
 taken_epoch : (wish : Option ℕ) (own told : Option Rank) (most : ℕ) → epoch_in own ≤ most → epoch_in told ≤ most → epoch_in (rank_unless wish own (rank_or_last told)) ≤ most
 taken_epoch (Some g) own told most here there = here
 taken_epoch None own told most here there = either (is_better own (rank_or_last told)) (λ (r : Option Rank). epoch_in r ≤ most) (Some (beneath_of (rank_or_last told))) own (omega (arith, epoch_or_last told, there)) here
@@ -215,7 +215,7 @@ module _ (h : Header) (w : World) (x p : ℕ) (reached : Reached h w) (held : Is
   abbrev v : World
   v = (checks_in x w).world
 
-  -- what the child tells: its own count, and certificates that wait
+  -- the told certificates: the child's own count, and those that wait
   abbrev certs : List Cert
   certs = next_certs (log_of w x)
 
@@ -231,7 +231,7 @@ module _ (h : Header) (w : World) (x p : ℕ) (reached : Reached h w) (held : Is
   later : Reached h v
   later = reached_checks_in h w x reached
 
-  -- what is so of the child, of the parent and of all others as they were, is so of each
+  -- a property of the child, of the parent, and of all others as they were, holds of each node
   by_three : (Q : ℕ → Control → Type 0) → Q x (control_of v x) → Q p (control_of v p) → ((y : ℕ) → (x ≡ y → ⊥) → (p ≡ y → ⊥) → Q y (control_of w y)) → (y : ℕ) → Q y (control_of v y)
   by_three Q child parent others y = ⊎_elim
       (λ (same : x ≡ y). subst (λ (z : ℕ). Q z (control_of v z)) same child)
@@ -258,7 +258,7 @@ module _ (h : Header) (w : World) (x p : ℕ) (reached : Reached h w) (held : Is
       (λ (same : x ≡ y). subst (λ (z : ℕ). table_of v z ≡ table_of w z) same checked.rest.table)
       (λ not_child. ap (λ (k : Control). k.kept.table) (checked.others y not_child not_parent)) (cases_eq x y)
 
-  -- the parent knows what names it, and all of its children
+  -- the parent knows the certificates that name it, and all those of its children
   cert_own : (c : Cert) → IsAmong c certs → c.parent ≡ p → Knows (table_of w p) c
   cert_own c among is = known_own h w reached x p c (among_take MAX_CHECK_IN_CERTS c (log_of w x).waiting among) is
 
@@ -287,7 +287,7 @@ module _ (h : Header) (w : World) (x p : ℕ) (reached : Reached h w) (held : Is
       (λ (same : p ≡ y). subst (λ (u : ℕ). newest (table_of v u) z ≡ newest (table_of w u) z) same (rows_parent z other (subst (λ (u : ℕ). HoldsLease w u z (seq_of w z)) (sym same) is.lease)))
       (λ not_parent. ap (λ (t : List Cert). newest t z) (tables y not_parent)) (cases_eq p y)
 
-  -- the lease of the child is there still
+  -- the parent still holds the lease of the child
   lease_child : HoldsLease v p x (seq_of w x)
   lease_child =
       let known : newest (merge_all (merge (table_of w p) own) certs) x ≡ newest (merge (table_of w p) own) x =
@@ -323,7 +323,7 @@ module _ (h : Header) (w : World) (x p : ℕ) (reached : Reached h w) (held : Is
   clocks : (y : ℕ) → clock_of v y ≡ clock_of w y
   clocks = by_three (λ y k. k.soft.clock ≡ clock_of w y) checked.rest.clock checked.clock (λ y not_child not_parent. refl)
 
-  -- its lease has begun anew
+  -- the lease of the child has begun anew
   renewed_parent : at (control_of v p).leases x None ≡ Some (clock_of w p + lease_time)
   renewed_parent =
       let id : IsId h x = up_id h w x reached held.up in
@@ -367,7 +367,7 @@ module _ (h : Header) (w : World) (x p : ℕ) (reached : Reached h w) (held : Is
     told = at_parent (λ q. KnowsNumber v q x) told_parent;
   }
 
--- What each check-in of a joined node keeps
+-- The properties that each check-in of a joined node keeps
 
 pub checks_in_keeps : (h : Header) (w : World) (x p : ℕ) → Reached h w → IsUp w x → IsJoined w x p → CheckInKeeps h w x (checks_in x w).world
 checks_in_keeps h w x p reached up joins = by_up (is_up w p) refl where

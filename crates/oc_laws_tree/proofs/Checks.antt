@@ -28,7 +28,7 @@ from_to x y b = record { from = x; to = y; body = b }
 
 -- The check
 
--- the rest of a node: its table, its lease ends and its clock
+-- the other parts of a node: its table, its lease ends and its clock
 pub record HasSameRest (n m : Control) : Type 0 where
   pub table : m.kept.table ≡ n.kept.table
   pub leases : m.leases ≡ n.leases
@@ -53,7 +53,7 @@ check_sends n p joins =
 
 -- The check-in
 
--- certificates were merged: all but the table and the log is as before
+-- certificates were merged: all is as before except the table and the log
 pub record HasMerged (cs : List Cert) (o q : Plan) : Type 0 where
   pub core : core_of q.node ≡ core_of o.node
   pub table : q.node.kept.table ≡ merge_all o.node.kept.table cs
@@ -80,7 +80,8 @@ all_merged (c ∷ cs) o =
       sends = rest.sends ∙ first.sends;
     }
 
--- a child that has its lease has checked in: what it tells is merged, its lease begins anew, and it is acknowledged
+-- a child whose lease is held has checked in: its certificates are merged, its lease begins anew, and it gets an
+-- acknowledgement
 pub record TakesCheckIn (n : Control) (x seq upto number clients : ℕ) (certs : List Cert) (o : Plan) : Type 0 where
   pub core : core_of o.node ≡ core_of n
   pub table : o.node.kept.table ≡ merge_all n.kept.table (life x seq n.me number clients ∷ certs)
@@ -106,7 +107,7 @@ check_in_taken n x seq upto rate number clients certs leased =
           ap₂ (λ (ms : List Message) (m : Message). ms ++ m ∷ []) merged.sends said;
     }
 
--- that of a node that has none is answered by a rejoin
+-- a check-in without a held lease is answered by a rejoin
 pub check_in_refused : (n : Control) (x seq upto rate number clients : ℕ) (certs : List Cert) → has_lease n x seq ≡ false → checked_in (begun n) x seq upto rate number clients certs ≡ sends_rejoin (begun n) x seq
 check_in_refused n x seq upto rate number clients certs none = rw none refl
 
@@ -117,7 +118,8 @@ abbrev pub rank_unless : Option ℕ → Option Rank → Rank → Option Rank
 rank_unless None own told = take_rank own told
 rank_unless (Some g) own told = own
 
--- the node has taken it: its place in the log, the rank beneath its parent's if that is better and it has no wish, and the ancestors
+-- the node has taken the acknowledgement: its place in the log, its ancestors, and the rank beneath its parent's if that is
+-- better and the node has no wish
 pub record TakesAck (n : Control) (p upto : ℕ) (told : Rank) (xs : List ℕ) (o : Plan) : Type 0 where
   pub core : core_of o.node ≡ record (core_of n) { rank = rank_unless n.soft.wish n.kept.rank told; ancestors = ancestors_by p xs }
   pub rest : HasSameRest n o.node
@@ -143,7 +145,7 @@ rank_taken_unless : (wish : Option ℕ) (o : Plan) (told : Rank)
 rank_taken_unless None o told = rank_taken o told
 rank_taken_unless (Some g) o told = (refl, record { table = refl; leases = refl; clock = refl }, refl)
 
--- lists that are tested as the same are
+-- lists of ids that pass the test of sameness are equal
 ids_same : (xs ys : List ℕ) → same_ids xs ys ≡ true → xs ≡ ys
 ids_same [] [] e = refl
 ids_same [] (y ∷ ys) e = absurd cc

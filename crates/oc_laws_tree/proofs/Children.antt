@@ -8,7 +8,7 @@ use Rattle.oc_model.specs.WorldBounds.{IsOneOf}
 use Rattle.oc_laws_step.specs.Sound.{AreAbove, IsTable}
 use Rattle.oc_laws_step.proofs.Folds.{rows_found}
 
--- what is found is one of the list
+-- the found node is one of the list
 pub found_one : (test : ℕ → Bool) (xs : List ℕ) (k : ℕ) → find test xs ≡ Some k → IsOneOf k xs
 found_one test [] k e = absurd cc
 found_one test (x ∷ xs) k e = by_test (test x) (λ rest. found_one test xs k rest) e where
@@ -29,7 +29,7 @@ child_row t (k ∷ ks) y x all one = by_test (is_lease_of y k) refl (λ later. c
 pub child_leased : (t : List Cert) (y x : ℕ) → IsTable t → IsOneOf x (leased_children t y) → (s : ℕ) × (leased_by t y x ≡ Some s)
 child_leased t y x is one = child_row t t y x (rows_found t is) one
 
--- children are above what their rows are above
+-- a leased child is above any number that all rows of the list are above
 children_above : (x y a : ℕ) (rows : List Cert) → AreAbove x rows → IsOneOf a (leased_children rows y) → x < a
 children_above x y a [] all one = absurd one
 children_above x y a (k ∷ ks) all one = by_test (is_lease_of y k) (λ later. children_above x y a ks all.1 later) one where
@@ -38,7 +38,7 @@ children_above x y a (k ∷ ks) all one = by_test (is_lease_of y k) (λ later. c
   by_test true rest (inr later) = rest later
   by_test false rest one = rest one
 
--- the first that passes a test is the least that does
+-- the first child that passes a test is the least that passes
 pub found_least : (test : ℕ → Bool) (t : List Cert) (y k a : ℕ) → IsTable t → find test (leased_children t y) ≡ Some k → IsOneOf a (leased_children t y) → test a ≡ true → k ≤ a
 found_least test [] y k a is found one passes = absurd one
 found_least test (j ∷ js) y k a is found one passes = by_test (is_lease_of y j) (λ f later. found_least test js y k a is.1 f later passes) found one where

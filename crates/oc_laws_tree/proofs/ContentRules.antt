@@ -14,7 +14,7 @@ use Rattle.oc_model.specs.Shelves.{line_at, with_line, limit, next_behind}
 use Rattle.oc_model.proofs.Rules.{either}
 
 module _ (P : Control → Type 0) where
-  -- what holds of the node of a step under way
+  -- a property of the node of a step under way
   abbrev OfNode : Plan → Type 0
   OfNode o = P o.node
 

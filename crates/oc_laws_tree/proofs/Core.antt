@@ -1,4 +1,4 @@
--- The core of a node: what tells its place in the tree, and its own count. What one check does to it: at most one small change.
+-- The core of a node: its place in the tree and its own count. One check makes at most one small change to the core.
 use Rattle.std.proofs.Common.{◌≡◌, ℕ, ◌+◌, ◌≤◌, Bool, true, false, not, ◌&&◌, ◌==◌, nat_lt, if◌then◌else◌, Option, Some, None, List, [], ◌∷◌, filter, unwrap_or, refl, sym, subst, ◌∙◌, arith}
 use Rattle.oc_base.specs.declared.cert.Cert.{Cert}
 use Rattle.oc_base.specs.declared.rank.Rank.{Rank}
@@ -49,7 +49,7 @@ core_of n = record {
   wish = n.soft.wish;
 }
 
--- whether clients were served that are not in the own count, and can come into it
+-- whether clients were served that the own count lacks and may still count
 abbrev pub has_uncounted : Core → Bool
 has_uncounted k = not (k.served == 0) && nat_lt k.number number_end
 
@@ -59,7 +59,7 @@ IsCounted k = has_uncounted k ≡ false
 abbrev pub with_count : Core → Core
 with_count k = record k { number = k.number + 1; clients = capped (k.clients + k.served); served = 0 }
 
--- all of them in the own count
+-- the core with all clients in the own count
 abbrev pub counted : Core → Core
 counted k = if has_uncounted k then with_count k else k
 
@@ -69,7 +69,7 @@ is_counted k = by_test (has_uncounted k) refl where
   by_test true e = refl
   by_test false e = e
 
--- where nothing is left to count, nothing changes
+-- a core with no client left to count stays the same
 pub counted_once : (k : Core) → IsCounted k → counted k ≡ k
 counted_once k e = rw e refl
 
@@ -82,7 +82,7 @@ asking k p = record k { seq = k.seq + 1; mode = modes.Asking p }
 abbrev pub acting : Core → Core
 acting k = record k { mode = modes.Acting; ancestors = []; rank = Some (record { epoch = next_epoch (rank_or_last k.rank); depth = 0 }) }
 
--- what a check makes of a core: as it is, or one of these
+-- the possible cores after a check: the same one, or one of these
 pub record IsCheckClosed (P : Core → Type 0) (k : Core) : Type 0 where
   pub still : P k
   pub counts : (p : ℕ) → k.mode ≡ modes.Joined p → has_uncounted k ≡ true → P (with_count k)
@@ -90,12 +90,12 @@ pub record IsCheckClosed (P : Core → Type 0) (k : Core) : Type 0 where
   pub asks : (p : ℕ) → k.mode ≡ modes.Idle → P (asking k p)
   pub acts : k.mode ≡ modes.Idle → P (acting k)
 
--- an idle node has nothing to lose
+-- an idle node has no parent to lose
 lost_idle : (o : Plan) → o.node.kept.mode ≡ modes.Idle → lost o ≡ o
 lost_idle o idle = subst (λ m. lost_from m o ≡ o) (sym idle) refl
 
 module _ (P : Core → Type 0) where
-  -- the core of a step under way
+  -- a property of the core of a step under way
   abbrev OfCore : Plan → Type 0
   OfCore o = P (core_of o.node)
 
@@ -192,7 +192,7 @@ module _ (P : Core → Type 0) where
   core_merges : (o : Plan) (c : Cert) → OfCore o → OfCore (merges o c)
   core_merges o c h = either (is_news o.node.kept.table c) OfCore (write o (records.Entry c)) o h h
 
-  -- merging leaves it
+  -- merging leaves the core unchanged
   pub core_merges_all : (cs : List Cert) (o : Plan) → OfCore o → OfCore (merges_all cs o)
   core_merges_all [] o h = h
   core_merges_all (c ∷ cs) o h = core_merges_all cs (merges o c) (core_merges o c h)
@@ -216,7 +216,7 @@ module _ (P : Core → Type 0) where
 
 -- The place after a check
 
--- a rank's epoch is its own, or 0
+-- the epoch of a rank, or 0 without a rank
 pub epoch_or_last : (r : Option Rank) → (rank_or_last r).epoch ≡ epoch_in r
 epoch_or_last None = refl
 epoch_or_last (Some r) = refl
@@ -233,7 +233,7 @@ next_epoch_most r = by_test (r.epoch == number_end) where
   by_test true = omega arith
   by_test false = omega arith
 
--- one core after another, by a tick or a check: parents and roots stay
+-- the core k after the core j, by a tick or a check: parents and roots stay
 pub record HasChecked (j k : Core) : Type 0 where
   pub me : k.me ≡ j.me
   pub chain : k.chain ≡ j.chain

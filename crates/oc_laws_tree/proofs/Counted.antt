@@ -1,4 +1,4 @@
--- How many acts the first five steps of settle take.
+-- The number of acts of the first five steps of settle.
 use Rattle.std.proofs.Common.{◌≡◌, ℕ, ◌+◌, ◌*◌, ◌≤◌, Bool, true, false, if◌then◌else◌, Option, Some, None, List, [], ◌∷◌, inl, inr, filter, length, refl, ap, sym, ◌∙◌, arith, length-append}
 use Rattle.oc_model.specs.declared.event.Act.TheVariants as acts
 use Rattle.oc_model.specs.declared.input.Input.TheVariants as inputs
@@ -26,7 +26,7 @@ tick_acts : (more : ℕ) (xs : List ℕ) (w : World) → length (for_each xs (ti
 tick_acts more [] w = refl
 tick_acts more (x ∷ xs) w = omega (arith, tick_acts more xs (ticks more x w).world)
 
--- a check-in is three at most
+-- a check-in is at most three acts
 takes_most : (b : Option Body) (w : World) → length (takes_ack b w).acts ≤ 1
 takes_most None w = omega arith
 takes_most (Some (bodies.CheckAck seq upto rank ancestors)) w = omega arith
@@ -53,7 +53,7 @@ abbrev three_if : Bool → ℕ
 three_if true = 3
 three_if false = 0
 
--- where each link of a node that is up holds, it is three for each that has a parent
+-- where each link of a node that is up holds, a round of check-ins is three acts for each node with a parent
 module _ (h : Header) (w0 : World) (held : AreHeld w0) where
   abbrev joined_of : List ℕ → List ℕ
   joined_of xs = filter (λ x. is_joined (mode_of w0 x)) xs
@@ -122,7 +122,7 @@ five_acts h w reached held =
     ap (λ (xs : List ℕ). length (for_each xs checks_in_if_joined w3).acts) up3 ∙ all_check h w held (up_ids w) w3 five.three (λ x one. up_of w x one) in
     omega (arith, five_sum w, tick_acts 0 (up_ids w) w, second, tick_acts 15 (up_ids w2) w2, ap length up2, fourth, tick_acts 15 (up_ids w4) w4, ap length up4)
 
--- nine at most for each node that is up
+-- at most nine acts for each node that is up
 pub five_most : (h : Header) (w : World) → Reached h w → length (first_five_steps w).acts ≤ 9 * length (up_ids w)
 five_most h w reached =
     let five : FiveSteps h w = five_steps h w reached in

@@ -1,5 +1,5 @@
--- The law of own numbers: each names one count of clients, since each fact has its pair from a check-in, or has none yet, and a node
--- tells only its own pair, whose number rises with each new count.
+-- The law of own numbers: each names one count of clients, since each fact has its pair from a check-in or has none yet, and a
+-- node tells only its own pair, whose number rises with each new count.
 use Rattle.std.proofs.Common.{◌≡◌, ℕ, ◌+◌, ◌≤◌, true, List, [], ◌∷◌, ◌++◌, ◌⊎◌, inl, inr, refl, ap, sym, ◌∙◌, subst, ⊎_elim, arith}
 use Rattle.std.specs.List.{AllByRecursion, range_with_len}
 use Rattle.std.proofs.lemmas.Bool.{cases_eq}
@@ -30,21 +30,21 @@ use Rattle.oc_laws_world.proofs.Machine.{IsMachine, IsLoose, and_sent, with_kept
 use Rattle.oc_laws_tree.specs.Clients.{HasToldIn, HasTold, GoesWithCount, HaveOneCount, ZeroCountsNone, OwnNumbersAreBelow}
 use Rattle.oc_laws_tree.proofs.CheckMessages.{IsNoCheckIn, loose_no_check_in}
 
--- no clients by the number 0
+-- the pair of number 0 and no clients
 abbrev pub IsNoCount : ℕ → ℕ → Type 0
 IsNoCount n c = (n ≡ 0) × (c ≡ 0)
 
--- the pair of which a fact tells is that of no clients yet, or a check-in told it
+-- the pair of a fact is that of no clients yet, or was told by a check-in
 abbrev pub IsCountedFact : World → Cert → Type 0
 IsCountedFact w f = IsNoCount f.number f.clients ⊎ HasTold w f.subject f.number f.clients
 
--- so it is of the facts in a check-in
+-- the facts in a check-in have such pairs
 abbrev pub IsCountedSend : World → Body → Type 0
 IsCountedSend w (bodies.CheckIn seq upto rate number clients certs) = AllByRecursion (IsCountedFact w) certs
 IsCountedSend w body = Unit {0}
 
--- these pairs of a number and a count were told of a node that has this number and count: one number has one count, none is above
--- the node's own, its own has its own count, and 0 has no clients
+-- the pairs told of a node with this number and count: one number has one count, no number is above the node's own, the own
+-- number has the own count, and 0 has no clients
 pub record AreCounted (Told : ℕ → ℕ → Type 0) (number clients : ℕ) : Type 0 where
   pub unique : (n c d : ℕ) → Told n c → Told n d → c ≡ d
   pub bound : (n c : ℕ) → Told n c → n ≤ number
@@ -52,19 +52,19 @@ pub record AreCounted (Told : ℕ → ℕ → Type 0) (number clients : ℕ) : T
   pub empty : (c : ℕ) → Told 0 c → c ≡ 0
   pub begun : number ≡ 0 → clients ≡ 0
 
--- what the law says of a world
+-- the law of own numbers in a world
 pub record CountsHold (w : World) : Type 0 where
   pub pairs : (x : ℕ) → AreCounted (HasTold w x) (control_of w x).kept.number (control_of w x).kept.clients
   pub table : (x : ℕ) → AllByRecursion (IsCountedFact w) (control_of w x).kept.table
   pub waiting : (x : ℕ) → AllByRecursion (IsCountedFact w) (control_of w x).kept.log.waiting
   pub told : AllByRecursion (λ m. IsCountedSend w m.body) w.net
 
--- x told this pair before, or by one of these
+-- x told this pair before, or by one of these messages
 abbrev pub HasToldNow : World → List Message → ℕ → ℕ → ℕ → Type 0
 HasToldNow w ms x n c = HasTold w x n c ⊎ HasToldIn ms x n c
 
--- what the law says of the node x in the middle of a change of this world: its check-ins may be new, all facts have their pairs
--- from before
+-- the law for the node x in the middle of a change of this world: its check-ins may be new, and all facts have their pairs from
+-- before
 pub record IsCounting (w : World) (x : ℕ) (n : Control) (ms : List Message) : Type 0 where
   pub me : n.me ≡ x
   pub own : (y k c : ℕ) → HasToldIn ms y k c → y ≡ x
@@ -75,7 +75,7 @@ pub record IsCounting (w : World) (x : ℕ) (n : Control) (ms : List Message) : 
 
 -- Pairs
 
--- the own pair may be told
+-- the node's own pair may be told too
 with_own : {Told Now : ℕ → ℕ → Type 0} {number clients : ℕ} → AreCounted Told number clients → ((n c : ℕ) → Now n c → Told n c ⊎ ((number ≡ n) × (clients ≡ c))) → AreCounted Now number clients
 with_own {Told = Told} {number = number} {clients = clients} h from = record {
   unique = λ n c d a b. both n c d (from n c a) (from n d b);
@@ -90,7 +90,7 @@ with_own {Told = Told} {number = number} {clients = clients} h from = record {
   both n c d (inr a) (inl b) = sym (h.present d (subst (λ (k : ℕ). Told k d) (sym (a.0)) b) ∙ a.1)
   both n c d (inr a) (inr b) = sym (a.1) ∙ b.1
 
--- so may that of no clients
+-- the pair of no clients may be told too
 with_none : {Told Now : ℕ → ℕ → Type 0} {number clients : ℕ} → AreCounted Told number clients → ((n c : ℕ) → Now n c → Told n c ⊎ IsNoCount n c) → AreCounted Now number clients
 with_none {Told = Told} {number = number} {clients = clients} h from = record {
   unique = λ n c d a b. both n c d (from n c a) (from n d b);
@@ -105,7 +105,7 @@ with_none {Told = Told} {number = number} {clients = clients} h from = record {
   both n c d (inr a) (inl b) = a.1 ∙ sym (h.empty d (subst (λ (k : ℕ). Told k d) a.0 b))
   both n c d (inr a) (inr b) = a.1 ∙ sym (b.1)
 
--- and fewer may be told
+-- fewer pairs may be told
 fewer : {Told Now : ℕ → ℕ → Type 0} {number clients : ℕ} → AreCounted Told number clients → ((n c : ℕ) → Now n c → Told n c) → AreCounted Now number clients
 fewer h from = with_own h (λ n c a. inl (from n c a))
 
@@ -127,7 +127,7 @@ told_either net ms x n c a =
     let m : Message = record { from = x; to = a.0; body = bodies.CheckIn a.1 a.2 a.3 n c a.4 } in
     ⊎_elim (λ (old : IsAmong m net). inl (a.0, a.1, a.2, a.3, a.4, old)) (λ (new : IsAmong m ms). inr (a.0, a.1, a.2, a.3, a.4, new)) (among_either m net ms a.5)
 
--- the last message told it, or it was told before
+-- a pair was told by the last message or before
 told_last : (ms : List Message) (m : Message) (x n c : ℕ) → HasToldIn (ms ++ m ∷ []) x n c
     → HasToldIn ms x n c ⊎ ((y s upto rate : ℕ) × (certs : List Cert) × (m ≡ record { from = x; to = y; body = bodies.CheckIn s upto rate n c certs }))
 told_last ms m x n c a =
@@ -141,7 +141,7 @@ no_check_in ms m other y n c a = ⊎_elim
     (λ (new : (p s upto rate : ℕ) × (certs : List Cert) × (m ≡ record { from = y; to = p; body = bodies.CheckIn s upto rate n c certs })). absurd (subst (λ (l : Message). IsNoCheckIn l.body) new.5 other))
     (told_last ms m y n c a)
 
--- one message more that is no check-in
+-- one more message that is no check-in
 and_other : (w : World) (x : ℕ) (n : Control) (ms : List Message) (p : ℕ) (b : Body) → IsNoCheckIn b → IsCountedSend w b → IsCounting w x n ms → IsCounting w x n (and_sent n ms p b)
 and_other w x n ms p b other counted h =
     let m : Message = record { from = n.me; to = p; body = b } in
@@ -154,7 +154,7 @@ and_other w x n ms p b other counted h =
       told = all_append (λ l. IsCountedSend w l.body) ms (m ∷ []) h.told (counted, tt);
     }
 
--- what a check-in tells of its sender
+-- the number and the count of the sender in a check-in
 abbrev number_told : Body → ℕ
 number_told (bodies.CheckIn seq upto rate number clients certs) = number
 number_told body = 0
@@ -163,7 +163,7 @@ abbrev clients_told : Body → ℕ
 clients_told (bodies.CheckIn seq upto rate number clients certs) = clients
 clients_told body = 0
 
--- a pair that is told was told before, or by the check-in that is new
+-- a told pair was told before or by the new check-in
 check_in_told : (ms : List Message) (x p s upto rate number clients : ℕ) (certs : List Cert) (y n c : ℕ)
     → HasToldIn (ms ++ record { from = x; to = p; body = bodies.CheckIn s upto rate number clients certs } ∷ []) y n c → HasToldIn ms y n c ⊎ ((x ≡ y) × (number ≡ n) × (clients ≡ c))
 check_in_told ms x p s upto rate number clients certs y n c a =
@@ -174,7 +174,7 @@ check_in_told ms x p s upto rate number clients certs y n c a =
     inr (ap (λ (l : Message). l.from) new.5, ap (λ (l : Message). number_told l.body) new.5, ap (λ (l : Message). clients_told l.body) new.5))
     (told_last ms m y n c a)
 
--- one check-in more of the node, which tells its own pair and what waits
+-- one more check-in of the node, which tells its own pair and the waiting facts
 and_checked_in : (w : World) (x : ℕ) (n : Control) (ms : List Message) (p rate : ℕ) → IsCounting w x n ms
     → IsCounting w x n (and_sent n ms p (bodies.CheckIn n.kept.seq (place_after n.kept.log) rate n.kept.number n.kept.clients (next_certs n.kept.log)))
 and_checked_in w x n ms p rate h = record {
@@ -200,11 +200,11 @@ loose_counted : (w : World) (b : Body) → IsLoose b → IsCountedSend w b
 loose_counted w (bodies.CheckIn seq upto rate number clients certs) loose = absurd loose
 loose_counted w b loose = tt
 
--- the facts in what was sent before have their pairs
+-- the facts in sent messages have their pairs from before
 came_counted : (w : World) → CountsHold w → (m : Message) → IsAmong m w.net → IsCountedSend w m.body
 came_counted w holds m among = all_among (λ l. IsCountedSend w l.body) w.net m holds.told among
 
--- The changes
+-- Changes
 
 -- a certificate comes into the table
 and_entered : (w : World) (x : ℕ) (n : Control) (ms : List Message) (c : Cert) → IsCountedFact w c → IsCounting w x n ms → IsCounting w x (with_kept n (entered n.kept c)) ms
@@ -217,14 +217,14 @@ and_entered w x n ms c counted h = record {
   told = h.told;
 }
 
--- one of a check-in
+-- a certificate of a check-in has its pair
 told_counted : (w : World) (x y parent s upto rate number clients : ℕ) (certs : List Cert) (c : Cert) → CountsHold w → HasSent w x y (bodies.CheckIn s upto rate number clients certs)
     → IsAmong c (life y s parent number clients ∷ certs) → IsCountedFact w c
 told_counted w x y parent s upto rate number clients certs c holds sent among =
     let counted = came_counted w holds (record { from = y; to = x; body = bodies.CheckIn s upto rate number clients certs }) sent in
     all_among (IsCountedFact w) (life y s parent number clients ∷ certs) c (inr (x, s, upto, rate, certs, sent), counted) among
 
--- each small change carries the law
+-- each small change keeps the law
 counting : (w : World) (x : ℕ) → CountsHold w → IsMachine (HasSent w x) (IsCounting w x)
 counting w x holds = record {
   soft = λ n ms s h. record { me = h.me; own = h.own; pairs = h.pairs; table = h.table; waiting = h.waiting; told = h.told };
@@ -257,7 +257,7 @@ counting w x holds = record {
   starts = λ n ms h. record { me = h.me; own = h.own; pairs = h.pairs; table = h.table; waiting = h.waiting; told = h.told };
 }
 
--- before the change
+-- the law holds for x before the change
 counting_begins : (w : World) (x : ℕ) → CountsHold w → IsCounting w x (control_of w x) []
 counting_begins w x holds = record {
   me = process_in-me w.processes x;
@@ -268,7 +268,7 @@ counting_begins w x holds = record {
   told = tt;
 }
 
--- after it the law holds
+-- the law holds of the world after the change
 counting_ends : (w v : World) (x : ℕ) (n : Control) (ms : List Message) → CountsHold w → Becomes w x n ms v → IsCounting w x n ms → CountsHold v
 counting_ends w v x n ms holds becomes h = record {
   pairs = λ y. by_case y (cases_eq x y);
@@ -293,11 +293,11 @@ counting_ends w v x n ms holds becomes h = record {
   sends (bodies.CheckIn seq upto rate number clients certs) k = facts certs k
   sends b k = tt
 
-  -- and each that is told was told before or now
+  -- each told pair was told before or now
   now : (y k c : ℕ) → HasTold v y k c → HasToldNow w ms y k c
   now y k c a = told_either w.net ms y k c (subst (λ (net : List Message). HasToldIn net y k c) becomes.net a)
 
-  -- before, where the node sent none
+  -- a pair of a node that sent nothing now was told before
   of_other : (y k c : ℕ) → (x ≡ y → ⊥) → HasToldNow w ms y k c → HasTold w y k c
   of_other y k c apart (inl old) = old
   of_other y k c apart (inr new) = absurd (apart (sym (h.own y k c new)))
@@ -329,7 +329,7 @@ counts_new h = record {
 pub counts_throughout : (Q : World → Type 0) → ((w : World) → CountsHold w → Q w) → (h : Header) (events : List Event) → Throughout Q (new_world h) events
 counts_throughout Q follows h events = law_throughout CountsHold IsCounting counts_law Q follows h events (counts_new h)
 
--- What follows
+-- Consequences
 
 -- each fact anywhere has its pair
 fact_counted : (w : World) → CountsHold w → (f : Cert) → IsAnywhere w f → IsCountedFact w f
@@ -344,7 +344,8 @@ fact_counted w holds f (inr (inr at)) = by_body at.0.body (came_counted w holds 
 abbrev IsToldOrNone : World → ℕ → ℕ → ℕ → Type 0
 IsToldOrNone w x n c = HasTold w x n c ⊎ IsNoCount n c
 
--- the law's word on what was told is true of all that goes with a number, since that was told, is that of no clients, or is the own pair
+-- the law for told pairs holds of all pairs that go with a number: each of these was told, is that of no clients, or is the
+-- node's own
 all_counted : (w : World) → CountsHold w → (x : ℕ) → AreCounted (GoesWithCount w x) (control_of w x).kept.number (control_of w x).kept.clients
 all_counted w holds x = with_own (with_none (holds.pairs x) (λ n c a. a)) from where
   of_fact : (f : Cert) → IsCountedFact w f → (n c : ℕ) → f.subject ≡ x → f.number ≡ n → f.clients ≡ c → IsToldOrNone w x n c

@@ -11,11 +11,11 @@ use Rattle.oc_model.specs.Ready.{HoldsLease}
 use Rattle.oc_model.specs.Table.{newest, leased_by}
 use Rattle.oc_model.specs.World.{World, node, is_up, mode_of}
 
--- it is so, or it is not
+-- a statement is true, or false
 abbrev pub IsDecided : Type 0 → Type 0
 IsDecided P = P ⊎ (P → ⊥)
 
--- either, the contrary
+-- a disjunction of decided statements is decided
 pub decided_either : {P Q : Type 0} → IsDecided P → IsDecided Q → IsDecided (P ⊎ Q)
 decided_either (inl p) q = inl (inl p)
 decided_either (inr not_p) (inl q) = inl (inr q)
@@ -25,7 +25,7 @@ pub decided_not : {P : Type 0} → IsDecided P → IsDecided (P → ⊥)
 decided_not (inl p) = inr (λ not_p. not_p p)
 decided_not (inr not_p) = inl not_p
 
--- what is decided and not denied is so
+-- a decided statement that is not denied is true
 pub not_denied : {P : Type 0} → IsDecided P → ((P → ⊥) → ⊥) → P
 not_denied (inl p) h = p
 not_denied (inr not_p) h = absurd (h not_p)
@@ -46,9 +46,9 @@ joined_decided (Asking q) p = inr (λ e. absurd cc)
 joined_decided Acting p = inr (λ e. absurd cc)
 joined_decided (Joined q) p = ⊎_elim (λ e. inl (ap Joined e)) (λ apart. inr (λ e. apart cc)) (cases_eq q p)
 
--- What waits
+-- Waiting facts
 
--- one of these is about x
+-- a fact about x is among these
 about_decided : (fs : List Cert) (x : ℕ) → IsDecided ((c : Cert) × IsAmong c fs × (c.subject ≡ x))
 about_decided [] x = inr (λ found. found.1)
 about_decided (f ∷ fs) x = by_rest (cases_eq f.subject x) (about_decided fs x) where
@@ -84,7 +84,7 @@ ended_decided w (x ∷ y ∷ ys) = decided_either (decided_not (lease_decided w 
 
 -- Links
 
--- the row that was found has this ask number
+-- the found row has this ask number
 row_decided : (found : Option Cert) (s : ℕ) → IsDecided ((e : Cert) × (found ≡ Some e) × (e.seq ≡ s))
 row_decided None s = inr (λ row. by_row row.0 row.1) where
   by_row : (e : Cert) → None ≡ Some e → ⊥

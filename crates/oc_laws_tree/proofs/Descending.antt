@@ -1,4 +1,4 @@
--- How a root's new rank is told down a chain: each node of the chain checks in, from the top down.
+-- The way of a root's new rank down a chain: each node of the chain checks in, from the top down.
 use Rattle.std.proofs.Common.{◌≡◌, ℕ, zero, suc, ◌+◌, ◌-◌, ◌*◌, ◌≤◌, ◌<◌, Bool, true, false, ◌&&◌, ◌||◌, ◌==◌, nat_lt, if◌then◌else◌, Option, Some, None, List, [], ◌∷◌, ◌++◌, inl, inr, drop, take, reverse, length, refl, ap, sym, subst, ◌∙◌, arith, lt-ltb, ltb-false, ne_eqb, eq-eqb, length-append}
 use Rattle.std.proofs.lemmas.List.{reverse-append, length-reverse}
 use Rattle.std.proofs.lemmas.Bool.{or_left, or_right, and_from, true≢false}
@@ -33,13 +33,13 @@ use Rattle.oc_laws_tree.proofs.ReadyStays.{chain_first_up, chain_root}
 use Rattle.oc_laws_tree.proofs.Reached.{Reached, of_reached}
 use Rattle.oc_laws_tree.proofs.CheckedIn.{CheckInKeeps, checks_in_keeps, parent_apart}
 
--- The rank that is taken
+-- The taken rank
 
--- one of this epoch, no deeper than this
+-- a rank of this epoch, at most this deep
 abbrev pub IsOfEpoch : ℕ → ℕ → Option Rank → Type 0
 IsOfEpoch epoch most rank = (k : ℕ) × (rank ≡ Some (record { epoch = epoch; depth = k })) × (k ≤ most)
 
--- beneath a parent whose rank precedes the own one it is of the parent's epoch, and no more than one deeper
+-- a rank taken from a parent whose rank precedes the own one is of the parent's epoch, and at most one level deeper
 taken_beneath : (own : Option Rank) (told : Rank) → told.depth < MAX_DEPTH → Precedes told (rank_or_last own) → IsOfEpoch told.epoch (told.depth + 1) (take_rank own told)
 taken_beneath own told shallow above = by_test (is_better own told) refl where
   low : nat_lt told.depth MAX_DEPTH ≡ true
@@ -72,24 +72,24 @@ has_taken (suc n) (y ∷ ys) x none = by_test (y == x) (λ rest. has_taken n ys 
   by_test true rest e = e
   by_test false rest e = rest e
 
--- who is neither the parent nor among its ancestors is no ancestor
+-- a node that is neither the parent nor one of its ancestors is no ancestor
 stranger_by : (d : ℕ) (xs : List ℕ) (x : ℕ) → (x ≡ d → ⊥) → has xs x ≡ false → has (ancestors_by d xs) x ≡ false
 stranger_by d xs x other none = ap (λ b. b || has (take 999 xs) x) (ne_eqb d x (λ e. other (sym e))) ∙ has_taken 999 xs x none
 
--- The order
+-- The order of the nodes
 
 drop_one : (xs ys : List ℕ) → 1 ≤ length xs → drop 1 (xs ++ ys) ≡ drop 1 xs ++ ys
 drop_one [] ys some = absurd (omega (arith, some))
 drop_one (x ∷ xs) ys some = refl
 
--- a node comes after those above it
+-- a node comes after the nodes above it
 top_down_then : (y d : ℕ) (ds : List ℕ) → top_down (Some (y ∷ d ∷ ds)) ≡ top_down (Some (d ∷ ds)) ++ y ∷ []
 top_down_then y d ds =
     ap (drop 1) (reverse-append (y ∷ []) (d ∷ ds)) ∙ drop_one (reverse (d ∷ ds)) (y ∷ []) (omega (arith, length-reverse (d ∷ ds)))
 
--- What it comes to
+-- The effect
 
--- the root m of this epoch is told down the chain of y to it, on which x is not
+-- the rank of the root m, of this epoch, is told down the chain from m to y, on which x is not
 pub record TellsDown (h : Header) (w : World) (x m y epoch : ℕ) (c : List ℕ) (r : Run) : Type 0 where
   pub acts : length r.acts + 3 ≤ 3 * length c
   pub reached : Reached h r.world
@@ -112,7 +112,7 @@ link_held w y d m ds chain leased = record {
   lease = subst (λ (p : ℕ). HoldsLease w p y (seq_of w y)) (joined_once w y leased.0 d leased.1 chain.2) leased.2;
 }
 
--- the chain is one of chain members: these take the rank that they are told
+-- a chain of chain members, which take the rank that they are told
 pub tells_down : (h : Header) (w : World) (x m y epoch : ℕ) (c : List ℕ) → Reached h w → y ≤ h.chain → IsTrueChain w y m c → AreLeased w c → (IsOneOf x c → ⊥) → length c ≤ MAX_DEPTH
     → own_rank w m ≡ Some (record { epoch = epoch; depth = 0 }) → (control_of w m).kept.ancestors ≡ [] → TellsDown h w x m y epoch c (for_each (top_down (Some c)) checks_in w)
 tells_down h w x m y epoch [] reached member chain leased out short rank top = absurd chain

@@ -1,4 +1,4 @@
--- No lease end lies further ahead of its node's clock than a lease lasts, in any world that is reached.
+-- Lease ends: none lies further ahead of its node's clock than a lease lasts, in any world that is reached.
 use Rattle.std.proofs.Common.{◌≡◌, ℕ, zero, suc, ◌+◌, ◌-◌, ◌≤◌, max, Bool, true, false, if◌then◌else◌, Option, Some, None, List, get_or, replicate, refl, sym, subst, ◌∙◌, ⊎_elim, arith}
 use Rattle.std.specs.List.{range_with_len}
 use Rattle.oc_base.specs.declared.cert.Cert.{Cert}
@@ -32,7 +32,7 @@ use Rattle.oc_laws_tree.proofs.Checks.{check_in_taken, check_in_refused}
 use Rattle.oc_laws_tree.proofs.Reached.{Reached}
 use Rattle.oc_laws_tree.proofs.Ticks.{set_at, HasTicked, has_ticked}
 
--- each end that is set is no more than a lease's time ahead
+-- each end that is set is at most a lease's time ahead
 abbrev AreWithin : ℕ → List Cert → List (Option ℕ) → ℕ → Type 0
 AreWithin me t ends now = (i end : ℕ) → get_or ends i None ≡ Some end → end ≤ now + lease_time
 
@@ -105,7 +105,7 @@ step_within n (Delivered m) h = received_within n.control (shelf n.groups) m.fro
 abbrev AreAllWithin : World → Type 0
 AreAllWithin w = (y : ℕ) → IsWithin (control_of w y)
 
--- the lease ends after a start, of which none is set
+-- the lease ends after a start, none of which is set
 abbrev no_ends : ℕ → List (Option ℕ)
 no_ends k = replicate k None
 
@@ -140,6 +140,6 @@ within_new h y =
       unset : (g : Header) (i end : ℕ) → get_or (no_ends g.nodes) i None ≡ Some end → ⊥
       unset g i end e = let clash : None ≡ Some end = sym (none_set g.nodes i) ∙ e in absurd cc
 
--- no lease end lies further ahead
+-- no lease end lies further ahead than a lease lasts
 pub ends_within : (h : Header) (w : World) (y i end : ℕ) → Reached h w → get_or (control_of w y).leases i None ≡ Some end → end ≤ (control_of w y).soft.clock + lease_time
 ends_within h w y i end reached e = subst AreAllWithin (sym reached.is) (passing_after AreAllWithin within_act within_event (new_world h) reached.events (within_new h)) y i end e

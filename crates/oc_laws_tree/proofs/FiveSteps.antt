@@ -1,4 +1,5 @@
--- The first five steps of settle, from any world that is reached: they end every lease that is not current, and keep all links that hold.
+-- The first five steps of settle from any world that is reached: they end every lease that is not current and keep all links
+-- that hold.
 use Rattle.std.proofs.Common.{◌≡◌, ℕ, ◌+◌, ◌≤◌, ◌<◌, Bool, Some, None, List, [], ◌∷◌, inl, inr, filter, refl, ap, sym, subst, ◌∙◌, ⊎_elim, arith}
 use Rattle.std.proofs.lemmas.Bool.{cases_eq, cond_both}
 use Rattle.oc_model.specs.declared.mode.Mode.{Mode}
@@ -25,9 +26,9 @@ use Rattle.oc_laws_tree.proofs.Spans.{ids_distinct, up_id}
 use Rattle.oc_laws_tree.proofs.Ticking.{TickKeeps, tick_keeps, row_fresh, none_over, all_stale, fresh_row, less_stale, IsStaleBy, IsFreshBy, stale_other, fresh_other, leased_id, ends_ahead}
 use Rattle.oc_laws_tree.proofs.CheckedIn.{CheckInKeeps, keeps_before, checks_in_keeps}
 
--- What the steps keep
+-- The properties that the steps keep
 
--- since the world w0 places and links have stayed
+-- places and links have stayed since the world w0
 pub record HasStayed (h : Header) (w0 w : World) : Type 0 where
   pub reached : Reached h w
   pub steady : Steady w0 w
@@ -36,7 +37,7 @@ pub record HasStayed (h : Header) (w0 w : World) : Type 0 where
 pub stayed_itself : (h : Header) (w : World) → Reached h w → HasStayed h w w
 stayed_itself h w reached = record { reached = reached; steady = steady_itself w; held = λ y z held. held }
 
--- and after one step more
+-- places and links stay after one more step
 pub stayed_then : (h : Header) (w0 w v : World) → HasStayed h w0 w → Reached h v → Steady w v → ((y z : ℕ) → IsHeld w y z → IsHeld v y z) → HasStayed h w0 v
 stayed_then h w0 w v stayed reached steady held = record {
   reached = reached;
@@ -44,18 +45,18 @@ stayed_then h w0 w v stayed reached steady held = record {
   held = λ y z is. held y z (stayed.held y z is);
 }
 
--- the parent of each link that holds knows its child's own number, and that has counted all its clients
+-- the parent of each link that holds knows its child's own number, and the child has counted all its clients
 abbrev pub AreTold : World → Type 0
 AreTold w = (y z : ℕ) → IsHeld w y z → KnowsNumber w y z × IsCounted (core_of (control_of w z))
 
--- who is up is up, while places stay
+-- a node that is up stays up while places stay
 still_up : (w v : World) → Steady w v → (y : ℕ) → IsUp w y → IsUp v y
 still_up w v steady y up = (steady y).up ∙ up
 
 pub up_of : (w : World) (x : ℕ) → IsOneOf x (up_ids w) → IsUp w x
 up_of w x one = (of_filter (is_up w) (ids w) x one).0
 
--- a list without repeats has none where some are left out
+-- a filtered list without repeats has no repeats
 pub filter_distinct : (test : ℕ → Bool) (xs : List ℕ) → IsDistinct xs → IsDistinct (filter test xs)
 filter_distinct test [] distinct = tt
 filter_distinct test (x ∷ xs) distinct =
@@ -66,7 +67,7 @@ filter_distinct test (x ∷ xs) distinct =
 pub up_distinct : (h : Header) (w : World) → Reached h w → IsDistinct (up_ids w)
 up_distinct h w reached = filter_distinct (is_up w) (ids w) (ids_distinct h w reached)
 
--- a tick leaves the number of whoever has counted
+-- a tick leaves the own number of a node that has counted its clients
 counts_stay : (h : Header) (w : World) (x : ℕ) (v : World) → TickKeeps h 15 w x v → (z : ℕ) → IsCounted (core_of (control_of w z)) → ((control_of v z).kept.number ≡ (control_of w z).kept.number) × IsCounted (core_of (control_of v z))
 counts_stay h w x v keeps z counted = ⊎_elim
     (λ (same : x ≡ z).
@@ -76,7 +77,7 @@ counts_stay h w x v keeps z counted = ⊎_elim
     (cases_eq x z)
 
 module _ (h : Header) (w0 : World) where
-  -- who is up later was before
+  -- a node that is up later was up before
   was_up : (w v : World) → HasStayed h w0 w → HasStayed h w0 v → (y : ℕ) → IsUp v y → IsOneOf y (up_ids w)
   was_up w v first second y up = among_up w y ((first.steady y).up ∙ (sym (second.steady y).up ∙ up))
 
@@ -97,7 +98,7 @@ module _ (h : Header) (w0 : World) where
         after = λ y apart stale. stale_other w v 30 y keeps.steady (keeps.others y apart) stale;
       }
 
-  -- after it each lease that is not current ends within its time
+  -- after step 1 each lease that is not current ends within a lease's time
   first_tick : (w : World) → HasStayed h w0 w → HasStayed h w0 (all_tick 0 w).world × ((y : ℕ) → IsUp (all_tick 0 w).world y → IsStaleBy (all_tick 0 w).world 30 y)
   first_tick w stayed =
       let passed : HasPassed (ticks 0) (HasStayed h w0) IsUp (IsStale 30) first_turn (up_ids w) w (all_tick 0 w).world =
@@ -106,12 +107,12 @@ module _ (h : Header) (w0 : World) where
 
   -- Steps 2 and 4
 
-  -- besides, leases that are not current end this soon
+  -- places and links have stayed, and leases that are not current end within d seconds
   record AreStale (d : ℕ) (w : World) : Type 0 where
     stayed : HasStayed h w0 w
     stale : (y : ℕ) → IsUp w y → IsStaleBy w d y
 
-  -- the lease of x at its parent is new, and that knows its number
+  -- the lease of x at its parent is new, and the parent knows the own number of x
   abbrev IsTold : World → ℕ → Type 0
   IsTold w x = (p : ℕ) → IsHeld w p x → (at (control_of w p).leases x None ≡ Some (clock_of w p + lease_time)) × KnowsNumber w p x × IsCounted (core_of (control_of w x))
 
@@ -132,7 +133,7 @@ module _ (h : Header) (w0 : World) where
             let numbers : Some (seq_of w z) ≡ Some s = sym own.lease ∙ was in
             (own.up, own.joined, cc)
 
-  -- what is told stays so where another checks in
+  -- a node that has told stays so when another node checks in
   told_other : (w : World) (x : ℕ) (v : World) → CheckInKeeps h w x v → (z : ℕ) → (x ≡ z → ⊥) → IsTold w z → IsTold v z
   told_other w x v keeps z apart told p held =
       let was : IsHeld w p z = keeps_before h w x v keeps p z held in
@@ -165,7 +166,7 @@ module _ (h : Header) (w0 : World) where
           after = λ y apart told. told_other w x v keeps y apart told;
         }
 
-  -- after it the leases of all links that hold are new, and parents know their children's numbers
+  -- after steps 2 and 4 the leases of all links that hold are new, and parents know their children's own numbers
   record AreFresh (d : ℕ) (w : World) : Type 0 where
     all : AreStale d w
     fresh : (y : ℕ) → IsFreshBy w 30 y
@@ -210,7 +211,7 @@ module _ (h : Header) (w0 : World) where
         after = λ y apart stale. stale_other w v d y keeps.steady (keeps.others y apart) stale;
       }
 
-  -- after it fifteen seconds less are left
+  -- after steps 3 and 5 the remaining times are 15 seconds shorter
   aging_tick : (d : ℕ) (w : World) → AreFresh (d + 15) w → AreStale d (all_tick 15 w).world × AreTold (all_tick 15 w).world
   aging_tick d w fresh =
       let v : World = (all_tick 15 w).world in
@@ -220,9 +221,9 @@ module _ (h : Header) (w0 : World) where
       (λ x one. (up_of w x one, fresh.all.stale x (up_of w x one), fresh.fresh x)) in
       (record { stayed = passed.goes.stayed; stale = λ y up. passed.done y (was_up w v fresh.all.stayed passed.goes.stayed y up) }, passed.goes.told)
 
--- All five
+-- All five steps
 
--- no lease at a node that is up is stale
+-- no node that is up holds a lease that is not current
 abbrev pub AreCurrent : World → Type 0
 AreCurrent w = (y z s : ℕ) → IsUp w y → HoldsLease w y z s → IsCurrent w y z s
 
@@ -231,7 +232,7 @@ pub record HasCalmed (h : Header) (w0 w : World) : Type 0 where
   pub told : AreTold w
   pub current : AreCurrent w
 
--- places and links have stayed after each step
+-- places and links have stayed after each of the five steps
 pub record FiveSteps (h : Header) (w : World) : Type 0 where
   pub one : HasStayed h w (all_tick 0 w).world
   pub two : HasStayed h w (and_then (all_tick 0 w) all_check_in).world

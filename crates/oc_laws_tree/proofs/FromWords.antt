@@ -19,7 +19,7 @@ use Rattle.oc_laws_tree.specs.Sessions.{log_of}
 use Rattle.oc_laws_tree.proofs.Known.{Knows}
 use Rattle.oc_laws_tree.proofs.TreeHolds.{TreeHolds}
 
--- an ascending table knows what it covers
+-- an ascending table knows each fact that it covers
 knows_covered : (t : List Cert) (f : Cert) → IsTable t → IsCovered t f → Knows t f
 knows_covered t f is (k, among, by) =
     let found : newest t k.subject ≡ Some k = all_among (λ j. newest t j.subject ≡ Some j) t k (rows_found t is) among in
@@ -34,7 +34,7 @@ knows_covered t f is (k, among, by) =
       by_case (inl e) more = outranks_irreflexive f (subst (λ j. Outranks f j) e more)
       by_case (inr below) more = outranks_irreflexive f (outranks_transitive f k f more below.1)
 
--- something that covers f waits, so something about its subject does
+-- a waiting fact that covers f is about the subject of f
 waits_covered : (w : World) (x : ℕ) (f : Cert) → IsCovered (log_of w x).waiting f → WaitsAt w x f.subject
 waits_covered w x f (k, among, by) = (k, among, about_f by) where
   about_f : (k ≡ f) ⊎ IsBelow f k → k.subject ≡ f.subject

@@ -1,5 +1,5 @@
--- What is known is covered: a row that is even with a fact is that fact, since one ask number has one peer and one own number one
--- count.
+-- Known facts are covered facts: a row that is even with a fact is that fact, since one ask number has one peer and one own
+-- number one count.
 use Rattle.std.proofs.Common.{◌≡◌, ℕ, Bool, inl, inr, refl, ap, ap₂, ◌∙◌}
 use Rattle.oc_base.specs.declared.cert.Cert.{Cert}
 use Rattle.oc_model.specs.declared.message.Body.TheVariants as bodies
@@ -17,7 +17,7 @@ use Rattle.oc_laws_tree.specs.Grants.{HasSaidYes, FactsAreGranted, YesesAreGrant
 use Rattle.oc_laws_tree.proofs.Known.{Knows, covered_known}
 use Rattle.oc_laws_tree.proofs.GrantsKept.{GrantsHold, facts_granted, yes_granted, joined_granted}
 
--- a fact with the parts of another is that
+-- a fact with the parts of another fact is that fact
 same_fact : (k f : Cert) → k.subject ≡ f.subject → AreEven k f → k.parent ≡ f.parent → k.clients ≡ f.clients → k ≡ f
 same_fact k f subject even parent clients =
     ap (λ (x : ℕ). of_parts x k.seq k.parent k.dead k.number k.clients) subject
@@ -27,7 +27,7 @@ same_fact k f subject even parent clients =
       of_parts : ℕ → ℕ → ℕ → Bool → ℕ → ℕ → Cert
       of_parts x s y d n c = record { subject = x; seq = s; parent = y; dead = d; number = n; clients = c }
 
--- what a table knows of a fact that is anywhere, it covers
+-- a table covers each fact that it knows, if the fact is anywhere
 pub fact_covered : (w : World) → HaveOnePeer w → HaveOneCount w → (y : ℕ) (f : Cert) → IsAnywhere w f → Knows (table_of w y) f → IsCovered (table_of w y) f
 fact_covered w peers counts y f anywhere known = covered_known (table_of w y) f same known where
   same : (k : Cert) → IsAmong k (table_of w y) → k.subject ≡ f.subject → AreEven k f → k ≡ f
@@ -36,7 +36,7 @@ fact_covered w peers counts y f anywhere known = covered_known (table_of w y) f 
       let count : k.clients ≡ f.clients = counts f.subject f.number k.clients f.clients (inr (inr (k, inl (y, among), subject, even.2, refl))) (inr (inr (f, anywhere, refl, refl, refl))) in
       same_fact k f subject even peer count
 
--- and so it is with a lease at its beginning, where its number goes with its parent
+-- a table covers each lease at its beginning that it knows, if the number of the lease goes with its parent
 pub birth_covered : (w : World) → HaveOnePeer w → ZeroCountsNone w → (z x s y : ℕ) → GoesWith w x s y → Knows (table_of w z) (birth x s y) → IsCovered (table_of w z) (birth x s y)
 birth_covered w peers counts z x s y goes known = covered_known (table_of w z) (birth x s y) same known where
   same : (k : Cert) → IsAmong k (table_of w z) → k.subject ≡ x → AreEven k (birth x s y) → k ≡ birth x s y
@@ -45,11 +45,11 @@ birth_covered w peers counts z x s y goes known = covered_known (table_of w z) (
       let count : k.clients ≡ 0 = counts x k.clients (inr (inr (k, inl (z, among), subject, even.2, refl))) in
       same_fact k (birth x s y) subject even peer count
 
--- the ask to which a yes was said was sent
+-- an ask that got a yes was sent
 pub yes_asked : (w : World) → NumbersHold w → (y x s : ℕ) → HasSaidYes w y x s → HasAsked w x s y
 yes_asked w holds y x s said = all_among (λ m. IsAskedSend w m m.body) w.net (record { from = y; to = x; body = bodies.Yes s said.0 said.1 }) holds.told said.2
 
--- The law of grants in these words
+-- The law of grants in terms of covered facts
 
 pub grants_covered : (w : World) → HaveOnePeer w → HaveOneCount w → GrantsHold w → FactsAreGranted w
 grants_covered w peers counts holds f anywhere = fact_covered w peers counts f.parent f anywhere (facts_granted w holds f anywhere)

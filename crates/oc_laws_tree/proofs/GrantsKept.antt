@@ -1,5 +1,5 @@
--- The law of grants: each fact is known at the parent that it names, and so is each lease at the node that said yes to it and at the
--- parent of each child. What is known is not forgotten, so what was told stays known.
+-- The law of grants: each fact is known at the parent that it names, and each lease at the node that said yes to it and at the
+-- child's parent. No table forgets, so told facts stay known.
 use Rattle.std.proofs.Common.{◌≡◌, ℕ, Bool, true, false, not, ◌==◌, if◌then◌else◌, Option, Some, None, List, [], ◌∷◌, inl, inr, refl, ap, sym, subst, ◌∙◌, arith, eqb-true}
 use Rattle.std.specs.List.{AllByRecursion, range_with_len}
 use Rattle.std.proofs.lemmas.Bool.{and_parts, false_from_ne_true}
@@ -34,14 +34,14 @@ use Rattle.oc_laws_world.proofs.Machine.{IsMachine, IsLoose, and_sent, with_kept
 use Rattle.oc_laws_tree.specs.Grants.{HasSaidYes}
 use Rattle.oc_laws_tree.proofs.Known.{Knows, table_now, Grow, now_grows, now_here, now_begins, now_since, now_ends, now_later}
 
--- the parent that a fact names knows it, where these are the tables
+-- the parent that a fact names knows the fact, by these tables
 abbrev pub IsGranted : (ℕ → List Cert) → Cert → Type 0
 IsGranted tables f = Knows (tables f.parent) f
 
 abbrev pub AreGranted : (ℕ → List Cert) → List Cert → Type 0
 AreGranted tables fs = AllByRecursion (IsGranted tables) fs
 
--- whoever said yes knows the lease, and so it is for the facts of a check-in
+-- the sender of a yes knows the lease, and the parents that the facts of a check-in name know the facts
 abbrev pub IsGrantedSend : (ℕ → List Cert) → Message → Body → Type 0
 IsGrantedSend tables m (bodies.Yes seq rank ancestors) = Knows (tables m.from) (birth m.to seq m.from)
 IsGrantedSend tables m (bodies.CheckIn seq upto rate number clients certs) = AreGranted tables certs
@@ -50,15 +50,15 @@ IsGrantedSend tables m body = Unit {0}
 abbrev pub AreGrantedSends : (ℕ → List Cert) → List Message → Type 0
 AreGrantedSends tables ms = AllByRecursion (λ m. IsGrantedSend tables m m.body) ms
 
--- what the law says of a world
+-- the law of grants in a world
 pub record GrantsHold (w : World) : Type 0 where
   pub table : (x : ℕ) → AreGranted (table_of w) (control_of w x).kept.table
   pub waiting : (x : ℕ) → AreGranted (table_of w) (control_of w x).kept.log.waiting
   pub told : AreGrantedSends (table_of w) w.net
   pub joined : (x q : ℕ) → (control_of w x).kept.mode ≡ modes.Joined q → Knows (table_of w q) (birth x (control_of w x).kept.seq q)
 
--- what it says of the node x in the middle of a change of this world: with its table of now in the place of that of before, which
--- it has not forgotten
+-- the law for the node x in the middle of a change of this world: by its present table, which has forgotten nothing of the one
+-- before
 pub record IsGranting (w : World) (x : ℕ) (n : Control) (ms : List Message) : Type 0 where
   pub me : n.me ≡ x
   pub grows : (f : Cert) → Knows (control_of w x).kept.table f → Knows n.kept.table f
@@ -81,15 +81,15 @@ sends_grow before after grow ms all = all_weaker (λ m. IsGrantedSend before m m
 
 -- Sources
 
--- what was sent before is granted before
+-- a sent message is granted from before
 came_granted : (w : World) → GrantsHold w → (m : Message) → IsAmong m w.net → IsGrantedSend (table_of w) m m.body
 came_granted w holds m among = all_among (λ l. IsGrantedSend (table_of w) l l.body) w.net m holds.told among
 
--- a certificate that comes into the table of its parent is granted then
+-- a certificate in the table of its parent is granted
 entered_here : (w : World) (x : ℕ) (n : Control) (ms : List Message) (c : Cert) → c.parent ≡ n.me → IsGranting w x n ms → IsGranted (table_now w x (with_kept n (entered n.kept c))) c
 entered_here w x n ms c own h = now_here w x (with_kept n (entered n.kept c)) c.parent c (own ∙ h.me) (merge_takes n.kept.table c)
 
--- so is one of a check-in
+-- a certificate of a check-in is granted
 entered_told : (w : World) (x : ℕ) (n : Control) (ms : List Message) (y s upto rate number clients : ℕ) (certs : List Cert) (c : Cert) → GrantsHold w
     → HasSent w x y (bodies.CheckIn s upto rate number clients certs) → IsAmong c (life y s n.me number clients ∷ certs) → IsGranting w x n ms → IsGranted (table_now w x (with_kept n (entered n.kept c))) c
 entered_told w x n ms y s upto rate number clients certs c holds sent (inl e) h = entered_here w x n ms c (sym (ap (λ (k : Cert). k.parent) e)) h
@@ -97,7 +97,7 @@ entered_told w x n ms y s upto rate number clients certs c holds sent (inr among
     let granted : AreGranted (table_of w) certs = came_granted w holds (record { from = y; to = x; body = bodies.CheckIn s upto rate number clients certs }) sent in
     now_since w x (with_kept n (entered n.kept c)) (λ f k. merge_keeps n.kept.table c f (h.grows f k)) c.parent c (all_among (IsGranted (table_of w)) certs c granted among)
 
--- whoever holds a lease knows it
+-- a node that holds a lease knows it
 pub lease_known : (n : Control) (y s : ℕ) → has_lease n y s ≡ true → Knows n.kept.table (birth y s n.me)
 lease_known n y s leased = by_found (newest n.kept.table y) leased where
   f : Cert
@@ -119,7 +119,7 @@ lease_known n y s leased = by_found (newest n.kept.table y) leased where
   by_found None e = absurd cc
   by_found (Some k) e = by_lease k (is_lease_of n.me k) refl e
 
--- The changes
+-- Changes
 
 -- a certificate comes into the table
 and_entered : (w : World) (x : ℕ) (n : Control) (ms : List Message) (c : Cert) → IsGranted (table_now w x (with_kept n (entered n.kept c))) c → IsGranting w x n ms
@@ -141,7 +141,7 @@ and_entered w x n ms c granted h = record {
   grow : Grow (table_now w x n) (table_now w x (with_kept n (entered n.kept c)))
   grow = now_grows w x n (with_kept n (entered n.kept c)) (λ f k. merge_keeps n.kept.table c f k)
 
--- one message more
+-- one more message
 and_told : (w : World) (x : ℕ) (n : Control) (ms : List Message) (p : ℕ) (b : Body) → IsGrantedSend (table_now w x n) (record { from = n.me; to = p; body = b }) b → IsGranting w x n ms
     → IsGranting w x n (and_sent n ms p b)
 and_told w x n ms p b granted h = record {
@@ -159,7 +159,7 @@ loose_granted tables m (bodies.Yes seq rank ancestors) loose = absurd loose
 loose_granted tables m (bodies.CheckIn seq upto rate number clients certs) loose = absurd loose
 loose_granted tables m b loose = tt
 
--- each small change carries the law
+-- each small change keeps the law
 granting : (w : World) (x : ℕ) → GrantsHold w → IsMachine (HasSent w x) (IsGranting w x)
 granting w x holds = record {
   soft = λ n ms s h. record { me = h.me; grows = h.grows; table = h.table; waiting = h.waiting; told = h.told; joined = h.joined };
@@ -204,7 +204,7 @@ granting w x holds = record {
   starts = λ n ms h. record { me = h.me; grows = h.grows; table = h.table; waiting = h.waiting; told = h.told; joined = h.joined };
 }
 
--- before the change
+-- the law holds for x before the change
 granting_begins : (w : World) (x : ℕ) → GrantsHold w → IsGranting w x (control_of w x) []
 granting_begins w x holds = record {
   me = process_in-me w.processes x;
@@ -215,7 +215,7 @@ granting_begins w x holds = record {
   joined = λ q e. now_begins w x q (birth x (control_of w x).kept.seq q) (holds.joined x q e);
 }
 
--- after it the law holds
+-- the law holds of the world after the change
 granting_ends : (w v : World) (x : ℕ) (n : Control) (ms : List Message) → GrantsHold w → Becomes w x n ms v → IsGranting w x n ms → GrantsHold v
 granting_ends w v x n ms holds becomes h = record {
   table = at_each w v x n ms becomes (λ y c. AreGranted (table_of v) c.kept.table)
@@ -253,7 +253,7 @@ grants_new h = record {
   new_mode : (x : ℕ) → mode_of (new_world h) x ≡ modes.Idle
   new_mode x = ap (λ (p : Process). p.node.control.kept.mode) (new x).1
 
--- What follows
+-- Consequences
 
 -- the parent that a fact names knows it, wherever the fact is
 pub facts_granted : (w : World) → GrantsHold w → (f : Cert) → IsAnywhere w f → Knows (table_of w f.parent) f
@@ -264,10 +264,10 @@ facts_granted w holds f (inr (inr at)) = by_body at.0.body (came_granted w holds
   by_body (bodies.CheckIn seq upto rate number clients certs) k tells = all_among (IsGranted (table_of w)) certs f k tells
   by_body b k tells = absurd tells
 
--- whoever said yes knows of the lease
+-- a node that said yes knows the lease
 pub yes_granted : (w : World) → GrantsHold w → (y x s : ℕ) → HasSaidYes w y x s → Knows (table_of w y) (birth x s y)
 yes_granted w holds y x s said = came_granted w holds (record { from = y; to = x; body = bodies.Yes s said.0 said.1 }) said.2
 
--- and so does the parent of each child
+-- the parent of each child knows the child's lease
 pub joined_granted : (w : World) → GrantsHold w → (x y : ℕ) → IsJoined w x y → Knows (table_of w y) (birth x (seq_of w x) y)
 joined_granted w holds x y joined = holds.joined x y joined

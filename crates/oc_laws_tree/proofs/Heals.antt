@@ -1,4 +1,4 @@
--- An able world heals: the properties of the world after each of the four steps.
+-- Heal of an able world: the properties of the world after each of the four steps.
 use Rattle.std.proofs.Common.{◌≡◌, ℕ, ◌+◌, ◌*◌, ◌≤◌, ◌<◌, Bool, true, false, not, nat_lt, Some, List, [], ◌∷◌, ◌++◌, ◌⊎◌, inl, inr, filter, length, refl, ap, sym, subst, ◌∙◌, ⊎_elim, arith, lt-ltb, length-append}
 use Rattle.std.proofs.lemmas.List.FromFn.{length-range_with_len}
 use Rattle.std.proofs.lemmas.Bool.{cases_eq, cases_order, not-true, true≢false}
@@ -39,7 +39,7 @@ use Rattle.oc_laws_tree.proofs.Turn.{root_placed, placed_joined}
 
 -- The leader
 
--- it is up, a chain member, and the least of those
+-- the leader is up, a chain member, and the least of the members that are up
 record Leads (h : Header) (w : World) (m : ℕ) : Type 0 where
   up : IsUp w m
   member : m ≤ h.chain
@@ -71,7 +71,7 @@ in_order h (x ∷ xs) ys rising past = (
   in_order h xs ys rising.1 past,
 )
 
--- who is past the chain
+-- a node past the chain that is up
 of_others : (h : Header) (w : World) (x : ℕ) → Reached h w → IsOneOf x (up_others w) → IsUp w x × (h.chain < x)
 of_others h w x reached one =
     let both = of_filter (λ y. not (is_member (control_of w y))) (up_ids w) x one in
@@ -82,7 +82,7 @@ of_others h w x reached one =
       by_order (inr (inl less)) up loose = absurd (true≢false (sym (is_member_of h w x reached (up_id h w x reached up) (omega (arith, less))) ∙ loose))
       by_order (inr (inr more)) up loose = more
 
--- each node that is up is the root, or one of them
+-- each node that is up is the root, or one of the nodes of step 3
 to_place : (h : Header) (m : ℕ) (w : World) → IsHealing h m w → (x : ℕ) → IsUp w x → (x ≡ m → ⊥) → IsOneOf x (nodes_to_place w m)
 to_place h m w healing x up other = by_member (is_member (control_of w x)) refl where
   by_member : (b : Bool) → is_member (control_of w x) ≡ b → IsOneOf x (nodes_to_place w m)
@@ -92,7 +92,7 @@ to_place h m w healing x up other = by_member (is_member (control_of w x)) refl 
       (in_filter (nat_lt m) (up_members w) x (lt-ltb m x (omega (arith, least, other))) (in_filter (λ y. is_member (control_of w y)) (up_ids w) x e (among_up w x up)))
   by_member false e = one_right x (filter (nat_lt m) (up_members w)) (up_others w) (in_filter (λ y. not (is_member (control_of w y))) (up_ids w) x (ap not e) (among_up w x up))
 
--- they are fewer than twice the nodes
+-- the nodes of step 3 are fewer than twice all nodes
 few_to_place : (h : Header) (m : ℕ) (w : World) → Reached h w → length (nodes_to_place w m) ≤ 2 * h.nodes
 few_to_place h m w reached =
     let all : length (ids w) ≡ h.nodes = ap length (ids_reached h w reached) ∙ length-range_with_len 1 h.nodes in
@@ -106,7 +106,7 @@ few_to_place h m w reached =
       all,
     )
 
--- those of them that are not placed are no more than all that are not
+-- the nodes of step 3 that are not in place are at most as many as all nodes not in place
 few_unplaced : (w : World) (m : ℕ) → length (filter (λ x. not (is_placed w m x)) (nodes_to_place w m)) ≤ length (unplaced w m)
 few_unplaced w m =
     let test : ℕ → Bool = λ x. not (is_placed w m x) in
@@ -119,7 +119,7 @@ few_unplaced w m =
 
 -- The four steps
 
--- where all that are up are placed the world is ready
+-- a world where all nodes that are up are in place is ready
 placed_ready : (w : World) (m : ℕ) → IsRoot w m → ((y : ℕ) → IsUp w y → IsPlaced w m y) → IsReadyUnder w m
 placed_ready w m root all = record {
   root = root;
@@ -132,7 +132,7 @@ placed_ready w m root all = record {
   first_leased x other (a ∷ [], chain, leased) = absurd (other chain.1)
   first_leased x other (a ∷ d ∷ ds, chain, leased) = subst (IsLeased w) chain.0 leased.0
 
--- what heal does of an able world that m leads
+-- the effect of heal on an able world that m leads
 record HasHealed (h : Header) (w : World) (m : ℕ) : Type 0 where
   least : IsLeast w m
   one : DoesStepOne w m
@@ -198,7 +198,7 @@ has_healed h w m reached header able leading =
           omega (arith, length-append three.acts (settles w3).acts, length-append two.acts (all_join m w2).acts, length-append one.acts (first_five_steps w1).acts, fourth.acts);
     }
 
--- What the laws say
+-- The laws
 
 module _ (h : Header) (w : World) (reached : Reached h w) (header : IsHeader h) where
   pub heal_heals : HealHeals w

@@ -1,4 +1,5 @@
--- Links that hold: a node joined to one that is up and has its lease. What a step of settle leaves of them, and of the rest.
+-- Links that hold: a node is joined to one that is up and has its lease. The effect of a step of settle on such links and on
+-- the rest.
 use Rattle.std.proofs.Common.{◌≡◌, ℕ, ◌<◌, ◌≤◌, false, Option, Some, ◌⊎◌, inl, inr, refl, ap, sym, subst, ◌∙◌, arith}
 use Rattle.std.proofs.lemmas.Bool.{cases_order, false_from_ne_true}
 use Rattle.oc_base.specs.declared.cert.Cert.{Cert}
@@ -27,7 +28,7 @@ use Rattle.oc_laws_tree.proofs.Reached.{Reached, of_reached}
 
 -- Places
 
--- a node keeps its parent under its number; if it has none it gets none, and a root stays one
+-- a node keeps its parent at its ask number, a node without a parent gets none, and a root stays a root
 pub record Stays (w v : World) (y : ℕ) : Type 0 where
   pub up : is_up v y ≡ is_up w y
   pub joined : (p : ℕ) → IsJoined w y p → IsJoined v y p
@@ -41,7 +42,7 @@ Steady w v = (y : ℕ) → Stays w v y
 pub stays_same : (w v : World) (y : ℕ) → is_up v y ≡ is_up w y → mode_of v y ≡ mode_of w y → seq_of v y ≡ seq_of w y → Stays w v y
 stays_same w v y up mode seq = record { up = up; joined = λ p e. mode ∙ e; seq = λ p e. seq; back = λ p e. sym mode ∙ e; acts = λ e. mode ∙ e }
 
--- so does one whose core is as it was, or has been checked
+-- a node whose core is as it was, or was checked, keeps its place
 pub stays_core : (w v : World) (y : ℕ) → is_up v y ≡ is_up w y → core_of (control_of v y) ≡ core_of (control_of w y) → Stays w v y
 stays_core w v y up core = stays_same w v y up (ap (λ (k : Core). k.mode) core) (ap (λ (k : Core). k.seq) core)
 
@@ -62,14 +63,14 @@ stays_then w v u y first second = record {
 
 -- Links
 
--- x is joined to y, both are up, and y holds its lease
+-- x is joined to y, both are up, and y holds the lease of x
 pub record IsHeld (w : World) (y x : ℕ) : Type 0 where
   pub host : IsUp w y
   pub up : IsUp w x
   pub joined : IsJoined w x y
   pub lease : HoldsLease w y x (seq_of w x)
 
--- a lease at y is that of such a node
+-- a lease at y belongs to such a node x
 abbrev pub IsCurrent : World → ℕ → ℕ → ℕ → Type 0
 IsCurrent w y x s = IsUp w x × IsJoined w x y × (seq_of w x ≡ s)
 
@@ -79,7 +80,7 @@ current_stays w v steady y x s is = ((steady x).up ∙ is.0, (steady x).joined y
 pub current_back : (w v : World) → Steady w v → (y x s : ℕ) → IsCurrent v y x s → IsCurrent w y x s
 current_back w v steady y x s is = let joined : IsJoined w x y = (steady x).back y is.1 in (sym (steady x).up ∙ is.0, joined, sym ((steady x).seq y joined) ∙ is.2)
 
--- a link holds on where places stay and the lease does
+-- a link still holds where places and its lease stay
 pub held_on : (w v : World) → Steady w v → (y x : ℕ) → IsHeld w y x → (HoldsLease w y x (seq_of w x) → HoldsLease v y x (seq_of w x)) → IsHeld v y x
 held_on w v steady y x held keeps = record {
   host = (steady y).up ∙ held.host;
@@ -88,7 +89,7 @@ held_on w v steady y x held keeps = record {
   lease = subst (HoldsLease v y x) (sym ((steady x).seq y held.joined)) (keeps held.lease);
 }
 
--- and it held before
+-- a link that holds afterwards held before
 pub held_before : (w v : World) → Steady w v → (y x : ℕ) → IsHeld v y x → (HoldsLease v y x (seq_of w x) → HoldsLease w y x (seq_of w x)) → IsHeld w y x
 held_before w v steady y x held had =
     let joined : IsJoined w x y = (steady x).back y held.joined in
@@ -99,7 +100,7 @@ held_before w v steady y x held had =
       lease = had (subst (HoldsLease v y x) ((steady x).seq y joined) held.lease);
     }
 
--- What the laws say of the facts in a child's log
+-- The facts in a child's log
 
 pub all_hold : (h : Header) (w : World) → Reached h w → AllHold w
 all_hold h w reached = of_reached AllHold all_after h w reached
@@ -107,11 +108,11 @@ all_hold h w reached = of_reached AllHold all_after h w reached
 pub tree_of : (h : Header) (w : World) → Reached h w → TreeHolds w
 tree_of h w reached = tree_holds w (all_hold h w reached)
 
--- y knows what names it
+-- y knows each fact that names it
 pub known_own : (h : Header) (w : World) → Reached h w → (x y : ℕ) (c : Cert) → IsAmong c (log_of w x).waiting → c.parent ≡ y → Knows (table_of w y) c
 known_own h w reached x y c among own = subst (λ (z : ℕ). Knows (table_of w z) c) own ((tree_of h w reached).granted c (inr (inl (x, among))))
 
--- and all of a child of its own whose lease it holds at its number
+-- y knows each fact about a child of its own whose lease it holds at the child's number
 pub known_child : (h : Header) (w : World) → Reached h w → (x y z : ℕ) (c : Cert) → IsAmong c (log_of w x).waiting → c.subject ≡ z → HoldsLease w y z (seq_of w z) → Knows (table_of w y) c
 known_child h w reached x y z c among same leased =
     let tree : TreeHolds w = tree_of h w reached in

@@ -1,4 +1,4 @@
--- How a node comes beneath a host, in a world: it moves there, the host takes its ask, and it takes the yes.
+-- A join in a world: the node moves beneath a host, the host takes its ask, and the node takes the yes.
 use Rattle.std.proofs.Common.{◌≡◌, ℕ, ◌+◌, ◌≤◌, ◌<◌, true, false, nat_lt, Option, Some, None, List, [], ◌∷◌, length, refl, ap, ap₂, sym, subst, ◌∙◌, arith, lt-ltb, ltb-true}
 use Rattle.std.proofs.lemmas.Bool.{or_left, leb-false, false_from_ne_true}
 use Rattle.oc_base.specs.declared.cert.Cert.{Cert}
@@ -73,7 +73,7 @@ moves_at w x q can =
       last = goes_last w x o.node (step (node w x) (inputs.Relocate q)).sends _ v goes (all ∙ (sends.sends ∙ ap (λ (y : ℕ). from_to y q (Ask (seq_of w x + 1) (own_rank w x)) ∷ []) (me_is w x)));
     }
 
--- the host q, as o has raised it, takes the ask of x
+-- the host q, with its epoch raised as in o, takes the ask of x
 pub record AdoptsAt (w : World) (q x seq : ℕ) (o : Plan) (v : World) : Type 0 where
   pub core : core_of (control_of v q) ≡ record (core_of (control_of w q)) { rank = o.node.kept.rank }
   pub table : table_of v q ≡ merge (table_of w q) (birth x seq q)
@@ -81,7 +81,7 @@ pub record AdoptsAt (w : World) (q x seq : ℕ) (o : Plan) (v : World) : Type 0 
   pub up : (y : ℕ) → is_up v y ≡ is_up w y
   pub last : IsLast v (from_to q x (Yes seq (rank_or_last o.node.kept.rank) (control_of w q).kept.ancestors))
 
--- the host has never heard of this number
+-- the host has never heard of this ask number
 pub record IsNew (n : Control) (q x seq : ℕ) : Type 0 where
   pub fresh : has_lease n x seq ≡ false
   pub news : is_news n.kept.table (birth x seq q) ≡ true
@@ -110,7 +110,7 @@ adopts_at w q x seq r o last up raised has may new =
       last = goes_last w q p.node (step (node w q) (inputs.Delivered m)).sends _ v goes (all ∙ (takes.sends ∙ ap (λ (k : Message). k ∷ []) said));
     }
 
--- the host refuses it
+-- the host refuses the ask
 record RefusesAt (w : World) (q : ℕ) (o : Plan) (v : World) : Type 0 where
   here : control_of v q ≡ o.node
   others : (y : ℕ) → (q ≡ y → ⊥) → control_of v y ≡ control_of w y
@@ -143,7 +143,7 @@ joins_at w x q told xs last up asks some shallow above =
       up = goes.up;
     }
 
--- A number that nobody has heard of
+-- An ask number that no node has heard of
 
 pub seq_bound : (h : Header) (w : World) (q x : ℕ) (k : Cert) → Reached h w → newest (table_of w q) x ≡ Some k → k.seq ≤ seq_of w x
 seq_bound h w q x k reached found = (tree_of h w reached).asks x k.seq k.parent (row_goes w q x k found)
@@ -162,9 +162,9 @@ is_new h w q x seq reached later = record {
       let bound : k.seq ≤ seq_of w x = seq_bound h w q x k reached e in
       or_left (nat_lt k.seq seq) _ (lt-ltb k.seq seq (omega (arith, bound, later)))
 
--- Together
+-- All acts together
 
--- x has come beneath q, which has raised its epoch as o, in three acts
+-- x has come beneath q, whose epoch is raised as in o, in three acts
 pub record ComesBeneath (h : Header) (w : World) (x q : ℕ) (o : Plan) (r : Run) : Type 0 where
   pub acts : length r.acts ≡ 3
   pub reached : Reached h r.world
@@ -212,7 +212,7 @@ comes_beneath h w x q o reached can up raised has may =
       table = ap (λ (k : Control). k.kept.table) host3 ∙ (second.table ∙ ap (λ (k : Control). merge k.kept.table (birth x s q)) host1);
     }
 
--- x has asked q in vain, which has raised its epoch as o, in two
+-- x has asked q in vain, whose epoch is raised as in o, in two acts
 pub record AsksInVain (h : Header) (w : World) (x q : ℕ) (o : Plan) (r : Run) : Type 0 where
   pub acts : length r.acts ≡ 2
   pub reached : Reached h r.world

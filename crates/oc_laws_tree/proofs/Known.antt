@@ -1,5 +1,5 @@
--- What a table knows: facts that would be no news to it. The laws of the tree are carried in these words; that the fact is then
--- covered follows once one ask number has one peer and one own number one count.
+-- The facts that a table knows: those that would be no news to it. The laws of the tree are first proved in these terms; a
+-- known fact is a covered one, since one ask number has one peer and one own number one count.
 use Rattle.std.proofs.Common.{◌≡◌, ℕ, ◌==◌, Bool, true, false, if◌then◌else◌, Option, Some, None, List, [], ◌∷◌, ◌⊎◌, inl, inr, refl, sym, subst, ◌∙◌, ⊎_elim}
 use Rattle.std.proofs.lemmas.Bool.{cases_eq, true≢false}
 use Rattle.std.proofs.Common.{eq-eqb, ne_eqb, nat_lt}
@@ -21,11 +21,11 @@ use Rattle.oc_laws_world.proofs.Lifts.{control_of, Becomes, at_each}
 abbrev pub Knows : List Cert → Cert → Type 0
 Knows t f = is_news t f ≡ false
 
--- the table of y while that of the node x is this one
+-- the table of y, with this table for the node x
 abbrev pub table_with : World → ℕ → List Cert → ℕ → List Cert
 table_with w x t y = if y == x then t else table_of w y
 
--- and while x itself is this node
+-- the table of y, with this state of the node x
 abbrev pub table_now : World → ℕ → Control → ℕ → List Cert
 table_now w x n = table_with w x n.kept.table
 
@@ -37,7 +37,7 @@ newest_among (j ∷ js) x k e = by_test (j.subject == x) (λ later. newest_among
   by_test true rest f = inl cc
   by_test false rest f = inr (rest f)
 
--- the row of its subject by which a fact is known: a later word, or one that is even with it
+-- the row by which a fact is known: a later word on the subject, or one that is even with the fact
 pub record KnownBy (t : List Cert) (f k : Cert) : Type 0 where
   pub found : newest t f.subject ≡ Some k
   pub among : IsAmong k t
@@ -57,13 +57,13 @@ known_by t f known = by_found (newest t f.subject) refl where
     by_order (inr (inl less)) = absurd (true≢false (sym (fact_outranks f k less) ∙ old))
     by_order (inr (inr even)) = inr even
 
--- a known fact is covered, if a row that is even with it is the fact
+-- a known fact is covered, if each row that is even with it is the fact
 pub covered_known : (t : List Cert) (f : Cert) → ((k : Cert) → IsAmong k t → k.subject ≡ f.subject → AreEven k f → k ≡ f) → Knows t f → IsCovered t f
 covered_known t f same known = let by = known_by t f known in by_row by.0 by.1 where
   by_row : (k : Cert) → KnownBy t f k → IsCovered t f
   by_row k by = (k, by.among, ⊎_elim (λ more. inr (sym by.subject, more)) (λ even. inl (same k by.among by.subject even)) by.later)
 
--- a row of a table into which a certificate was merged was there, or is that
+-- a row of a table after a merge was there before or is the merged certificate
 pub among_merge : (t : List Cert) (c f : Cert) → IsAmong f (merge t c) → IsAmong f t ⊎ (c ≡ f)
 among_merge t c f h = by_test (is_news t c) h where
   among_put : (t : List Cert) → IsAmong f (put t c) → IsAmong f t ⊎ (c ≡ f)
@@ -84,46 +84,46 @@ among_merge t c f h = by_test (is_news t c) h where
 
 -- Tables that grow
 
--- whatever the first tables know, the second know too
+-- the second tables know all that the first tables know
 abbrev pub Grow : (ℕ → List Cert) → (ℕ → List Cert) → Type 0
 Grow before after = (y : ℕ) (f : Cert) → Knows (before y) f → Knows (after y) f
 
--- the node that changes has the table of now, the others that of the world
+-- the node that changes has its present table, and each other node that of the world
 pub now_own : (w : World) (x : ℕ) (n : Control) → table_now w x n x ≡ n.kept.table
 now_own w x n = let own : (x == x) ≡ true = eq-eqb x x refl in rw own refl
 
 pub now_other : (w : World) (x : ℕ) (n : Control) (y : ℕ) → (x ≡ y → ⊥) → table_now w x n y ≡ table_of w y
 now_other w x n y apart = let other : (y == x) ≡ false = ne_eqb y x (λ e. apart (sym e)) in rw other refl
 
--- what is known stays known as the table of the node that changes grows
+-- known facts stay known as the table of the changing node grows
 pub now_grows : (w : World) (x : ℕ) (n m : Control) → ((f : Cert) → Knows n.kept.table f → Knows m.kept.table f) → Grow (table_now w x n) (table_now w x m)
 now_grows w x n m grows y f known = by_test (y == x) known where
   by_test : (b : Bool) → Knows (if b then n.kept.table else table_of w y) f → Knows (if b then m.kept.table else table_of w y) f
   by_test true h = grows f h
   by_test false h = h
 
--- what the node that changes knows is known at this parent, if the node is that
+-- a fact that the changing node knows is known at this parent, if the parent is that node
 pub now_here : (w : World) (x : ℕ) (n : Control) (p : ℕ) (f : Cert) → p ≡ x → Knows n.kept.table f → Knows (table_now w x n p) f
 now_here w x n p f e known = subst (λ (z : ℕ). Knows (table_now w x n z) f) (sym e) (subst (λ (t : List Cert). Knows t f) (sym (now_own w x n)) known)
 
--- before a change the tables of now are those of the world
+-- the tables before a change are those of the world
 pub now_begins : (w : World) (x : ℕ) → Grow (table_of w) (table_now w x (control_of w x))
 now_begins w x y f known = by_case (cases_eq x y) where
   by_case : (x ≡ y) ⊎ (x ≡ y → ⊥) → Knows (table_now w x (control_of w x) y) f
   by_case (inl e) = now_here w x (control_of w x) y f (sym e) (subst (λ (z : ℕ). Knows (table_of w z) f) (sym e) known)
   by_case (inr apart) = subst (λ (t : List Cert). Knows t f) (sym (now_other w x (control_of w x) y apart)) known
 
--- and in the middle of it they have grown
+-- the tables in the middle of a change have grown from those of the world
 pub now_since : (w : World) (x : ℕ) (n : Control) → ((f : Cert) → Knows (control_of w x).kept.table f → Knows n.kept.table f) → Grow (table_of w) (table_now w x n)
 now_since w x n grows y f known = now_grows w x (control_of w x) n grows y f (now_begins w x y f known)
 
--- after it they are those of what the world becomes
+-- the tables after a change are those of the new world
 pub now_ends : (w v : World) (x : ℕ) (n : Control) (ms : List Message) → Becomes w x n ms v → Grow (table_now w x n) (table_of v)
 now_ends w v x n ms becomes y f known = at_each w v x n ms becomes (λ y c. Knows (table_now w x n y) f → Knows c.kept.table f)
     (λ k. subst (λ (t : List Cert). Knows t f) (now_own w x n) k)
     (λ y apart k. subst (λ (t : List Cert). Knows t f) (now_other w x n y apart) k)
     y known
 
--- so the tables of the world have grown
+-- the tables of the world have grown
 pub now_later : (w v : World) (x : ℕ) (n : Control) (ms : List Message) → Becomes w x n ms v → ((f : Cert) → Knows (control_of w x).kept.table f → Knows n.kept.table f) → Grow (table_of w) (table_of v)
 now_later w v x n ms becomes grows y f known = now_ends w v x n ms becomes y f (now_since w x n grows y f known)

@@ -1,5 +1,5 @@
--- What every rule leaves as it is but those for a tick, an ask and a check-in: the id, the table, the lease ends and the clock. So
--- whatever is said of these four goes on through them.
+-- The rules other than a tick, an ask and a check-in: they leave the id, the table, the lease ends and the clock unchanged, and
+-- so keep each property of these four.
 use Rattle.std.proofs.Common.{ℕ, ◌+◌, ◌-◌, Bool, true, false, not, ◌&&◌, ◌||◌, ◌==◌, nat_lt, nat_le, if◌then◌else◌, Option, Some, None, List, [], ◌∷◌, filter, length}
 use Rattle.oc_base.specs.declared.cert.Cert.{Cert}
 use Rattle.oc_base.specs.declared.rank.Rank.{Rank}
@@ -35,7 +35,7 @@ use Rattle.oc_model.specs.Shelves.{line_at, with_line, limit, next_behind}
 use Rattle.oc_base.specs.Shelves.{line_of}
 use Rattle.oc_model.proofs.Rules.{either}
 
--- what is said of a node's id, table, lease ends and clock
+-- a property of a node's id, table, lease ends and clock
 abbrev pub OfLeases : (ℕ → List Cert → List (Option ℕ) → ℕ → Type 0) → Control → Type 0
 OfLeases Q n = Q n.me n.kept.table n.leases n.soft.clock
 
@@ -189,7 +189,7 @@ module _ (Q : ℕ → List Cert → List (Option ℕ) → ℕ → Type 0) where
   stays_reports_news_as (modes.Asking p) o h = h
   stays_reports_news_as modes.Acting o h = h
 
-  -- what a tick does after the leases
+  -- the rest of a tick, after its leases
   pub stays_checks_if_due : (o : Plan) → OfPlan Q o → OfPlan Q (checks_if_due o)
   stays_checks_if_due o h =
       either (is_due o.node.soft.due o.node.soft.clock) (OfPlan Q) (checks_in_time o) (reports_news o) (stays_checks_in_time o h) (stays_reports_news_as o.node.kept.mode o h)

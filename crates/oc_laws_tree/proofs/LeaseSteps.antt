@@ -1,5 +1,5 @@
--- Each step leaves the lease ends of a node's leased children ahead of its clock: a tick ends the leases that are over, and an ask or
--- a check-in begins the lease of its sender anew.
+-- The lease ends of a node's leased children lie ahead of its clock after each step: a tick ends the leases that are over, and
+-- an ask or a check-in begins the lease of its sender anew.
 use Rattle.std.proofs.Common.{◌≡◌, ℕ, if◌then◌else◌, Option, Some, None, List, [], ◌∷◌, ◌⊎◌, inl, inr, refl, ap, sym, ⊎_elim}
 use Rattle.oc_base.specs.declared.cert.Cert.{Cert}
 use Rattle.oc_base.specs.declared.rank.Rank.{Rank}
@@ -28,7 +28,7 @@ use Rattle.oc_laws_tree.proofs.LeaseTicks.{tick_ahead}
 
 -- Check-ins
 
--- certificates that are about x, or that y knows where they name it, and lease ends that lie ahead except for that of x
+-- certificates about x, or that y knows where they name y, and lease ends that lie ahead except for that of x
 abbrev TakesCerts : ℕ → List Cert → ℕ → List Cert → List (Option ℕ) → ℕ → Type 0
 TakesCerts x cs y t ends clock = ((c : Cert) → IsAmong c cs → (x ≡ c.subject) ⊎ (c.parent ≡ y → Knows t c)) × AreAheadBut (x ∷ []) y t ends clock
 
@@ -75,7 +75,7 @@ asked_ahead o x seq r h =
 
 -- Steps
 
--- a message that tells a fact whose parent is this node tells it nothing new
+-- a message that tells a node nothing new of the facts whose parent is the node
 abbrev pub HasKnownCerts : Control → Body → Type 0
 HasKnownCerts n (bodies.CheckIn seq upto rate number clients certs) = (c : Cert) → IsAmong c certs → c.parent ≡ n.me → Knows n.kept.table c
 HasKnownCerts n body = Unit {0}

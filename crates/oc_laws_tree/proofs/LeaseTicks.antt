@@ -1,4 +1,4 @@
--- A tick leaves the lease ends of a node's leased children ahead of its clock: the leases that are over end.
+-- The lease ends of a node's leased children lie ahead of its clock after a tick, since the leases that are over end.
 use Rattle.std.proofs.Common.{◌≡◌, ℕ, ◌<◌, Bool, true, false, not, ◌&&◌, ◌==◌, nat_le, if◌then◌else◌, Option, Some, None, List, [], ◌∷◌, inl, inr, map, filter, refl, ap, sym, subst, ◌∙◌, ⊎_elim, eqb-true}
 use Rattle.std.proofs.lemmas.Bool.{cases_eq, true≢false, leb-false}
 use Rattle.oc_base.specs.declared.cert.Cert.{Cert}
@@ -16,7 +16,7 @@ use Rattle.oc_laws_step.proofs.Tables.{newest-subject}
 use Rattle.oc_laws_tree.proofs.LeaseRules.{OfPlan, stays_checks_if_due, stays_fetches_as}
 use Rattle.oc_laws_tree.proofs.LeasesAhead.{AreAhead, AreAheadBut, leased_merge_other, leased_put_none, of_merges}
 
--- a leased child is among them
+-- a child with a lease is one of the leased children
 pub leased_among : (t : List Cert) (y z s : ℕ) → leased_by t y z ≡ Some s → IsOneOf z (leased_children t y)
 leased_among [] y z s e = absurd cc
 leased_among (k ∷ ks) y z s e = by_tests (k.subject == z) (is_lease_of y k) (λ later. leased_among ks y z s later) refl refl e where
@@ -36,13 +36,13 @@ ahead_but_ended me t ends clock z out s end leased is_set = by_test (nat_le end 
       absurd (out (in_filter (λ x. is_over (at ends x None) clock) (leased_children t me) z over (leased_among t me z s leased)))
   by_test false e = leb-false end clock e
 
--- whose row has died has no lease
+-- a child whose row has died has no lease
 dead_unleased : (t : List Cert) (y x : ℕ) (k : Cert) → newest t x ≡ Some k → leased_by (merge t (record k { dead = true })) y x ≡ None
 dead_unleased t y x k found = by_test (is_news t dead) refl where
   dead : Cert
   dead = record k { dead = true }
 
-  -- a row to which its death is no news is dead
+  -- a row that the death is no news to is dead
   old : (d : Bool) → k.dead ≡ d → is_news t dead ≡ false → leased_by t y x ≡ None
   old true e known = ap (lease_number y) found ∙ ap (λ d. if not d && k.parent == y then Some k.seq else None) e
   old false e known =
@@ -54,7 +54,7 @@ dead_unleased t y x k found = by_test (is_news t dead) refl where
   by_test true e = leased_put_none t dead y x (newest-subject t x k found) refl
   by_test false e = old k.dead refl e
 
--- once one of them is dead, the lease ends lie ahead except for the others
+-- after the death of one child the lease ends lie ahead except for the other children
 dies_ahead : (e : Option Cert) (x : ℕ) (xs : List ℕ) (o : Plan) → newest o.node.kept.table x ≡ e → OfPlan (AreAheadBut (x ∷ xs)) o → OfPlan (AreAheadBut xs) (dies e o)
 dies_ahead None x xs o found but = λ z out s end leased is_set. but z (apart z out s leased) s end leased is_set where
   apart : (z : ℕ) → (IsOneOf z xs → ⊥) → (s : ℕ) → leased_by o.node.kept.table o.node.me z ≡ Some s → IsOneOf z (x ∷ xs) → ⊥
@@ -85,7 +85,7 @@ ends_each_ahead : (xs : List ℕ) (o : Plan) → OfPlan (AreAheadBut xs) o → O
 ends_each_ahead [] o but = λ z. but z (λ none. none)
 ends_each_ahead (x ∷ xs) o but = ends_each_ahead xs (dies (newest o.node.kept.table x) o) (dies_ahead (newest o.node.kept.table x) x xs o refl but)
 
--- after a tick they lie ahead, whatever was before
+-- lease ends lie ahead after a tick, whatever they were before
 pub tick_ahead : (o : Plan) (ls : List Shelf) (t : ℕ) → OfPlan AreAhead (tick o ls t)
 tick_ahead o ls t =
     let started : Plan = starts_leases (at_time o t) in

@@ -1,5 +1,5 @@
--- What it is for the lease ends of a node's leased children to lie ahead of its clock, and what of that leases that begin anew and
--- certificates that are merged leave.
+-- The lease ends of a node's leased children that lie ahead of its clock, and the effect of renewed leases and of merged
+-- certificates on them.
 use Rattle.std.proofs.Common.{◌≡◌, ℕ, zero, suc, ◌+◌, ◌-◌, ◌<◌, Bool, true, false, not, ◌==◌, if◌then◌else◌, Option, Some, None, List, [], ◌∷◌, ◌⊎◌, inl, inr, get_or, set, refl, ap, sym, subst, ◌∙◌, ⊎_elim, arith, ne_eqb}
 use Rattle.std.proofs.lemmas.Bool.{cond_both, cases_eq, true≢false, and_right}
 use Rattle.oc_base.specs.declared.cert.Cert.{Cert}
@@ -15,15 +15,15 @@ use Rattle.oc_laws_step.proofs.Tables.{newest-put_same, newest-put_other}
 use Rattle.oc_laws_tree.proofs.Known.{Knows}
 use Rattle.oc_laws_tree.proofs.LeaseRules.{OfLeases, OfPlan}
 
--- the end of the lease of x, where it has one here and its end is set, lies ahead of this clock
+-- the end of the lease of x, where x has one here and its end is set, is later than this clock
 abbrev IsAheadAt : ℕ → ℕ → List Cert → List (Option ℕ) → ℕ → Type 0
 IsAheadAt x me t ends clock = (s end : ℕ) → leased_by t me x ≡ Some s → at ends x None ≡ Some end → clock < end
 
--- so it is at each child
+-- the lease end of each child lies ahead
 abbrev pub AreAhead : ℕ → List Cert → List (Option ℕ) → ℕ → Type 0
 AreAhead me t ends clock = (x : ℕ) → IsAheadAt x me t ends clock
 
--- those of all children but these do
+-- the lease end of each child except these lies ahead
 abbrev pub AreAheadBut : List ℕ → ℕ → List Cert → List (Option ℕ) → ℕ → Type 0
 AreAheadBut xs me t ends clock = (x : ℕ) → (IsOneOf x xs → ⊥) → IsAheadAt x me t ends clock
 
@@ -33,7 +33,7 @@ IsAhead n = OfLeases AreAhead n
 
 -- Lease ends
 
--- what is found in a list once an item was set: that one, or at another place what was there
+-- the found item after one was set: that one, or at another place the old one
 set_found : (ends : List (Option ℕ)) (i j : ℕ) (v : Option ℕ) (end : ℕ) → get_or (set ends i v) j None ≡ Some end → (v ≡ Some end) ⊎ ((i ≡ j → ⊥) × (get_or ends j None ≡ Some end))
 set_found [] i j v end e = absurd cc
 set_found (x ∷ xs) zero zero v end e = inl e
@@ -41,7 +41,7 @@ set_found (x ∷ xs) zero (suc j) v end e = inr (λ f. absurd (omega (arith, f))
 set_found (x ∷ xs) (suc i) zero v end e = inr (λ f. absurd (omega (arith, f)), e)
 set_found (x ∷ xs) (suc i) (suc j) v end e = ⊎_elim (λ f. inl f) (λ f. inr (λ g. f.0 (omega (arith, g)), f.1)) (set_found xs i j v end e)
 
--- a lease that begins anew ends ahead of the clock
+-- a lease that begins anew ends later than the clock
 pub renew_ahead : (x me : ℕ) (t : List Cert) (ends : List (Option ℕ)) (clock : ℕ) → AreAheadBut (x ∷ []) me t ends clock → AreAhead me t (renew ends x clock) clock
 renew_ahead x me t ends clock but z s end leased is_set = ⊎_elim new old (set_found ends (x - 1) (z - 1) (Some (clock + lease_time)) end is_set) where
   new : Some (clock + lease_time) ≡ Some end → clock < end
@@ -55,16 +55,16 @@ renew_ahead x me t ends clock but z s end leased is_set = ⊎_elim new old (set_
 
 -- Merging
 
--- whose lease a merge leaves: that of every other subject
+-- a merge leaves the lease of every other subject
 pub leased_merge_other : (t : List Cert) (c : Cert) (y z : ℕ) → (c.subject ≡ z → ⊥) → leased_by (merge t c) y z ≡ leased_by t y z
 leased_merge_other t c y z apart =
     cond_both (is_news t c) (put t c) t (λ u. leased_by u y z ≡ leased_by t y z) (λ _. ap (lease_number y) (newest-put_other t c z apart)) (λ _. refl)
 
--- a row that is no lease of y ends what its subject had
+-- a row that is no lease of y ends the lease of its subject
 pub leased_put_none : (t : List Cert) (c : Cert) (y z : ℕ) → c.subject ≡ z → is_lease_of y c ≡ false → leased_by (put t c) y z ≡ None
 leased_put_none t c y z same loose = ap (lease_number y) (newest-put_same t c z same) ∙ ap (λ b. if b then Some c.seq else None) loose
 
--- a merge about one of these, or of a fact that y knows where it names y, makes no lease of another
+-- a merge about one of these children, or of a fact that y knows where it names y, makes no lease of another child
 pub merged_ahead : (t : List Cert) (c : Cert) (y : ℕ) (xs : List ℕ) (ends : List (Option ℕ)) (clock : ℕ) → IsOneOf c.subject xs ⊎ (c.parent ≡ y → Knows t c)
     → AreAheadBut xs y t ends clock → AreAheadBut xs y (merge t c) ends clock
 merged_ahead t c y xs ends clock told but z out s end leased is_set = ⊎_elim here there (cases_eq c.subject z) where
@@ -85,7 +85,7 @@ merged_ahead t c y xs ends clock told but z out s end leased is_set = ⊎_elim h
   here : c.subject ≡ z → clock < end
   here same = ⊎_elim (λ among. absurd (out (subst (λ (x : ℕ). IsOneOf x xs) same among))) (λ known. by_test same known (is_news t c) refl leased) told
 
--- what is so of the table into which it was merged is so of the step under way
+-- a property of the table after a merge holds of the step under way
 pub of_merges : (Q : ℕ → List Cert → List (Option ℕ) → ℕ → Type 0) (o : Plan) (c : Cert) → Q o.node.me (merge o.node.kept.table c) o.node.leases o.node.soft.clock → OfPlan Q (merges o c)
 of_merges Q o c h = by_test (is_news o.node.kept.table c) refl where
   by_test : (b : Bool) → is_news o.node.kept.table c ≡ b → OfPlan Q (if b then write o (records.Entry c) else o)

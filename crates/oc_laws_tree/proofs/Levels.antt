@@ -26,7 +26,7 @@ use Rattle.oc_laws_tree.proofs.ReadyStays.{ready_held, chain_first_up, chain_fro
 use Rattle.oc_laws_tree.proofs.Reached.{Reached, of_reached}
 use Rattle.oc_laws_tree.proofs.Telling.{TellsAll, tells_while_all}
 
--- what is done for two lists in a row is done for one after the other
+-- work for two lists in a row is work for the first and then for the second
 pub for_each-append : (f : ℕ → World → Run) (xs ys : List ℕ) (w : World) → for_each (xs ++ ys) f w ≡ and_then (for_each xs f w) (for_each ys f)
 for_each-append f [] ys w = refl
 for_each-append f (x ∷ xs) ys w =
@@ -52,7 +52,7 @@ module _ (h : Header) (u : World) (r : ℕ) (ready : IsReadyUnder u r) where
       (λ (same : x ≡ r). subst (λ (y : ℕ). HasTrueChain u y r) (sym same) (r ∷ [], (refl, refl, ready.root)))
       (λ other. ready.chains x up other) (cases_eq x r)
 
-  -- who is on a level
+  -- each node on a level has a true chain of that length
   level_deep : (n x : ℕ) → IsOneOf x (with_chain_of n u) → IsDeep x n
   level_deep n x one =
       let both = of_filter (λ y. has_length n (chain_from u y)) (up_ids u) x one in
@@ -66,14 +66,14 @@ module _ (h : Header) (u : World) (r : ℕ) (ready : IsReadyUnder u r) where
 
   -- The turn of one node
 
-  -- x has told all; nothing new waits at any node on its level or deeper
+  -- x has told all that waited, and nothing new waits at any node on its level or deeper
   record Tells (x n : ℕ) (w : World) (run : Run) : Type 0 where
     acts : length run.acts ≡ 3 * batches (waiting_at w x)
     calmed : HasCalmed h u run.world
     told : (log_of run.world x).waiting ≡ []
     others : (y m : ℕ) → (x ≡ y → ⊥) → IsDeep y m → n ≤ m → log_of run.world y ≡ log_of w y
 
-  -- a node with nothing to tell rests
+  -- a node at which nothing waits rests
   tells_none : (x n : ℕ) (w : World) → HasCalmed h u w → (log_of w x).waiting ≡ [] → Tells x n w (tells_all x w)
   tells_none x n w calmed none =
       let still : tells_all x w ≡ rests w = ap (λ (ws : List Cert). tells_while (length ws) x ws w) none in
@@ -101,7 +101,7 @@ module _ (h : Header) (u : World) (r : ℕ) (ready : IsReadyUnder u r) where
 
   -- A level
 
-  -- nothing waits at nodes of longer chains
+  -- nothing waits at nodes with longer chains
   record AllTell (n : ℕ) (w : World) : Type 0 where
     calmed : HasCalmed h u w
     deeper : (y m : ℕ) → IsDeep y m → n < m → (log_of w y).waiting ≡ []
@@ -137,7 +137,7 @@ module _ (h : Header) (u : World) (r : ℕ) (ready : IsReadyUnder u r) where
 
   -- All levels
 
-  -- after those of longer chains come those of shorter ones, and then nothing waits
+  -- nothing waits after the nodes with longer chains and then those with shorter ones have told
   record AllDone (xs : List ℕ) (w : World) (run : Run) : Type 0 where
     acts : length run.acts ≡ acts_to_tell xs w
     all : AllTell 0 run.world
@@ -166,7 +166,7 @@ module _ (h : Header) (u : World) (r : ℕ) (ready : IsReadyUnder u r) where
 
   -- Step 6
 
-  -- nothing waits at a node that is up
+  -- nothing waits at any node that is up
   pub record HasToldAll (run : Run) : Type 0 where
     pub acts : length run.acts ≡ acts_of_step_six u
     pub calmed : HasCalmed h u run.world

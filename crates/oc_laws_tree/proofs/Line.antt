@@ -1,5 +1,5 @@
--- The chain is one line: a chain member asks earlier members alone, and neither looks nor wishes for a place; a root is above all. What every rule
--- keeps of that.
+-- The chain as one line: a chain member asks only earlier members, and neither looks nor wishes for a place; a root is above
+-- all nodes. Every rule keeps this.
 use Rattle.std.proofs.Common.{◌≡◌, ℕ, zero, suc, ◌+◌, ◌-◌, ◌<◌, ◌≤◌, Bool, true, false, not, ◌&&◌, ◌||◌, ◌==◌, nat_lt, nat_le, if◌then◌else◌, Option, Some, None, List, [], ◌∷◌, ◌++◌, filter, length, refl, ap, sym, subst, ◌∙◌, arith, eqb-true, ltb-true, ltb-false, option_to_list}
 use Rattle.std.specs.List.{AllByRecursion, range_with_len}
 use Rattle.std.proofs.lemmas.Bool.{cond_both, and_parts, or_left, or_right, true≢false, eqb-false}
@@ -53,7 +53,7 @@ once_count : (out xs : List ℕ) → length (each_once out xs) ≤ length xs
 once_count out [] = omega arith
 once_count out (x ∷ xs) = cond_both (has out x) (each_once out xs) (x ∷ each_once (x ∷ out) xs) (λ ys. length ys ≤ length (x ∷ xs)) (λ _. omega (arith, once_count out xs)) (λ _. omega (arith, once_count (x ∷ out) xs))
 
--- it asks earlier members, no more than there are
+-- a round asks earlier members, and no more than there are
 pub order_below : (me chain : ℕ) (ancestors : List ℕ) (without : Option ℕ) → nat_le me chain ≡ true → AreBelow me (ask_order me chain ancestors without) × (length (ask_order me chain ancestors without) ≤ me - 1)
 order_below me chain ancestors without member =
     let earlier : ask_order me chain ancestors without ≡ each_once (me ∷ option_to_list without) (below me) = ap (λ b. each_once (me ∷ option_to_list without) (if b then below me else ancestors ++ range_with_len 1 chain)) member in (
@@ -67,8 +67,8 @@ order_below me chain ancestors without member =
 abbrev pub IsTop : Option Rank → Type 0
 IsTop rank = (r : Rank) × (rank ≡ Some r) × (r.depth ≡ 0)
 
--- a root has no ancestors and is at depth 0; a chain member has earlier members alone as peer and to try, and neither looks nor wishes for
--- a place
+-- a root has no ancestors and depth 0; a chain member has only earlier members as peer and to try, and neither looks nor wishes
+-- for a place
 pub record InLine (me chain : ℕ) (mode : Mode) (tries : List ℕ) (search : Option Search) (wish : Option ℕ) (ancestors : List ℕ) (rank : Option Rank) : Type 0 where
   pub root : mode ≡ modes.Acting → (ancestors ≡ []) × IsTop rank
   pub peer : nat_le me chain ≡ true → (p : ℕ) → is_peer mode p ≡ true → p < me
@@ -83,7 +83,7 @@ IsInLine n = InLine n.me n.chain n.kept.mode n.soft.tries n.soft.search n.soft.w
 abbrev pub OfLine : Plan → Type 0
 OfLine o = IsInLine o.node
 
--- it may ask p
+-- the node may ask p
 abbrev MayAsk : Plan → ℕ → Type 0
 MayAsk o p = is_member o.node ≡ true → p < o.node.me
 
@@ -108,11 +108,11 @@ module _ {me chain : ℕ} {mode : Mode} {tries : List ℕ} {search : Option Sear
   line_tries : (without : Option ℕ) → InLine me chain mode (ask_order me chain ancestors without) search wish ancestors rank
   line_tries without = record { root = h.root; peer = h.peer; earlier = λ member. (order_below me chain ancestors without member).0; few = λ member. (order_below me chain ancestors without member).1; still = h.still; no_wish = h.no_wish }
 
-  -- what is no root may have any rank and ancestors
+  -- a node that is no root may have any rank and ancestors
   line_below : (xs : List ℕ) (r : Option Rank) → (mode ≡ modes.Acting → ⊥) → InLine me chain mode tries search wish xs r
   line_below xs r other = record { root = λ e. absurd (other e); peer = h.peer; earlier = h.earlier; few = h.few; still = h.still; no_wish = h.no_wish }
 
--- the first try is taken off
+-- the first try is removed
 line_rest : {me chain : ℕ} {mode : Mode} {search : Option Search} {wish : Option ℕ} {ancestors : List ℕ} {rank : Option Rank} (p : ℕ) (ps : List ℕ) → InLine me chain mode (p ∷ ps) search wish ancestors rank → InLine me chain mode ps search wish ancestors rank
 line_rest p ps h = record { root = h.root; peer = h.peer; earlier = λ member. (h.earlier member).1; few = λ member. omega (arith, h.few member); still = h.still; no_wish = h.no_wish }
 
@@ -162,7 +162,7 @@ line_round o without h = line_next_try (set_tries o without) (line_set_tries o w
 line_ask_before : (o : Plan) (p : ℕ) → MayAsk o p → OfLine o → OfLine (ask_before o p)
 line_ask_before o p may h = line_ask (set_tries o (Some p)) p may (line_set_tries o (Some p) h)
 
--- who asks p has it as peer, and is no root
+-- a node that asks p has p as its peer and is no root
 asking_peer : (m : Mode) (p : ℕ) → is_asking m p ≡ true → (is_peer m p ≡ true) × (m ≡ modes.Acting → ⊥)
 asking_peer (modes.Asking q) p e = (e, λ f. absurd cc)
 asking_peer modes.Idle p e = absurd cc
@@ -177,7 +177,7 @@ line_joins o p r xs asks h =
     (record { root = λ e. absurd (is.1 e); peer = h.peer; earlier = λ member. tt; few = λ member. omega arith; still = λ member. refl; no_wish = λ member. refl })
     (record { root = λ e. absurd cc; peer = λ member q e. let same : p ≡ q = eqb-true p q e in let less : p < o.node.me = h.peer member p is.0 in omega (arith, same, less); earlier = λ member. tt; few = λ member. omega arith; still = λ member. refl; no_wish = λ member. refl })
 
--- the first and the third of four tests that all hold
+-- the first of four conditions that all hold; the third of them
 and_first : (a b c d : Bool) → (a && b && c && d) ≡ true → a ≡ true
 and_first true b c d e = refl
 and_first false b c d e = absurd cc
@@ -212,7 +212,7 @@ line_took_no o p seq why h =
       by_mode (modes.Joined q) = line_idle h
       by_mode modes.Acting = line_idle h
 
--- a node that looks for no place any more
+-- a node that no longer looks for a place
 line_unsearching : (o : Plan) → OfLine o → OfLine (searching o None)
 line_unsearching o h = line_looks h None (λ member. refl)
 
@@ -321,7 +321,7 @@ line_fetches_as modes.Acting o ls h = h
 
 -- Acknowledgements
 
--- who is joined is no root
+-- a joined node is no root
 joined_below : (m : Mode) (p : ℕ) → is_joined_to m p ≡ true → m ≡ modes.Acting → ⊥
 joined_below (modes.Joined q) p e f = absurd cc
 joined_below modes.Idle p e f = absurd cc

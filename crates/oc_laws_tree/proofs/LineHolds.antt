@@ -1,4 +1,4 @@
--- In every world that is reached the chain is one line, and each root is above all.
+-- The chain is one line in every world that is reached, and each root is above all nodes.
 use Rattle.std.proofs.Common.{◌≡◌, ℕ, ◌<◌, ◌≤◌, Bool, true, ◌==◌, nat_le, if◌then◌else◌, Option, Some, None, List, [], ◌∷◌, refl, ap, ap₂, sym, subst, ◌∙◌, arith, leb-true, eq-eqb}
 use Rattle.std.specs.List.{range_with_len}
 use Rattle.std.proofs.lemmas.Bool.{le-leb}
@@ -127,7 +127,7 @@ line_step n (Delivered m) h = line_received (begun n.control) (shelf n.groups) m
 abbrev AreInLine : World → Type 0
 AreInLine w = (y : ℕ) → IsInLine (control_of w y)
 
--- a start clears what a node looks for
+-- a start clears the place that a node looks for
 line_restarted : (n : Node) → IsInLine n.control → IsInLine (restarted n).control
 line_restarted n h = record { root = h.root; peer = h.peer; earlier = λ member. tt; few = λ member. omega arith; still = λ member. refl; no_wish = λ member. refl }
 
@@ -153,13 +153,13 @@ line_new h y =
     subst (λ (p : Process). IsInLine p.node.control) (sym new.1)
     record { root = λ e. absurd cc; peer = λ member p e. absurd cc; earlier = λ member. tt; few = λ member. omega arith; still = λ member. refl; no_wish = λ member. refl }
 
--- so it is in each world that is reached
+-- the chain is one line in each world that is reached
 pub in_line : (h : Header) (w : World) (y : ℕ) → Reached h w → IsInLine (control_of w y)
 in_line h w y reached = subst AreInLine (sym reached.is) (passing_after AreInLine line_act_of line_event (new_world h) reached.events (line_new h)) y
 
--- What that says of chain members
+-- Chain members
 
--- a node is a member where its id is one
+-- a node is a member exactly where its id is within the chain
 pub member_test : (h : Header) (w : World) (x : ℕ) → Reached h w → IsId h x → is_member (control_of w x) ≡ nat_le x h.chain
 member_test h w x reached id = ap₂ nat_le (process_in-me w.processes x) (among_them h w x reached id).1
 
@@ -169,13 +169,13 @@ is_member_of h w x reached id member = member_test h w x reached id ∙ le-leb x
 pub member_of : (h : Header) (w : World) (x : ℕ) → Reached h w → IsId h x → is_member (control_of w x) ≡ true → x ≤ h.chain
 member_of h w x reached id member = leb-true x h.chain (sym (member_test h w x reached id) ∙ member)
 
--- the parent of a member is an earlier one
+-- the parent of a member is an earlier member
 pub earlier_parent : (h : Header) (w : World) (x p : ℕ) → Reached h w → IsId h x → x ≤ h.chain → IsJoined w x p → p < x
 earlier_parent h w x p reached id member joins =
     let peer : is_peer (mode_of w x) p ≡ true = ap (λ m. is_peer m p) joins ∙ eq-eqb p p refl in
     let less : p < (control_of w x).me = (in_line h w x reached).peer (is_member_of h w x reached id member) p peer in
     omega (arith, less, process_in-me w.processes x)
 
--- a root has no ancestors, and is at depth 0
+-- a root has no ancestors and has depth 0
 pub root_top : (h : Header) (w : World) (x : ℕ) → Reached h w → mode_of w x ≡ modes.Acting → ((control_of w x).kept.ancestors ≡ []) × IsTop (control_of w x).kept.rank
 root_top h w x reached acts = (in_line h w x reached).root acts

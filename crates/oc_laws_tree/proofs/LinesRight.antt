@@ -1,4 +1,5 @@
--- A root's line of a node in the live tree is right, while no lease on its true chain has ended and nothing waits above.
+-- Right lines: a root's line of a node in the live tree is right while no lease on the node's true chain has ended and nothing
+-- waits above.
 use Rattle.std.proofs.Common.{◌≡◌, ℕ, true, Some, List, [], ◌∷◌, inr, subst}
 use Rattle.oc_model.specs.Chains.{IsTrueChain, true_line}
 use Rattle.oc_model.specs.ClaimsTree.{table_of, seq_of, HasEndedLease, HasWaiting}
@@ -18,7 +19,7 @@ root_has_parent w holds x y r ys chain lasts still =
     let row : HasLiveRow (table_of w r) x y (seq_of w x) rows.0.number = at_root w (λ z. HasLiveRow (table_of w z) x y (seq_of w x) rows.0.number) y r (y ∷ ys) chain.3 rows.2 in
     row_parent (table_of w r) x y (seq_of w x) rows.0.number row.0 row.1
 
--- so the true chain is a way up its table
+-- a true chain is a way up the root's table
 pub chain_way : (w : World) → TreeHolds w → (x y r : ℕ) (ys : List ℕ) → IsTrueChain w x r (x ∷ y ∷ ys) → (HasEndedLease w (x ∷ y ∷ ys) → ⊥) → (HasWaiting w (x ∷ y ∷ ys) → ⊥)
     → (between : List ℕ) × IsWay (table_of w r) r x between
 chain_way w holds x y r [] chain lasts still = ([], subst (λ z. parent_in (table_of w r) x ≡ Some z) chain.3.1 (root_has_parent w holds x y r [] chain lasts still))
@@ -26,7 +27,7 @@ chain_way w holds x y r (z ∷ zs) chain lasts still =
     let rest : (between : List ℕ) × IsWay (table_of w r) r y between = chain_way w holds y z r zs chain.3 (λ ended. lasts (inr ended)) (λ waits. still (inr waits)) in
     (y ∷ rest.0, (root_has_parent w holds x y r (z ∷ zs) chain lasts still, rest.1))
 
--- and its line is the first link
+-- the root's line of a node is the first link of the node's true chain
 line_from : (w : World) → TreeHolds w → (x y r : ℕ) (ys : List ℕ) → (x ≡ r → ⊥) → IsTrueChain w x r (x ∷ y ∷ ys) → (HasEndedLease w (x ∷ y ∷ ys) → ⊥) → (HasWaiting w (x ∷ y ∷ ys) → ⊥)
     → table_line (table_of w r) r x ≡ true_line w r x
 line_from w holds x y r ys apart chain lasts still =

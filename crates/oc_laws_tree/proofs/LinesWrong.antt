@@ -1,4 +1,4 @@
--- A root lists a node that has no true chain to it only where the topmost false link of its walk is stale.
+-- Wrong lines: a root lists a node without a true chain to it only where the topmost false link of the node's walk is stale.
 use Rattle.std.proofs.Common.{◌≡◌, ℕ, Some, List, [], ◌∷◌, ◌⊎◌, inl, inr, refl, sym, subst, ◌∙◌, ⊎_elim}
 use Rattle.oc_base.specs.declared.cert.Cert.{Cert}
 use Rattle.oc_model.specs.Chains.{IsRoot, IsJoined, IsTrueChain, HasTrueChain}
@@ -22,7 +22,7 @@ record IsFalseFrom (w : World) (r : ℕ) (c : List ℕ) (v y : ℕ) : Type 0 whe
 HasFalse : World → ℕ → List ℕ → Type 0
 HasFalse w r c = (v y : ℕ) × IsFalseFrom w r c v y
 
--- all links of a walk are true and it is a true chain, or it has a topmost false one
+-- all links of a walk are true and it is a true chain, or it has a topmost false link
 links_split : (w : World) (x r : ℕ) (c : List ℕ) → IsRoot w r → IsWalk (table_of w r) x r c → (AreTrueLinks w (table_of w r) c × IsTrueChain w x r c) ⊎ HasFalse w r c
 unfolding HasFalse
 links_split w x r [] root walk = absurd walk
@@ -46,18 +46,18 @@ links_split w x r (a ∷ d ∷ ds) root walk = by_rest (links_split w d r (d ∷
   by_rest (inl good) = by_link good.0 good.1 (link_decided w (table_of w r) x d)
   by_rest (inr found) = inr (found.0, found.1, record { topmost = inl found.2.topmost; up = found.2.up; chain = found.2.chain })
 
--- Why it is stale
+-- The stale link
 
--- the row of v in this table is past e
+-- the row of v in this table makes e obsolete
 HasPast : List Cert → ℕ → Cert → Type 0
 HasPast t v e = (k : Cert) × (newest t v ≡ Some k) × IsPast k e
 
--- what the table of a node has past e, that to which it is joined has too, or it waits
+-- where the table of a node makes e obsolete, so does the table of its parent, or the fact waits
 past_step : (w : World) → TreeHolds w → (v z u : ℕ) (e : Cert) → IsJoined w z u → HasPast (table_of w z) v e → WaitsAt w z v ⊎ HasPast (table_of w u) v e
 unfolding HasPast
 past_step w holds v z u e joined row = ⊎_elim (λ waits. inl waits) (λ risen. inr (risen.0, risen.1, past_later risen.0 row.0 e row.2 risen.2)) (row_rises w holds v z u row.0 joined row.1)
 
--- so up a true chain the root has it, or it waits below
+-- where the table of a node makes e obsolete, so does the table of the root of its true chain, or the fact waits below
 past_up : (w : World) → TreeHolds w → (v z r : ℕ) (e : Cert) (c : List ℕ) → IsTrueChain w z r c → HasPast (table_of w z) v e → WaitsBelow w c v ⊎ HasPast (table_of w r) v e
 past_up w holds v z r e [] chain past = absurd chain
 past_up w holds v z r e (a ∷ []) chain past = inr (subst (λ u. HasPast (table_of w u) v e) chain.1 past)
@@ -66,12 +66,12 @@ past_up w holds v z r e (a ∷ d ∷ ds) chain past = by_step (past_step w holds
   by_step (inl waits) rest = inl (inl (subst (λ u. WaitsAt w u v) (sym chain.0) waits))
   by_step (inr more) rest = ⊎_elim (λ waits. inl (inr waits)) (λ there. inr there) (rest more)
 
--- the row of v in the table of r, which lives, is not past itself
+-- a living row of v at r does not make itself obsolete
 root_not_past : (w : World) (v r p s n : ℕ) (e : Cert) → IsLiveRow (table_of w r) v p s n e → HasPast (table_of w r) v e → ⊥
 unfolding HasPast
 root_not_past w v r p s n e row past = let same : past.0 ≡ e = cc (past.1, row.found) in past_itself e row.alive (subst (λ k. IsPast k e) same past.2)
 
--- a link by which the root's table goes on to a node with a true chain is stale
+-- a link of the root's table to a node with a true chain is stale
 stale_link : (w : World) → TreeHolds w → (r v y : ℕ) → parent_in (table_of w r) v ≡ Some y → HasTrueChain w y r → IsStaleLink w r v y
 unfolding HasPast
 stale_link w holds r v y up chain = by_age granted.0 granted.1 (past_or_still granted.0 e row.1.alive granted.2) where
@@ -93,7 +93,7 @@ stale_link w holds r v y up chain = by_age granted.0 granted.1 (past_or_still gr
       let named : g.parent ≡ y = same_parent w holds v r y e g row.1.found found same.0 ∙ row.1.parent in
       inl (e, row.1.found, row_lease (table_of w y) y v e.seq e.number g (record { found = found; alive = same.1; parent = named; seq = same.0; number = same.2 }))
 
--- a node that the root lists and that has no true chain to it has the cause at hand
+-- a listed node without a true chain to the root has the cause at hand
 pub wrong_cause : (w : World) → TreeHolds w → (r x : ℕ) → IsRoot w r → IsListed (table_of w r) r x → (HasTrueChain w x r → ⊥) → HasWrongCause w r x
 unfolding HasFalse
 wrong_cause w holds r x root listed loose = by_walk (walk_of_way (table_of w r) x r listed.1.0 listed.1.1) where

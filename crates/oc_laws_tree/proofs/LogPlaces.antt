@@ -1,4 +1,4 @@
--- The places of a change log: which of its facts come before a place, and what a log keeps of them as it grows and is acknowledged.
+-- The places of a change log: the facts before a place, and the facts that a log keeps as it grows and is acknowledged.
 use Rattle.std.proofs.Common.{◌≡◌, ℕ, zero, suc, ◌+◌, ◌-◌, ◌<◌, ◌≤◌, true, List, [], ◌∷◌, ◌++◌, length, take, drop, ◌⊎◌, inl, inr, refl, sym, subst, arith, ⊎_elim, length-append, length-drop, leb-true, ltb-true}
 use Rattle.std.proofs.lemmas.List.{length-take, take-append-le}
 use Rattle.std.proofs.lemmas.Bool.{and_parts}
@@ -15,21 +15,21 @@ use Rattle.oc_laws_tree.specs.Sessions.{before_place}
 
 -- Lists
 
--- one among the first of a list is among all
+-- an item of the first part of a list is an item of the list
 pub among_take : {X : Type 0} (x : X) (n : ℕ) (xs : List X) → IsAmong x (take n xs) → IsAmong x xs
 among_take x zero xs h = absurd h
 among_take x (suc n) [] h = absurd h
 among_take x (suc n) (y ∷ ys) (inl e) = inl e
 among_take x (suc n) (y ∷ ys) (inr h) = inr (among_take x n ys h)
 
--- one of a list is among its first, or among the rest
+-- an item of a list is in its first part or in the rest
 among_parts : {X : Type 0} (x : X) (n : ℕ) (xs : List X) → IsAmong x xs → IsAmong x (take n xs) ⊎ IsAmong x (drop n xs)
 among_parts x zero xs h = inr h
 among_parts x (suc n) [] h = absurd h
 among_parts x (suc n) (y ∷ ys) (inl e) = inl (inl e)
 among_parts x (suc n) (y ∷ ys) (inr h) = ⊎_elim (λ k. inl (inr k)) (λ k. inr k) (among_parts x n ys h)
 
--- one among the first of the rest is among as many more of the whole
+-- an item of the first part of the rest is in a longer first part of the list
 among_take-drop : {X : Type 0} (x : X) (n k m : ℕ) (xs : List X) → m ≡ n + k → IsAmong x (take k (drop n xs)) → IsAmong x (take m xs)
 among_take-drop x zero k m xs e h = let same : k ≡ m = omega (arith, e) in subst (λ (j : ℕ). IsAmong x (take j xs)) same h
 among_take-drop x (suc n) zero m xs e h = absurd h
@@ -39,11 +39,11 @@ among_take-drop x (suc n) (suc k) (suc m) (y ∷ ys) e h = inr (among_take-drop 
 
 -- Logs
 
--- the length of a log counts what was acknowledged and what waits
+-- the length of a log is the number of acknowledged and of waiting facts
 abbrev pub IsWhole : Log → Type 0
 IsWhole l = l.length ≡ l.acked + length l.waiting
 
--- this place is within the log, and this holds of each fact that comes before it
+-- the place is within the log, and the property holds of each fact before it
 abbrev pub HoldsBefore : Log → ℕ → (Cert → Type 0) → Type 0
 HoldsBefore l place Q = (place ≤ l.length) × ((f : Cert) → IsAmong f (before_place l place) → Q f)
 
@@ -61,7 +61,7 @@ before_note l c place Q whole h =
     let same : take (place - l.acked) (l.waiting ++ c ∷ []) ≡ take (place - l.acked) l.waiting = take-append-le (place - l.acked) l.waiting (c ∷ []) (omega (arith, whole, within)) in
     (omega (arith, within), λ f among. h.1 f (subst (λ (cs : List Cert). IsAmong f cs) same among))
 
--- it comes in only where the node is joined
+-- a certificate is added only where the node is joined
 pub whole_noted : (m : Mode) (l : Log) (c : Cert) → IsWhole l → IsWhole (noted m l c)
 whole_noted (modes.Joined p) l c whole = whole_note l c whole
 whole_noted modes.Idle l c whole = whole
@@ -74,7 +74,7 @@ before_noted modes.Idle l c place Q whole h = h
 before_noted (modes.Asking p) l c place Q whole h = h
 before_noted modes.Acting l c place Q whole h = h
 
--- what waits goes on waiting, and what came waits too
+-- a fact that waits goes on waiting, and an added certificate waits too
 pub among_noted : (m : Mode) (p : ℕ) (l : Log) (c f : Cert) → m ≡ modes.Joined p → IsAmong f l.waiting ⊎ (c ≡ f) → IsAmong f (noted m l c).waiting
 among_noted m p l c f joined h = subst (λ (o : Mode). IsAmong f (noted o l c).waiting) (sym joined) (⊎_elim
     (λ (old : IsAmong f l.waiting). among_left f l.waiting (c ∷ []) old)
@@ -87,7 +87,7 @@ among_noted m p l c f joined h = subst (λ (o : Mode). IsAmong f (noted o l c).w
 abbrev acked_to : Log → ℕ → Log
 acked_to l place = record { length = l.length; acked = place; waiting = drop (place - l.acked) l.waiting }
 
--- such a place lies past those acknowledged, and within the log
+-- such a place is later than the acknowledged ones, and within the log
 ahead_parts : (l : Log) (place : ℕ) → is_ahead l place ≡ true → (l.acked < place) × (place ≤ l.length)
 ahead_parts l place e = let parts = and_parts _ _ e in (ltb-true l.acked place parts.0, leb-true place l.length parts.1)
 
@@ -106,13 +106,13 @@ whole_ack l place e whole = let parts = ahead_parts l place e in rw e (whole_to 
 pub before_ack : (l : Log) (place : ℕ) → is_ahead l place ≡ true → (upto : ℕ) (Q : Cert → Type 0) → HoldsBefore l upto Q → HoldsBefore (ack l place) upto Q
 before_ack l place e upto Q h = rw e ((h.0, λ f among. h.1 f (before_to l place (ahead_parts l place e).0 upto f among)))
 
--- what waits came before the place, or goes on waiting
+-- a waiting fact is before the place, or goes on waiting
 pub among_ack : (l : Log) (place : ℕ) → is_ahead l place ≡ true → (f : Cert) → IsAmong f l.waiting → IsAmong f (before_place l place) ⊎ IsAmong f (ack l place).waiting
 among_ack l place e f h = rw e (among_parts f (place - l.acked) l.waiting h)
 
 -- The next check-in
 
--- the facts before its place are its own
+-- a fact before the place of the next check-in is in the check-in
 pub before_next : (l : Log) → IsWhole l → HoldsBefore l (place_after l) (λ f. IsAmong f (next_certs l))
 before_next l whole =
     let some_of : length (next_certs l) ≤ length l.waiting = omega (arith, length-take MAX_CHECK_IN_CERTS l.waiting) in

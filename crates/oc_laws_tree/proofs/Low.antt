@@ -1,4 +1,5 @@
--- How far the first five steps of settle take ask numbers and epochs: each tick takes them one on at most, a check-in not at all.
+-- The growth of ask numbers and epochs by the first five steps of settle: by at most one in each round of ticks, and none in a
+-- round of check-ins.
 use Rattle.std.proofs.Common.{◌≡◌, ℕ, ◌+◌, ◌≤◌, List, [], ◌∷◌, inl, inr, refl, sym, subst, ◌∙◌, arith}
 use Rattle.oc_model.specs.declared.mode.Mode.{Mode}
 use Rattle.oc_model.specs.declared.mode.Mode.TheVariants.{Idle, Asking, Joined, Acting}
@@ -18,11 +19,11 @@ use Rattle.oc_laws_tree.proofs.Reached.{Reached}
 use Rattle.oc_laws_tree.proofs.Ticking.{TickKeeps, tick_keeps}
 use Rattle.oc_laws_tree.proofs.CheckedIn.{CheckInKeeps, checks_in_keeps}
 
--- the epoch of y is no past this one, nor its ask number past that
+-- the epoch and the ask number of y are at most these
 abbrev pub IsLow : ℕ → ℕ → World → ℕ → Type 0
 IsLow epoch seq w y = (epoch_in (own_rank w y) ≤ epoch) × (seq_of w y ≤ seq)
 
--- so it is of each node that is up
+-- the same for each node that is up
 abbrev pub AreLow : ℕ → ℕ → World → Type 0
 AreLow epoch seq w = (y : ℕ) → IsUp w y → IsLow epoch seq w y
 
@@ -44,7 +45,7 @@ module _ (h : Header) (w0 : World) where
         after = λ y apart is. same (epoch + 1) (seq + 1) y apart is;
       }
 
--- a round of ticks takes them one on
+-- a round of ticks raises them by at most one
 tick_low : (h : Header) (more epoch seq : ℕ) (w : World) → Reached h w → AreLow epoch seq w → Reached h (all_tick more w).world × AreLow (epoch + 1) (seq + 1) (all_tick more w).world
 tick_low h more epoch seq w reached low =
     let before = λ (v : World) (y : ℕ). IsUp v y × IsLow epoch seq v y in
@@ -53,7 +54,7 @@ tick_low h more epoch seq w reached low =
     (λ x one. (up_of w x one, low x (up_of w x one))) in
     (passed.goes.reached, λ y up. passed.done y (among_up w y (sym (passed.goes.up y) ∙ up)))
 
--- a round of check-ins does not
+-- a round of check-ins does not raise them
 checks_low : (h : Header) (epoch seq : ℕ) (xs : List ℕ) (w : World) → Reached h w → ((x : ℕ) → IsOneOf x xs → IsUp w x) → AreLow epoch seq w → Reached h (for_each xs checks_in_if_joined w).world × AreLow epoch seq (for_each xs checks_in_if_joined w).world
 checks_low h epoch seq [] w reached up low = (reached, low)
 checks_low h epoch seq (x ∷ xs) w reached up low = by_mode (mode_of w x) refl (λ v r u l. checks_low h epoch seq xs v r u l) where

@@ -1,4 +1,5 @@
--- Merging certificates into a node's table: it makes no lease that the node does not know, and ends none of which it knows all.
+-- The merge of certificates into a node's table: it makes no lease that the node does not know, and ends no lease of a child of
+-- which the node knows all.
 use Rattle.std.proofs.Common.{◌≡◌, ℕ, zero, suc, Bool, true, false, not, ◌==◌, if◌then◌else◌, Some, None, List, [], ◌∷◌, inl, inr, take, refl, ap, sym, subst, ◌∙◌, ⊎_elim, eqb-true, eq-eqb}
 use Rattle.std.proofs.lemmas.Bool.{cases_eq, true≢false, and_parts}
 use Rattle.oc_base.specs.declared.cert.Cert.{Cert}
@@ -9,14 +10,14 @@ use Rattle.oc_laws_step.proofs.Tables.{newest-put_same, newest-put_other, merge_
 use Rattle.oc_laws_tree.proofs.Known.{Knows}
 use Rattle.oc_laws_tree.proofs.LeasesAhead.{leased_merge_other, leased_put_none}
 
--- one of the first is one of all
+-- an item of the first part of a list is an item of the list
 pub among_take : {X : Type 0} (n : ℕ) (x : X) (xs : List X) → IsAmong x (take n xs) → IsAmong x xs
 among_take zero x xs h = absurd h
 among_take (suc n) x [] h = absurd h
 among_take (suc n) x (y ∷ ys) (inl e) = inl e
 among_take (suc n) x (y ∷ ys) (inr h) = inr (among_take n x ys h)
 
--- the row of a subject of which nothing is news stays
+-- the row of a subject stays where nothing is news of it
 row_kept : (t : List Cert) (c : Cert) (z : ℕ) → (c.subject ≡ z → Knows t c) → newest (merge t c) z ≡ newest t z
 row_kept t c z known = by_test (is_news t c) refl where
   by_test : (b : Bool) → is_news t c ≡ b → newest (if b then put t c else t) z ≡ newest t z
@@ -28,7 +29,7 @@ rows_kept [] t z known = refl
 rows_kept (c ∷ cs) t z known =
     rows_kept cs (merge t c) z (λ d among same. merge_keeps t c d (known d (inr among) same)) ∙ row_kept t c z (λ same. known c (inl refl) same)
 
--- no lease of y is made where y knows what names it
+-- no lease of y is made where y knows each fact that names y
 lease_only : (t : List Cert) (c : Cert) (y z s : ℕ) → (c.parent ≡ y → Knows t c) → leased_by (merge t c) y z ≡ Some s → leased_by t y z ≡ Some s
 lease_only t c y z s known leased = ⊎_elim (λ same. by_test same (is_news t c) refl leased) (λ apart. sym (leased_merge_other t c y z apart) ∙ leased) (cases_eq c.subject z) where
   by_lease : c.subject ≡ z → is_news t c ≡ true → (b : Bool) → is_lease_of y c ≡ b → leased_by (put t c) y z ≡ Some s → leased_by t y z ≡ Some s
@@ -44,7 +45,7 @@ leases_only [] t y z s known leased = leased
 leases_only (c ∷ cs) t y z s known leased =
     lease_only t c y z s (λ own. known c (inl refl) own) (leases_only cs (merge t c) y z s (λ d among own. merge_keeps t c d (known d (inr among) own)) leased)
 
--- the life of a child that has its lease leaves that, and makes none
+-- a new life of a child that has its lease keeps the lease, and makes no other
 life_put : (t : List Cert) (x s y number clients : ℕ) → leased_by (put t (life x s y number clients)) y x ≡ Some s
 life_put t x s y number clients = ap (lease_number y) (newest-put_same t (life x s y number clients) x refl) ∙ ap (λ b. if b then Some s else None) (eq-eqb y y refl)
 
@@ -63,7 +64,7 @@ life_only t x s y number clients z r leased found = ⊎_elim
     (λ apart. sym (leased_merge_other t (life x s y number clients) y z apart) ∙ found)
     (cases_eq x z)
 
--- what is merged is known then, and stays so
+-- a merged certificate is known, and stays known
 pub known_after : (cs t : List Cert) (d : Cert) → Knows t d → Knows (merge_all t cs) d
 known_after [] t d known = known
 known_after (c ∷ cs) t d known = known_after cs (merge t c) d (merge_keeps t c d known)

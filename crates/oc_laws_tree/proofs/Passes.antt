@@ -1,22 +1,22 @@
--- The same done for each of some nodes: what each turn makes of its node, and leaves of the others, holds of all in the end.
+-- The same work for each of some nodes: the effect of each turn on its node, and on the others, holds of all in the end.
 use Rattle.std.proofs.Common.{◌≡◌, ℕ, List, [], ◌∷◌, inl, inr, refl, sym, subst, ⊎_elim}
 use Rattle.oc_model.specs.Runs.{Run, for_each}
 use Rattle.oc_model.specs.World.{World}
 use Rattle.oc_model.specs.WorldBounds.{IsOneOf, IsDistinct}
 
--- the turn of x: G goes on, what was so of x before gives what is so after, and both stay so of the others
+-- the turn of x: G still holds, After holds of x where Before held, and both stay true of the others
 pub record IsTurn (G : World → Type 0) (Before After : World → ℕ → Type 0) (x : ℕ) (w v : World) : Type 0 where
   pub goes : G v
   pub done : After v x
   pub before : (y : ℕ) → (x ≡ y → ⊥) → Before w y → Before v y
   pub after : (y : ℕ) → (x ≡ y → ⊥) → After w y → After v y
 
--- who is one of a list that x is not is another than x
+-- a node of a list that x is not on is another node than x
 other_than : (x y : ℕ) (xs : List ℕ) → (IsOneOf x xs → ⊥) → IsOneOf y xs → x ≡ y → ⊥
 other_than x y xs out one same = out (subst (λ (z : ℕ). IsOneOf z xs) (sym same) one)
 
 module _ (f : ℕ → World → Run) (G : World → Type 0) (Before After : World → ℕ → Type 0) (turn : (x : ℕ) (w : World) → G w → Before w x → IsTurn G Before After x w (f x w).world) where
-  -- after all turns
+  -- the world after all turns
   pub record HasPassed (xs : List ℕ) (w v : World) : Type 0 where
     pub goes : G v
     pub done : (x : ℕ) → IsOneOf x xs → After v x

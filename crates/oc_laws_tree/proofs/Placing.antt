@@ -1,4 +1,4 @@
--- Moving a node that is not in place below the chain member before it: the conditions, and the properties that it keeps.
+-- The move of a node that is not in place below the chain member before it: its conditions, and the properties that it keeps.
 use Rattle.std.proofs.Common.{◌≡◌, ℕ, ◌+◌, ◌-◌, ◌≤◌, ◌<◌, Bool, true, false, not, ◌&&◌, ◌||◌, ◌==◌, nat_lt, nat_le, if◌then◌else◌, Option, Some, None, List, [], ◌∷◌, inl, inr, length, refl, ap, sym, subst, ◌∙◌, ⊎_elim, arith, leb-true, lt-ltb, ltb-true, eqb-true}
 use Rattle.std.proofs.lemmas.Bool.{cases_eq, and_parts, and_from, le-leb, or_right, or_cases, false_from_ne_true}
 use Rattle.oc_base.specs.declared.refusal.Refusal.TheVariants as refusals
@@ -26,7 +26,7 @@ use Rattle.oc_laws_tree.proofs.Spans.{up_id}
 
 -- Chains of members
 
--- from a member up each is an earlier one
+-- each member of the chain is an earlier one than the node below it
 pub record IsClimb (m y : ℕ) (c : List ℕ) : Type 0 where
   pub above : m ≤ y
   pub short : length c ≤ y - m + 1
@@ -48,7 +48,7 @@ chain_climbs h w m y (a ∷ d ∷ ds) reached member chain =
       below = λ z one. ⊎_elim (λ same. omega (arith, same, chain.0)) (λ later. omega (arith, rest.below z later, less)) one;
     }
 
--- who is on a chain that is leased is placed
+-- a node on a chain that is leased is in place
 pub placed_member : (w : World) (m y x : ℕ) (c : List ℕ) → IsTrueChain w y m c → AreLeased w c → IsOneOf x c → IsPlaced w m x
 placed_member w m y x [] chain leased one = absurd one
 placed_member w m y x (a ∷ []) chain leased (inl same) = (a ∷ [], subst (λ z. IsTrueChain w z m (a ∷ [])) (sym (same ∙ chain.0)) chain, tt)
@@ -56,7 +56,7 @@ placed_member w m y x (a ∷ []) chain leased (inr none) = absurd none
 placed_member w m y x (a ∷ d ∷ ds) chain leased (inl same) = (a ∷ d ∷ ds, subst (λ z. IsTrueChain w z m (a ∷ d ∷ ds)) (sym (same ∙ chain.0)) chain, leased)
 placed_member w m y x (a ∷ d ∷ ds) chain leased (inr later) = placed_member w m d x (d ∷ ds) chain.3 leased.1 later
 
--- the child of the root on a chain of more than one
+-- the child of the root on a chain of more than one node
 pub top_child : (w : World) (m y : ℕ) (c : List ℕ) → IsTrueChain w y m c → AreLeased w c → (y ≡ m → ⊥) → (a : ℕ) × IsOneOf a c × IsHeld w m a
 top_child w m y [] chain leased other = absurd chain
 top_child w m y (a ∷ []) chain leased other = absurd (other chain.1)
@@ -65,7 +65,7 @@ top_child w m y (a ∷ d ∷ ds) chain leased other = ⊎_elim
     (λ apart. let top = top_child w m d (d ∷ ds) chain.3 leased.1 apart in (top.0, inr top.1, top.2))
     (cases_eq d m)
 
--- who is joined to one that is placed, and has its lease there, is placed
+-- a node that is joined to a node in place, and has its lease there, is in place
 pub placed_beneath : (w : World) (m q x : ℕ) → IsHeld w q x → IsPlaced w m q → IsPlaced w m x
 placed_beneath w m q x held ([], chain, leased) = absurd chain
 placed_beneath w m q x held (a ∷ [], chain, leased) =
@@ -73,9 +73,9 @@ placed_beneath w m q x held (a ∷ [], chain, leased) =
 placed_beneath w m q x held (a ∷ d ∷ ds, chain, leased) =
     (x ∷ a ∷ d ∷ ds, (refl, held.up, subst (IsJoined w x) (sym chain.0) held.joined, subst (λ z. IsTrueChain w z m (a ∷ d ∷ ds)) (sym chain.0) chain), ((q, held.joined, held.lease), leased))
 
--- What step 3 keeps
+-- The properties that step 3 keeps
 
--- m acts, it is the least member that is up, and leases of members are current
+-- m acts as root and is the least member that is up, and leases of members are current
 pub record IsHealing (h : Header) (m : ℕ) (w : World) : Type 0 where
   pub reached : Reached h w
   pub root : IsRoot w m
@@ -83,7 +83,7 @@ pub record IsHealing (h : Header) (m : ℕ) (w : World) : Type 0 where
   pub least : (y : ℕ) → IsUp w y → y ≤ h.chain → m ≤ y
   pub current : (y z s : ℕ) → IsUp w y → z ≤ h.chain → HoldsLease w y z s → IsCurrent w y z s
 
--- a change at x: all others keep their places and leases
+-- a change at x: all other nodes keep their places and leases
 pub record ChangesAt (h : Header) (x : ℕ) (w v : World) : Type 0 where
   pub reached : Reached h v
   pub up : (y : ℕ) → is_up v y ≡ is_up w y
@@ -101,7 +101,7 @@ healing_on h m x w v healing other changes = record {
   current = changes.current;
 }
 
--- who is placed stays so, where x is not
+-- nodes in place stay in place, if their chain does not lead through x
 chain_on : (h : Header) (m x : ℕ) (w v : World) → ChangesAt h x w v → (y : ℕ) (c : List ℕ) → IsTrueChain w y m c → AreLeased w c → (IsOneOf x c → ⊥) → IsTrueChain v y m c × AreLeased v c
 chain_on h m x w v changes y [] chain leased out = absurd chain
 chain_on h m x w v changes y (a ∷ []) chain leased out =
@@ -121,7 +121,7 @@ placed_on h m x w v changes loose y (c, chain, leased) =
     let on = chain_on h m x w v changes y c chain leased (λ one. loose (placed_member w m y x c chain leased one)) in
     (c, on.0, on.1)
 
--- The line
+-- The order of the chain
 
 -- q is the greatest member before x
 abbrev pub IsBefore : Header → World → ℕ → ℕ → Type 0
@@ -130,7 +130,7 @@ IsBefore h w q x = (k : ℕ) → IsUp w k → k ≤ h.chain → k < x → k ≤ 
 table_is : (h : Header) (w : World) (y : ℕ) → Reached h w → IsTable (table_of w y)
 table_is h w y reached = (of_reached AreSound sound_after h w reached y).kept.table
 
--- a member that is a leased child of q comes after it
+-- a member that is a leased child of q is after x
 child_behind : (h : Header) (m : ℕ) (w : World) (q x k : ℕ) → IsHealing h m w → IsUp w q → chain_child (table_of w q) q h.chain x ≡ Some k → (k ≤ h.chain) × IsUp w k × (q < k)
 child_behind h m w q x k healing up found =
     let test : ℕ → Bool = λ z. nat_le z h.chain && not (z == x) in
@@ -140,7 +140,7 @@ child_behind h m w q x k healing up found =
     let current : IsCurrent w q k lease.0 = healing.current q k lease.0 up member lease.1 in
     (member, current.0, earlier_parent h w k q healing.reached (up_id h w k healing.reached current.0) member current.1)
 
--- so the line is no reason to refuse one that q is the greatest member before
+-- the order of the chain gives no reason to refuse x at the greatest member before it
 pub line_free : (h : Header) (m : ℕ) (w : World) (q x : ℕ) (n : Control) → IsHealing h m w → IsUp w q → IsBefore h w q x → n.kept.table ≡ table_of w q → n.me ≡ q → n.chain ≡ h.chain
     → chain_refusal (host n x) x (chain_child n.kept.table n.me n.chain x) ≡ None
 line_free h m w q x n healing up before table me chain = by_child (chain_child n.kept.table n.me n.chain x) refl where
@@ -161,7 +161,7 @@ line_free h m w q x n healing up before table me chain = by_child (chain_child n
         by_test true = refl
         by_test false = refl
 
--- but m refuses one for which it has a member that comes before it
+-- m refuses x for a child that is a member before x
 pub line_taken : (h : Header) (m : ℕ) (w : World) (a x : ℕ) (n : Control) → IsHealing h m w → IsHeld w m a → a ≤ h.chain → a < x → n.kept.table ≡ table_of w m → n.me ≡ m → n.chain ≡ h.chain
     → (k : ℕ) × (chain_refusal (host n x) x (chain_child n.kept.table n.me n.chain x) ≡ Some (refusals.Chain k))
 line_taken h m w a x n healing held member less table me chain =

@@ -1,4 +1,4 @@
--- The laws, for the one world to which events lead.
+-- The laws for the one world after all events.
 use Rattle.std.proofs.Common.{ℕ, List}
 use Rattle.oc_model.specs.declared.event.Act.{Act}
 use Rattle.oc_model.specs.declared.event.Event.{Event}
@@ -17,7 +17,7 @@ use Rattle.oc_laws_tree.proofs.LeaseEnds.{known_anywhere, lease_ends_throughout}
 use Rattle.oc_laws_tree.proofs.SoundNodes.{AreSound, sound_throughout}
 use Rattle.oc_laws_tree.proofs.Together.{AllHold, all_throughout}
 
--- what each act and each event leaves
+-- a law that each act and each event keeps
 pub passing_after : (J : World → Type 0) → ((w : World) (a : Act) → J w → J (after_act w a)) → ((w : World) (e : Event) → J w → J (next_world w e)) → (w : World) (events : List Event) → J w → J (world_after w events)
 passing_after J of_act of_event w events holds = throughout_after J w events (passing_throughout J of_act of_event J (λ v j. j) w holds events)
 

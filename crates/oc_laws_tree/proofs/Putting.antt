@@ -1,4 +1,4 @@
--- The turn of a node in step 3 of heal: it comes under the chain member before it, and all that are placed stay so.
+-- The turn of a node in step 3 of heal: it comes under the chain member before it, and all nodes in place stay there.
 use Rattle.std.proofs.Common.{◌≡◌, ℕ, ◌+◌, ◌≤◌, true, if◌then◌else◌, Some, None, List, refl, ap, sym, subst, ◌∙◌, ⊎_elim, arith, eq-eqb}
 use Rattle.std.proofs.lemmas.Bool.{cases_eq}
 use Rattle.oc_base.specs.declared.cert.Cert.{Cert}
@@ -21,19 +21,19 @@ use Rattle.oc_laws_tree.proofs.Reached.{Reached}
 
 -- Changes
 
--- a lease that is current stays so while its child keeps its place
+-- a current lease stays current while its child keeps its place
 current_by : (w v : World) (y z s : ℕ) → Stays w v z → IsCurrent w y z s → IsCurrent v y z s
 current_by w v y z s stays is = (stays.up ∙ is.0, stays.joined y is.1, stays.seq y is.1 ∙ is.2)
 
--- x has no parent that holds its lease, if it is a member
+-- no parent holds the lease of x, if x is a member
 abbrev pub IsLoose : Header → World → ℕ → Type 0
 IsLoose h w x = x ≤ h.chain → (y : ℕ) → IsHeld w y x → ⊥
 
--- what a lease of x would be
+-- a lease of x that is current is a link that holds
 held_by : (w : World) (y x s : ℕ) → IsUp w y → IsCurrent w y x s → HoldsLease w y x s → IsHeld w y x
 held_by w y x s up is leased = record { host = up; up = is.0; joined = is.1; lease = leased ∙ ap (λ (k : ℕ). Some k) (sym is.2) }
 
--- a change that leaves all places and leases, and makes none
+-- a change that keeps all places and leases, and makes none
 pub steady_changes : (h : Header) (m x : ℕ) (w v : World) → IsHealing h m w → Reached h v → Steady w v → ((z : ℕ) → seq_of v z ≡ seq_of w z) → ((a b s : ℕ) → HoldsLease v a b s → HoldsLease w a b s) → ((a b : ℕ) → IsHeld w a b → IsHeld v a b)
     → ChangesAt h x w v
 steady_changes h m x w v healing reached steady seqs only held = record {
@@ -45,7 +45,7 @@ steady_changes h m x w v healing reached steady seqs only held = record {
   leases = λ y z other is. subst (HoldsLease v y z) (seqs z) (held y z is).lease;
 }
 
--- an ask in vain
+-- an ask in vain is such a change
 pub vain_changes : (h : Header) (m x q : ℕ) (w : World) (o : Plan) (r : Run) → IsHealing h m w → IsLoose h w x → (x ≡ q → ⊥) → AsksInVain h w x q o r → ChangesAt h x w r.world
 vain_changes h m x q w o r healing loose other vain = record {
   reached = vain.reached;
@@ -82,7 +82,7 @@ lease_came h x q w o r reached came =
     ∙ (ap (λ b. leased_by (if b then put (table_of w q) born else table_of w q) q x) news
     ∙ (ap (lease_number q) (newest-put_same (table_of w q) born x refl) ∙ ap (λ b. if b then Some (seq_of w x + 1) else None) (eq-eqb q q refl)))
 
--- and one that is granted
+-- a granted ask is a change at x
 pub came_changes : (h : Header) (m x q : ℕ) (w : World) (o : Plan) (r : Run) → IsHealing h m w → IsLoose h w x → (x ≡ q → ⊥) → IsUp w x → ComesBeneath h w x q o r → ChangesAt h x w r.world
 came_changes h m x q w o r healing loose other up_x came = record {
   reached = came.reached;
@@ -109,7 +109,7 @@ came_changes h m x q w o r healing loose other up_x came = record {
       (λ (same : q ≡ y). subst (Stays w r.world) same (stays_same w r.world q (came.up q) (ap (λ (k : Core). k.mode) came.host) (ap (λ (k : Core). k.seq) came.host)))
       (λ not_host. stays_core w r.world y (came.up y) (ap core_of (came.others y apart not_host))) (cases_eq q y)
 
-  -- a lease that was there and is current is not one of x
+  -- an old lease that is current is not one of x
   elsewhere : (y z s : ℕ) → IsUp w y → z ≤ h.chain → HoldsLease w y z s → IsCurrent r.world y z s
   elsewhere y z s up member was =
       let is : IsCurrent w y z s = healing.current y z s up member was in
@@ -124,7 +124,7 @@ came_changes h m x q w o r healing loose other up_x came = record {
       (λ apart. elsewhere q z s (sym (came.up q) ∙ up) member (sym (leased_merge_other (table_of w q) born q z apart) ∙ (ap (λ (t : List Cert). leased_by t q z) (sym came.table) ∙ leased)))
       (cases_eq x z)
 
--- then x is placed where its host is
+-- x is in place where its host is
 pub came_held : (h : Header) (m x q : ℕ) (w : World) (o : Plan) (r : Run) → IsHealing h m w → IsUp w x → IsUp w q → ComesBeneath h w x q o r → IsHeld r.world q x
 came_held h m x q w o r healing up_x up_q came = record {
   host = came.up q ∙ up_q;

@@ -1,4 +1,4 @@
--- The worlds that events reach from a new one, and that acts lead from one to another.
+-- The worlds that events reach from a new one, and the worlds to which acts lead from such a world.
 use Rattle.std.proofs.Common.{◌≡◌, List, [], ◌∷◌, ◌++◌, refl, ap, sym, subst, ◌∙◌}
 use Rattle.oc_model.specs.declared.event.Act.{Act}
 use Rattle.oc_model.specs.declared.event.Event.{Event}
@@ -27,11 +27,11 @@ reached_event h w e reached = record { events = reached.events ++ e ∷ []; is =
 pub reached_act : (h : Header) (w : World) (a : Act) → Reached h w → Reached h (after_act w a)
 reached_act h w a reached = reached_event h w (Do a) reached
 
--- what holds after all events holds of a world that is reached
+-- a property of each world after any events holds of each reached world
 pub of_reached : (Q : World → Type 0) → ((h : Header) (events : List Event) → Q (world_after (new_world h) events)) → (h : Header) (w : World) → Reached h w → Q w
 of_reached Q holds h w reached = subst Q (sym reached.is) (holds h reached.events)
 
--- and what holds of a world that is reached holds after all events
+-- the converse: a property of each reached world holds after any events
 pub at_reached : (Q : World → Type 0) → ((h : Header) (w : World) → Reached h w → Q w) → (h : Header) (events : List Event) → Q (world_after (new_world h) events)
 at_reached Q holds h events = holds h (world_after (new_world h) events) (reached_after h events)
 

@@ -1,4 +1,4 @@
--- A world that is ready stays so while places and links do.
+-- A ready world stays ready while places and links stay.
 use Rattle.std.proofs.Common.{◌≡◌, ℕ, Bool, true, false, ◌==◌, if◌then◌else◌, Option, Some, None, List, [], ◌∷◌, filter, refl, ap, sym, subst, ◌∙◌, ⊎_elim}
 use Rattle.std.proofs.lemmas.Bool.{cases_eq}
 use Rattle.oc_model.specs.declared.mode.Mode.{Mode}
@@ -22,13 +22,13 @@ chain_stays w v steady x r [] chain = absurd chain
 chain_stays w v steady x r (a ∷ []) chain = (chain.0, chain.1, ((steady x).up ∙ chain.2.0, (steady x).acts chain.2.1))
 chain_stays w v steady x r (a ∷ d ∷ ds) chain = (chain.0, (steady x).up ∙ chain.1, (steady x).joined d chain.2, chain_stays w v steady d r (d ∷ ds) chain.3)
 
--- the first of a chain is up
+-- the first node of a chain is up
 pub chain_first_up : (w : World) (x r : ℕ) (c : List ℕ) → IsTrueChain w x r c → IsUp w x
 chain_first_up w x r [] chain = absurd chain
 chain_first_up w x r (a ∷ []) chain = chain.2.0
 chain_first_up w x r (a ∷ d ∷ ds) chain = chain.1
 
--- and its last acts
+-- the last node of a chain acts as root
 pub chain_root : (w : World) (x r : ℕ) (c : List ℕ) → IsTrueChain w x r c → mode_of w r ≡ Acting
 chain_root w x r [] chain = absurd chain
 chain_root w x r (a ∷ []) chain = subst (λ (y : ℕ). mode_of w y ≡ Acting) chain.1 chain.2.1
@@ -40,7 +40,7 @@ chain_parent_up w x r p [] chain joins = absurd chain
 chain_parent_up w x r p (a ∷ []) chain joins = absurd (acting_alone w x p chain.2.1 joins)
 chain_parent_up w x r p (a ∷ d ∷ ds) chain joins = subst (IsUp w) (joined_once w x d p chain.2 joins) (chain_first_up w d r (d ∷ ds) chain.3)
 
--- every link of a node that is up holds
+-- each link of a node that is up holds
 abbrev pub AreHeld : World → Type 0
 AreHeld w = (x p : ℕ) → IsUp w x → IsJoined w x p → IsHeld w p x
 
@@ -72,9 +72,9 @@ ready_stays h w v r stayed ready = record {
       (leased.0, joins, held.lease);
 }
 
--- Who is up, and who has a parent
+-- Nodes that are up, and nodes with a parent
 
--- tests that say the same leave the same
+-- tests that agree leave the same items of a list
 pub filter_same : (test other : ℕ → Bool) (xs : List ℕ) → ((x : ℕ) → test x ≡ other x) → filter test xs ≡ filter other xs
 filter_same test other [] same = refl
 filter_same test other (x ∷ xs) same = by_test (test x) (other x) (same x) (filter_same test other xs same) where
@@ -89,7 +89,7 @@ up_ids_stay h w v reached stayed =
     let same : ids v ≡ ids w = ids_reached h v stayed.reached ∙ sym (ids_reached h w reached) in
     ap (filter (is_up v)) same ∙ filter_same (is_up v) (is_up w) (ids w) (λ x. (stayed.steady x).up)
 
--- a node has a parent where it had one
+-- a node has a parent exactly where it had one
 pub joined_stays : (w v : World) (x : ℕ) → Stays w v x → is_joined (mode_of v x) ≡ is_joined (mode_of w x)
 joined_stays w v x stays = by_modes (mode_of w x) (mode_of v x) refl refl where
   by_modes : (m n : Mode) → mode_of w x ≡ m → mode_of v x ≡ n → is_joined n ≡ is_joined m
@@ -105,7 +105,7 @@ joined_stays w v x stays = by_modes (mode_of w x) (mode_of v x) refl refl where
   by_modes Acting (Asking q) old new = refl
   by_modes Acting Acting old new = refl
 
--- Chains as they are computed
+-- Computed chains
 
 pub chain_from-finds : (w : World) (x r : ℕ) (c : List ℕ) → IsTrueChain w x r c → chain_from w x ≡ Some c
 chain_from-finds w x r c chain = by_found (chain_from w x) (chain_to-finds w x r c chain) where

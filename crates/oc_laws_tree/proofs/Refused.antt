@@ -1,4 +1,4 @@
--- The refusals of settle and heal, and the effects otherwise.
+-- The refusals of settle and heal, and their effects otherwise.
 use Rattle.std.proofs.Common.{◌≡◌, ◌↔◌, ℕ, Bool, true, false, Option, Some, None, is_some, length, refl, sym}
 use Rattle.std.specs.List.{list_all}
 use Rattle.std.proofs.lemmas.Bool.{and_parts}

@@ -1,4 +1,4 @@
--- Step 1 of heal: the least chain member that is up comes to act as root, after no more events than it asks twice each earlier member.
+-- Step 1 of heal: the least chain member that is up comes to act as root. It asks each earlier member at most twice.
 use Rattle.std.proofs.Common.{◌≡◌, ℕ, zero, suc, ◌+◌, ◌-◌, ◌*◌, ◌<◌, ◌≤◌, Bool, true, false, not, ◌&&◌, ◌==◌, if◌then◌else◌, Option, Some, None, List, [], ◌∷◌, ◌⊎◌, inl, inr, length, refl, ap, sym, subst, ◌∙◌, ⊎_elim, arith, ne_eqb, eq-eqb, length-append}
 use Rattle.std.proofs.lemmas.Bool.{cond_both}
 use Rattle.oc_model.specs.declared.answer.Answer.TheVariants as words
@@ -30,7 +30,7 @@ use Rattle.oc_laws_tree.proofs.LineHolds.{in_line, is_member_of}
 use Rattle.oc_laws_tree.proofs.Reached.{Reached, reached_act}
 use Rattle.oc_laws_tree.proofs.Spans.{IsId, up_id}
 
--- the events that a chain member needs to act at most: by its mode, whether it is silent, how many it has to try, and its id
+-- the most events that a chain member needs to act as root: by its mode, whether it is silent, the number of tries, and its id
 abbrev left : Mode → Bool → ℕ → ℕ → ℕ
 left modes.Acting silent tries me = 0
 left modes.Idle silent tries me = me
@@ -41,7 +41,7 @@ left (modes.Asking p) false tries me = tries + 1 + me
 abbrev pub left_of : Control → ℕ
 left_of n = left n.kept.mode n.soft.silent (length n.soft.tries) n.me
 
--- after an event no more than this are left; the ask number and the epoch rise by one at most
+-- at most this number of events is left after an event; the ask number and the epoch rise by at most one
 record HasRisen (n : Control) (most : ℕ) (m : Control) : Type 0 where
   few : left_of m ≤ most
   seq : m.kept.seq ≤ n.kept.seq + 1
@@ -53,7 +53,7 @@ record CanAsk (n : Control) : Type 0 where
   member : is_member n ≡ true
   more : (n.kept.seq == number_end) ≡ false
 
--- the tries that are left, with a fresh round after them where it is not silent
+-- the remaining tries, and a fresh round after them where the node is not silent
 abbrev tries_left : Bool → ℕ → ℕ → ℕ
 tries_left true tries me = tries
 tries_left false tries me = tries + me
@@ -85,7 +85,7 @@ risen_next : (o : Plan) → CanAsk o.node → HasRisen o.node (tries_left o.node
 risen_next o can = cond_both (o.node.me == 1) (act o) (try_first o.node.soft.tries o) (λ (q : Plan). HasRisen o.node (tries_left o.node.soft.silent (length o.node.soft.tries) o.node.me) q.node)
     (λ _. risen_acting o _) (λ _. risen_first o.node.soft.tries o can)
 
--- a round leaves fewer than the id
+-- fewer events than the id are left after a round
 risen_round : (o : Plan) (without : Option ℕ) → CanAsk o.node → HasRisen o.node (o.node.me - 1) (round o without).node
 risen_round o without can =
     let tried : Plan = set_tries o without in
@@ -95,7 +95,7 @@ risen_round o without can =
 
 -- One event
 
--- what is so of the place of a node that lost its parent is so of that node
+-- the loss of a parent by a node in this mode
 lost_to : (n : Control) (m : Mode) → n.kept.mode ≡ m → lost_from m (begun n) ≡ write (begun n) records.Lost → lost (begun n) ≡ write (begun n) records.Lost
 lost_to n m e fallen = ap (λ k. lost_from k (begun n)) e ∙ fallen
 
@@ -106,7 +106,7 @@ module _ (n : Control) (some : 1 ≤ n.me) (member : is_member n ≡ true) (more
   abbrev fallen : Plan
   fallen = write (begun n) records.Lost
 
-  -- where it is idle it checks
+  -- the check of an idle node
   risen_check : n.kept.mode ≡ modes.Idle → HasRisen n (left_of n - 1) (checks (begun n)).node
   risen_check idle =
       let o : Plan = with_soft (begun n) (record n.soft { due = Some (next_check n) }) in
@@ -114,7 +114,7 @@ module _ (n : Control) (some : 1 ≤ n.me) (member : is_member n ≡ true) (more
       subst (λ (m : Mode). HasRisen n (left_of n - 1) (checks_as m o).node) (sym idle)
       (fewer n modes.Idle (n.me - 1) (round o None).node idle (omega arith) record { few = risen.few; seq = risen.seq; epoch = risen.epoch })
 
-  -- else it does not reach its peer
+  -- the lost peer of a node that is not idle
   risen_asking : (p : ℕ) → n.kept.mode ≡ modes.Asking p → HasRisen n (left_of n - 1) (unreachable (begun n) p).node
   risen_asking p asks =
       let gone : lost (begun n) ≡ fallen = lost_to n (modes.Asking p) asks refl in
@@ -136,9 +136,9 @@ module _ (n : Control) (some : 1 ≤ n.me) (member : is_member n ≡ true) (more
       subst (λ (q : Plan). HasRisen n (left_of n - 1) q.node) (sym goes)
       (fewer n (modes.Joined p) (n.me - 1) (round fallen (Some p)).node joins (omega arith) record { few = risen.few; seq = risen.seq; epoch = risen.epoch })
 
--- In a world
+-- Events in a world
 
--- after events at m alone
+-- the world after events at m alone
 pub record HasRisenTo (h : Header) (w : World) (m most : ℕ) (v : World) : Type 0 where
   pub reached : Reached h v
   pub up : (y : ℕ) → is_up v y ≡ is_up w y
@@ -146,7 +146,7 @@ pub record HasRisenTo (h : Header) (w : World) (m most : ℕ) (v : World) : Type
   pub seq : seq_of v m ≤ seq_of w m + most
   pub epoch : epoch_in (own_rank v m) ≤ epoch_in (own_rank w m) + most
 
--- one of them
+-- the world after one of these events
 record RisesOnce (h : Header) (w : World) (m : ℕ) (r : Run) : Type 0 where
   acts : length r.acts ≡ 1
   to : HasRisenTo h w m 1 r.world
@@ -182,9 +182,9 @@ rises_once h w m reached up some member below other = by_mode (mode_of w m) refl
   by_mode (modes.Joined p) e = goes_once h w m (inputs.Unreachable p) (acts.At m (inputs.Unreachable p)) refl reached up (risen_joined (control_of w m) first member more p e)
   by_mode modes.Acting e = absurd (other e)
 
--- All of them
+-- All events
 
--- who needs no more events acts, if it has an id
+-- a node that needs no more events acts as root, if its id is at least 1
 none_left : (m : Mode) (silent : Bool) (tries me : ℕ) → 1 ≤ me → left m silent tries me ≡ 0 → m ≡ modes.Acting
 none_left modes.Acting silent tries me some e = refl
 none_left modes.Idle silent tries me some e = absurd (omega (arith, some, e))
@@ -198,13 +198,13 @@ acts_or_not modes.Idle = inr (λ e. absurd cc)
 acts_or_not (modes.Asking p) = inr (λ e. absurd cc)
 acts_or_not (modes.Joined p) = inr (λ e. absurd cc)
 
--- m acts, after this many events at most
+-- m acts as root after at most this number of events
 pub record ComesToAct (h : Header) (w : World) (m most : ℕ) (r : Run) : Type 0 where
   pub few : length r.acts ≤ most
   pub to : HasRisenTo h w m most r.world
   pub root : mode_of r.world m ≡ modes.Acting
 
--- who acts rests
+-- a node that acts as root rests
 rises_rest : (n m : ℕ) (w : World) → mode_of w m ≡ modes.Acting → rises_in n m w ≡ rests w
 rises_rest zero m w acts = refl
 rises_rest (suc n) m w acts = ap (λ (k : Mode). and_then (rises k m w) (rises_in n m)) acts ∙ rises_rest n m w acts
@@ -216,7 +216,7 @@ rested h w m k r reached acts e = subst (ComesToAct h w m k) (sym e) record {
   root = acts;
 }
 
--- one event, and then the others
+-- one event, and then the rest of them
 risen_then : (h : Header) (w : World) (m j : ℕ) (first : Run) (f : World → Run) → RisesOnce h w m first → ComesToAct h first.world m j (f first.world) → ComesToAct h w m (j + 1) (and_then first f)
 risen_then h w m j first f once rest = record {
   few = omega (arith, length-append first.acts (f first.world).acts, once.acts, rest.few);
@@ -251,7 +251,7 @@ rises_all h (suc n) m k w reached up member room few within = ⊎_elim
       restore : (j : ℕ) → 1 ≤ j → j - 1 + 1 ≡ j
       restore j some = omega arith
 
--- it asks each earlier member twice at most
+-- a node needs at most twice as many events as its id says
 left_most : (m : Mode) (silent : Bool) (tries me : ℕ) → 1 ≤ me → tries ≤ me - 1 → left m silent tries me ≤ 2 * me
 left_most modes.Acting silent tries me some few = omega arith
 left_most modes.Idle silent tries me some few = omega arith
@@ -259,7 +259,7 @@ left_most (modes.Joined p) silent tries me some few = omega arith
 left_most (modes.Asking p) true tries me some few = omega (arith, some, few)
 left_most (modes.Asking p) false tries me some few = omega (arith, some, few)
 
--- step 1
+-- step 1 makes the least member a root
 pub comes_to_act_root : (h : Header) (w : World) (m : ℕ) → Reached h w → IsUp w m → m ≤ h.chain → seq_of w m + 2 * m ≤ number_end → ComesToAct h w m (2 * m) (comes_to_act m w)
 comes_to_act_root h w m reached up member room =
     let id : IsId h m = up_id h w m reached up in

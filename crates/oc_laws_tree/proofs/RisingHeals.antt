@@ -1,4 +1,5 @@
--- Ids in their order: the first is the least, the last the greatest, and parts of a list are no longer than it.
+-- Lists of ids in ascending order: the first id is the least, the last the greatest, and a part of a list is no longer than the
+-- list.
 use Rattle.std.proofs.Common.{◌≡◌, ℕ, zero, suc, ◌+◌, ◌<◌, ◌≤◌, Bool, true, false, not, if◌then◌else◌, Some, List, [], ◌∷◌, ◌++◌, ◌⊎◌, inl, inr, filter, length, refl, ap, sym, ⊎_elim, arith}
 use Rattle.std.specs.List.{range_with_len}
 use Rattle.std.proofs.lemmas.Bool.{cond_both}
@@ -7,7 +8,7 @@ use Rattle.oc_model.proofs.Members.{of_filter}
 use Rattle.oc_model.specs.Numbers.{first_of, last_of}
 use Rattle.oc_laws_tree.proofs.Spans.{of_range}
 
--- each is less than all after it
+-- each id is less than all after it
 abbrev pub IsRising : List ℕ → Type 0
 IsRising [] = Unit {0}
 IsRising (x ∷ xs) = ((q : ℕ) → IsOneOf q xs → x < q) × IsRising xs
@@ -21,14 +22,14 @@ filter_rises test [] rising = tt
 filter_rises test (x ∷ xs) rising = cond_both (test x) (x ∷ filter test xs) (filter test xs) IsRising
     (λ _. (λ q one. rising.0 q (of_filter test xs q one).1, filter_rises test xs rising.1)) (λ _. filter_rises test xs rising.1)
 
--- the first is one of them, and the least
+-- the first id is one of the list, and the least
 pub first_least : (xs : List ℕ) (m : ℕ) → IsRising xs → first_of xs ≡ Some m → IsOneOf m xs × ((q : ℕ) → IsOneOf q xs → m ≤ q)
 first_least [] m rising e = absurd cc
 first_least (x ∷ xs) m rising e =
     let same : x ≡ m = cc in
     (inl (sym same), λ q one. ⊎_elim (λ is. omega (arith, is, same)) (λ later. let less : x < q = rising.0 q later in omega (arith, less, same)) one)
 
--- the last is one of them where there are any
+-- the last id is one of the list if there are any
 last_one : (d : ℕ) (xs : List ℕ) → (last_of d xs ≡ d) ⊎ IsOneOf (last_of d xs) xs
 last_one d [] = inl refl
 last_one d (x ∷ xs) = ⊎_elim (λ same. inr (inl same)) (λ later. inr (inr later)) (last_one x xs)
@@ -37,7 +38,7 @@ pub last_in : (d : ℕ) (xs : List ℕ) (q : ℕ) → IsOneOf q xs → IsOneOf (
 last_in d [] q one = absurd one
 last_in d (x ∷ xs) q one = ⊎_elim (λ same. inl same) (λ later. inr later) (last_one x xs)
 
--- and the greatest
+-- the last id is the greatest
 pub last_greatest : (d : ℕ) (xs : List ℕ) (q : ℕ) → IsRising xs → IsOneOf q xs → q ≤ last_of d xs
 last_greatest d [] q rising one = absurd one
 last_greatest d (x ∷ xs) q rising (inl same) = ⊎_elim (λ is. omega (arith, same, is)) (λ later. let less : x < last_of x xs = rising.0 (last_of x xs) later in omega (arith, same, less)) (last_one x xs)
@@ -49,7 +50,7 @@ pub filter_short : (test : ℕ → Bool) (xs : List ℕ) → length (filter test
 filter_short test [] = omega arith
 filter_short test (x ∷ xs) = cond_both (test x) (x ∷ filter test xs) (filter test xs) (λ ys. length ys ≤ length (x ∷ xs)) (λ _. omega (arith, filter_short test xs)) (λ _. omega (arith, filter_short test xs))
 
--- fewer pass a test that is harder
+-- fewer items pass a harder test
 pub filter_fewer : (hard easy : ℕ → Bool) (xs : List ℕ) → ((x : ℕ) → hard x ≡ true → easy x ≡ true) → length (filter hard xs) ≤ length (filter easy xs)
 filter_fewer hard easy [] implies = omega arith
 filter_fewer hard easy (x ∷ xs) implies = by_tests (hard x) (easy x) (implies x) (filter_fewer hard easy xs implies) where
@@ -59,7 +60,7 @@ filter_fewer hard easy (x ∷ xs) implies = by_tests (hard x) (easy x) (implies 
   by_tests false true implied rest = omega (arith, rest)
   by_tests false false implied rest = rest
 
--- one of two lists in a row
+-- an item of the first of two lists is an item of both in a row
 pub one_left : (x : ℕ) (xs ys : List ℕ) → IsOneOf x xs → IsOneOf x (xs ++ ys)
 one_left x [] ys one = absurd one
 one_left x (z ∷ zs) ys (inl same) = inl same
@@ -81,7 +82,8 @@ filter-append test (x ∷ xs) ys = by_test (test x) (filter-append test xs ys) w
   by_test true rest = ap (λ zs. x ∷ zs) rest
   by_test false rest = rest
 
--- those of one part that pass two tests, and those of the other that pass one, are no more than those of the whole that do
+-- the items of one part that pass two tests, and those of the other part that pass one, are at most as many as the items of the
+-- whole that pass that one
 pub parts_fewer : (test past part : ℕ → Bool) (xs : List ℕ) → length (filter test (filter past (filter part xs))) + length (filter test (filter (λ x. not (part x)) xs)) ≤ length (filter test xs)
 parts_fewer test past part [] = omega arith
 parts_fewer test past part (x ∷ xs) = by_part (part x) (parts_fewer test past part xs) where

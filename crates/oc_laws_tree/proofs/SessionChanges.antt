@@ -32,7 +32,7 @@ use Rattle.oc_laws_tree.proofs.SessionsHold.{IsToldIn, SessionsHold, Session, Is
 
 -- Messages
 
--- one message more that is neither a check-in nor an acknowledgement
+-- one more message that is neither a check-in nor an acknowledgement
 and_other : (w : World) (x : ℕ) (n : Control) (ms : List Message) (p : ℕ) (b : Body) → IsNoCheckIn b → IsNoAck b → IsInSession w x n ms → IsInSession w x n (and_sent n ms p b)
 and_other w x n ms p b no_check_in no_ack h =
     let m : Message = record { from = n.me; to = p; body = b } in
@@ -50,7 +50,7 @@ and_other w x n ms p b no_check_in no_ack h =
       acked = λ z e upto a. h.acked z e upto (ack_among ms m no_ack x z (seq_of w z) upto a);
     }
 
--- a check-in more, of a node that is joined
+-- one more check-in, of a node that is joined
 and_checked_in : (w : World) (x : ℕ) (n : Control) (ms : List Message) (p rate : ℕ) → n.kept.mode ≡ modes.Joined p → IsInSession w x n ms
     → IsInSession w x n (and_sent n ms p (bodies.CheckIn n.kept.seq (place_after n.kept.log) rate n.kept.number n.kept.clients (next_certs n.kept.log)))
 and_checked_in w x n ms p rate joined h = record {
@@ -69,7 +69,7 @@ and_checked_in w x n ms p rate joined h = record {
   m : Message
   m = record { from = n.me; to = p; body = bodies.CheckIn n.kept.seq (place_after n.kept.log) rate n.kept.number n.kept.clients (next_certs n.kept.log) }
 
-  -- it tells all that come before its place
+  -- a check-in tells all facts before its place
   all_told : (y upto : ℕ) (certs : List Cert) → (n.kept.seq ≡ n.kept.seq) × (place_after n.kept.log ≡ upto) × (next_certs n.kept.log ≡ certs)
       → HoldsBefore n.kept.log upto (IsToldIn (table_with w x n.kept.table y) certs)
   all_told y upto certs e =
@@ -77,7 +77,7 @@ and_checked_in w x n ms p rate joined h = record {
       (subst (λ (cs : List Cert). HoldsBefore n.kept.log upto (λ f. IsAmong f cs)) e.2
       (subst (λ (place : ℕ). HoldsBefore n.kept.log place (λ f. IsAmong f (next_certs n.kept.log))) e.1 (before_next n.kept.log h.whole)))
 
--- an acknowledgement more, of a check-in of which the node knows all
+-- one more acknowledgement, of a check-in all of whose facts the node knows
 and_acknowledged : (w : World) (x : ℕ) (n : Control) (ms : List Message) (p s upto rate number clients : ℕ) (certs : List Cert) → SessionsHold w
     → HasSent w x p (bodies.CheckIn s upto rate number clients certs) → AllByRecursion (Knows n.kept.table) (life p s n.me number clients ∷ certs) → (r : Rank) (ancestors : List ℕ)
     → IsInSession w x n ms → IsInSession w x n (and_sent n ms p (bodies.CheckAck s upto r ancestors))
@@ -103,7 +103,7 @@ and_acknowledged w x n ms p s upto rate number clients certs holds sent all r an
   knows : (f : Cert) → IsAmong f certs → Knows n.kept.table f
   knows f among = all_among (Knows n.kept.table) (life p s n.me number clients ∷ certs) f all (inr among)
 
-  -- of a node that is its own parent
+  -- the case of a node that is its own parent
   of_own : (y : ℕ) → n.kept.mode ≡ modes.Joined y → (place : ℕ) → IsAck m y x n.kept.seq place → HoldsBefore n.kept.log place (Knows (table_with w x n.kept.table y))
   of_own y e place new =
       let self : x ≡ y = sym h.me ∙ ap (λ (l : Message). l.from) new.2 in
@@ -116,9 +116,9 @@ and_acknowledged w x n ms p s upto rate number clients certs holds sent all r an
       before_weaker (log_of w z) place (IsToldIn (table_of w x) certs) (Knows n.kept.table) (λ f. ⊎_elim (λ among. knows f among) (λ k. h.grows f k))
       (holds.tells z x e place certs (checked_in x z (seq_of w z) place new))
 
--- The changes
+-- Changes
 
--- a certificate comes into the table, and into the log of a node that is joined
+-- a certificate is added to the table, and to the log of a node that is joined
 and_entered : (w : World) (x : ℕ) (n : Control) (ms : List Message) (c : Cert) → IsInSession w x n ms → IsInSession w x (with_kept n (entered n.kept c)) ms
 and_entered w x n ms c h = record {
   me = h.me;
@@ -145,7 +145,7 @@ and_entered w x n ms c h = record {
   by_row y e f (inl old) = ⊎_elim (λ k. inl (keeps y f k)) (λ waits. inr (among_noted n.kept.mode y n.kept.log c f e (inl waits))) (h.rows y e f old)
   by_row y e f (inr new) = inr (among_noted n.kept.mode y n.kept.log c f e (inr new))
 
--- the log is acknowledged up to a place, before which the parent knows all
+-- the log is acknowledged up to a place, and the parent knows all facts before it
 and_acked : (w : World) (x : ℕ) (n : Control) (ms : List Message) (p place : ℕ) (r : Rank) (xs : List ℕ)
     → HasSent w x p (bodies.CheckAck n.kept.seq place r xs) → n.kept.mode ≡ modes.Joined p → is_ahead n.kept.log place ≡ true
     → IsInSession w x n ms → IsInSession w x (with_kept n (record n.kept { log = ack n.kept.log place })) ms
@@ -169,7 +169,7 @@ and_acked w x n ms p place r xs sent joined ahead h = record {
       inl ((h.known y e place (inl (r, xs, subst (λ (q : ℕ). HasSent w x q (bodies.CheckAck n.kept.seq place r xs)) parent sent))).1 f stood)
   by_place y e f (inr waits) = inr waits
 
--- the parent is lost, and another is asked or none: there is no log
+-- the parent is lost and another node is asked or none, so the log is empty
 and_parted : (w : World) (x : ℕ) (n : Control) (ms : List Message) (seq : ℕ) (mode : Mode)
     → n.kept.seq ≤ seq → ((p : ℕ) → mode ≡ modes.Joined p → ⊥) → ((p : ℕ) → mode ≡ modes.Asking p → n.kept.seq < seq)
     → IsInSession w x n ms → Session w x n.me seq mode n.kept.table empty_log ms
@@ -187,7 +187,7 @@ and_parted w x n ms seq mode most apart asking h = record {
   acked = h.acked;
 }
 
--- the node that asked becomes a child, whose whole table waits
+-- the node that asked becomes a child, and its whole table waits
 and_joined : (w : World) (x : ℕ) (n : Control) (ms : List Message) (p : ℕ) → n.kept.mode ≡ modes.Asking p → SessionsHold w → IsInSession w x n ms
     → Session w x n.me n.kept.seq (modes.Joined p) n.kept.table (begun_with n.kept.table) ms
 and_joined w x n ms p asking holds h = record {
@@ -207,7 +207,7 @@ and_joined w x n ms p asking holds h = record {
   unanswered y upto (inl old) = let k = holds.answered y x n.kept.seq upto old in h.silent p asking y upto k.0 (inl k.1)
   unanswered y upto (inr new) = let k = h.answered y x n.kept.seq upto new in h.silent p asking y upto k.0 (inl k.1)
 
--- what was sent is lost
+-- the sent messages are lost
 and_dropped : (w : World) (x : ℕ) (n : Control) (ms : List Message) → IsInSession w x n ms → IsInSession w x n []
 and_dropped w x n ms h = record {
   me = h.me;
@@ -230,7 +230,7 @@ and_dropped w x n ms h = record {
   acknowledgement y upto (inl old) = inl old
   acknowledgement y upto (inr none) = absurd (none.2)
 
--- each small change carries the laws
+-- each small change keeps the laws
 pub in_session : (w : World) (x : ℕ) → SessionsHold w → IsMachine (HasSent w x) (IsInSession w x)
 in_session w x holds = record {
   soft = λ n ms s h. h;

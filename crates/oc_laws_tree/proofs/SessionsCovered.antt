@@ -1,4 +1,5 @@
--- What the laws of sessions and of coverage say of each world in words of what is covered, as a known fact is that is anywhere.
+-- The laws of sessions and of coverage for each world in terms of covered facts, since a known fact that is anywhere is
+-- covered.
 use Rattle.std.proofs.Common.{◌≡◌, ℕ, ◌-◌, Bool, true, false, Option, Some, None, ◌⊎◌, subst, inl, inr, refl, ap, sym, ⊎_elim, arith, ◌∙◌}
 use Rattle.std.proofs.lemmas.Bool.{cond_both}
 use Rattle.oc_base.specs.declared.cert.Cert.{Cert}
@@ -19,30 +20,30 @@ use Rattle.oc_laws_tree.proofs.Known.{Knows}
 use Rattle.oc_laws_tree.proofs.LogPlaces.{among_take}
 use Rattle.oc_laws_tree.proofs.SessionsHold.{SessionsHold}
 
--- what the laws say, without the tables
+-- the laws that speak of no table
 pub check_ins_numbered : (w : World) → SessionsHold w → CheckInsAreNumbered w
 check_ins_numbered w holds = holds.numbered
 
 pub acks_answer : (w : World) → SessionsHold w → AcksAnswer w
 acks_answer w holds = holds.answered
 
--- an acknowledgement would answer a check-in, and there is none
+-- an acknowledgement to a node that asks would answer a check-in that was never sent
 pub askers_new : (w : World) → SessionsHold w → AskersAreNew w
 askers_new w holds x p asking = (holds.silent x p asking, λ y upto a. let k = holds.answered y x (seq_of w x) upto a in holds.silent x p asking y upto k.0 k.1)
 
 pub acked_within : (w : World) → SessionsHold w → AckedAreWithin w
 acked_within w holds x = let whole = holds.whole x in omega (arith, whole)
 
--- that a table covers what it knows, of facts that are anywhere
+-- each table covers the facts anywhere that it knows
 abbrev pub CoversKnown : World → Type 0
 CoversKnown w = (y : ℕ) (f : Cert) → IsAnywhere w f → Knows (table_of w y) f → IsCovered (table_of w y) f
 
 module _ (w : World) (covers : CoversKnown w) (holds : SessionsHold w) where
-  -- a fact of a log is somewhere
+  -- a known fact of a log is covered, since it is in a log
   covers_logged : (x y place : ℕ) (f : Cert) → IsAmong f (before_place (log_of w x) place) → Knows (table_of w y) f → IsCovered (table_of w y) f
   covers_logged x y place f among known = covers y f (inr (inl (x, among_take f (place - (log_of w x).acked) (log_of w x).waiting among))) known
 
-  -- so what is known is covered
+  -- a known fact is covered, so each check-in tells
   pub check_ins_tell : CheckInsTell w
   check_ins_tell x y upto certs joined a =
       let told = holds.tells x y joined upto certs a in
@@ -56,12 +57,12 @@ module _ (w : World) (covers : CoversKnown w) (holds : SessionsHold w) where
   pub children_covered : ChildrenAreCovered w
   children_covered x y f joined among = ⊎_elim (λ known. inl (covers y f (inl (x, among)) known)) (λ waits. inr (f, waits, inl refl)) (holds.rows x y f joined among)
 
--- a node that starts or stops keeps its log, and all others keep theirs
+-- a node that starts or stops keeps its log, and so does every other node
 log_again : (w : World) (z x : ℕ) (up : Bool) → log_of (again w z up) x ≡ log_of w x
 log_again w z x up = at_put w.processes (anew w z up) (λ (m : Node). m.control.kept.log ≡ log_of w x) x
     (λ e. ap (λ (y : ℕ). log_of w y) (sym (process_in-me w.processes z) ∙ e)) refl
 
--- two processes of x that keep one log leave the same logs, put over one that is up
+-- two processes of x with the same log leave the same logs, put in the place of one that is up
 log_put : (w : World) (x y : ℕ) (p q : Process) → (process w x).up ≡ true → p.node.control.me ≡ x → q.node.control.me ≡ x → p.node.control.kept.log ≡ q.node.control.kept.log
     → log_of (record w { processes = with_process w.processes p }) y ≡ log_of (record w { processes = with_process w.processes q }) y
 log_put w x y p q up is_p is_q same =
@@ -71,7 +72,7 @@ log_put w x y p q up is_p is_q same =
       up_at : (r : Process) → r.node.control.me ≡ x → (process_in w.processes r.node.control.me).up ≡ true
       up_at r is = subst (λ (z : ℕ). (process_in w.processes z).up ≡ true) (sym is) up
 
--- a stop inside an input leaves what was there, or what the input leaves
+-- a stop within an input leaves the old log, or the log after the input
 log_cut : (b : Bool) (w : World) (x y : ℕ) (i : Input) → (process w x).up ≡ true → (log_of (cut_off b w (node w x) i (step (node w x) i)) y ≡ log_of w y)
     ⊎ (log_of (cut_off b w (node w x) i (step (node w x) i)) y ≡ log_of (stepped w i (step (node w x) i)) y)
 log_cut false w x y i up = inl (log_again w x y false)
@@ -89,7 +90,7 @@ log_stopped w calls image y (Some a) = by_up (process w a.at).up refl where
   by_up true e = rw e (log_cut kept w a.at y a.input e)
   by_up false e = rw e (inl refl)
 
--- restarts keep all logs
+-- starts and stops keep all logs
 pub restarts_keep : (w : World) → RestartsKeepLogs w
 restarts_keep w = record {
   starts = λ z x. cond_both (process w z).up w (again w z true) (λ (v : World). log_of v x ≡ log_of w x) (λ _. refl) (λ _. log_again w z x true);

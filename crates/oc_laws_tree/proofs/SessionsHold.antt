@@ -1,5 +1,5 @@
--- What the laws of sessions and of coverage say, in words of what tables know: what a child told its parent and what the parent
--- acknowledged the parent knows, and what the child knows the parent knows too, or it waits in the child's log.
+-- The laws of sessions and of coverage in terms of known facts: a parent knows the facts that its child told it and that it
+-- acknowledged; and it knows each fact that its child knows, or the fact waits in the child's log.
 use Rattle.std.proofs.Common.{◌≡◌, ℕ, ◌≤◌, List, ◌⊎◌}
 use Rattle.std.specs.List.{AllByRecursion}
 use Rattle.oc_base.specs.declared.cert.Cert.{Cert}
@@ -16,27 +16,27 @@ use Rattle.oc_laws_tree.proofs.Known.{Knows, table_with}
 use Rattle.oc_laws_tree.proofs.CheckMessages.{HasCheckedInNow, HasAcknowledgedNow}
 use Rattle.oc_laws_tree.proofs.LogPlaces.{IsWhole, HoldsBefore}
 
--- a fact that was told in these, or that this table knows
+-- a fact that these certificates tell or that this table knows
 abbrev pub IsToldIn : List Cert → List Cert → Cert → Type 0
 IsToldIn t certs f = IsAmong f certs ⊎ Knows t f
 
--- what the laws say of a world
+-- the laws of sessions and of coverage in a world
 pub record SessionsHold (w : World) : Type 0 where
   pub numbered : CheckInsAreNumbered w
   pub answered : AcksAnswer w
-  -- who asks has not checked in by the number of its ask
+  -- a node that asks has not checked in with its present ask number
   pub silent : (x p : ℕ) → mode_of w x ≡ modes.Asking p → (y upto : ℕ) (certs : List Cert) → HasCheckedIn w x y (seq_of w x) upto certs → ⊥
   pub whole : (x : ℕ) → IsWhole (log_of w x)
-  -- what comes before the place of a check-in with the parent is in it, or the parent knows it
+  -- each fact before the place of a check-in with the parent is in the check-in, or the parent knows the fact
   pub tells : (x y : ℕ) → IsJoined w x y → (upto : ℕ) (certs : List Cert) → HasCheckedIn w x y (seq_of w x) upto certs
       → HoldsBefore (log_of w x) upto (IsToldIn (table_of w y) certs)
-  -- and what comes before an acknowledged place the parent knows
+  -- the parent knows each fact before an acknowledged place
   pub known : (x y : ℕ) → IsJoined w x y → (upto : ℕ) → HasAcknowledged w y x (seq_of w x) upto → HoldsBefore (log_of w x) upto (Knows (table_of w y))
-  -- what a child knows its parent knows, or it waits
+  -- the parent knows each fact of its child, or the fact waits
   pub rows : (x y : ℕ) (f : Cert) → IsJoined w x y → IsAmong f (table_of w x) → Knows (table_of w y) f ⊎ IsAmong f (log_of w x).waiting
 
--- what the laws say of the node x in the middle of a change of this world: as a child, and as a parent of others, whose check-ins
--- came before. This is all of the node that they speak of
+-- the laws for the node x in the middle of a change of this world, both as a child and as a parent of others, whose check-ins
+-- came before. They speak of no other part of the node
 pub record Session (w : World) (x id seq : ℕ) (mode : Mode) (table : List Cert) (log : Log) (ms : List Message) : Type 0 where
   pub me : id ≡ x
   pub own : AllByRecursion (λ m. m.from ≡ x) ms
@@ -47,7 +47,7 @@ pub record Session (w : World) (x id seq : ℕ) (mode : Mode) (table : List Cert
       → HoldsBefore log upto (IsToldIn (table_with w x table y) certs)
   pub known : (y : ℕ) → mode ≡ modes.Joined y → (upto : ℕ) → HasAcknowledgedNow w ms y x seq upto → HoldsBefore log upto (Knows (table_with w x table y))
   pub rows : (y : ℕ) → mode ≡ modes.Joined y → (f : Cert) → IsAmong f table → Knows (table_with w x table y) f ⊎ IsAmong f log.waiting
-  -- the table forgets nothing, and each acknowledgement answers a check-in that came before, and whose facts it now knows
+  -- the table forgets nothing, and each acknowledgement answers an earlier check-in whose facts the table now knows
   pub grows : (f : Cert) → Knows (table_of w x) f → Knows table f
   pub answered : (y z s upto : ℕ) → HasAcknowledgedAmong ms y z s upto → (certs : List Cert) × HasCheckedIn w z y s upto certs
   pub acked : (z : ℕ) → IsJoined w z x → (upto : ℕ) → HasAcknowledgedAmong ms x z (seq_of w z) upto → HoldsBefore (log_of w z) upto (Knows table)

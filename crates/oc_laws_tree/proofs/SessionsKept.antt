@@ -1,4 +1,4 @@
--- The laws of sessions and of coverage are a law of every run, and they hold of a new world.
+-- The laws of sessions and of coverage hold of a new world, and every run keeps them.
 use Rattle.std.proofs.Common.{◌≡◌, ℕ, ◌≤◌, List, [], ◌⊎◌, inl, inr, ap, sym, subst, ⊎_elim, arith}
 use Rattle.std.specs.List.{range_with_len}
 use Rattle.oc_base.specs.declared.cert.Cert.{Cert}
@@ -18,7 +18,7 @@ use Rattle.oc_laws_tree.proofs.LogPlaces.{IsWhole, HoldsBefore, before_weaker}
 use Rattle.oc_laws_tree.proofs.SessionsHold.{IsToldIn, SessionsHold, IsInSession}
 use Rattle.oc_laws_tree.proofs.SessionChanges.{in_session}
 
--- before the change
+-- the laws hold for x before the change
 session_begins : (w : World) (x : ℕ) → SessionsHold w → IsInSession w x (control_of w x) []
 session_begins w x holds = record {
   me = process_in-me w.processes x;
@@ -42,7 +42,7 @@ session_begins w x holds = record {
   acknowledgement y upto (inl old) = old
   acknowledgement y upto (inr none) = absurd (none.2)
 
--- after it the laws hold
+-- the laws hold of the world after the change
 session_ends : (w v : World) (x : ℕ) (n : Control) (ms : List Message) → SessionsHold w → Becomes w x n ms v → IsInSession w x n ms → SessionsHold v
 session_ends w v x n ms holds becomes h = record {
   numbered = λ y z s upto certs a. at_each w v x n ms becomes (λ y c. (z s upto : ℕ) (certs : List Cert) → HasCheckedInNow w ms y z s upto certs → s ≤ c.kept.seq) h.numbered
@@ -65,7 +65,7 @@ session_ends w v x n ms holds becomes h = record {
       (λ z e f among. ⊎_elim (λ k. inl (after z f k)) (λ waits. inr waits) (h.rows z e f among))
       (λ y apart z e f among. ⊎_elim (λ k. inl (later z f k)) (λ waits. inr waits) (holds.rows y z f e among)) y z e f among;
 } where
-  -- what is known in the middle of the change is known after it, and so is what was known before
+  -- facts that are known before or within the change are known after it
   after : Grow (table_with w x n.kept.table) (table_of v)
   after = now_ends w v x n ms becomes
 
@@ -81,7 +81,7 @@ session_ends w v x n ms holds becomes h = record {
   by_answer y z s upto (inl old) = let k = holds.answered y z s upto old in (k.0, check_in_later w ms v.net becomes.net z y s upto k.0 k.1)
   by_answer y z s upto (inr new) = let k = h.answered y z s upto new in (k.0, check_in_later w ms v.net becomes.net z y s upto k.0 k.1)
 
-  -- of what another node was told by its parent
+  -- the case of another node that its parent acknowledged
   of_other : (y z : ℕ) → IsJoined w y z → (upto : ℕ) → HasAcknowledgedNow w ms z y (seq_of w y) upto → HoldsBefore (log_of w y) upto (Knows (table_of v z))
   of_other y z e upto (inl old) = before_weaker (log_of w y) upto (Knows (table_of w z)) (Knows (table_of v z)) (later z) (holds.known y z e upto old)
   of_other y z e upto (inr new) =

@@ -1,4 +1,4 @@
--- Where the tree is settled, no cause for a missing or a wrong line is at hand, so that the lists of its roots are exact.
+-- No causes in a settled tree: neither a missing nor a wrong line has a cause at hand, so the lists of its roots are exact.
 use Rattle.std.proofs.Common.{◌≡◌, ℕ, Bool, true, false, ◌==◌, None, List, [], ◌∷◌, inl, inr, refl, ap, sym, subst, ⊎_elim, eqb-true, eq-eqb}
 use Rattle.std.proofs.lemmas.Bool.{eqb-false}
 use Rattle.oc_model.specs.Chains.{IsUp, IsJoined, IsRoot, IsTrueChain, first_link, true_line}
@@ -9,9 +9,9 @@ use Rattle.oc_model.specs.World.{World, node}
 use Rattle.oc_model.proofs.Chains.{acting_alone, joined_once, chain_to-finds}
 use Rattle.oc_laws_tree.specs.Listing.{SettledListsExactly}
 
--- Why no line is missing
+-- Missing lines
 
--- who is joined has its lease where it is joined
+-- a joined node has its lease at its parent
 lease_stands : (w : World) → IsSettled w → (x y : ℕ) → IsUp w x → IsJoined w x y → HoldsLease w y x (node w x).control.kept.seq
 lease_stands w settled x y up joins =
     let under = settled.ready.1 in
@@ -38,11 +38,11 @@ none_waiting w settled x r (a ∷ []) chain waits = ⊎_elim (λ e. e) (λ e. e)
 none_waiting w settled x r (a ∷ b ∷ bs) chain (inl waits) = none_waits w settled b r a (b ∷ bs) chain.3 waits
 none_waiting w settled x r (a ∷ b ∷ bs) chain (inr above) = none_waiting w settled b r (b ∷ bs) chain.3 above
 
--- a settled world has no cause for a line that is missing
+-- a settled world has no cause for a missing line
 pub none_missing : (w : World) → IsSettled w → (r x : ℕ) → HasMissingCause w r x → ⊥
 none_missing w settled r x (c, chain, cause) = ⊎_elim (λ ended. unended w settled x r c chain ended) (λ waits. none_waiting w settled x r c chain waits) cause
 
--- Why none is wrong
+-- Wrong lines
 
 -- a topmost false link goes to a node that is up
 record IsFalseTo (w : World) (r v y : ℕ) : Type 0 where
@@ -61,7 +61,7 @@ topmost_false w r x v y (a ∷ b ∷ bs) root walk (inr here) = record {
   end_up [] walk links = subst (IsUp w) (sym walk.1) root.0
   end_up (d ∷ ds) walk links = links.0.0
 
--- nor for one that should not be there
+-- a settled world has no cause for a wrong line
 pub none_wrong : (w : World) → IsSettled w → (r x : ℕ) → IsRoot w r → HasWrongCause w r x → ⊥
 none_wrong w settled r x root (other, (c, v, y, walk, topmost, stale)) =
     let is : IsFalseTo w r v y = topmost_false w r x v y c root walk topmost in by_cause is stale where
@@ -69,7 +69,7 @@ none_wrong w settled r x root (other, (c, v, y, walk, topmost, stale)) =
       by_cause is (inl (e, found, holds)) = let current = settled.leases y v e.seq is.up holds in is.not_true (current.0, current.1, (e, found, sym current.2))
       by_cause is (inr (d, chain, waits)) = none_waits w settled y r v d chain waits
 
--- Each line is right
+-- Right lines
 
 -- a root has no line of its own
 own_line : (w : World) (r x : ℕ) → IsRoot w r → x ≡ r → table_line (table_of w r) r x ≡ true_line w r x
@@ -78,7 +78,7 @@ own_line w r x root same =
     let alone : true_line w r x ≡ None = ap first_link (chain_to-finds w x r (x ∷ []) (refl, same, subst (IsRoot w) (sym same) root)) in
     rw (own, alone) refl
 
--- where no cause is there and each line is explained, each is right
+-- each line is right where no cause is there and each line is explained
 pub settled_exact : (w : World) → IsExplained w → SettledListsExactly w
 settled_exact w explained settled r x root = by_test (x == r) refl where
   by_line : IsLineExplained w r x → table_line (table_of w r) r x ≡ true_line w r x

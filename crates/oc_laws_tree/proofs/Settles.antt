@@ -27,7 +27,7 @@ use Rattle.oc_laws_tree.proofs.ReadyStays.{AreHeld, ready_held, ready_stays}
 use Rattle.oc_laws_tree.proofs.Reached.{Reached}
 use Rattle.oc_laws_tree.proofs.Refused.{settle_does, settle_tells}
 
--- what settle leaves of a world that is ready under r
+-- the effect of settle on a world that is ready under r
 pub record HasSettled (h : Header) (w : World) (r : ℕ) : Type 0 where
   pub reached : Reached h (settles w).world
   pub root : IsRoot (settles w).world r
@@ -58,7 +58,7 @@ has_settled h w r reached ready =
 
 -- The listing
 
--- whoever has a line is up and joined to the node that it names
+-- a node with a line is up and joined to the node that its line names
 line_joined : (w : World) (r x p : ℕ) → true_line w r x ≡ Some p → IsUp w x × IsJoined w x p
 line_joined w r x p line = by_found (chain_to w r x) refl line where
   by_found : (found : Option (List ℕ)) → chain_to w r x ≡ found → first_link found ≡ Some p → IsUp w x × IsJoined w x p
@@ -88,9 +88,9 @@ counts_exactly h w reached settled told r x p root line =
           let same : known.0 ≡ old.0 = cc in
           absurd (omega (arith, old.2, known.2, ap (λ (k : Cert). k.number) same))
 
--- What the laws say
+-- The laws
 
--- what is left of a ready world, by what its event leaves
+-- a property of a ready world after settle holds after the event
 of_settled : (P : World → Type 0) → ((h : Header) (w : World) (r : ℕ) → HasSettled h w r → P (settles w).world) → (h : Header) (w : World) → Reached h w → IsReady w → P (next_world w Settle)
 of_settled P follows h w reached ready = subst P (sym (settle_does w ready)) (follows h w ready.0 (has_settled h w ready.0 reached ready.1))
 

@@ -32,11 +32,11 @@ IsSoundNode n = IsSound n.control
 sound_step : (n : Node) (i : Input) → IsSound n.control → IsSound (step n i).node.control
 sound_step n i sound = sound_planned n.control (shelf n.groups) i sound
 
--- a node that is put is sound, and the others are
+-- a process put into a world keeps all nodes sound, if its own node is
 put_sound : (w : World) (q : Process) → IsSound q.node.control → AreSound w → (x : ℕ) → IsSound (process_in (with_process w.processes q) x).node.control
 put_sound w q here all x = at_put w.processes q IsSoundNode x (λ _. here) (all x)
 
--- whatever goes on leaves all nodes sound
+-- each act and each event keep all nodes sound
 sound_passage : IsPassage StaySound
 sound_passage = record {
   still = λ w all. all;
@@ -52,7 +52,7 @@ sound_act w a all = passage_acts StaySound sound_passage w (a ∷ []) all
 pub sound_event : (w : World) (e : Event) → AreSound w → AreSound (next_world w e)
 sound_event w e all = passage StaySound sound_passage w e all
 
--- and in a new world they are
+-- all nodes of a new world are sound
 pub sound_in_new : (h : Header) → AreSound (new_world h)
 sound_in_new h x =
     let new : IsNew x (process (new_world h) x) = process_in-new h (range_with_len 1 h.nodes) x in
@@ -61,7 +61,7 @@ sound_in_new h x =
 pub sound_throughout : (Q : World → Type 0) → ((w : World) → AreSound w → Q w) → (h : Header) (events : List Event) → Throughout Q (new_world h) events
 sound_throughout Q follows h events = passing_throughout AreSound sound_act sound_event Q follows (new_world h) (sound_in_new h) events
 
--- so a snapshot of a node keeps its log
+-- a snapshot of a node keeps its log
 pub snapshots_keep_logs : (w : World) → AreSound w → SnapshotsKeepLogs w
 snapshots_keep_logs w all x generation before as_many =
     let kept = (all x).kept in

@@ -1,4 +1,4 @@
--- The ids of the nodes of a world are 1 up to their number; and each node that a table tells of is one of them.
+-- The ids of the nodes of a world: they are 1 up to the number of nodes, and each node that a table tells of has one.
 use Rattle.std.proofs.Common.{◌≡◌, ℕ, zero, suc, ◌+◌, ◌≤◌, ◌<◌, List, [], ◌∷◌, ◌⊎◌, inl, inr, ap, sym, subst, ◌∙◌, arith}
 use Rattle.std.specs.List.{AllByRecursion, range_with_len}
 use Rattle.std.proofs.lemmas.Bool.{cases_order}
@@ -57,11 +57,11 @@ id_in h w x reached one =
     let both = of_range 1 h.nodes x (subst (IsOneOf x) (ids_reached h w reached) one) in
     record { least = both.0; most = omega (arith, both.1) }
 
--- whoever is up is one
+-- a node that is up has an id
 pub up_id : (h : Header) (w : World) (x : ℕ) → Reached h w → IsUp w x → IsId h x
 up_id h w x reached up = id_in h w x reached (up_in w.processes x up)
 
--- and so is whoever has asked
+-- a node that has asked has an id
 pub asked_id : (h : Header) (w : World) (x : ℕ) → Reached h w → 1 ≤ seq_of w x → IsId h x
 asked_id h w x reached asked = by_least (cases_order x 0) where
   outside : ((k : ℕ) → k < h.nodes → 1 + k ≡ x → ⊥) → ⊥
@@ -80,7 +80,7 @@ asked_id h w x reached asked = by_least (cases_order x 0) where
   by_least (inr (inl less)) = absurd (omega (arith, less))
   by_least (inr (inr more)) = by_most more (cases_order x h.nodes)
 
--- Each node among them knows how many there are, and how long the chain is
+-- Each node knows the number of nodes and the length of the chain
 
 abbrev IsAmongThem : Header → ℕ → Control → Type 0
 IsAmongThem h x n = IsId h x → (n.nodes ≡ h.nodes) × (n.chain ≡ h.chain)
@@ -125,7 +125,7 @@ among_new h x is =
     let found : process (new_world h) x ≡ down (new_node h x) = new_found h (range_with_len 1 h.nodes) x (in_range 1 h.nodes x is.least (omega (arith, is.most))) in
     (ap (λ (p : Process). p.node.control.nodes) found, ap (λ (p : Process). p.node.control.chain) found)
 
--- so it is in each world that is reached
+-- each node of a world that is reached knows them
 pub among_them : (h : Header) (w : World) (x : ℕ) → Reached h w → IsId h x → ((control_of w x).nodes ≡ h.nodes) × ((control_of w x).chain ≡ h.chain)
 among_them h w x reached is = subst (λ (v : World). AreAmongThem h v) (sym reached.is) (law_after (AreAmongThem h) (λ w x n ms. IsAmongThem h x n) (among_law h) h reached.events (among_new h)) x is
 
@@ -199,7 +199,7 @@ numbered_new h = record {
   net = tt;
 }
 
--- whoever a table tells of has asked, so it is a node of the world
+-- a node that a table tells of has asked, so it is a node of the world
 pub told_id : (h : Header) (w : World) (y : ℕ) (f : Cert) → Reached h w → IsAmong f (table_of w y) → IsId h f.subject
 told_id h w y f reached among =
     let all : AllHold w = of_reached AllHold all_after h w reached in

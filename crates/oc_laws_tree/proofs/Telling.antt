@@ -1,4 +1,4 @@
--- Step 6 of settle: each node tells all that waits, those of longer chains first, so that in the end nothing waits.
+-- Step 6 of settle: each node tells all that waits, nodes with longer chains first, so that in the end nothing waits.
 use Rattle.std.proofs.Common.{◌≡◌, ℕ, zero, suc, ◌+◌, ◌-◌, ◌*◌, ◌≤◌, Bool, true, false, nat_lt, nat_le, if◌then◌else◌, List, [], ◌∷◌, length, take, drop, refl, ap, sym, subst, ◌∙◌, ⊎_elim, arith, length-append, length-drop, lt-ltb}
 use Rattle.std.proofs.lemmas.Bool.{cases_eq, le-leb}
 use Rattle.oc_base.specs.declared.cert.Cert.{Cert}
@@ -39,7 +39,7 @@ take_some : (n : ℕ) (x : Cert) (xs : List Cert) → 1 ≤ n → 1 ≤ length (
 take_some zero x xs some = absurd (omega (arith, some))
 take_some (suc n) x xs some = omega arith
 
--- what waits then: all but the certificates that were told
+-- the waiting facts after an acknowledgement: all except the told ones
 ack_next : (l : Log) → l.length ≡ l.acked + length l.waiting → (ack l (place_after l)).waiting ≡ drop MAX_CHECK_IN_CERTS l.waiting
 ack_next l long = by_test (is_ahead l (place_after l)) refl where
   told : ℕ
@@ -60,7 +60,7 @@ ack_next l long = by_test (is_ahead l (place_after l)) refl where
   by_test true e = let count : place_after l - l.acked ≡ length (take MAX_CHECK_IN_CERTS l.waiting) = omega arith in ap (λ (k : ℕ). drop k l.waiting) count ∙ drop_taken MAX_CHECK_IN_CERTS l.waiting
   by_test false e = none l.waiting refl e
 
--- how many check-ins it takes
+-- the number of check-ins that tell n certificates
 batches_none : batches 0 ≡ 0
 batches_none = refl
 
@@ -70,7 +70,7 @@ batches_more n some = omega arith
 -- One check-in
 
 module _ (h : Header) (w0 : World) where
-  -- x, whose parent p is, has told the first certificates
+  -- x, whose parent is p, has told the first certificates
   record TellsOnce (x p : ℕ) (w : World) (r : Run) : Type 0 where
     acts : length r.acts ≡ 3
     calmed : HasCalmed h w0 r.world
@@ -78,7 +78,7 @@ module _ (h : Header) (w0 : World) where
     told : (log_of r.world x).waiting ≡ drop MAX_CHECK_IN_CERTS (log_of w x).waiting
     others : (y : ℕ) → (x ≡ y → ⊥) → (p ≡ y → ⊥) → log_of r.world y ≡ log_of w y
 
-  -- a check-in leaves a calm world calm
+  -- a check-in keeps a calm world calm
   calm_then : (w : World) (x : ℕ) (v : World) → HasCalmed h w0 w → CheckInKeeps h w x v → HasCalmed h w0 v
   calm_then w x v calmed keeps = record {
     stayed = stayed_then h w0 w v calmed.stayed keeps.reached keeps.steady keeps.held;
@@ -93,7 +93,7 @@ module _ (h : Header) (w0 : World) where
     current = λ y z s up leased. current_stays w v keeps.steady y z s (calmed.current y z s (sym (keeps.steady y).up ∙ up) (keeps.only y z s leased));
   }
 
-  -- the log of a joined node is as long as what is acknowledged and what waits
+  -- the log of a joined node is as long as its acknowledged and waiting facts together
   log_long : (w : World) (x p : ℕ) → Reached h w → IsJoined w x p → (log_of w x).length ≡ (log_of w x).acked + length (log_of w x).waiting
   log_long w x p reached joins =
       let sound : IsSoundAs (mode_of w x) (control_of w x).kept = (of_reached AreSound sound_after h w reached x).kept.mode in
@@ -111,7 +111,7 @@ module _ (h : Header) (w0 : World) where
         others = λ y not_child not_parent. ap (λ (k : Control). k.kept.log) (checked.others y not_child not_parent);
       }
 
-  -- All that waits at a node
+  -- All waiting facts of a node
 
   -- x has told all that waited
   pub record TellsAll (x p : ℕ) (ws : List Cert) (w : World) (r : Run) : Type 0 where
@@ -120,7 +120,7 @@ module _ (h : Header) (w0 : World) where
     pub told : (log_of r.world x).waiting ≡ []
     pub others : (y : ℕ) → (x ≡ y → ⊥) → (p ≡ y → ⊥) → log_of r.world y ≡ log_of w y
 
-  -- while something waits it checks in, and no more is left each time
+  -- a node checks in while something waits, and fewer facts wait after each check-in
   pub tells_while_all : (n x p : ℕ) (ws : List Cert) (w : World) → (log_of w x).waiting ≡ ws → length ws ≤ n → HasCalmed h w0 w → IsHeld w p x → TellsAll x p ws w (tells_while n x ws w)
   tells_while_all zero x p [] w is few calmed held = record { acts = refl; calmed = calmed; told = is; others = λ y a b. refl }
   tells_while_all zero x p (f ∷ fs) w is few calmed held = absurd (omega (arith, few))

@@ -1,4 +1,4 @@
--- A tick in a world: the properties that it keeps, and the leases that it ends.
+-- The tick of a node in a world: the properties that it keeps, and the leases that it ends.
 use Rattle.std.proofs.Common.{◌≡◌, ℕ, ◌+◌, ◌-◌, ◌<◌, ◌≤◌, max, false, nat_le, Option, Some, None, ◌⊎◌, inl, inr, length, refl, ap, sym, subst, ◌∙◌, ⊎_elim, arith}
 use Rattle.std.proofs.lemmas.Bool.{cases_eq, false_from_ne_true}
 use Rattle.std.proofs.Common.{leb-true}
@@ -36,17 +36,17 @@ use Rattle.oc_laws_tree.proofs.Ticks.{HasTicked, has_ticked}
 pub ends_ahead : (h : Header) (w : World) → Reached h w → LeaseEndsLieAhead w
 ends_ahead h w reached = of_reached LeaseEndsLieAhead lease_ends_after h w reached
 
--- whoever has a lease is a node of the world
+-- a node with a lease is a node of the world
 pub leased_id : (h : Header) (w : World) (y z s : ℕ) → Reached h w → HoldsLease w y z s → IsId h z
 leased_id h w y z s reached leased =
     let row = lease_row (table_of w y) y z s leased in
     subst (IsId h) (newest-subject (table_of w y) z row.0 row.1.found) (told_id h w y row.0 reached (newest_among (table_of w y) z row.0 row.1.found))
 
--- as many lease ends as nodes
+-- a node has as many lease ends as the world has nodes
 pub leases_long : (h : Header) (w : World) (y : ℕ) → Reached h w → IsId h y → length (control_of w y).leases ≡ h.nodes
 leases_long h w y reached id = (of_reached AreSound sound_after h w reached y).leases ∙ (among_them h w y reached id).0
 
--- The tick of x, which is up, `more` seconds on
+-- The tick of x, which is up, by `more` seconds
 pub record TickKeeps (h : Header) (more : ℕ) (w : World) (x : ℕ) (v : World) : Type 0 where
   pub reached : Reached h v
   pub steady : Steady w v
@@ -55,7 +55,7 @@ pub record TickKeeps (h : Header) (more : ℕ) (w : World) (x : ℕ) (v : World)
   pub ticked : HasTicked (control_of w x) (clock_of w x + more) (control_of v x)
   pub only : (y z s : ℕ) → HoldsLease v y z s → HoldsLease w y z s
 
--- who is not over has its row still
+-- a child whose lease is not over keeps its row
 pub row_fresh : (h : Header) (more : ℕ) (w : World) (x : ℕ) (v : World) → TickKeeps h more w x v → (y z : ℕ) → (x ≡ y → is_over (at (control_of v x).leases z None) (clock_of w x + more) ≡ false)
     → newest (table_of v y) z ≡ newest (table_of w y) z
 row_fresh h more w x v keeps y z fresh = ⊎_elim
@@ -87,17 +87,17 @@ tick_keeps h more w x reached up =
           (λ apart. ap (λ (k : Control). leased_by k.kept.table y z) (sym (goes.others y apart)) ∙ leased) (cases_eq x y);
     }
 
--- Leases that are not current end by a second, and those that are end no sooner than one
+-- Leases that are not current end by one second, and current ones no earlier than another
 
 -- each lease of y that is not current ends no later than d seconds from now
 abbrev pub IsStaleBy : World → ℕ → ℕ → Type 0
 IsStaleBy w d y = (z s : ℕ) → HoldsLease w y z s → IsCurrent w y z s ⊎ ((e : ℕ) × (at (control_of w y).leases z None ≡ Some e) × (e ≤ clock_of w y + d))
 
--- each that holds ends no sooner
+-- the lease of each link that holds ends no earlier than d seconds from now
 abbrev pub IsFreshBy : World → ℕ → ℕ → Type 0
 IsFreshBy w d y = (z : ℕ) → IsHeld w y z → (e : ℕ) × (at (control_of w y).leases z None ≡ Some e) × (clock_of w y + d ≤ e)
 
--- so it stays of a node that is as it was
+-- the same for a node that is as it was
 pub stale_other : (w v : World) (d y : ℕ) → Steady w v → control_of v y ≡ control_of w y → IsStaleBy w d y → IsStaleBy v d y
 stale_other w v d y steady same stale z s leased = ⊎_elim
     (λ is. inl (current_stays w v steady y z s is))
@@ -114,9 +114,9 @@ fresh_other w v d y steady same fresh z held =
 pub not_over : (e now : ℕ) → now < e → is_over (Some e) now ≡ false
 not_over e now less = false_from_ne_true (nat_le e now) (λ over. let most : e ≤ now = leb-true e now over in absurd (omega (arith, less, most)))
 
--- At the second that the clock shows no lease ends
+-- A tick at the present second of the clock, which ends no lease
 
--- all that is leased of the node that ticked is not over
+-- no lease of the node that ticked is over
 pub none_over : (h : Header) (w : World) (x : ℕ) (v : World) → Reached h w → IsUp w x → TickKeeps h 0 w x v → (z s : ℕ) → HoldsLease w x z s → is_over (at (control_of v x).leases z None) (clock_of w x + 0) ≡ false
 none_over h w x v reached up keeps z s leased = ⊎_elim
     (λ same. by_end (at (control_of w x).leases z None) refl (same))
@@ -128,7 +128,7 @@ none_over h w x v reached up keeps z s leased = ⊎_elim
           let ahead : clock_of w x < e = ends_ahead h w reached x z s e up leased was in
           ap (λ (o : Option ℕ). is_over o (clock_of w x + 0)) (same ∙ was) ∙ not_over e (clock_of w x + 0) (omega (arith, ahead))
 
--- and each then ends within a lease's time
+-- each lease then ends within a lease's time
 pub all_stale : (h : Header) (more : ℕ) (w : World) (x : ℕ) (v : World) → Reached h w → IsUp w x → TickKeeps h more w x v → IsStaleBy v lease_time x
 all_stale h more w x v reached up keeps z s leased = inr (by_end (at (control_of v x).leases z None) refl) where
   was : HoldsLease w x z s
@@ -144,7 +144,7 @@ all_stale h more w x v reached up keeps z s leased = inr (by_end (at (control_of
   by_end None e = absurd (set e)
   by_end (Some end) e = (end, e, ends_within h v x (z - 1) end keeps.reached e)
 
--- Fifteen seconds on those end that are stale by then, and none that is fresh
+-- A tick 15 seconds later, which ends the leases that are stale by then and no fresh one
 
 pub fresh_row : (h : Header) (w : World) (x : ℕ) (v : World) → TickKeeps h 15 w x v → IsFreshBy w 30 x → (y z : ℕ) → IsHeld w y z → newest (table_of v y) z ≡ newest (table_of w y) z
 fresh_row h w x v keeps fresh y z held = row_fresh h 15 w x v keeps y z (λ same.

@@ -18,7 +18,7 @@ use Rattle.oc_laws_tree.proofs.LeasesAhead.{leased_merge_other, leased_put_none,
 
 -- Lease ends
 
--- what is in a place once an item was set: the item, or what was there
+-- the item at a place after one was set: that item, or the old one
 pub set_at : (ends : List (Option ℕ)) (i j : ℕ) (v : Option ℕ) → ((i ≡ j) × (j < length ends) × (get_or (set ends i v) j None ≡ v)) ⊎ (get_or (set ends i v) j None ≡ get_or ends j None)
 set_at [] i j v = inr refl
 set_at (x ∷ xs) zero zero v = inl (refl, omega arith, refl)
@@ -26,7 +26,7 @@ set_at (x ∷ xs) zero (suc j) v = inr refl
 set_at (x ∷ xs) (suc i) zero v = inr refl
 set_at (x ∷ xs) (suc i) (suc j) v = ⊎_elim (λ here. inl (omega (arith, here.0), omega (arith, here.1), here.2)) (λ other. inr other) (set_at xs i j v)
 
--- and at its own place it is there
+-- the set item is at its own place
 pub set_here : (ends : List (Option ℕ)) (i : ℕ) (v : Option ℕ) → i < length ends → get_or (set ends i v) i None ≡ v
 set_here [] i v within = absurd (omega arith)
 set_here (x ∷ xs) zero v within = refl
@@ -37,7 +37,7 @@ set_length [] i v = refl
 set_length (x ∷ xs) zero v = refl
 set_length (x ∷ xs) (suc i) v = ap suc (set_length xs i v)
 
--- an end that was set stays, and one that was not is not set, or is now
+-- a set end stays, and an end that is not set stays so or is set now
 abbrev IsStarted : ℕ → Option ℕ → Option ℕ → Type 0
 IsStarted now old new = (new ≡ old) ⊎ ((old ≡ None) × (new ≡ Some (now + lease_time)))
 
@@ -59,12 +59,12 @@ started_each (x ∷ xs) ends now j =
     let one : List (Option ℕ) = start_if (at ends x None) ends x now in
     started_then now (get_or ends j None) (get_or one j None) (get_or (start_each xs one now) j None) (started_one x ends now j) (started_each xs one now j)
 
--- an end that is set, once started, is set
+-- an end that was set is still set once started
 started_set : (now : ℕ) (old new : Option ℕ) → IsStarted now old new → (old ≡ None → ⊥) → new ≡ None → ⊥
 started_set now old new (inl e) some none = some (sym e ∙ none)
 started_set now old new (inr e) some none = some e.0
 
--- each of these has an end then, if it has a place
+-- each of these children has an end, if it has a place for one
 all_started : (xs : List ℕ) (ends : List (Option ℕ)) (now z : ℕ) → IsOneOf z xs → z - 1 < length ends → at (start_each xs ends now) z None ≡ None → ⊥
 all_started [] ends now z one within none = one
 all_started (x ∷ xs) ends now z (inl same) within none =
@@ -87,7 +87,7 @@ all_started (x ∷ xs) ends now z (inr later) within none = all_started xs (star
 
 -- Rows
 
--- a death that is merged makes no lease
+-- the merge of a death makes no lease
 dead_only : (t : List Cert) (c : Cert) (y z s : ℕ) → c.dead ≡ true → leased_by (merge t c) y z ≡ Some s → leased_by t y z ≡ Some s
 dead_only t c y z s dead leased = ⊎_elim (λ same. by_test same (is_news t c) leased) (λ apart. sym (leased_merge_other t c y z apart) ∙ leased) (cases_eq c.subject z) where
   by_test : c.subject ≡ z → (b : Bool) → leased_by (if b then put t c else t) y z ≡ Some s → leased_by t y z ≡ Some s
@@ -97,7 +97,7 @@ dead_only t c y z s dead leased = ⊎_elim (λ same. by_test same (is_news t c) 
       absurd cc
   by_test same false found = found
 
--- the rows of the rest stay, and no lease is made
+-- the rows of the other children stay, and no lease is made
 record HasEnded (xs : List ℕ) (y : ℕ) (t u : List Cert) : Type 0 where
   rows : (z : ℕ) → (IsOneOf z xs → ⊥) → newest u z ≡ newest t z
   only : (z s : ℕ) → leased_by u y z ≡ Some s → leased_by t y z ≡ Some s
@@ -135,7 +135,7 @@ pub record HasTicked (n : Control) (now : ℕ) (m : Control) : Type 0 where
   pub rows : (z : ℕ) → is_over (at m.leases z None) now ≡ false → newest m.kept.table z ≡ newest n.kept.table z
   pub only : (z s : ℕ) → leased_by m.kept.table n.me z ≡ Some s → leased_by n.kept.table n.me z ≡ Some s
 
--- what ending leaves: the lease ends and the clock
+-- this table, these lease ends and this clock
 abbrev IsWith : List Cert → List (Option ℕ) → ℕ → ℕ → List Cert → List (Option ℕ) → ℕ → Type 0
 IsWith t ends now me u fs later = (u ≡ t) × (fs ≡ ends) × (later ≡ now)
 

@@ -19,14 +19,14 @@ use Rattle.oc_laws_tree.proofs.SessionsKept.{sessions_law, sessions_new}
 use Rattle.oc_laws_tree.proofs.SessionsCovered.{CoversKnown, check_ins_tell, acks_known, children_covered}
 use Rattle.oc_laws_tree.proofs.TreeHolds.{TreeHolds, CountedTree}
 
--- the laws of ask numbers, counts, grants and sessions
+-- the laws of ask numbers, own numbers, grants and sessions
 pub record AllHold (w : World) : Type 0 where
   pub asks : NumbersHold w
   pub counts : CountsHold w
   pub grants : GrantsHold w
   pub sessions : SessionsHold w
 
--- the same as products, each law beside those before it
+-- the same as products, each law together with those before it
 abbrev Told : World → Type 0
 Told w = GrantsHold w × SessionsHold w
 
@@ -57,13 +57,13 @@ asked_new h = (numbers_new h, (counts_new h, (grants_new h, sessions_new h)))
 all_of : (w : World) → Tabled Asked w → AllHold w
 all_of w holds = record { asks = holds.1.0; counts = holds.1.1.0; grants = holds.1.1.1.0; sessions = holds.1.1.1.1 }
 
--- what follows from them holds of every world
+-- a consequence of the laws holds of every world
 pub all_throughout : (Q : World → Type 0) → ((w : World) → AllHold w → Q w) → (h : Header) (events : List Event) → Throughout Q (new_world h) events
 all_throughout Q follows h events = tabled_throughout Asked AskedNode asked_law Q (λ w holds. follows w (all_of w holds)) h events (asked_new h)
 
--- What follows of the tree
+-- Consequences for the tree
 
--- what explains the listings
+-- the laws by which the listings are explained
 pub tree_holds : (w : World) → AllHold w → TreeHolds w
 tree_holds w holds = record {
   peers = one_peer w holds.asks;
@@ -79,7 +79,7 @@ counted_tree w holds = record { tree = tree_holds w holds; counts = one_count w 
 covers : (w : World) → AllHold w → CoversKnown w
 covers w holds = fact_covered w (one_peer w holds.asks) (one_count w holds.counts)
 
--- so what the laws say of tables is said of what is covered
+-- each law of known facts is one of covered facts
 pub all_grants_covered : (w : World) → AllHold w → FactsAreGranted w
 all_grants_covered w holds = grants_covered w (one_peer w holds.asks) (one_count w holds.counts) holds.grants
 

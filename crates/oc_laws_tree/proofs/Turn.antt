@@ -1,4 +1,4 @@
--- The turn of a node in step 3 of heal: its conditions and its effect, which is proved where the member before is the root.
+-- The turn of a node in step 3 of heal: its conditions and its effect, proved where the member before the node is the root.
 use Rattle.std.proofs.Common.{◌≡◌, ℕ, ◌+◌, ◌≤◌, ◌<◌, nat_le, if◌then◌else◌, Option, Some, None, [], ◌∷◌, length, refl, ap, sym, subst, ◌∙◌, ⊎_elim, arith, ne_eqb}
 use Rattle.std.proofs.lemmas.Bool.{cases_eq}
 use Rattle.oc_base.specs.declared.rank.Rank.{Rank}
@@ -36,7 +36,7 @@ use Rattle.oc_laws_tree.proofs.Spans.{up_id, among_them}
 
 -- The root checks
 
--- its epoch is one more
+-- the epoch of the root is one more
 pub record RaisesAt (h : Header) (w : World) (m epoch : ℕ) (v : World) : Type 0 where
   pub reached : Reached h v
   pub core : core_of (control_of v m) ≡ record (core_of (control_of w m)) { rank = Some (record { epoch = epoch + 1; depth = 0 }) }
@@ -77,7 +77,7 @@ raised_changes h m x epoch w v healing raises =
 
 -- The turn
 
--- x, which is not placed, can be put under p, the greatest chain member before it
+-- x, which is not in place, can be put under p, the greatest chain member before x
 pub record CanPut (h : Header) (m : ℕ) (w : World) (x p most : ℕ) : Type 0 where
   pub healing : IsHealing h m w
   pub short : h.chain ≤ 16
@@ -89,12 +89,12 @@ pub record CanPut (h : Header) (m : ℕ) (w : World) (x p most : ℕ) : Type 0 w
   pub less : p < x
   pub before : IsBefore h w p x
   pub all : (y : ℕ) → IsUp w y → y ≤ h.chain → y < x → IsPlaced w m y
-  -- no epoch is past this one
+  -- no epoch is above this one
   pub low : (y : ℕ) → IsUp w y → epoch_in (own_rank w y) ≤ most
   pub room : most + 2 < number_end
   pub asks : seq_of w x + 1 < number_end
 
--- then it is placed, and so is all that was
+-- x is in place, and so are all nodes that were in place
 pub record IsPut (h : Header) (m : ℕ) (w : World) (x most : ℕ) (r : Run) : Type 0 where
   pub healing : IsHealing h m r.world
   pub up : (y : ℕ) → is_up r.world y ≡ is_up w y
@@ -106,11 +106,11 @@ pub record IsPut (h : Header) (m : ℕ) (w : World) (x most : ℕ) (r : Run) : T
   pub low : (y : ℕ) → IsUp r.world y → epoch_in (own_rank r.world y) ≤ most + 2
   pub acts : length r.acts ≤ 51
 
--- a root is placed
+-- a root is in place
 pub root_placed : (w : World) (m : ℕ) → IsRoot w m → IsPlaced w m m
 root_placed w m root = (m ∷ [], (refl, refl, root), tt)
 
--- whoever is placed below m is joined
+-- a node in place below m is joined
 pub placed_joined : (w : World) (m y : ℕ) → (y ≡ m → ⊥) → IsPlaced w m y → (d : ℕ) × IsJoined w y d
 placed_joined w m y other ([], chain, leased) = absurd chain
 placed_joined w m y other (a ∷ [], chain, leased) = absurd (other chain.1)
@@ -123,7 +123,7 @@ module _ (h : Header) (m : ℕ) (w : World) (x p most : ℕ) (can : CanPut h m w
   abbrev pub root : Control
   root = control_of w m
 
-  -- x is no member with a parent that holds its lease: that would be placed
+  -- x is no member whose parent holds its lease, since such a member is in place
   pub loose : IsLoose h w x
   loose member y held =
       let less : y < x = earlier_parent h w x y can.healing.reached (up_id h w x can.healing.reached held.up) member held.joined in
@@ -135,7 +135,7 @@ module _ (h : Header) (m : ℕ) (w : World) (x p most : ℕ) (can : CanPut h m w
       let least : m ≤ x = can.healing.least x can.up (omega (arith, first, some, can.healing.member)) in
       can.other (omega (arith, first, some, least))
 
-  -- the root, once it has raised its epoch over that of x
+  -- the root with its epoch raised over that of x
   abbrev pub over : Plan
   over = raised_host root x r
 

@@ -1,4 +1,5 @@
--- The turn of a node in step 3 of heal whose member before it is not the root: by way of the root, whose epoch is told down to that member.
+-- The turn of a node in step 3 of heal, where the member before the node is not the root: by way of the root, whose epoch is
+-- told down to that member.
 use Rattle.std.proofs.Common.{◌≡◌, ℕ, ◌+◌, ◌≤◌, ◌<◌, true, false, ◌&&◌, ◌==◌, nat_lt, nat_le, Option, Some, None, List, length, refl, ap, ap₂, sym, subst, ◌∙◌, ⊎_elim, arith, lt-ltb, ltb-true, eqb-true, length-append}
 use Rattle.std.proofs.Common.{leb-true}
 use Rattle.std.proofs.lemmas.Bool.{cases_eq, or_left, or_cases, and_parts, false_from_ne_true}
@@ -32,7 +33,7 @@ use Rattle.oc_laws_tree.proofs.Putting.{IsLoose, steady_changes, vain_changes, c
 use Rattle.oc_laws_tree.proofs.Turn.{RaisesAt, raises_at, raised_changes, CanPut, IsPut, placed_joined, over, loose, not_first, risen, over_me, over_chain, moves_to_root}
 use Rattle.oc_laws_tree.proofs.Spans.{IsId, up_id, among_them}
 
--- Its epoch is one past that of any rank that a lower one precedes
+-- a rank with a greater epoch, at any depth, precedes each rank that the root's rank precedes
 
 past_of : (e k : ℕ) (r : Option Rank) → precedes_any (record { epoch = e; depth = 0 }) r ≡ true → precedes_any (record { epoch = e + 1; depth = k }) r ≡ true
 past_of e k None above = refl
@@ -43,10 +44,10 @@ past_of e k (Some s) above =
     (or_cases (nat_lt s.epoch e) (e == s.epoch && nat_lt 0 s.depth) above) in
     or_left (nat_lt s.epoch (e + 1)) (e + 1 == s.epoch && nat_lt k s.depth) (lt-ltb s.epoch (e + 1) (omega (arith, low)))
 
--- By way of the root
+-- A join by way of the root
 
 module _ (h : Header) (m : ℕ) (w : World) (x p most : ℕ) (can : CanPut h m w x p most) (apart : p ≡ m → ⊥) where
-  -- x asks the root in vain, since that has a member in line for it
+  -- x asks the root in vain, since the root has a member before x as a child
   abbrev u1 : World
   u1 = (asks m x w).world
 
@@ -71,7 +72,7 @@ module _ (h : Header) (m : ℕ) (w : World) (x p most : ℕ) (can : CanPut h m w
   healing1 : IsHealing h m u1
   healing1 = healing_on h m x w u1 can.healing can.other changes1
 
-  -- who asks is not placed, nor has it a parent
+  -- a node that asks is not in place and has no parent
   asks_loose : (u : World) → mode_of u x ≡ Asking m → (IsPlaced u m x → ⊥) × IsLoose h u x
   asks_loose u asks = (
     λ placed. let joined = placed_joined u m x can.other placed in let clash : Asking m ≡ Joined joined.0 = sym asks ∙ joined.1 in cc,
@@ -81,7 +82,7 @@ module _ (h : Header) (m : ℕ) (w : World) (x p most : ℕ) (can : CanPut h m w
   asks1 : mode_of u1 x ≡ Asking m
   asks1 = ap (λ (k : Core). k.mode) vain.child
 
-  -- then the root checks, and its epoch is past that of x
+  -- the root checks, and its epoch is past that of x
   abbrev u2 : World
   u2 = after_act u1 (acts.At m inputs.CheckNow)
 
@@ -114,14 +115,14 @@ module _ (h : Header) (m : ℕ) (w : World) (x p most : ℕ) (can : CanPut h m w
   kept2 : (y : ℕ) → IsPlaced w m y → IsPlaced u2 m y
   kept2 y placed = placed_on h m x u1 u2 changes2 (asks_loose u1 asks1).0 y (placed_on h m x w u1 changes1 can.unplaced y placed)
 
-  -- the chain from p up, at this moment
+  -- the chain from p up to the root
   abbrev chain2 : IsPlaced u2 m p
   chain2 = kept2 p host_chain
 
   climb2 : IsClimb m p chain2.0
   climb2 = chain_climbs h u2 m p chain2.0 healing2.reached can.member chain2.1
 
-  -- it is told the new rank
+  -- the new rank is told down the chain
   abbrev told : Run
   told = for_each (below m p u2) checks_in u2
 
@@ -159,7 +160,7 @@ module _ (h : Header) (m : ℕ) (w : World) (x p most : ℕ) (can : CanPut h m w
   up3 : (y : ℕ) → is_up u3 y ≡ is_up w y
   up3 y = changes3.up y ∙ (changes2.up y ∙ changes1.up y)
 
-  -- and x comes under it
+  -- x comes under p
   joined3 : (d : ℕ) × IsJoined u3 p d
   joined3 = placed_joined u3 m p apart (kept3 p host_chain)
 
@@ -212,7 +213,7 @@ module _ (h : Header) (m : ℕ) (w : World) (x p most : ℕ) (can : CanPut h m w
   kept4 : (y : ℕ) → IsPlaced w m y → IsPlaced u4 m y
   kept4 y placed = placed_on h m x u3 u4 changes4 (asks_loose u3 asks3).0 y (kept3 y placed)
 
-  -- no epoch is more than two past the others
+  -- no epoch is more than two above the others
   low1 : (y : ℕ) → IsUp u1 y → epoch_in (own_rank u1 y) ≤ most + 1
   low1 y up = ⊎_elim
       (λ (is : x ≡ y). subst (λ (z : ℕ). epoch_in (own_rank u1 z) ≤ most + 1) is (let own : epoch_in (own_rank w x) ≤ most = can.low x can.up in omega (arith, ap (λ (k : Core). epoch_in k.rank) vain.child, own)))
@@ -241,7 +242,7 @@ module _ (h : Header) (m : ℕ) (w : World) (x p most : ℕ) (can : CanPut h m w
       (cases_eq p y))
       (cases_eq x y)
 
-  -- 51 acts at most: the chain has 15 nodes below the root at most
+  -- at most 51 acts, since the chain has at most 15 nodes below the root
   few : length (joins_by m p x w).acts ≤ 51
   few =
       let first : Run = asks m x w in

@@ -13,7 +13,7 @@ pub record Ready (s : List Group) (n : Node) : Type 0 where
   pub holds : Holds s n.groups
   pub own : n.control.me ≡ 1 → AreSame n.groups s
 
--- a message that a node of this id and these groups may send, as the source is
+-- a message that a node with this id and these groups may send, with the source as given
 abbrev pub MaySend : List Group → ℕ → List Group → Message → Type 0
 MaySend s me ks m = (m.from ≡ me) × IsTrue s ks m.body
 
@@ -26,7 +26,7 @@ pub record Fair (s s' : List Group) (n : Node) (o : Outcome) : Type 0 where
   pub away : (n.control.me ≡ 1 → ⊥) → s' ≡ s
   pub sends : AllByRecursion (MaySend s' n.control.me o.node.groups) o.sends
 
--- an outcome that leaves the groups alone, as that of each rule but Content
+-- an outcome that leaves the groups unchanged, as that of every rule except rule 14, content
 pub fair_still : (s : List Group) (n : Node) (o : Outcome) → Ready s n → o.node.control.me ≡ n.control.me → o.node.groups ≡ n.groups → AllByRecursion (MaySend s n.control.me n.groups) o.sends → Fair s s n o
 fair_still s n o ready me same sent = record {
   me = me;
@@ -37,7 +37,7 @@ fair_still s n o ready me same sent = record {
   sends = subst (λ ks. AllByRecursion (MaySend s n.control.me ks) o.sends) (sym same) sent;
 }
 
--- node 1 keeps a group, and the source likewise
+-- node 1 keeps a group, and the source keeps the same
 pub fair_source : (s : List Group) (n : Node) (k : Group) (o : Outcome) → Ready s n → n.control.me ≡ 1 → MayReplace k n.groups
     → o.node.control.me ≡ n.control.me → o.node.groups ≡ with_group k n.groups → o.sends ≡ [] → Fair s (with_group k s) n o
 fair_source s n k o ready first may me groups none =
@@ -72,7 +72,7 @@ fair_same s s' n o ready first same me groups none =
       sends = subst (λ ms. AllByRecursion (MaySend s' n.control.me o.node.groups) ms) (sym none) tt;
     }
 
--- another node keeps a group of which the source has as much
+-- another node keeps a group of which the source has at least as much
 pub fair_keeps : (s : List Group) (n : Node) (k : Group) (o : Outcome) → Ready s n → (n.control.me ≡ 1 → ⊥) → MayReplace k n.groups → IsHeld s k.name k
     → o.node.control.me ≡ n.control.me → o.node.groups ≡ with_group k n.groups → AllByRecursion (MaySend s n.control.me (with_group k n.groups)) o.sends → Fair s s n o
 fair_keeps s n k o ready other may held me groups sent = record {

@@ -1,4 +1,4 @@
--- The claims of a sound world, and that every world to which events lead a new one is sound.
+-- The laws of content in a sound world, and the proof that every world to which events lead from a new one is sound.
 use Rattle.std.proofs.Common.{ℕ, Option, Some, None, List, [], ◌∷◌, ap, ◌∙◌}
 use Rattle.oc_model.specs.declared.event.Act.{Act}
 use Rattle.oc_model.specs.declared.event.Event.{Event}
@@ -25,7 +25,7 @@ sound_whole w sound x g k h e =
     let full = held.sealed e in
     (held.whole, held.found, full.0, full.1)
 
--- what is true of its sender is acknowledged
+-- a message that is true of its sender is acknowledged
 acknowledged : (w : World) (x : ℕ) (b : Body) → IsTrueOfSender (node w x).groups b → IsAcknowledged w x b
 acknowledged w x (Fetch have) h = h
 acknowledged w x b h = tt
@@ -37,7 +37,7 @@ sound_acknowledged w sound = record {
   source = (sound.ready 1).own (process_in-me w.processes 1);
 }
 
--- what is true of the source is a true chunk
+-- a message that is true of the source is a true chunk
 brought : (w : World) (b : Body) → IsTrueOfSource w.source b → IsTrueChunk w b
 brought w (Chunk g start bytes last) h = h
 brought w b h = tt
@@ -53,7 +53,7 @@ sound_sealed w sound e g s h closed = let grown = (event_turn w sound e).source 
 -- Throughout
 
 module _ (P : World → Type 0) (of_sound : (w : World) → Sound w → P w) where
-  -- what holds of each sound world holds along acts
+  -- a property of each sound world holds along acts
   along : (w : World) → Sound w → (done : List Act) → Along P w done
   along w sound [] = tt
   along w sound (a ∷ rest) = let next = act_turn w sound a in (of_sound (after_act w a) next.sound, along (after_act w a) next.sound rest)
@@ -62,13 +62,13 @@ module _ (P : World → Type 0) (of_sound : (w : World) → Sound w → P w) whe
   along_any w sound None = tt
   along_any w sound (Some done) = along w sound done
 
-  -- and inside of each event
+  -- the property holds inside each event
   inside : (w : World) → Sound w → (e : Event) → Inside P w e
   inside w sound Settle = along_any w sound (settle_acts w)
   inside w sound Heal = along_any w sound (heal_acts w)
   inside w sound e = tt
 
-  -- and throughout all events
+  -- the property holds throughout all events
   pub throughout : (w : World) → Sound w → (events : List Event) → Throughout P w events
   throughout w sound [] = of_sound w sound
   throughout w sound (e ∷ es) = (of_sound w sound, inside w sound e, throughout (next_world w e) (event_turn w sound e).sound es)

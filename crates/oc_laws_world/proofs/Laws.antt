@@ -1,4 +1,4 @@
--- Every node of every world has an ascending table, so laws need not say so.
+-- Ascending tables: every node of every world has one, so that laws need not say so.
 use Rattle.std.proofs.Common.{ℕ, true, List}
 use Rattle.std.specs.List.{range_with_len}
 use Rattle.std.proofs.Common.{sym, subst}
@@ -29,7 +29,7 @@ both_laws J K P Q first second = record {
 abbrev pub HasTable : World → ℕ → Control → List Message → Type 0
 HasTable w x n ms = IsTable n.kept.table
 
--- the small changes leave it ascending
+-- the small changes leave a table ascending
 tables_kept : (w : World) (x : ℕ) → IsMachine (HasSent w x) (HasTable w x)
 tables_kept w x = record {
   soft = λ n ms s h. h;
@@ -62,7 +62,7 @@ tables_law = record {
   ends = λ w v x n ms holds becomes h. at_each w v x n ms becomes (λ y c. IsTable c.kept.table) h (λ y apart. holds y);
 }
 
--- a law beside it
+-- a law together with ascending tables
 abbrev pub Tabled : (World → Type 0) → World → Type 0
 Tabled J w = AreTables w × J w
 
@@ -79,18 +79,18 @@ tables_new h x =
     subst (λ (p : Process). IsTable p.node.control.kept.table) (sym new.1) tt
 
 module _ (J : World → Type 0) (P : World → ℕ → Control → List Message → Type 0) (law : IsLaw J P) where
-  -- each act and each event keeps a law beside ascending tables
+  -- each act and each event keeps such a law
   pub tabled_act : (w : World) (a : Act) → Tabled J w → Tabled J (after_act w a)
   tabled_act w a holds = lift_act (Tabled J) (TabledNode P) (tabled J P law) (λ v k. k.0) w a holds
 
   pub tabled_event : (w : World) (e : Event) → Tabled J w → Tabled J (next_world w e)
   tabled_event w e holds = lift_event (Tabled J) (TabledNode P) (tabled J P law) (λ v k. k.0) w e holds
 
-  -- what follows holds of each world on the way from a new one
+  -- a consequence of such a law holds of each world on the way from a new one
   pub tabled_throughout : (Q : World → Type 0) → ((w : World) → Tabled J w → Q w) → (h : Header) (events : List Event) → J (new_world h) → Throughout Q (new_world h) events
   tabled_throughout Q follows h events holds = passing_throughout (Tabled J) tabled_act tabled_event Q follows (new_world h) (tables_new h, holds) events
 
-  -- the same where nothing is said of tables
+  -- the same for a law that says nothing of tables
   pub law_event : (w : World) (e : Event) → AreTables w → J w → J (next_world w e)
   law_event w e tables holds = (tabled_event w e (tables, holds)).1
 

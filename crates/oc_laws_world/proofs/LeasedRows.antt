@@ -1,4 +1,4 @@
--- Whose leases end: in an ascending table the row of each leased child names its parent, and so it does while leases end.
+-- The nodes whose leases end: in an ascending table the row of each leased child names its parent, also while leases end.
 use Rattle.std.proofs.Common.{◌≡◌, ℕ, Bool, true, false, not, ◌==◌, if◌then◌else◌, Option, Some, None, List, [], ◌∷◌, filter, refl, sym, subst, ◌∙◌, eqb-true}
 use Rattle.std.specs.List.{AllByRecursion}
 use Rattle.std.proofs.lemmas.Bool.{and_parts}
@@ -15,14 +15,14 @@ use Rattle.oc_laws_step.proofs.Tables.{newest-put}
 abbrev pub IsRowOf : List Cert → ℕ → ℕ → Type 0
 IsRowOf t y x = (k : Cert) → newest t x ≡ Some k → k.parent ≡ y
 
--- so it does once a row that names it was put
+-- the row of x names the parent after a row that names it was put
 pub row_put : (t : List Cert) (d : Cert) (y x : ℕ) → d.parent ≡ y → IsRowOf t y x → IsRowOf (put t d) y x
 row_put t d y x here old k found = by_test (d.subject == x) (sym (newest-put t d x) ∙ found) where
   by_test : (b : Bool) → (if b then Some d else newest t x) ≡ Some k → k.parent ≡ y
   by_test true e = let same : d ≡ k = cc in subst (λ (c : Cert). c.parent ≡ y) same here
   by_test false e = old k e
 
--- those of a list that pass a test do so
+-- the items of a list that pass a test have the property that the test gives
 all_passed : {X : Type 0} (P Q : X → Type 0) (test : X → Bool) → ((x : X) → P x → test x ≡ true → Q x) → (xs : List X) → AllByRecursion P xs → AllByRecursion Q (filter test xs)
 all_passed P Q test gives [] all = tt
 all_passed P Q test gives (x ∷ xs) all = by_test (test x) (all_passed P Q test gives xs all.1) refl where
@@ -30,7 +30,7 @@ all_passed P Q test gives (x ∷ xs) all = by_test (test x) (all_passed P Q test
   by_test true rest e = (gives x all.0 e, rest)
   by_test false rest e = rest
 
--- the row of each leased child of y names y, and so it is for those whose lease has ended
+-- the row of each child of y whose lease has ended names y
 pub rows_ended : (t : List Cert) (y : ℕ) (ends : List (Option ℕ)) (now : ℕ) → IsTable t → AllByRecursion (IsRowOf t y) (ended t y ends now)
 rows_ended t y ends now is =
     all_filter (IsRowOf t y) (λ x. is_over (at ends x None) now) (leased_children t y)

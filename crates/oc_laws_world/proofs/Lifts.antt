@@ -1,5 +1,5 @@
--- A law of every run: what the small changes of each node carry each act and each event keeps. So it is with a law that holds between
--- two inputs and not inside of one, where every input keeps it beside another law, and every start and every stop.
+-- A law of every run: each act and each event keeps what the small changes of each node keep. The same holds of a law that is
+-- true between two inputs but not within one, if every input, start and stop keeps it together with another law.
 use Rattle.std.proofs.Common.{◌≡◌, ℕ, zero, suc, Bool, true, false, Option, Some, None, List, [], ◌∷◌, ◌++◌, inl, inr, refl, ap, sym, subst, ◌∙◌, ⊎_elim, append-nil}
 use Rattle.std.proofs.lemmas.Bool.{cond_both, cases_eq}
 use Rattle.std.specs.Prelude.{slice_get}
@@ -30,26 +30,26 @@ control_of w x = (node w x).control
 abbrev pub AreTables : World → Type 0
 AreTables w = (x : ℕ) → IsTable (control_of w x).kept.table
 
--- p has sent this to x
+-- p has sent this body to x
 abbrev pub HasSent : World → ℕ → ℕ → Body → Type 0
 HasSent w x p b = IsAmong (record { from = p; to = x; body = b }) w.net
 
--- the node x has become this and has sent these messages; all others are as they were
+-- the node x has become n and has sent these messages; all other nodes are as they were
 pub record Becomes (w : World) (x : ℕ) (n : Control) (ms : List Message) (v : World) : Type 0 where
   pub here : control_of v x ≡ n
   pub others : (y : ℕ) → (x ≡ y → ⊥) → control_of v y ≡ control_of w y
   pub net : v.net ≡ w.net ++ ms
 
--- J of worlds is carried by P of the node that changes, in the world before: it begins where J holds, each small change keeps it,
--- and with it J holds of what the world becomes
+-- a law J of worlds that follows from a law P of the node that changes: P holds at the start where J does, each small change
+-- keeps P, and J holds of the new world where P holds at the end
 pub record IsLaw (J : World → Type 0) (P : World → ℕ → Control → List Message → Type 0) : Type 0 where
   pub begins : (w : World) (x : ℕ) → J w → P w x (control_of w x) []
   pub keeps : (w : World) (x : ℕ) → J w → IsMachine (HasSent w x) (P w x)
   pub ends : (w v : World) (x : ℕ) (n : Control) (ms : List Message) → J w → Becomes w x n ms v → P w x n ms → J v
 
--- What a world becomes
+-- The world after a change
 
--- the process of an id that was put over one that is up
+-- a process put in the place of one that is up
 put_becomes : (w : World) (x : ℕ) (q : Process) (s : _) (ms : List Message) → (process w x).up ≡ true → q.node.control.me ≡ x
     → Becomes w x q.node.control ms (record { processes = with_process w.processes q; net = w.net ++ ms; source = s })
 put_becomes w x q s ms up me = record {
@@ -59,14 +59,14 @@ put_becomes w x q s ms up me = record {
   net = refl;
 }
 
--- the same where nothing that was sent gets out
+-- the same where the sent messages are lost
 lost_becomes : (w : World) (x : ℕ) (q : Process) (s : _) → (process w x).up ≡ true → q.node.control.me ≡ x
     → Becomes w x q.node.control [] (record { processes = with_process w.processes q; net = w.net; source = s })
 lost_becomes w x q s up me =
     let put : Becomes w x q.node.control [] (record { processes = with_process w.processes q; net = w.net ++ []; source = s }) = put_becomes w x q s [] up me in
     record { here = put.here; others = put.others; net = sym (append-nil w.net) }
 
--- a start or a stop, which an absent process is already
+-- a start or a stop
 again_becomes : (w : World) (x : ℕ) (up : Bool) → Becomes w x (cleared (control_of w x)) [] (again w x up)
 again_becomes w x up = record {
   here = subst (λ (y : ℕ). (process_in (with_process w.processes (anew w x up)) y).node.control ≡ cleared (control_of w x)) me (by_case (process_in-with_same w.processes (anew w x up)));
@@ -82,7 +82,7 @@ again_becomes w x up = record {
       let old : process_in w.processes x ≡ absent (anew w x up).node.control.me = subst (λ (y : ℕ). process_in w.processes y ≡ absent (anew w x up).node.control.me) me none.0 in
       ap (λ (p : Process). p.node.control) none.1 ∙ ap (λ (p : Process). cleared p.node.control) (sym old)
 
--- what holds of the node that changed, and of every other as it was, holds of each
+-- a property of the changed node, and of every other node as it was, holds of each node
 pub at_each : (w v : World) (x : ℕ) (n : Control) (ms : List Message) → Becomes w x n ms v → (Q : ℕ → Control → Type 0) → Q x n → ((y : ℕ) → (x ≡ y → ⊥) → Q y (control_of w y))
     → (y : ℕ) → Q y (control_of v y)
 at_each w v x n ms becomes Q here others y = ⊎_elim
@@ -90,13 +90,13 @@ at_each w v x n ms becomes Q here others y = ⊎_elim
     (λ apart. subst (λ (c : Control). Q y c) (sym (becomes.others y apart)) (others y apart))
     (cases_eq x y)
 
--- a message that is found was sent
+-- a message that is found in a list is in the list
 found_among : (ms : List Message) (k : ℕ) (m : Message) → slice_get ms k ≡ Some m → IsAmong m ms
 found_among [] k m e = absurd cc
 found_among (a ∷ rest) zero m e = inl cc
 found_among (a ∷ rest) (suc k) m e = inr (found_among rest k m e)
 
--- the input of an act has come where it is a message
+-- the input of an act, if it is a message, was sent
 abbrev pub IsTrueArrival : World → Option Arrival → Type 0
 IsTrueArrival w None = Unit {0}
 IsTrueArrival w (Some a) = HasCome (HasSent w a.at) a.input
@@ -115,7 +115,8 @@ arrival_came w (acts.Deliver k) = delivery_came w k
 
 -- Laws of inputs
 
--- where G holds, each true input at a node that is up keeps J, with what it sends and where a stop cuts that off; so do starts and stops
+-- a law of inputs: where G holds, each true input at a node that is up keeps J, both with the messages it sends and where a
+-- stop cuts it off; so do starts and stops
 pub record IsActLaw (G J : World → Type 0) : Type 0 where
   pub starts : (w : World) (x : ℕ) (up : Bool) → J w → J (again w x up)
   pub takes : (w : World) (a : Arrival) → IsTrueArrival w (Some a) → (process w a.at).up ≡ true → G w → J w → J (stepped w a.input (step (node w a.at) a.input))
@@ -149,7 +150,7 @@ module _ (G J : World → Type 0) (law : IsActLaw G J) (goes_on : (w : World) (a
       let kept : Bool = keeps_write calls image (node w a.at) a.input in
       cond_both (process w a.at).up (cut_off kept w (node w a.at) a.input (step (node w a.at) a.input)) w J (λ up. act_cut kept w a truth up beside holds) (λ _. holds)
 
-  -- each event does
+  -- each event keeps the law
   pub act_event : (w : World) (e : Event) → G w → J w → J (next_world w e)
   act_event w (Up x) beside holds = cond_both (process w x).up w (again w x true) J (λ _. holds) (λ _. law.starts w x true holds)
   act_event w (Crash x) beside holds = cond_both (process w x).up (again w x false) w J (λ _. law.starts w x false holds) (λ _. holds)
@@ -163,14 +164,15 @@ module _ (G J : World → Type 0) (law : IsActLaw G J) (goes_on : (w : World) (a
 -- Laws of small changes
 
 module _ (J : World → Type 0) (P : World → ℕ → Control → List Message → Type 0) (law : IsLaw J P) (tables : (w : World) → J w → AreTables w) where
-  -- what a step at x leaves has the law's part
+  -- a step at x keeps the law's part for x
   lift_step : (w : World) (a : Arrival) → IsTrueArrival w (Some a) → J w → P w a.at (step (node w a.at) a.input).node.control (step (node w a.at) a.input).sends
   lift_step w a truth holds = walks_step (HasSent w a.at) (P w a.at) (law.keeps w a.at holds) (node w a.at) a.input (tables w holds a.at) truth (law.begins w a.at holds)
 
   step_me : (w : World) (a : Arrival) → (step (node w a.at) a.input).node.control.me ≡ a.at
   step_me w a = (step_leaves (node w a.at) a.input).me ∙ process_in-me w.processes a.at
 
-  -- so each input keeps the law, with no other beside it; of one in which the node stops, what it kept is there, and what it sent is lost
+  -- each input keeps the law without any law beside it. An input in which the node stops leaves the kept state, and its
+  -- messages are lost
   of_changes : IsActLaw (λ w. Unit {0}) J
   of_changes = record {
     starts = λ w x up holds. law.ends w (again w x up) x (cleared (control_of w x)) [] holds (again_becomes w x up) ((law.keeps w x holds).starts (control_of w x) [] (law.begins w x holds));
@@ -190,6 +192,6 @@ module _ (J : World → Type 0) (P : World → ℕ → Control → List Message 
   pub lift_act : (w : World) (a : Act) → J w → J (after_act w a)
   lift_act w a holds = act_lift (λ v. Unit {0}) J of_changes (λ v b beside. beside) w a tt holds
 
-  -- each event does
+  -- each event keeps the law
   pub lift_event : (w : World) (e : Event) → J w → J (next_world w e)
   lift_event w e holds = act_event (λ v. Unit {0}) J of_changes (λ v b beside. beside) w e tt holds

@@ -22,15 +22,15 @@ use Rattle.oc_model.specs.Plan.{Plan}
 use Rattle.oc_model.specs.Records.{entered}
 use Rattle.oc_model.specs.Table.{newest, is_news}
 
--- this is durable of the node now
+-- a node with this durable state
 abbrev pub with_kept : Control → Durable → Control
 with_kept n d = record n { kept = d }
 
--- what a start clears, cleared
+-- a node after a start, which clears the rest of its state
 abbrev pub cleared : Control → Control
 cleared n = started_with (record { nodes = n.nodes; chain = n.chain; chunk = n.chunk; areas = n.areas }) n.me n.kept
 
--- what was sent, and one more message of the node
+-- the sent messages, and one more of the node
 abbrev pub and_sent : Control → List Message → ℕ → Body → List Message
 and_sent n ms p b = ms ++ record { from = n.me; to = p; body = b } ∷ []
 
@@ -42,14 +42,15 @@ IsLoose (bodies.CheckIn seq upto rate number clients certs) = ⊥
 IsLoose (bodies.CheckAck seq upto rank ancestors) = ⊥
 IsLoose body = Unit {0}
 
--- each small change keeps this of a node and of what it has sent so far; `came p b` says that p sent it that body. To whom a
--- node sends, and whom it asks, is free
+-- a property P of a node and of its sent messages that each small change keeps; `came p b` says that p sent the node the body
+-- b. The receivers of messages and the node that is asked may be any
 pub record IsMachine (came : ℕ → Body → Type 0) (P : Control → List Message → Type 0) : Type 0 where
-  -- what a start clears, and what of the rest no law on the tree speaks of
+  -- the cleared part of a node, and the durable parts of which no law on the tree speaks
   pub soft : (n : Control) (ms : List Message) (s : Soft) → P n ms → P (record n { soft = s }) ms
   pub lists : (n : Control) (ms : List Message) (leases : List (Option ℕ)) (rates counts : List ℕ) → P n ms → P (record n { leases = leases; rates = rates; counts = counts }) ms
   pub aside : (n : Control) (ms : List Message) (ancestors : List ℕ) (measures : List Reading) → P n ms → P (with_kept n (record n.kept { ancestors = ancestors; measures = measures })) ms
-  -- modes and ranks: the parent is lost; some node is asked; a root; a root's epoch rises; a parent; its rank is taken
+  -- modes and ranks: the parent is lost, a node is asked, the node becomes root, a root's epoch rises, the node joins, a better
+  -- rank is taken
   pub falls : (n : Control) (ms : List Message) → P n ms → P (with_kept n (record n.kept { mode = Idle; log = empty_log })) ms
   pub asks : (n : Control) (ms : List Message) (p : ℕ) → (n.kept.seq == number_end) ≡ false → P n ms
       → P (with_kept n (record n.kept { seq = n.kept.seq + 1; mode = Asking p; log = empty_log })) ms
@@ -61,8 +62,8 @@ pub record IsMachine (came : ℕ → Body → Type 0) (P : Control → List Mess
       → P n ms → P (with_kept n (record n.kept { mode = Joined p; rank = Some (beneath_of r); log = begun_with n.kept.table })) ms
   pub ranks : (n : Control) (ms : List Message) (p upto : ℕ) (r : Rank) (xs : List ℕ) → came p (bodies.CheckAck n.kept.seq upto r xs) → n.kept.mode ≡ Joined p → is_better n.kept.rank r ≡ true
       → P n ms → P (with_kept n (record n.kept { rank = Some (beneath_of r) })) ms
-  -- the log, the table and the own count: an acknowledgement; the lease of an asker; what a check-in tells; the end of a lease;
-  -- clients
+  -- the log, the table and the own count: an acknowledgement, the lease of an asker, the certificates of a check-in, the end of
+  -- a lease, and the count of clients
   pub acks : (n : Control) (ms : List Message) (p upto : ℕ) (r : Rank) (xs : List ℕ) → came p (bodies.CheckAck n.kept.seq upto r xs) → n.kept.mode ≡ Joined p → is_ahead n.kept.log upto ≡ true
       → P n ms → P (with_kept n (record n.kept { log = ack n.kept.log upto })) ms
   pub adopts : (n : Control) (ms : List Message) (x s : ℕ) (r : Option Rank) → came x (bodies.Ask s r) → in_tree n.kept.mode ≡ true → is_news n.kept.table (birth x s n.me) ≡ true
@@ -72,7 +73,7 @@ pub record IsMachine (came : ℕ → Body → Type 0) (P : Control → List Mess
   pub ends : (n : Control) (ms : List Message) (x : ℕ) (k : Cert) → newest n.kept.table x ≡ Some k → k.parent ≡ n.me → is_news n.kept.table (record k { dead = true }) ≡ true
       → P n ms → P (with_kept n (entered n.kept (record k { dead = true }))) ms
   pub counts : (n : Control) (ms : List Message) (clients : ℕ) → nat_lt n.kept.number number_end ≡ true → P n ms → P (with_kept n (record n.kept { number = n.kept.number + 1; clients = clients })) ms
-  -- the messages
+  -- sent messages
   pub says : (n : Control) (ms : List Message) (p : ℕ) (b : Body) → IsLoose b → P n ms → P n (and_sent n ms p b)
   pub says_ask : (n : Control) (ms : List Message) (p : ℕ) → n.kept.mode ≡ Asking p → P n ms → P n (and_sent n ms p (bodies.Ask n.kept.seq n.kept.rank))
   pub says_yes : (n : Control) (ms : List Message) (x s : ℕ) (r : Option Rank) → came x (bodies.Ask s r) → in_tree n.kept.mode ≡ true → has_lease n x s ≡ true
@@ -82,15 +83,15 @@ pub record IsMachine (came : ℕ → Body → Type 0) (P : Control → List Mess
   pub says_check_ack : (n : Control) (ms : List Message) (x s upto rate number clients : ℕ) (certs : List Cert) → came x (bodies.CheckIn s upto rate number clients certs)
       → AllByRecursion (λ c. is_news n.kept.table c ≡ false) (life x s n.me number clients ∷ certs)
       → P n ms → P n (and_sent n ms x (bodies.CheckAck s upto (rank_or_last n.kept.rank) n.kept.ancestors))
-  -- stops and starts: what is sent is lost; what a start clears is cleared
+  -- stops, where sent messages are lost, and starts
   pub drops : (n : Control) (ms : List Message) → P n ms → P n []
   pub starts : (n : Control) (ms : List Message) → P n ms → P (cleared n) ms
 
--- this of a step under way
+-- the property P of a step under way
 abbrev pub Of : (Control → List Message → Type 0) → Plan → Type 0
 Of P o = P o.node o.sends
 
--- two of what the small changes keep, at once
+-- two properties that the small changes keep, together
 pub both_kept : (came : ℕ → Body → Type 0) (P Q : Control → List Message → Type 0) → IsMachine came P → IsMachine came Q → IsMachine came (λ n ms. P n ms × Q n ms)
 both_kept came P Q first second = record {
   soft = λ n ms s h. (first.soft n ms s h.0, second.soft n ms s h.1);

@@ -1,4 +1,4 @@
--- The entries of one node in a merge that goes on, their fold, and the messages of their steps.
+-- The entries of one node in a longer merge, their fold, and the messages of their steps.
 use Rattle.std.proofs.Common.{◌≡◌, ℕ, suc, Bool, true, false, ◌==◌, if◌then◌else◌, Some, List, [], ◌∷◌, ◌++◌, slice_get, inl, inr, ⊎_elim, refl, ap, sym, ◌∙◌, append_assoc, append-nil, eq-eqb, ne_eqb}
 use Rattle.oc_model.specs.declared.message.Message.{Message}
 use Rattle.oc_model.specs.Node.{Node}
@@ -7,12 +7,12 @@ use Rattle.oc_laws_step.proofs.Merges.{among_left}
 use Rattle.oc_laws_world.specs.Merges.{Entry, Line, after_entry, sent_by, after_entries, sent_by_all, entries_of, is_any}
 use Rattle.oc_laws_world.proofs.Listed.{among_either}
 
--- one among the later of two lists is among both in a row
+-- an item of the second of two lists is an item of both in a row
 pub among_right : {X : Type 0} (x : X) (xs ys : List X) → IsAmong x ys → IsAmong x (xs ++ ys)
 among_right x [] ys h = h
 among_right x (z ∷ zs) ys h = inr (among_right x zs ys h)
 
--- one among some has a place
+-- an item of a list has a place in it
 pub place_of : {X : Type 0} (x : X) (xs : List X) → IsAmong x xs → (k : ℕ) × (slice_get xs k ≡ Some x)
 place_of x [] none = absurd none
 place_of x (y ∷ ys) (inl e) = (0, ap Some e)
@@ -20,7 +20,7 @@ place_of x (y ∷ ys) (inr later) = let found = place_of x ys later in (suc foun
 
 -- Entries
 
--- a merge that goes on has the entries of both parts
+-- two parts of a merge in a row have the entries of both
 pub entries-append : (x : ℕ) (ls more : List Line) → entries_of x (ls ++ more) ≡ entries_of x ls ++ entries_of x more
 entries-append x [] more = refl
 entries-append x (l ∷ ls) more = by_test (l.node == x) (entries-append x ls more) where
@@ -33,7 +33,7 @@ entries-append x (l ∷ ls) more = by_test (l.node == x) (entries-append x ls mo
 pub entries_here : (ls : List Line) (l : Line) → entries_of l.node (ls ++ l ∷ []) ≡ entries_of l.node ls ++ l.entry ∷ []
 entries_here ls l = entries-append l.node ls (l ∷ []) ∙ ap (λ b. entries_of l.node ls ++ (if b then l.entry ∷ [] else [])) (eq-eqb l.node l.node refl)
 
--- and none of any other
+-- one line more is no entry of any other node
 pub entries_there : (ls : List Line) (l : Line) (x : ℕ) → (l.node ≡ x → ⊥) → entries_of x (ls ++ l ∷ []) ≡ entries_of x ls
 entries_there ls l x apart = entries-append x ls (l ∷ []) ∙ (ap (λ b. entries_of x ls ++ (if b then l.entry ∷ [] else [])) (ne_eqb l.node x apart) ∙ append-nil (entries_of x ls))
 
@@ -41,7 +41,7 @@ pub any_last : (es : List Entry) (e : Entry) → is_any (es ++ e ∷ []) ≡ tru
 any_last [] e = refl
 any_last (d ∷ es) e = refl
 
--- Their fold, and what is sent
+-- The fold of entries, and the sent messages
 
 pub after_last : (n : Node) (es : List Entry) (e : Entry) → after_entries n (es ++ e ∷ []) ≡ after_entry (after_entries n es) e
 after_last n [] e = refl
@@ -51,7 +51,7 @@ pub sent_last : (n : Node) (es : List Entry) (e : Entry) → sent_by_all n (es +
 sent_last n [] e = append-nil (sent_by n e)
 sent_last n (d ∷ es) e = ap (λ ms. sent_by n d ++ ms) (sent_last (after_entry n d) es e) ∙ sym (append_assoc (sent_by n d) (sent_by_all (after_entry n d) es) (sent_by (after_entries (after_entry n d) es) e))
 
--- what was sent stays sent
+-- sent messages stay sent
 pub sent_longer : (n : Node) (es more : List Entry) (m : Message) → IsAmong m (sent_by_all n es) → IsAmong m (sent_by_all n (es ++ more))
 sent_longer n [] more m h = absurd h
 sent_longer n (d ∷ es) more m h =

@@ -1,4 +1,4 @@
--- The schedule of a merge leads to a world in which each node is the fold of its own entries.
+-- The schedule of a merge, and its world, in which each node is the fold of its own entries.
 use Rattle.std.proofs.Common.{◌≡◌, ℕ, suc, Bool, true, false, Option, Some, List, [], ◌∷◌, ◌++◌, ◌⊎◌, inl, inr, ⊎_elim, refl, ap, sym, subst, ◌∙◌, arith, append_assoc, append-nil}
 use Rattle.std.specs.List.{range_with_len}
 use Rattle.std.proofs.lemmas.Bool.{cases_eq}
@@ -27,36 +27,36 @@ use Rattle.oc_laws_world.proofs.Present.{in_range, new_found, found_at}
 abbrev process_of : Node → Bool → Process
 process_of n up = record { node = n; up = up }
 
--- x by its own entries, up once it has one
+-- the process of x by its own entries, up once it has one
 abbrev own_process : Header → List Line → ℕ → Process
 own_process h ls x = process_of (own_fold h ls x) (is_any (entries_of x ls))
 
--- the world of a merge: each node is the fold of its own entries, and what their steps sent is in the net, and nothing else
+-- the world of a merge: each node is the fold of its own entries, and the net has exactly the messages that their steps sent
 pub record IsWorldOf (h : Header) (ls : List Line) (w : World) : Type 0 where
   pub there : (x : ℕ) → IsNode h.nodes x → IsOneOf x (ids w)
   pub processes : (x : ℕ) → IsNode h.nodes x → process w x ≡ own_process h ls x
   pub sent : (m : Message) → IsAmong m w.net → WasSent h ls m
   pub kept : (m : Message) → WasSent h ls m → IsAmong m w.net
 
--- a new world is that of no line
+-- a new world is the world of no line
 pub world_new : (h : Header) → IsWorldOf h [] (new_world h)
 world_new h = record { there = there; processes = λ x is. new_found h (range_with_len 1 h.nodes) x (in_range 1 h.nodes x is.0 (omega (arith, is.1))); sent = λ m none. absurd none; kept = λ m was. absurd was.2 } where
   there : (x : ℕ) → IsNode h.nodes x → IsOneOf x (ids (new_world h))
   there x is = subst (IsOneOf x) (sym (ids-new h (range_with_len 1 h.nodes))) (in_range 1 h.nodes x is.0 (omega (arith, is.1)))
 
--- what was sent stays sent
+-- sent messages stay sent
 sent_more : (h : Header) (ls : List Line) (l : Line) (m : Message) → WasSent h ls m → WasSent h (ls ++ l ∷ []) m
 sent_more h ls l m was =
     (was.0, was.1, subst (λ (es : List Entry). IsAmong m (sent_by_all (new_node h was.0) es)) (sym (entries-append was.0 ls (l ∷ []))) (sent_longer (new_node h was.0) (entries_of was.0 ls) (entries_of was.0 (l ∷ [])) m was.2))
 
--- One line more: its node goes on, all others stay, and what its step sent comes to the net
+-- One line more: its node goes on, all other nodes stay, and the messages of its step are added to the net
 record GoesOn (h : Header) (ls : List Line) (l : Line) (w v : World) : Type 0 where
   ids_stay : ids v ≡ ids w
   here : process v l.node ≡ process_of (after_entry (own_fold h ls l.node) l.entry) true
   others : (x : ℕ) → (l.node ≡ x → ⊥) → process v x ≡ process w x
   net : v.net ≡ w.net ++ sent_by (own_fold h ls l.node) l.entry
 
--- its node is the fold with one entry more
+-- the line's node is the fold with one entry more
 own_last : (h : Header) (ls : List Line) (l : Line) → own_process h (ls ++ l ∷ []) l.node ≡ process_of (after_entry (own_fold h ls l.node) l.entry) true
 own_last h ls l =
     let es : List Entry = entries_of l.node ls in
@@ -67,7 +67,7 @@ own_last h ls l =
 own_others : (h : Header) (ls : List Line) (l : Line) (x : ℕ) → (l.node ≡ x → ⊥) → own_process h (ls ++ l ∷ []) x ≡ own_process h ls x
 own_others h ls l x apart = ap (λ (es : List Entry). process_of (after_entries (new_node h x) es) (is_any es)) (entries_there ls l x apart)
 
--- what its node has sent, with what it sends now
+-- the messages of the line's node, with those that it sends now
 sent_here : (h : Header) (ls : List Line) (l : Line) → sent_by_all (new_node h l.node) (entries_of l.node (ls ++ l ∷ [])) ≡ sent_by_all (new_node h l.node) (entries_of l.node ls) ++ sent_by (own_fold h ls l.node) l.entry
 sent_here h ls l = ap (sent_by_all (new_node h l.node)) (entries_here ls l) ∙ sent_last (new_node h l.node) (entries_of l.node ls) l.entry
 
@@ -83,7 +83,7 @@ world_on h ls l w v is k on = record {
   news : List Message
   news = sent_by (own_fold h ls l.node) l.entry
 
-  -- what was sent by now was sent before or by this line
+  -- a message that was sent was sent before this line or by it
   by_sender : (m : Message) → WasSent h (ls ++ l ∷ []) m → WasSent h ls m ⊎ IsAmong m news
   by_sender m was = ⊎_elim same_sender (λ apart. inl (was.0, was.1, subst (λ (es : List Entry). IsAmong m (sent_by_all (new_node h was.0) es)) (entries_there ls l was.0 apart) was.2)) (cases_eq l.node was.0) where
     same_sender : l.node ≡ was.0 → WasSent h ls m ⊎ IsAmong m news
@@ -98,7 +98,7 @@ put_others w q x me y apart = process_in-with_other w.processes q y (λ e. apart
 
 -- Starts
 
--- a node that is started anew, or stopped, has its id
+-- a node that is started or stopped keeps its id
 anew-me : (w : World) (x : ℕ) (up : Bool) → (anew w x up).node.control.me ≡ x
 anew-me w x up = process_in-me w.processes x
 
@@ -113,7 +113,7 @@ started_on h ls w x is k = record {
   net = sym (append-nil w.net);
 }
 
--- the same after a crash
+-- the line of a start at a node that is up: a crash, and then the start
 restarted_on : (h : Header) (ls : List Line) (w : World) (x : ℕ) → IsNode h.nodes x → IsWorldOf h ls w → GoesOn h ls (line x Starts) w (again (again w x false) x true)
 restarted_on h ls w x is k = record {
   ids_stay = ids-with_process off.processes (anew off x true) ∙ off_ids;
@@ -129,7 +129,7 @@ restarted_on h ls w x is k = record {
   off_ids : ids off ≡ ids w
   off_ids = ids-with_process w.processes (anew w x false)
 
--- a start of a node that is down, and one after a crash of a node that is up
+-- a start of a node that is down, and a crash and a start of a node that is up
 start_down : (w : World) (x : ℕ) → is_up w x ≡ false → world_after w (Up x ∷ []) ≡ again w x true
 start_down w x off = rw off refl
 
@@ -149,7 +149,7 @@ start_leads h ls w x is k = by_case (is_up w x) refl where
 
 -- Inputs
 
--- an input of x
+-- an input at x
 abbrev to_node : ℕ → Input → Arrival
 to_node x i = record { at = x; input = i }
 
@@ -201,7 +201,7 @@ world_after-append : (w : World) (first rest : List Event) → world_after w (fi
 world_after-append w [] rest = refl
 world_after-append w (e ∷ es) rest = world_after-append (next_world w e) es rest
 
--- a merge that goes on leads from the world of what is past to that of all
+-- a longer merge leads from the world of its first part to the world of the whole
 pub merge_leads : (h : Header) (past ls : List Line) (w : World) (es : List Event) → IsWorldOf h past w → GoOn h past ls → IsScheduleOf w ls es → IsWorldOf h (past ++ ls) (world_after w es)
 merge_leads h past [] w es k on of = subst (λ (us : List Event). IsWorldOf h (past ++ []) (world_after w us)) (sym of) (subst (λ (all : List Line). IsWorldOf h all w) (sym (append-nil past)) k)
 merge_leads h past (l ∷ ls) w es k on of =
@@ -211,7 +211,7 @@ merge_leads h past (l ∷ ls) w es k on of =
     let joined : IsWorldOf h (past ++ l ∷ ls) (world_after w (of.0 ++ of.1)) = subst (IsWorldOf h (past ++ l ∷ ls)) (sym (world_after-append w of.0 of.1)) whole in
     subst (λ (us : List Event). IsWorldOf h (past ++ l ∷ ls) (world_after w us)) (sym of.2) joined
 
--- and there is a schedule of it
+-- a longer merge has a schedule
 pub merge_schedule : (h : Header) (past ls : List Line) (w : World) → IsWorldOf h past w → GoOn h past ls → (es : List Event) × IsScheduleOf w ls es
 merge_schedule h past [] w k on = ([], refl)
 merge_schedule h past (l ∷ ls) w k on =

@@ -1,4 +1,4 @@
--- An input that was missed is found, or it makes no difference to the start after it.
+-- Missed inputs: each is found, or makes no difference to the start after it.
 use Rattle.std.proofs.Common.{◌≡◌, ℕ, ◌+◌, ◌-◌, Bool, true, false, Option, Some, None, List, [], ◌∷◌, ◌++◌, length, drop, Ordering, Less, Equal, Greater, nat_cmp, is_eq, refl, ap, sym, subst, ◌∙◌, arith, length-append, append-nil}
 use Rattle.std.specs.Cmp.Lexicographic.{slice_cmp}
 use Rattle.oc_base.specs.declared.group.Group.{Group}
@@ -15,7 +15,7 @@ use Rattle.oc_laws_step.proofs.Steps.{writes}
 use Rattle.oc_laws_world.specs.Merges.{after_entries}
 use Rattle.oc_laws_world.specs.Missed.{Deed, Started, Took, Missed, after_deeds, Told, Finds, Tells, record_of, is_missed, without_missed, StartsFit, HaveSameFiles, IsToldApart, IsStory}
 
--- What is put and leaves the shelf leaves the groups
+-- Changes that leave the list of names, lengths and seals leave the groups
 
 group_same : (a b : Group) → a.name ≡ b.name → a.bytes ≡ b.bytes → a.sealed ≡ b.sealed → a ≡ b
 group_same a b name bytes sealed =
@@ -26,7 +26,7 @@ no_more : (xs : List ℕ) → length xs ≡ 0 → xs ≡ []
 no_more [] e = refl
 no_more (x ∷ xs) e = absurd (omega (arith, e))
 
--- a group that has more bytes than another, and the same line, is that one
+-- two groups with the same line are equal where one has the other's bytes and perhaps more
 same_line : (k j : Group) (more : List ℕ) → k.bytes ≡ j.bytes ++ more → shelf_of k ≡ shelf_of j → k ≡ j
 same_line k j more longer line =
     let held : length k.bytes ≡ length j.bytes = ap (λ (l : Shelf). l.held) line in
@@ -34,7 +34,7 @@ same_line k j more longer line =
     let none : more ≡ [] = no_more more (omega (arith, held, sum)) in
     group_same k j (ap (λ (l : Shelf). l.group) line) (longer ∙ (ap (λ ys. j.bytes ++ ys) none ∙ append-nil j.bytes)) (ap (λ (l : Shelf). l.sealed) line)
 
--- a group that is put in the place of a shorter one, or of none, and leaves the shelf, leaves all groups
+-- a group put in the place of a shorter one, or of none, leaves all groups where it leaves the shelf
 put_still : (k : Group) (ks : List Group) (more : List ℕ) → k.bytes ≡ (group_or_empty k.name ks).bytes ++ more → shelf (with_group k ks) ≡ shelf ks → with_group k ks ≡ ks
 put_still k [] more longer still = absurd cc
 put_still k (j ∷ js) more longer still = by_order (put_still k js more) (slice_cmp nat_cmp k.name j.name) refl where
@@ -58,7 +58,7 @@ put_still k (j ∷ js) more longer still = by_order (put_still k js more) (slice
       let later : shelf (with_group k js) ≡ shelf js = cc in
       rw e (ap (λ gs. j ∷ gs) (rest (there e) later))
 
--- what is kept of a piece and leaves the shelf leaves the groups
+-- a piece that is kept leaves all groups where it leaves the shelf
 kept_still : (at : Option ℕ) (ks : List Group) (p : Piece) (closes : Bool) → shelf (kept_at at ks p closes) ≡ shelf ks → kept_at at ks p closes ≡ ks
 kept_still None ks p closes still = refl
 kept_still (Some at) ks p closes still =
@@ -73,7 +73,7 @@ restart_same : (a b : Node) → a.control.me ≡ b.control.me → a.control.node
     → a.control.areas ≡ b.control.areas → a.control.kept ≡ b.control.kept → a.groups ≡ b.groups → restarted a ≡ restarted b
 restart_same a b me nodes chain chunk areas kept groups = rw (me, nodes, chain, chunk, areas, kept, groups) refl
 
--- what a start finds after an input that left the files is what it found before
+-- a start after an input that left the files finds the same as before the input
 pub start_still : (n : Node) (i : Input) → HaveSameFiles n (step n i).node → restarted (step n i).node ≡ restarted n
 start_still n i files =
     let same : IsSame n.control (step n i).node.control = (writes n.control (shelf n.groups) i).same in
@@ -83,7 +83,7 @@ start_still n i files =
 -- Records
 
 module _ (digest : Node → List ℕ) where
-  -- an input that was taken is not taken for a missed one
+  -- an input that was taken is not held to be missed
   taken_stays : (n : Node) (i : Input) (ds : List Deed) → is_missed digest n i (record_of digest (step n i).node ds) ≡ false
   taken_stays n i [] = refl
   taken_stays n i (Started ∷ ds) = rw (same_name-itself (digest (step n i).node)) refl
@@ -96,7 +96,7 @@ module _ (digest : Node → List ℕ) where
   abbrev Folds : Node → List Deed → Type 0
   Folds n ds = after_entries n (without_missed digest n (record_of digest n (to_start ds))) ≡ after_deeds n (to_start ds)
 
-  -- an input that was missed, and the start after it with all that follows
+  -- a missed input, and the start after it with all that follows
   missed_folds : (n : Node) (i : Input) (ts : List Told) → IsToldApart digest n i
       → after_entries n (without_missed digest n (Tells i ∷ Finds (digest n) ∷ ts)) ≡ after_entries n (without_missed digest n (Finds (digest n) ∷ ts))
   missed_folds n i ts apart = by_test (same_name (digest n) (digest (step n i).node)) refl where

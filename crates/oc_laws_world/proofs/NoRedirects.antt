@@ -37,12 +37,12 @@ use Rattle.oc_model.specs.Step.{received}
 use Rattle.oc_model.specs.Table.{newest, is_news}
 use Rattle.oc_model.proofs.Rules.{either}
 
--- an answer that sends no client on
+-- an answer that does not send a client on
 abbrev pub IsNoRedirect : Answer → Type 0
 IsNoRedirect (words.Redirect k) = ⊥
 IsNoRedirect a = Unit {0}
 
--- the answer of a step under way
+-- a step under way whose answer does not send a client on
 abbrev pub Stays : Plan → Type 0
 Stays o = IsNoRedirect o.answer
 
@@ -307,7 +307,7 @@ stays_measured o p rate hops h =
 pub stays_pulled : (o : Plan) (shelf : List Shelf) (p : ℕ) → Stays o → Stays (pulled o shelf p)
 stays_pulled o shelf p h = either (p == o.node.me) Stays (answers o words.Own) (send o p (bodies.Fetch shelf)) tt h
 
--- neither limit of groups sends a client on
+-- neither limit on groups sends a client on
 stays_limited : (shelf : List Shelf) (g : List ℕ) (end : ℕ) (o q : Plan) → Stays q → Stays (unless (limit shelf g end) o q)
 stays_limited shelf g end o q h = by_tests (not (is_some (line_of g shelf)) && nat_le MAX_GROUPS (length shelf)) (nat_lt MAX_GROUP_BYTES end) where
   by_tests : (a b : Bool) → Stays (unless (if a then Some words.Groups else if b then Some words.TooLong else None) o q)

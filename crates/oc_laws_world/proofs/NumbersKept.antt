@@ -1,5 +1,5 @@
--- The law of ask numbers: each has one peer, since each fact, each yes and each parent has its ask among the messages, and asks of
--- one number go to one peer.
+-- The law of ask numbers: each has one peer, since each fact, each yes and each parent has its ask among the messages, and all
+-- asks of one number go to one peer.
 use Rattle.std.proofs.Common.{◌≡◌, ℕ, ◌+◌, ◌≤◌, true, Option, List, [], ◌∷◌, ◌++◌, ◌⊎◌, inl, inr, ap, sym, ◌∙◌, subst, ⊎_elim, arith}
 use Rattle.std.specs.List.{AllByRecursion, range_with_len}
 use Rattle.std.proofs.lemmas.Bool.{cases_eq}
@@ -35,13 +35,13 @@ use Rattle.oc_laws_world.proofs.Machine.{IsMachine, IsLoose, and_sent, with_kept
 abbrev pub IsAskedFact : World → Cert → Type 0
 IsAskedFact w c = HasAsked w c.subject c.seq c.parent
 
--- that of a yes was sent, that of a check-in, and those of the facts in it
+-- the ask of a yes or of a check-in was sent, and so were those of the facts in the check-in
 abbrev pub IsAskedSend : World → Message → Body → Type 0
 IsAskedSend w m (bodies.Yes seq rank ancestors) = HasAsked w m.to seq m.from
 IsAskedSend w m (bodies.CheckIn seq upto rate number clients certs) = HasAsked w m.from seq m.to × AllByRecursion (IsAskedFact w) certs
 IsAskedSend w m body = Unit {0}
 
--- what the law says of a world
+-- the law of ask numbers in a world
 pub record NumbersHold (w : World) : Type 0 where
   pub unique : (x s p q : ℕ) → HasAsked w x s p → HasAsked w x s q → p ≡ q
   pub bound : (x s p : ℕ) → HasAsked w x s p → s ≤ (control_of w x).kept.seq
@@ -51,11 +51,11 @@ pub record NumbersHold (w : World) : Type 0 where
   pub waiting : (x : ℕ) → AllByRecursion (IsAskedFact w) (control_of w x).kept.log.waiting
   pub told : AllByRecursion (λ m. IsAskedSend w m m.body) w.net
 
--- an ask of x was sent before, or is one of these
+-- an ask of x was sent before, or is one of these messages
 abbrev pub HasAskedNow : World → List Message → ℕ → ℕ → ℕ → Type 0
 HasAskedNow w ms x s p = HasAsked w x s p ⊎ HasAskedIn ms x s p
 
--- what the law says of the node x in the middle of a change of this world: its asks may be new, all else has its ask before
+-- the law for the node x in the middle of a change of this world: its asks may be new, and all else has its ask from before
 pub record IsCounting (w : World) (x : ℕ) (n : Control) (ms : List Message) : Type 0 where
   pub me : n.me ≡ x
   pub own : (y s p : ℕ) → HasAskedIn ms y s p → y ≡ x
@@ -74,7 +74,7 @@ abbrev IsNoAsk : Body → Type 0
 IsNoAsk (bodies.Ask seq rank) = ⊥
 IsNoAsk body = Unit {0}
 
--- it is none of the asks
+-- such a message is not one of the asks
 no_ask_in : (ms : List Message) (m : Message) → IsNoAsk m.body → (y s p : ℕ) → HasAskedIn (ms ++ m ∷ []) y s p → HasAskedIn ms y s p
 no_ask_in ms m none y s p asked = ⊎_elim
     (λ (old : IsAmong (record { from = y; to = p; body = bodies.Ask s asked.0 }) ms). (asked.0, old))
@@ -85,7 +85,7 @@ no_ask_now : (w : World) (ms : List Message) (m : Message) → IsNoAsk m.body �
 no_ask_now w ms m none y s p (inl old) = inl old
 no_ask_now w ms m none y s p (inr new) = inr (no_ask_in ms m none y s p new)
 
--- one message more that is no ask
+-- one more message that is no ask
 and_told : (w : World) (x : ℕ) (n : Control) (ms : List Message) (p : ℕ) (b : Body) → IsNoAsk b → IsAskedSend w (record { from = n.me; to = p; body = b }) b → IsCounting w x n ms → IsCounting w x n (and_sent n ms p b)
 and_told w x n ms p b none backed h =
     let m : Message = record { from = n.me; to = p; body = b } in
@@ -101,7 +101,7 @@ and_told w x n ms p b none backed h =
       told = all_append (λ l. IsAskedSend w l l.body) ms (m ∷ []) h.told (backed, tt);
     }
 
--- an ask that is there was there, or is the new one
+-- each ask was sent before or is the new one
 pub ask_in : (ms : List Message) (x q k : ℕ) (rank : Option Rank) (y s p : ℕ) → HasAskedIn (ms ++ record { from = x; to = q; body = bodies.Ask k rank } ∷ []) y s p
     → HasAskedIn ms y s p ⊎ ((x ≡ y) × (k ≡ s) × (q ≡ p))
 ask_in ms x q k rank y s p asked = ⊎_elim
@@ -113,7 +113,7 @@ ask_in ms x q k rank y s p asked = ⊎_elim
       ask_number (bodies.Ask number r) = number
       ask_number body = 0
 
--- one ask more of the node, to the peer that it asks now
+-- one more ask of the node, to the peer that it asks now
 and_asked : (w : World) (x : ℕ) (n : Control) (ms : List Message) (q : ℕ) → n.kept.mode ≡ modes.Asking q → IsCounting w x n ms → IsCounting w x n (and_sent n ms q (bodies.Ask n.kept.seq n.kept.rank))
 and_asked w x n ms q asking h = record {
   me = h.me;
@@ -146,11 +146,11 @@ loose_told w m (bodies.Yes seq rank ancestors) loose = absurd loose
 loose_told w m (bodies.CheckIn seq upto rate number clients certs) loose = absurd loose
 loose_told w m b loose = tt
 
--- what was sent before has its ask before
+-- the contents of a sent message have their asks from before
 came_asked : (w : World) → NumbersHold w → (m : Message) → IsAmong m w.net → IsAskedSend w m m.body
 came_asked w holds m among = all_among (λ l. IsAskedSend w l l.body) w.net m holds.told among
 
--- The changes
+-- Changes
 
 -- a certificate comes into the table
 and_entered : (w : World) (x : ℕ) (n : Control) (ms : List Message) (c : Cert) → IsAskedFact w c → IsCounting w x n ms → IsCounting w x (with_kept n (entered n.kept c)) ms
@@ -166,14 +166,14 @@ and_entered w x n ms c asked h = record {
   told = h.told;
 }
 
--- one of a check-in
+-- a certificate of a check-in has its ask
 told_asked : (w : World) (x : ℕ) (n : Control) (y s upto rate number clients : ℕ) (certs : List Cert) (c : Cert) → n.me ≡ x → NumbersHold w → HasSent w x y (bodies.CheckIn s upto rate number clients certs)
     → IsAmong c (life y s n.me number clients ∷ certs) → IsAskedFact w c
 told_asked w x n y s upto rate number clients certs c me holds sent among =
     let backed = came_asked w holds (record { from = y; to = x; body = bodies.CheckIn s upto rate number clients certs }) sent in
     all_among (IsAskedFact w) (life y s n.me number clients ∷ certs) c (subst (λ (z : ℕ). HasAsked w y s z) (sym me) backed.0, backed.1) among
 
--- each small change carries the law
+-- each small change keeps the law
 counting : (w : World) (x : ℕ) → NumbersHold w → IsMachine (HasSent w x) (IsCounting w x)
 counting w x holds = record {
   soft = λ n ms s h. record { me = h.me; own = h.own; unique = h.unique; bound = h.bound; present = h.present; joined = h.joined; table = h.table; waiting = h.waiting; told = h.told };
@@ -243,12 +243,12 @@ counting w x holds = record {
   };
   starts = λ n ms h. record { me = h.me; own = h.own; unique = h.unique; bound = h.bound; present = h.present; joined = h.joined; table = h.table; waiting = h.waiting; told = h.told };
 } where
-  -- with nothing new, all asks were sent before
+  -- all asks were sent before, where no message is new
   before : (s p : ℕ) (ms : List Message) → HasAskedNow w [] x s p → HasAskedNow w ms x s p
   before s p ms (inl old) = inl old
   before s p ms (inr none) = absurd (none.1)
 
--- before the change
+-- the law holds for x before the change
 counting_begins : (w : World) (x : ℕ) → NumbersHold w → IsCounting w x (control_of w x) []
 counting_begins w x holds = record {
   me = process_in-me w.processes x;
@@ -265,7 +265,7 @@ counting_begins w x holds = record {
   before s p (inl old) = old
   before s p (inr none) = absurd (none.1)
 
--- after it the law holds
+-- the law holds of the world after the change
 counting_ends : (w v : World) (x : ℕ) (n : Control) (ms : List Message) → NumbersHold w → Becomes w x n ms v → IsCounting w x n ms → NumbersHold v
 counting_ends w v x n ms holds becomes h = record {
   unique = λ y s p q a c. by_unique y s p q (now y s p a) (now y s q c) (cases_eq x y);
@@ -291,14 +291,14 @@ counting_ends w v x n ms holds becomes h = record {
   sends m (bodies.CheckIn seq upto rate number clients certs) k = (later m.from seq m.to k.0, facts certs k.1)
   sends m b k = tt
 
-  -- and each that is there was sent before or now
+  -- each ask was sent before or now
   now : (y s p : ℕ) → HasAsked v y s p → HasAskedNow w ms y s p
   now y s p a = ⊎_elim
       (λ (old : IsAmong (record { from = y; to = p; body = bodies.Ask s a.0 }) w.net). inl (a.0, old))
       (λ (new : IsAmong (record { from = y; to = p; body = bodies.Ask s a.0 }) ms). inr (a.0, new))
       (among_either (record { from = y; to = p; body = bodies.Ask s a.0 }) w.net ms (subst (λ (net : List Message). IsAmong (record { from = y; to = p; body = bodies.Ask s a.0 }) net) becomes.net a.1))
 
-  -- a node that sent none has asked before
+  -- an ask of a node that sent nothing now was sent before
   of_other : (y s p : ℕ) → (x ≡ y → ⊥) → HasAskedNow w ms y s p → HasAsked w y s p
   of_other y s p apart (inl old) = old
   of_other y s p apart (inr new) = absurd (apart (sym (h.own y s p new)))
@@ -307,7 +307,7 @@ counting_ends w v x n ms holds becomes h = record {
   by_unique y s p q a c (inl e) = h.unique s p q (subst (λ (z : ℕ). HasAskedNow w ms z s p) (sym e) a) (subst (λ (z : ℕ). HasAskedNow w ms z s q) (sym e) c)
   by_unique y s p q a c (inr apart) = holds.unique y s p q (of_other y s p apart a) (of_other y s q apart c)
 
-  -- the bound and the present ask, of each node
+  -- the bound on ask numbers and the present ask, of each node
   each : (y : ℕ) → ((s p : ℕ) → HasAskedNow w ms y s p → s ≤ (control_of v y).kept.seq) × ((p q : ℕ) → HasAskedNow w ms y (control_of v y).kept.seq p → (control_of v y).kept.mode ≡ modes.Asking q → p ≡ q)
   each y = by_case (cases_eq x y) where
     Q : ℕ → Control → Type 0
@@ -341,7 +341,7 @@ numbers_new h = record {
 pub numbers_throughout : (Q : World → Type 0) → ((w : World) → NumbersHold w → Q w) → (h : Header) (events : List Event) → Throughout Q (new_world h) events
 numbers_throughout Q follows h events = law_throughout NumbersHold IsCounting numbers_law Q follows h events (numbers_new h)
 
--- What follows
+-- Consequences
 
 -- each fact anywhere has its ask
 fact_asked : (w : World) → NumbersHold w → (f : Cert) → IsAnywhere w f → IsAskedFact w f
@@ -352,7 +352,7 @@ fact_asked w holds f (inr (inr at)) = by_body at.0.body (came_asked w holds at.0
   by_body (bodies.CheckIn seq upto rate number clients certs) k tells = all_among (IsAskedFact w) certs f k.1 tells
   by_body b k tells = absurd tells
 
--- what goes with a number has its ask, or is asked now
+-- the peer of an ask number has its ask, or is asked now
 abbrev IsAskedOrAsking : World → ℕ → ℕ → ℕ → Type 0
 IsAskedOrAsking w x s p = HasAsked w x s p ⊎ ((seq_of w x ≡ s) × (mode_of w x ≡ modes.Asking p))
 

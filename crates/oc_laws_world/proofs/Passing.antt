@@ -27,11 +27,11 @@ module _ (J : World → Type 0) (of_act : (w : World) (a : Act) → J w → J (a
     passing_throughout w holds [] = follows w holds
     passing_throughout w holds (e ∷ es) = (follows w holds, passing_inside w holds e, passing_throughout (next_world w e) (of_event w e holds) es)
 
--- what holds of each world on the way holds of the last one
+-- a property of each world on the way holds of the last world
 pub throughout_after : (P : World → Type 0) (w : World) (events : List Event) → Throughout P w events → P (world_after w events)
 throughout_after P w [] all = all
 throughout_after P w (e ∷ es) all = throughout_after P (next_world w e) es all.2
 
--- so what holds throughout holds always
+-- a property that holds throughout any events holds always
 pub always : (P : World → Type 0) → ((h : Header) (events : List Event) → Throughout P (new_world h) events) → Always P
 always P all = λ h events. (all h events, throughout_after P (new_world h) events (all h events))

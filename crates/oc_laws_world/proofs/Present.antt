@@ -6,7 +6,7 @@ use Rattle.oc_model.specs.Node.{Header, new_node}
 use Rattle.oc_model.specs.World.{Process, down, process_in, with_process}
 use Rattle.oc_model.specs.WorldBounds.{IsOneOf}
 
--- a number of a range is one of it
+-- a number within a range is one of its numbers
 pub in_range : (b n x : ℕ) → b ≤ x → x < b + n → IsOneOf x (range_with_len b n)
 in_range b zero x least most = absurd (omega arith)
 in_range b (suc n) x least most = ⊎_elim (λ (e : x ≡ b). inl e) (λ apart. inr (in_range (b + 1) n x (omega (arith, apart)) (omega arith))) (cases_eq x b)

@@ -1,4 +1,4 @@
--- The control rules leave content alone: they keep none, send no chunk, and name in a fetch the whole shelf.
+-- The control rules leave content unchanged: they keep none, send no chunk, and a fetch of theirs names the whole shelf.
 use Rattle.std.proofs.Common.{◌≡◌, ℕ, None, List, [], ◌∷◌, refl, ap, sym, subst}
 use Rattle.std.specs.List.{AllByRecursion}
 use Rattle.oc_base.specs.declared.shelf.Shelf.{Shelf}
@@ -20,18 +20,18 @@ use Rattle.oc_laws_world.proofs.Truth.{IsTrue, shelf_true}
 abbrev pub IsPlainSend : ℕ → List Shelf → Message → Type 0
 IsPlainSend me ls m = (m.from ≡ me) × IsPlain ls m.body
 
--- a step under way that has left content alone
+-- a step under way that has left content unchanged
 pub record IsQuiet (x : ℕ) (ls : List Shelf) (o : Plan) : Type 0 where
   pub me : o.node.me ≡ x
   pub keeps : o.keeps ≡ None
   pub wants : o.wants ≡ None
   pub sends : AllByRecursion (IsPlainSend x ls) o.sends
 
--- at its beginning it has
+-- a step under way at its beginning
 pub quiet_begun : (n : Control) (ls : List Shelf) → IsQuiet n.me ls (begun n)
 quiet_begun n ls = record { me = refl; keeps = refl; wants = refl; sends = tt }
 
--- each change of the control rules leaves content alone
+-- each change of the control rules leaves content unchanged
 pub quiet_closed : (me : ℕ) (ls : List Shelf) → IsClosed ls (IsQuiet me ls)
 quiet_closed me ls = record {
   write = λ o r h. record { me = h.me; keeps = h.keeps; wants = h.wants; sends = h.sends };
@@ -46,13 +46,13 @@ quiet_closed me ls = record {
   lists = λ o leases rates counts h. record { me = h.me; keeps = h.keeps; wants = h.wants; sends = h.sends };
 }
 
--- what the control rules say is true
+-- the messages of the control rules are true
 plain_true : (s ks : List Group) (b : Body) → IsAscending ks → IsPlain (shelf ks) b → IsTrue s ks b
 plain_true s ks (bodies.Chunk g start bytes last) up plain = absurd plain
 plain_true s ks (bodies.Fetch have) up plain = subst (λ ls. IsTrue s ks (bodies.Fetch ls)) (sym plain) (shelf_true s ks up)
 plain_true s ks b up plain = record { source = tt; sender = tt }
 
--- a step that has left content alone keeps it true
+-- a step that has left content unchanged keeps it true
 pub quiet_fair : (s : List Group) (n : Node) (i : Input) (o : Plan) → Ready s n → IsQuiet n.control.me (shelf n.groups) o → Fair s s n (finished n i o)
 quiet_fair s n i o ready quiet =
     let unkept : kept_at o.keeps n.groups (piece_of i) o.seals ≡ n.groups = ap (λ k. kept_at k n.groups (piece_of i) o.seals) quiet.keeps in

@@ -1,4 +1,4 @@
--- How a rank goes up by the small changes.
+-- The rise of a rank by the small changes.
 use Rattle.std.proofs.Common.{◌≡◌, ℕ, zero, suc, ◌+◌, ◌<◌, Bool, true, false, nat_lt, Option, Some, None, ◌⊎◌, inl, inr, refl, ap₂, sym, subst, arith, ltb-true, ◌==◌}
 use Rattle.std.proofs.lemmas.Bool.{and_parts, cases_order}
 use Rattle.oc_base.specs.declared.rank.Rank.{Rank}
@@ -11,7 +11,7 @@ use Rattle.oc_laws_step.specs.Order.{IsNoWorse}
 use Rattle.oc_laws_step.proofs.RankOrder.{precedes_fact, precedes_transitive}
 use Rattle.oc_laws_world.specs.Ranks.{IsAtLeast, IsRanked}
 
--- a rank goes from one to the other: it is not lost, and it comes to be no worse
+-- a rank becomes another one: it is not lost and does not become worse
 abbrev pub Rises : Option Rank → Option Rank → Type 0
 Rises None None = Unit {0}
 Rises (Some a) None = ⊥
@@ -20,7 +20,7 @@ Rises old (Some b) = IsAtLeast b (rank_or_last old)
 abbrev rank_by : ℕ → ℕ → Rank
 rank_by e d = record { epoch = e; depth = d }
 
--- At least
+-- Ranks that are at least as good
 
 pub at_least_then : (a b c : Rank) → IsAtLeast a b → IsAtLeast b c → IsAtLeast a c
 at_least_then a b c (inl e) k = subst (λ r. IsAtLeast r c) (sym e) k
@@ -31,7 +31,7 @@ pub precedes_by : (a b c : Rank) → IsAtLeast a b → Precedes b c → Precedes
 precedes_by a b c (inl e) k = subst (λ r. Precedes r c) (sym e) k
 precedes_by a b c (inr h) k = precedes_transitive a b c h k
 
--- what precedes a rank does so, or is it, one deeper too
+-- a rank that precedes another one is at least as good one level deeper
 pub deeper : (r o : Rank) → Precedes r o → IsAtLeast (beneath_of r) o
 deeper r o (inl more) = inr (inl more)
 deeper r o (inr same) = by_depth (cases_order (r.depth + 1) o.depth) where
@@ -58,12 +58,12 @@ pub rises_itself : (own : Option Rank) → Rises own own
 rises_itself None = tt
 rises_itself (Some a) = inl refl
 
--- to a rank that is at least what the old one reads as
+-- a rise to a rank at least as good as the old one, where no rank counts as the last
 pub rises_to : (own : Option Rank) (r : Rank) → IsAtLeast r (rank_or_last own) → Rises own (Some r)
 rises_to None r h = h
 rises_to (Some a) r h = h
 
--- what it reads as rises too
+-- a rise also holds where no rank counts as the last
 pub rises_read : (a b : Option Rank) → Rises a b → IsAtLeast (rank_or_last b) (rank_or_last a)
 rises_read None None h = inl refl
 rises_read (Some a) None h = absurd h
@@ -76,19 +76,19 @@ rises_then None None None h k = tt
 rises_then (Some a) None None h k = absurd h
 rises_then a (Some b) None h k = absurd k
 
--- it is not lost
+-- a rank that rises is not lost
 pub rises_ranked : (a b : Option Rank) → Rises a b → IsRanked a → IsRanked b
 rises_ranked a (Some b) h has = (b, refl)
 rises_ranked None None h has = has
 rises_ranked (Some a) None h has = absurd h
 
--- and it is no worse
+-- a rank that rises is no worse
 pub rises_no_worse : (a b : Option Rank) → Rises a b → IsNoWorse a b
 rises_no_worse None b h = tt
 rises_no_worse (Some a) None h = absurd h
 rises_no_worse (Some a) (Some b) h = h
 
--- By the small changes
+-- Rises by the small changes
 
 -- a greater epoch
 pub rises_epoch : (own : Option Rank) (e : ℕ) → (rank_or_last own).epoch < e → Rises own (Some (rank_by e 0))
@@ -108,7 +108,7 @@ rises_acting own = rises_to own (rank_by (next_epoch r) 0) (by_test (r.epoch == 
   by_test true e = rw e (by_depth r.depth)
   by_test false e = rw e (inr (inl (omega arith)))
 
--- a rank that may be the parent's precedes what the own one reads as
+-- a rank that a parent may have precedes the node's own, where no rank counts as the last
 pub parent_precedes : (own : Option Rank) (r : Rank) → nat_lt r.depth MAX_DEPTH ≡ true → precedes_any r own ≡ true → Precedes r (rank_or_last own)
 parent_precedes None r shallow h = precedes_last r shallow
 parent_precedes (Some a) r shallow h = precedes_fact r a h

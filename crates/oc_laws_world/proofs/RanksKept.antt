@@ -1,4 +1,4 @@
--- The law of ranks: told ranks hold, a parent's rank precedes its child's, and none worsens. So parent links form no cycle.
+-- The law of ranks: told ranks hold, a parent's rank precedes its child's, and no rank worsens. So parent links form no cycle.
 use Rattle.std.proofs.Common.{◌≡◌, ℕ, true, Option, Some, List, [], ◌∷◌, ◌++◌, inl, inr, refl, ap, sym, subst}
 use Rattle.std.specs.List.{AllByRecursion, range_with_len}
 use Rattle.oc_base.specs.declared.rank.Rank.{Rank}
@@ -26,20 +26,20 @@ use Rattle.oc_laws_world.proofs.Lifts.{control_of, HasSent, AreTables, Becomes, 
 use Rattle.oc_laws_world.proofs.Machine.{IsMachine, IsLoose, and_sent}
 use Rattle.oc_laws_world.proofs.RankSteps.{Rises, precedes_by, at_least_then, precedes_beneath, rises_itself, rises_read, rises_then, rises_ranked, rises_no_worse, rises_epoch, rises_acting, rises_joined, rises_better}
 
--- what the law says of a world, beside an earlier one
+-- the law of ranks in a world, together with an earlier one
 pub record RanksHold (old w : World) : Type 0 where
   pub placed : InTreeAreRanked w
   pub told : ToldRanksHold w
   pub parents : ParentsPrecede w
   pub rise : (x : ℕ) → Rises (own_rank old x) (own_rank w x)
 
--- what a message of a node with this rank says of that
+-- a message of a node with this rank tells no better rank
 abbrev pub IsBackedBy : Option Rank → Body → Type 0
 IsBackedBy own (bodies.Yes seq rank ancestors) = IsRanked own × IsAtLeast (rank_or_last own) rank
 IsBackedBy own (bodies.CheckAck seq upto rank ancestors) = IsAtLeast (rank_or_last own) rank
 IsBackedBy own body = Unit {0}
 
--- what was backed is backed by a rank that rose
+-- a message that a rank backs is backed by any rank to which that rose
 backed_rises : (a b : Option Rank) → Rises a b → (body : Body) → IsBackedBy a body → IsBackedBy b body
 backed_rises a b h (bodies.Yes seq rank ancestors) k = (rises_ranked a b h k.0, at_least_then (rank_or_last b) (rank_or_last a) rank (rises_read a b h) k.1)
 backed_rises a b h (bodies.CheckAck seq upto rank ancestors) k = at_least_then (rank_or_last b) (rank_or_last a) rank (rises_read a b h) k
@@ -52,7 +52,7 @@ IsBackedSend x own m = (m.from ≡ x) × IsBackedBy own m.body
 abbrev pub HasParentAbove : World → Mode → Option Rank → Type 0
 HasParentAbove w mode own = (y : ℕ) → mode ≡ modes.Joined y → IsRanked (own_rank w y) × Precedes (rank_of w y) (rank_or_last own)
 
--- what the law says of the node x in the middle of a change of this world
+-- the law for the node x in the middle of a change of this world
 pub record IsClimbing (w : World) (x : ℕ) (n : Control) (ms : List Message) : Type 0 where
   pub me : n.me ≡ x
   pub rises : Rises (own_rank w x) n.kept.rank
@@ -60,11 +60,11 @@ pub record IsClimbing (w : World) (x : ℕ) (n : Control) (ms : List Message) : 
   pub parent : HasParentAbove w n.kept.mode n.kept.rank
   pub sent : AllByRecursion (IsBackedSend x n.kept.rank) ms
 
--- the messages so far are backed by a rank that rose
+-- the messages so far are backed by the risen rank
 sent_rise : (x : ℕ) (a b : Option Rank) (ms : List Message) → Rises a b → AllByRecursion (IsBackedSend x a) ms → AllByRecursion (IsBackedSend x b) ms
 sent_rise x a b ms h sent = all_weaker (IsBackedSend x a) (IsBackedSend x b) (λ m k. (k.0, backed_rises a b h m.body k.1)) ms sent
 
--- one message more
+-- one more message
 and_backed : (w : World) (x : ℕ) (n : Control) (ms : List Message) (p : ℕ) (b : Body) → IsBackedBy n.kept.rank b → IsClimbing w x n ms → IsClimbing w x n (and_sent n ms p b)
 and_backed w x n ms p b backed h = record {
   me = h.me;
@@ -80,7 +80,7 @@ loose_backed own (bodies.Yes seq rank ancestors) loose = absurd loose
 loose_backed own (bodies.CheckAck seq upto rank ancestors) loose = absurd loose
 loose_backed own b loose = tt
 
--- what was sent is backed in the world
+-- a sent message is backed in the world
 sent_backed : (w : World) → ToldRanksHold w → (m : Message) → IsAmong m w.net → IsBacked w m.from m.body
 sent_backed w told m among = by_list w.net told among where
   by_list : (ms : List Message) → AllByRecursion (λ l. IsBacked w l.from l.body) ms → IsAmong m ms → IsBacked w m.from m.body
@@ -88,7 +88,7 @@ sent_backed w told m among = by_list w.net told among where
   by_list (a ∷ rest) all (inr later) = by_list rest all.1 later
   by_list [] all none = absurd none
 
--- each small change carries the law
+-- each small change keeps the law
 climbs : (old w : World) (x : ℕ) → RanksHold old w → IsMachine (HasSent w x) (IsClimbing w x)
 climbs old w x holds = record {
   soft = λ n ms s h. record { me = h.me; rises = h.rises; placed = h.placed; parent = h.parent; sent = h.sent };
@@ -153,11 +153,11 @@ climbs old w x holds = record {
   starts = λ n ms h. record { me = h.me; rises = h.rises; placed = h.placed; parent = h.parent; sent = h.sent };
 }
 
--- before the change
+-- the law holds for x before the change
 climbing_begins : (old w : World) (x : ℕ) → RanksHold old w → IsClimbing w x (control_of w x) []
 climbing_begins old w x holds = record { me = process_in-me w.processes x; rises = rises_itself (own_rank w x); placed = holds.placed x; parent = holds.parents x; sent = tt }
 
--- after it the law holds
+-- the law holds of the world after the change
 climbing_ends : (old w v : World) (x : ℕ) (n : Control) (ms : List Message) → RanksHold old w → Becomes w x n ms v → IsClimbing w x n ms → RanksHold old v
 climbing_ends old w v x n ms holds becomes h = record {
   placed = at_each w v x n ms becomes (λ y c. in_tree c.kept.mode ≡ true → IsRanked c.kept.rank) h.placed (λ y apart. holds.placed y);
@@ -180,7 +180,7 @@ climbing_ends old w v x n ms holds becomes h = record {
 pub ranks_law : (old : World) → IsLaw (RanksHold old) IsClimbing
 ranks_law old = record { begins = climbing_begins old; keeps = climbs old; ends = climbing_ends old }
 
--- a world beside itself
+-- the law holds of a world together with itself
 ranks_still : (old w : World) → RanksHold old w → RanksHold w w
 ranks_still old w holds = record { placed = holds.placed; told = holds.told; parents = holds.parents; rise = λ x. rises_itself (own_rank w x) }
 
@@ -195,30 +195,30 @@ ranks_new h = record {
   new_mode : (x : ℕ) → mode_of (new_world h) x ≡ modes.Idle
   new_mode x = let new : IsNew x (process (new_world h) x) = process_in-new h (range_with_len 1 h.nodes) x in ap (λ (p : Process). p.node.control.kept.mode) new.1
 
--- no event worsens a rank, where the law holds beside any earlier world
+-- no event worsens a rank, where the law holds together with any earlier world
 worsens_none : (old w : World) → AreTables w → RanksHold old w → (e : Event) → NoRankWorsens w e
 worsens_none old w tables holds e x =
     rises_no_worse (own_rank w x) (own_rank (next_world w e) x) ((law_event (RanksHold w) IsClimbing (ranks_law w) w e tables (ranks_still old w holds)).rise x)
 
--- so no event worsens one in any world on the way
+-- no event worsens a rank in any world on the way
 pub no_rank_worsens_throughout : (h : Header) (events : List Event) → Throughout (λ w. (e : Event) → NoRankWorsens w e) (new_world h) events
 no_rank_worsens_throughout h events =
     law_throughout (λ w. AreTables w × RanksHold (new_world h) w) (λ w x n ms. HasTable w x n ms × IsClimbing w x n ms)
     (both_laws AreTables (RanksHold (new_world h)) HasTable IsClimbing tables_law (ranks_law (new_world h)))
     (λ w. (e : Event) → NoRankWorsens w e) (λ w holds. worsens_none (new_world h) w holds.0 holds.1) h events (tables_new h, ranks_new h)
 
--- No cycle
+-- No cycles
 
--- along joined nodes the last one's rank precedes the first one's
+-- along joined nodes the last node's rank precedes the first node's
 joined_precede : (w : World) → ParentsPrecede w → (between : List ℕ) (x y : ℕ) → AreJoined w (x ∷ between ++ y ∷ []) → Precedes (rank_of w y) (rank_of w x)
 joined_precede w parents [] x y joined = (parents x y joined.0).1
 joined_precede w parents (z ∷ zs) x y joined = precedes_transitive (rank_of w y) (rank_of w z) (rank_of w x) (joined_precede w parents zs z y joined.1) (parents x z joined.0).1
 
--- so there is no cycle
+-- joined nodes form no cycle
 pub no_cycle : (w : World) → ParentsPrecede w → HasNoCycle w
 no_cycle w parents y between joined = precedes_irreflexive (rank_of w y) (joined_precede w parents between y y joined)
 
--- what follows from the law holds of each world on the way
+-- a consequence of the law holds of each world on the way
 pub ranks_throughout : (Q : World → Type 0) → ((old w : World) → RanksHold old w → Q w) → (h : Header) (events : List Event) → Throughout Q (new_world h) events
 ranks_throughout Q follows h events =
     law_throughout (RanksHold (new_world h)) IsClimbing (ranks_law (new_world h)) Q (follows (new_world h)) h events (ranks_new h)

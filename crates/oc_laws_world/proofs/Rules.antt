@@ -30,18 +30,18 @@ use Rattle.oc_laws_world.proofs.Fair.{Ready, MaySend, Fair, fair_still, fair_sou
 use Rattle.oc_laws_world.proofs.Fronts.{IsFront, IsPiece, front_append, front_whole, front_itself, joined, joined_front, joined_length, joined_within}
 use Rattle.oc_laws_world.proofs.Truth.{AreSame, MayReplace, IsHeld, Holds, IsTrueOfSource, IsTrue, piece_true, shelf_true}
 
--- what an input does by this step under way, with the source after it
+-- the outcome of an input by this step under way, with the source after it
 abbrev pub IsFair : List Group → Input → Node → Plan → Type 0
 IsFair s i n o = Fair s (source_after s i o.answer) n (finished n i o)
 
--- a limit stops it with one of two words, or not
+-- a limit refuses with one of two words, or does not refuse
 limit_cases : (P : Option Answer → Type 0) (ls : List Shelf) (g : List ℕ) (end : ℕ) → P None → P (Some answers.Groups) → P (Some answers.TooLong) → P (limit ls g end)
 limit_cases P ls g end none groups long =
     cond_both (not (is_some (line_of g ls)) && nat_le MAX_GROUPS (length ls)) (Some answers.Groups) (if nat_lt MAX_GROUP_BYTES end then Some answers.TooLong else None) P
     (λ _. groups)
     (λ _. cond_both (nat_lt MAX_GROUP_BYTES end) (Some answers.TooLong) None P (λ _. long) (λ _. none))
 
--- what goes on from an open group takes its place
+-- a group grown from an open one may replace it
 replaces : (k new : Group) (ks : List Group) → ((t : Group) → group_of new.name ks ≡ Some t → k ≡ t) → IsFront k.bytes new.bytes → (k.sealed ≡ true → new ≡ k) → MayReplace new ks
 replaces k new ks is front stays t h =
     let same : k ≡ t = is t h in (
@@ -54,7 +54,7 @@ replaces k new ks is front stays t h =
 abbrev longer : Group → List ℕ → Group
 longer k bytes = record k { bytes = k.bytes ++ bytes }
 
--- what is kept of a publish is all its bytes
+-- the piece that a publish keeps has all its bytes
 grown_all : (k : Group) (bytes : List ℕ) → grown k (length k.bytes) bytes false ≡ longer k bytes
 grown_all k bytes =
     let none : length k.bytes - length k.bytes ≡ 0 = omega arith in
@@ -87,7 +87,7 @@ same_published s g k found h =
       by_test name true e = rw e (sym (ap (λ z. group_of z s) (names_equal h k.name e ∙ name) ∙ found))
       by_test name false e = rw e refl
 
--- a choice with what holds holds
+-- a disjunction with a true part is true
 or_true : (b : Bool) → (b || true) ≡ true
 or_true true = refl
 or_true false = refl
@@ -152,12 +152,12 @@ publish_fair s n g bytes ready =
 abbrev closed : Group → Group
 closed k = record k { sealed = true }
 
--- of nothing there is nothing to drop
+-- an empty list stays empty without its first items
 drop_nothing : (m : ℕ) → drop {A = ℕ} m [] ≡ []
 drop_nothing zero = refl
 drop_nothing (suc m) = refl
 
--- what is kept of a seal is the seal
+-- the piece that a seal keeps is the seal
 grown_seal : (k : Group) → grown k (length k.bytes) [] true ≡ closed k
 grown_seal k =
     let none : drop (length k.bytes - length k.bytes) [] ≡ [] = drop_nothing (length k.bytes - length k.bytes) in
@@ -204,7 +204,7 @@ seal_fair s n g ready =
 abbrev pub comes : ℕ → ℕ → Body → Input
 comes x p b = Delivered (record { from = p; to = x; body = b })
 
--- a chunk of a group that is held, of `count` bytes from a place on, is true
+-- a chunk of a held group, of `count` bytes from a place on, is true
 chunk_true : (s : List Group) (n : Node) (x p : ℕ) (k : Group) (have : List Shelf) (start : ℕ) → Ready s n → group_of k.name n.groups ≡ Some k
     → Fair s s n (finished n (comes x p (Fetch have)) (sends_chunk (begun n.control) p (shelf_of k) start (count_from n.control.chunk (shelf_of k) start)))
 chunk_true s n x p k have start ready found = by_test (count == 0) refl where
@@ -227,7 +227,7 @@ chunk_true s n x p k have start ready found = by_test (count == 0) refl where
       let is : bytes ≡ take count (drop start k.bytes) = ap (λ f. take count (drop start (or_empty k.name f).bytes)) found in
       rw e (fair_still s n (record { node = n; records = []; sends = sent bytes ∷ []; answer = answers.Ok }) ready refl refl (may bytes is, tt))
 
--- a fetch is answered by a true chunk at most
+-- a fetch is answered by at most one chunk, which is true
 pub fetch_fair : (s : List Group) (n : Node) (x p : ℕ) (have : List Shelf) → Ready s n → Fair s s n (finished n (comes x p (Fetch have)) (fetched (begun n.control) (shelf n.groups) p have))
 fetch_fair s n x p have ready = by_found (next_behind n.control.chunk have (shelf n.groups)) refl where
   by_line : (l : Shelf) → (k : Group) × (group_of k.name n.groups ≡ Some k) × (l ≡ shelf_of k) → Fair s s n (finished n (comes x p (Fetch have)) (answers_fetch (begun n.control) p have (Some l)))
@@ -241,18 +241,18 @@ fetch_fair s n x p have ready = by_found (next_behind n.control.chunk have (shel
 
 -- Chunk
 
--- the group at a name, or an empty one, is a beginning of that of the source
+-- the group of a name, or an empty one, is a prefix of the source's group
 held_or_empty : (s ks : List Group) (g : List ℕ) (t : Group) → Holds s ks → group_of g s ≡ Some t → IsHeld s g (group_or_empty g ks)
 held_or_empty s ks g t holds there = by_found (group_of g ks) refl where
   by_found : (found : Option Group) → group_of g ks ≡ found → IsHeld s g (or_empty g found)
   by_found None e = record { whole = t; found = there; front = refl; sealed = λ h. absurd cc }
   by_found (Some k) e = holds.each g k e
 
--- with what is new in a chunk
+-- a group with the new bytes of a chunk
 abbrev with_new : Group → ℕ → List ℕ → Bool → Group
 with_new k start bytes last = grown k start bytes (adds_seal (shelf_of k) (start + length bytes) last)
 
--- with what is new in a true chunk, a beginning of the group of the source is one still
+-- a prefix of the source's group is still one with the new bytes of a true chunk
 grown_held : (s : List Group) (g : List ℕ) (k : Group) (start : ℕ) (bytes : List ℕ) (last : Bool)
     → IsHeld s g k → IsTrueOfSource s (Chunk g start bytes last) → start ≤ length k.bytes → (k.sealed ≡ true → start + length bytes ≤ length k.bytes)
     → IsHeld s g (with_new k start bytes last)
@@ -282,7 +282,7 @@ grown_sealed k start bytes last ends e =
     let shut : (k.sealed || adds_seal (shelf_of k) (start + length bytes) last) ≡ k.sealed = or_left k.sealed (adds_seal (shelf_of k) (start + length bytes) last) e ∙ sym e in
     λ i. record { name = k.name; bytes = same i; sealed = shut i }
 
--- a chunk that is true and that neither leaves a gap nor passes the end of what is sealed, for the group as it is held or empty
+-- a true chunk that neither leaves a gap nor goes past the end of a sealed group, for the group as held or empty
 record Fits (s : List Group) (n : Node) (g : List ℕ) (start : ℕ) (bytes : List ℕ) (last : Bool) : Type 0 where
   ready : Ready s n
   other : n.control.me ≡ 1 → ⊥
@@ -290,7 +290,7 @@ record Fits (s : List Group) (n : Node) (g : List ℕ) (start : ℕ) (bytes : Li
   within : start ≤ length (group_or_empty g n.groups).bytes
   ends : (group_or_empty g n.groups).sealed ≡ true → start + length bytes ≤ length (group_or_empty g n.groups).bytes
 
--- what is new in a chunk is kept, with these messages
+-- the new bytes of a chunk are kept, with these messages
 grown_fair : (s : List Group) (n : Node) (x p : ℕ) (g : List ℕ) (start : ℕ) (bytes : List ℕ) (last : Bool) (o : Outcome) → Fits s n g start bytes last
     → o.node.control.me ≡ n.control.me → o.node.groups ≡ with_group (with_new (group_or_empty g n.groups) start bytes last) n.groups
     → AllByRecursion (MaySend s n.control.me (with_group (with_new (group_or_empty g n.groups) start bytes last) n.groups)) o.sends → Fair s s n o
@@ -302,7 +302,7 @@ grown_fair s n x p g start bytes last o fits me groups sent =
     let held : IsHeld s g (with_new k start bytes last) = grown_held s g k start bytes last (held_or_empty s n.groups g fits.chunk.0 fits.ready.holds fits.chunk.1) fits.chunk fits.within fits.ends in
     fair_keeps s n (with_new k start bytes last) o fits.ready fits.other may (subst (λ (z : List ℕ). IsHeld s z (with_new k start bytes last)) (sym name) held) me groups sent
 
--- where joined to the sender, a fetch of the new shelf goes out
+-- a fetch of the new shelf goes to the sender, where the node is joined to it
 asks_fair : (s : List Group) (n : Node) (x p : ℕ) (g : List ℕ) (start : ℕ) (bytes : List ℕ) (last : Bool) (mode : Mode) → Fits s n g start bytes last
     → Fair s s n (finished n (comes x p (Chunk g start bytes last))
     (asks_on mode p (with_line (grown_line (shelf_of (group_or_empty g n.groups)) (start + length bytes) last) (shelf n.groups))
@@ -337,11 +337,11 @@ asks_fair s n x p g start bytes last mode fits = by_mode mode where
   by_mode (Asking q) = still
   by_mode Acting = still
 
--- what is sealed and is not passed
+-- a chunk that does not go past the end of a sealed group ends within it
 not_past : (k : Group) (end : ℕ) → (k.sealed && nat_lt (length k.bytes) end) ≡ false → k.sealed ≡ true → end ≤ length k.bytes
 not_past k end e shut = ⊎_elim (λ unsealed. absurd (true≢false (sym shut ∙ unsealed))) (ltb-false (length k.bytes) end) (and_cases k.sealed (nat_lt (length k.bytes) end) e)
 
--- a true chunk for a group, as it is held or empty
+-- a true chunk for a group, as held or empty
 chunk_to_fair : (s : List Group) (n : Node) (x p : ℕ) (g : List ℕ) (start : ℕ) (bytes : List ℕ) (last : Bool) → Ready s n → (n.control.me ≡ 1 → ⊥) → IsTrueOfSource s (Chunk g start bytes last)
     → Fair s s n (finished n (comes x p (Chunk g start bytes last)) (chunk_to (begun n.control) (shelf n.groups) p (shelf_of (group_or_empty g n.groups)) start (start + length bytes) last))
 chunk_to_fair s n x p g start bytes last ready other chunk =

@@ -1,4 +1,4 @@
--- Where a client is sent on, it is by a chain node, and to a node that is listed past the chain.
+-- Redirections: only a chain node sends a client on, and only to a node past the chain that it lists.
 use Rattle.std.proofs.Common.{◌≡◌, ℕ, ◌-◌, ◌<◌, ◌≤◌, Bool, true, false, ◌==◌, nat_lt, if◌then◌else◌, Option, Some, None, option_map, List, [], ◌∷◌, filter, map, inl, inr, refl, ◌∙◌, ap, ltb-true}
 use Rattle.std.proofs.lemmas.Bool.{leb-true}
 use Rattle.oc_base.specs.declared.cert.Cert.{Cert}
@@ -33,14 +33,14 @@ freest_one counts (x ∷ xs) k e = by_rest (freest counts xs) (freest_one counts
     by_test true g = inr (rest k g)
     by_test false g = inl cc
 
--- one of some nodes in an area, or of all of them, is one of them
+-- one of the nodes in an area, or of all nodes where that has none, is one of all
 either_one : (test : ℕ → Bool) (xs : List ℕ) (k : ℕ) → IsOneOf k (or_all (filter test xs) xs) → IsOneOf k xs
 either_one test xs k one = by_list (filter test xs) (λ h. (of_filter test xs k h).1) one where
   by_list : (ys : List ℕ) → (IsOneOf k ys → IsOneOf k xs) → IsOneOf k (or_all ys xs) → IsOneOf k xs
   by_list [] within h = h
   by_list (y ∷ ys) within h = within h
 
--- whoever is selected is listed, past the chain
+-- a selected node is listed and past the chain
 record IsServer (n : Control) (k : ℕ) : Type 0 where
   listed : IsListed n.kept.table n.me k
   past : n.chain < k
@@ -60,7 +60,7 @@ pub record IsRight (n : Node) (i : Input) (k : ℕ) : Type 0 where
   pub listed : IsListed n.control.kept.table n.control.me k
   pub past : n.control.chain < k
 
--- an answer that sends nobody on is no redirection
+-- an answer that sends no client on is no redirection
 no_redirect : (a : Answer) (k : ℕ) → a ≡ words.Redirect k → IsNoRedirect a → ⊥
 no_redirect a k e stays = rw e at stays
 
@@ -83,7 +83,7 @@ redirect_of n area start g k e = by_group (group_of g n.groups) refl (rw (line_o
     by_member true member h = by_server member (selected n.control.kept.table n.control.me n.control.chain n.control.areas n.control.counts area) refl h
     by_member false member h = absurd cc
 
--- each redirection of each step is
+-- each redirection of each step is right
 pub redirect_right : (n : Node) (i : Input) (k : ℕ) → (step n i).answer ≡ words.Redirect k → IsRight n i k
 redirect_right n (inputs.Client area start g) k e = redirect_of n area start g k e
 redirect_right n (inputs.Tick t) k e = absurd (no_redirect _ k e (stays_tick (begun n.control) (shelf n.groups) t tt))

@@ -1,4 +1,4 @@
--- Each input keeps content true: the control rules don't touch it, and rule 14, content, changes it for the others.
+-- Each input keeps content true: the control rules leave it unchanged, and only rule 14, content, changes it.
 use Rattle.std.proofs.Common.{ℕ, List, refl}
 use Rattle.oc_base.specs.declared.group.Group.{Group}
 use Rattle.oc_model.specs.declared.input.Input.{Input}
@@ -21,7 +21,7 @@ abbrev pub IsTrueInput : List Group → Input → Type 0
 IsTrueInput s (Delivered m) = IsTrueOfSource s m.body
 IsTrueInput s input = Unit {0}
 
--- a step of this node under way that has left content alone
+-- a step under way of this node that has left content unchanged
 abbrev Quiet : Node → Plan → Type 0
 Quiet n o = IsQuiet n.control.me (shelf n.groups) o
 
@@ -31,7 +31,7 @@ quiet_kept n = quiet_closed n.control.me (shelf n.groups)
 quiet_start : (n : Node) → Quiet n (begun n.control)
 quiet_start n = quiet_begun n.control (shelf n.groups)
 
--- a message that is true
+-- a true message keeps content true
 received_fair : (s : List Group) (n : Node) (x p : ℕ) (b : Body) → Ready s n → IsTrueOfSource s b → Fair s s n (finished n (comes x p b) (received (begun n.control) (shelf n.groups) p b))
 received_fair s n x p bodies.Look ready truth =
     quiet_fair s n (comes x p bodies.Look) _ ready (keeps_looked (shelf n.groups) (Quiet n) (quiet_kept n) (begun n.control) p (quiet_start n))

@@ -1,4 +1,4 @@
--- The terms of the laws on content, over lists of groups: those of the source and those of one node.
+-- The terms of the laws on content, over two lists of groups: that of the source and that of one node.
 use Rattle.std.proofs.Common.{◌≡◌, ℕ, ◌+◌, Bool, true, false, ◌&&◌, ◌-◌, ◌≤◌, ◌==◌, List, [], ◌∷◌, Some, length, take, drop, if◌then◌else◌, refl, ap, sym, subst, ◌∙◌, arith, le_refl, eqb-true, length-take, length-drop}
 use Rattle.std.specs.List.{AllByRecursion}
 use Rattle.std.proofs.lemmas.Bool.{and_parts}
@@ -14,18 +14,18 @@ use Rattle.oc_model.proofs.Groups.{AreFoundIn, ascend-found, ascend-with_group, 
 use Rattle.oc_model.proofs.Lists.{all_weaker}
 use Rattle.oc_base.proofs.NameOrder.{names_equal}
 
--- what is found at this name has at least the bytes of k, and is k if k is sealed
+-- the group of this name has at least the bytes of k, and is k if k is sealed
 pub record IsGrown (k : Group) (g : List ℕ) (new : List Group) : Type 0 where
   pub now : Group
   pub found : group_of g new ≡ Some now
   pub front : IsFront k.bytes now.bytes
   pub stays : k.sealed ≡ true → now ≡ k
 
--- no group loses a byte, and none that is sealed changes
+-- no group loses a byte, and no sealed group changes
 abbrev pub Grows : List Group → List Group → Type 0
 Grows old new = (g : List ℕ) (k : Group) → group_of g old ≡ Some k → IsGrown k g new
 
--- where nothing changes, nothing is lost
+-- an unchanged list of groups loses nothing
 pub grows_itself : (ks : List Group) → Grows ks ks
 grows_itself ks g k h = record { now = k; found = h; front = front_itself k.bytes; stays = λ e. refl }
 
@@ -33,7 +33,7 @@ grows_itself ks g k h = record { now = k; found = h; front = front_itself k.byte
 abbrev pub MayReplace : Group → List Group → Type 0
 MayReplace k ks = (t : Group) → group_of k.name ks ≡ Some t → IsFront t.bytes k.bytes × (t.sealed ≡ true → k ≡ t)
 
--- a group in its place loses nothing if it may replace what was there
+-- a list loses nothing by a group that may replace the one of its name
 pub grows_with : (k : Group) (ks : List Group) → MayReplace k ks → Grows ks (with_group k ks)
 grows_with k ks may g t h = by_test (same_name g k.name) refl where
   by_test : (b : Bool) → same_name g k.name ≡ b → IsGrown t g (with_group k ks)
@@ -43,26 +43,26 @@ grows_with k ks may g t h = by_test (same_name g k.name) refl where
       record { now = k; found = group_of-with_group g k ks ∙ rw e; front = (may t here).0; stays = (may t here).1 }
   by_test false e = record { now = t; found = group_of-with_group g k ks ∙ rw e h; front = front_itself t.bytes; stays = λ _. refl }
 
--- what is said to be held stays held
+-- a shelf line that is kept stays kept
 pub keeps_along : (ks js : List Group) → Grows ks js → (l : Shelf) → Keeps ks l → Keeps js l
 keeps_along ks js grows l held =
     let grown = grows l.group held.0 held.1 in
     let more = front_length held.0.bytes grown.now.bytes grown.front in
     (grown.now, grown.found, omega (arith, held.2), λ e. ap (λ (k : Group). k.sealed) (grown.stays (held.3 e)) ∙ held.3 e)
 
--- the group of the source of which k is a beginning, and the whole if k is sealed
+-- the source's group of which k is a prefix, and which k is if k is sealed
 pub record IsHeld (s : List Group) (g : List ℕ) (k : Group) : Type 0 where
   pub whole : Group
   pub found : group_of g s ≡ Some whole
   pub front : IsFront k.bytes whole.bytes
   pub sealed : k.sealed ≡ true → (whole.sealed ≡ true) × (k.bytes ≡ whole.bytes)
 
--- groups that ascend, each a beginning of that of the source
+-- ascending groups, each a prefix of the source's
 pub record Holds (s ks : List Group) : Type 0 where
   pub ascend : IsAscending ks
   pub each : (g : List ℕ) (k : Group) → group_of g ks ≡ Some k → IsHeld s g k
 
--- a beginning stays one as the source grows
+-- a prefix stays a prefix as the source grows
 pub held_along : (s s' : List Group) → Grows s s' → (g : List ℕ) (k : Group) → IsHeld s g k → IsHeld s' g k
 held_along s s' grows g k held =
     let grown = grows g held.whole held.found in
@@ -76,11 +76,11 @@ held_along s s' grows g k held =
           subst (λ (t : Group). (t.sealed ≡ true) × (k.bytes ≡ t.bytes)) same full;
     }
 
--- and so do those of all groups of a node
+-- all groups of a node stay prefixes as the source grows
 pub holds_along : (s s' ks : List Group) → Grows s s' → Holds s ks → Holds s' ks
 holds_along s s' ks grows holds = record { ascend = holds.ascend; each = λ g k h. held_along s s' grows g k (holds.each g k h) }
 
--- a group that the source has may be put
+-- a prefix of a group of the source may be put
 pub holds_with : (s : List Group) (k : Group) (ks : List Group) → Holds s ks → IsHeld s k.name k → Holds s (with_group k ks)
 holds_with s k ks holds held = record { ascend = ascend-with_group k ks holds.ascend; each = λ g t h. by_test g t h (same_name g k.name) refl } where
   by_test : (g : List ℕ) (t : Group) → group_of g (with_group k ks) ≡ Some t → (b : Bool) → same_name g k.name ≡ b → IsHeld s g t
@@ -99,23 +99,23 @@ AreSame ks s = (g : List ℕ) → group_of g ks ≡ group_of g s
 pub same_with : (k : Group) (ks s : List Group) → AreSame ks s → AreSame (with_group k ks) (with_group k s)
 same_with k ks s same g = group_of-with_group g k ks ∙ (ap (λ was. if same_name g k.name then Some k else was) (same g) ∙ sym (group_of-with_group g k s))
 
--- who has the very groups of the source holds them
+-- a node with exactly the groups of the source holds prefixes of them
 pub holds_same : (s ks : List Group) → IsAscending ks → AreSame ks s → Holds s ks
 holds_same s ks up same = record { ascend = up; each = λ g k h. record { whole = k; found = sym (same g) ∙ h; front = front_itself k.bytes; sealed = λ e. (e, refl) } }
 
--- a chunk brings what the source published
+-- a chunk brings bytes that the source published
 abbrev pub IsTrueOfSource : List Group → Body → Type 0
 IsTrueOfSource s (Chunk g start bytes last) =
     (t : Group) × (group_of g s ≡ Some t) × IsPieceOf start bytes t
     × (last ≡ true → (t.sealed ≡ true) × (start + length bytes ≡ length t.bytes))
 IsTrueOfSource s b = Unit {0}
 
--- a fetch names what its sender holds
+-- a fetch names groups that its sender holds
 abbrev pub IsTrueOfSender : List Group → Body → Type 0
 IsTrueOfSender ks (Fetch have) = AllByRecursion (Keeps ks) have
 IsTrueOfSender ks b = Unit {0}
 
--- a message with the source and its sender's groups as they are
+-- a message that is true of the source and of its sender's groups
 pub record IsTrue (s ks : List Group) (b : Body) : Type 0 where
   pub source : IsTrueOfSource s b
   pub sender : IsTrueOfSender ks b
@@ -139,20 +139,20 @@ fetch_along : (ks js : List Group) → Grows ks js → (b : Body) → IsTrueOfSe
 fetch_along ks js grows (Fetch have) h = all_weaker (Keeps ks) (Keeps js) (keeps_along ks js grows) have h
 fetch_along ks js grows b h = tt
 
--- what was true stays true as the source and the sender's groups grow
+-- a true message stays true as the source and the sender's groups grow
 pub true_along : (s s' ks js : List Group) → Grows s s' → Grows ks js → (b : Body) → IsTrue s ks b → IsTrue s' js b
 true_along s s' ks js source sender b h = record { source = chunk_along s s' source b h.source; sender = fetch_along ks js sender b h.sender }
 
--- lines of groups that are found are kept
+-- lines of groups that are found in a list are kept there
 shelf_kept : (all ks : List Group) → AreFoundIn all ks → AllByRecursion (Keeps all) (shelf ks)
 shelf_kept all [] found = tt
 shelf_kept all (k ∷ ks) found = ((k, found.0, le_refl (length k.bytes), λ e. e), shelf_kept all ks found.1)
 
--- a fetch that names the shelf of groups that ascend is true
+-- a fetch that names the shelf of ascending groups is true
 pub shelf_true : (s ks : List Group) → IsAscending ks → IsTrue s ks (Fetch (shelf ks))
 shelf_true s ks up = record { source = tt; sender = shelf_kept ks ks (ascend-found ks up) }
 
--- what is cut from a beginning of the source's group is true of the source; it is last where it ends a sealed group
+-- bytes cut from a prefix of the source's group are true of the source; they are the last ones where they end a sealed group
 pub piece_true : (s : List Group) (g : List ℕ) (k : Group) (start count : ℕ) (bytes : List ℕ) → IsHeld s g k → count ≤ length k.bytes - start → bytes ≡ take count (drop start k.bytes)
     → IsTrueOfSource s (Chunk g start bytes (k.sealed && start + count == length k.bytes))
 piece_true s g k start count bytes held few is =
@@ -168,7 +168,7 @@ piece_true s g k start count bytes held few is =
           (full.0, end ∙ ap length full.1),
     )
 
--- what grows twice grows
+-- two growths in a row are a growth
 pub grows_then : (a b c : List Group) → Grows a b → Grows b c → Grows a c
 grows_then a b c first second g k h =
     let one = first g k h in

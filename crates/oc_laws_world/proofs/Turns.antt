@@ -1,4 +1,4 @@
--- A world in which content is true, and that each event leaves it so.
+-- Worlds in which content is true, and the proof that each event keeps it true.
 use Rattle.std.proofs.Common.{◌≡◌, ℕ, zero, suc, Bool, true, false, Option, Some, None, List, [], ◌∷◌, ◌++◌, refl, sym, subst, ◌∙◌}
 use Rattle.std.specs.List.{AllByRecursion, range_with_len}
 use Rattle.std.proofs.lemmas.Bool.{cond_both}
@@ -20,7 +20,7 @@ use Rattle.oc_laws_world.proofs.Fair.{Ready, MaySend}
 use Rattle.oc_laws_world.proofs.Steps.{IsTrueInput, step_fair}
 use Rattle.oc_laws_world.proofs.Truth.{Grows, grows_itself, grows_then, holds_along, AreSame, IsTrue, true_along}
 
--- a message with the source and its sender as they are in this world
+-- a message that is true of the source and of its sender in this world
 abbrev pub IsTrueIn : World → Message → Type 0
 IsTrueIn w m = IsTrue w.source (node w m.from).groups m.body
 
@@ -42,7 +42,7 @@ turn_itself w sound = record { sound = sound; source = grows_itself w.source }
 turn_then : (w v u : World) → Turn w v → Turn v u → Turn w u
 turn_then w v u first second = record { sound = second.sound; source = grows_then w.source v.source u.source first.source second.source }
 
--- a new node has no group, as the source
+-- a new node has no group, and neither has the source
 new_ready : (h : Header) (x : ℕ) → Ready [] (new_node h x)
 new_ready h x = record { holds = record { ascend = tt; each = λ g k e. absurd cc }; own = λ e g. refl }
 
@@ -57,18 +57,18 @@ sound_new h = record {
 
 -- A start, and a crash
 
--- a start leaves the groups
+-- a start leaves the groups unchanged
 restarted_ready : (s : List Group) (n : Node) → Ready s n → Ready s (restarted n)
 restarted_ready s n ready = record { holds = ready.holds; own = ready.own }
 
--- what is true of the groups at each id is so after it
+-- a property of the groups of each id holds after a start or a stop
 at_again : (w : World) (x : ℕ) (up : Bool) (y : ℕ) (F : List Group → Type 0) → F (node w y).groups → F (node (again w x up) y).groups
 at_again w x up y F h =
     at_put w.processes (anew w x up) (λ n. F n.groups) y
     (λ e. let same : y ≡ x = sym e ∙ process_in-me w.processes x in subst (λ (z : ℕ). F (node w z).groups) same h)
     h
 
--- it is a turn
+-- a start or a stop is a turn
 again_turn : (w : World) (x : ℕ) (up : Bool) → Sound w → Turn w (again w x up)
 again_turn w x up sound = record {
   sound = record {
@@ -80,14 +80,14 @@ again_turn w x up sound = record {
 
 -- An input
 
--- another node stays ready as the source goes from s to s', which it does at node 1 alone
+-- another node stays ready while the source changes, which happens only at node 1
 ready_other : (s s' : List Group) (n : Node) → Grows s s' → (n.control.me ≡ 1 → s' ≡ s) → Ready s n → Ready s' n
 ready_other s s' n grows away ready = record {
   holds = holds_along s s' n.groups grows ready.holds;
   own = λ e. subst (λ (t : List Group). AreSame n.groups t) (sym (away e)) (ready.own e);
 }
 
--- what a step at x, which is up, leads to: this process, and this source
+-- the effect of a step at x, which is up: this process and this source
 record Step (w : World) (x : ℕ) (s : List Group) (q : Process) : Type 0 where
   sound : Sound w
   up : (process w x).up ≡ true
@@ -97,11 +97,11 @@ record Step (w : World) (x : ℕ) (s : List Group) (q : Process) : Type 0 where
   ready : Ready s q.node
   away : ((node w x).control.me ≡ 1 → ⊥) → s ≡ w.source
 
--- the world after it, with these messages besides
+-- the world after the step, with these messages added
 abbrev after_step : World → List Group → Process → List Message → World
 after_step w s q sent = record { processes = with_process w.processes q; net = w.net ++ sent; source = s }
 
--- its process was up
+-- the process of x was up
 step_up : (w : World) (x : ℕ) (s : List Group) (q : Process) → Step w x s q → (process_in w.processes q.node.control.me).up ≡ true
 step_up w x s q h = subst (λ (y : ℕ). (process w y).up ≡ true) (sym h.me) h.up
 
@@ -119,13 +119,13 @@ step_groups w x s q h y =
     (λ e. let same : x ≡ y = sym h.me ∙ e in subst (λ (z : ℕ). Grows (node w z).groups q.node.groups) same h.groups)
     (λ _. grows_itself (node w y).groups)
 
--- what was true of a message is so after the step
+-- messages that were true are true after the step
 step_net : (w : World) (x : ℕ) (s : List Group) (q : Process) → Step w x s q → AllByRecursion (λ m. IsTrue s (process_in (with_process w.processes q) m.from).node.groups m.body) w.net
 step_net w x s q h =
     all_weaker (IsTrueIn w) (λ m. IsTrue s (process_in (with_process w.processes q) m.from).node.groups m.body)
     (λ m. true_along w.source s (node w m.from).groups (process_in (with_process w.processes q) m.from).node.groups h.source (step_groups w x s q h m.from) m.body) w.net h.sound.net
 
--- what the step sends is true after it
+-- the messages that the step sends are true after it
 step_sent : (w : World) (x : ℕ) (s : List Group) (q : Process) → Step w x s q → (m : Message) → MaySend s (node w x).control.me q.node.groups m
     → IsTrue s (process_in (with_process w.processes q) m.from).node.groups m.body
 step_sent w x s q h m may =
@@ -143,7 +143,7 @@ step_turn w x s q sent h may = record {
   source = h.source;
 }
 
--- and so it is where what it sends is lost
+-- a step whose messages are lost is a turn
 lost_turn : (w : World) (x : ℕ) (s : List Group) (q : Process) → Step w x s q → Turn w (record w { processes = with_process w.processes q; source = s })
 lost_turn w x s q h = record { sound = record { ready = step_ready w x s q h; net = step_net w x s q h }; source = h.source }
 
@@ -154,7 +154,7 @@ abbrev IsTrueArrival : List Group → Option Arrival → Type 0
 IsTrueArrival s None = Unit {0}
 IsTrueArrival s (Some a) = IsTrueInput s a.input
 
--- what is delivered is true, since it was sent
+-- a delivered message is true, since it was sent
 delivery_true : (w : World) → Sound w → (k : ℕ) → IsTrueArrival w.source (delivery (message_at w.net k))
 delivery_true w sound zero = tt
 delivery_true w sound (suc k) = by_found (message_at w.net (suc k)) refl where
@@ -168,7 +168,7 @@ arrival_true w sound (acts.At x (inputs.Delivered m)) = tt
 arrival_true w sound (acts.At x i) = tt
 arrival_true w sound (acts.Deliver k) = delivery_true w sound k
 
--- what the step of an input at a node that is up leads to, where its process goes on as it is or started anew
+-- the step of an input at a node that is up, where its process goes on as it is or is started anew
 step_of : (w : World) → Sound w → (a : Arrival) → IsTrueInput w.source a.input → (process w a.at).up ≡ true
     → (q : Process) → q.node.control.me ≡ (step (node w a.at) a.input).node.control.me → q.node.groups ≡ (step (node w a.at) a.input).node.groups
     → Ready (source_after w.source a.input (step (node w a.at) a.input).answer) q.node
@@ -199,7 +199,7 @@ acted_turn w sound (Some a) truth =
 pub act_turn : (w : World) → Sound w → (a : Act) → Turn w (after_act w a)
 act_turn w sound a = acted_turn w sound (arrival w a) (arrival_true w sound a)
 
--- and so are acts, one after another
+-- acts, one after another, are a turn
 pub acts_turn : (w : World) → Sound w → (done : List Act) → Turn w (after_acts w done)
 acts_turn w sound [] = turn_itself w sound
 acts_turn w sound (a ∷ rest) =

@@ -20,7 +20,7 @@ use Rattle.oc_laws_world.proofs.WalksChecking.{walks_checks, walks_tick, walks_c
 use Rattle.oc_laws_world.proofs.WalksContent.{OfDry, walks_published, walks_sealed_at, walks_pulled, walks_fetched, walks_took_chunk}
 use Rattle.oc_laws_world.proofs.WalksLooking.{walks_looked, walks_sees, walks_client, walks_measured}
 
--- a message that is taken has come
+-- a message that a node takes was sent to the node
 abbrev pub HasCome : (ℕ → Body → Type 0) → Input → Type 0
 HasCome came (Delivered m) = came m.from m.body
 HasCome came input = Unit {0}
@@ -29,7 +29,7 @@ HasCome came input = Unit {0}
 abbrev IsDry : Plan → Type 0
 IsDry o = o.wants ≡ None
 
--- the control rules send none
+-- the control rules send no bytes
 dry_closed : (ls : List Shelf) → IsClosed ls IsDry
 dry_closed ls = record {
   write = λ o r h. h;
@@ -39,7 +39,7 @@ dry_closed ls = record {
   lists = λ o leases rates counts h. h;
 }
 
--- a step that sends no bytes sends what was planned
+-- a step that sends no bytes sends the planned messages
 of_dry : (P : Control → List Message → Type 0) (n : Node) (i : Input) (o : Plan) → OfDry P o → P (finished n i o).node.control (finished n i o).sends
 of_dry P n i o h = subst (λ w. P o.node (filled w n.groups o.sends)) (sym h.1) h.0
 
@@ -70,7 +70,7 @@ module _ (came : ℕ → Body → Type 0) (P : Control → List Message → Type
   walks_received n i p (bodies.Fetch have) has_come h = walks_fetched came P k n.control (shelf n.groups) p have n.groups h
   walks_received n i p (bodies.Chunk g start bytes last) has_come h = of_dry P n i (received (begun n.control) (shelf n.groups) p (bodies.Chunk g start bytes last)) (walks_took_chunk came P k (begun n.control) (shelf n.groups) p g start bytes last (h, refl))
 
-  -- what each small change keeps, each step keeps
+  -- each step keeps a property that each small change keeps
   pub walks_step : (n : Node) (i : Input) → IsTable n.control.kept.table → HasCome came i → P n.control [] → P (step n i).node.control (step n i).sends
   walks_step n (Tick t) is_table has_come h =
       of_dry P n (Tick t) (plan n.control (shelf n.groups) (Tick t)) (walks_tick came P k (begun n.control) (shelf n.groups) t is_table h, keeps_tick (shelf n.groups) IsDry (dry_closed (shelf n.groups)) (begun n.control) t refl)

@@ -20,21 +20,21 @@ use Rattle.oc_model.proofs.Ready.{acts_true}
 use Rattle.oc_laws_step.proofs.Tables.{newest-put_same}
 use Rattle.oc_laws_world.proofs.Machine.{IsMachine, Of}
 
--- a number that is raised is greater
+-- a raised number is greater than the old one
 pub raise_above : (e f : ℕ) → raise e ≡ Some f → e < f
 raise_above e f h = by_test (e == number_end) h where
   by_test : (b : Bool) → (if b then None else Some (e + 1)) ≡ Some f → e < f
   by_test true g = absurd cc
   by_test false g = let same : e + 1 ≡ f = cc in omega (arith, same)
 
--- a rank that another does not come after has no greater epoch
+-- a rank that does not precede another one has an epoch at least as great
 late_epoch : (a b : Rank) (f : ℕ) → precedes a b ≡ false → b.epoch < f → a.epoch < f
 late_epoch a b f h above = by_test (nat_lt b.epoch a.epoch) refl where
   by_test : (t : Bool) → nat_lt b.epoch a.epoch ≡ t → a.epoch < f
   by_test true e = absurd (cc (h, ap (λ t. t || (a.epoch == b.epoch && nat_lt a.depth b.depth)) e))
   by_test false e = omega (arith, above, ltb-false b.epoch a.epoch e)
 
--- whoever adopts is in the tree
+-- a node that adopts is in the tree
 pub adopter_in_tree : (h : Host) (x : ℕ) (r : Option Rank) → adoption_refusal h x r ≡ None → h.in_tree ≡ true
 adopter_in_tree h x r e = by_tests (x == h.me) h.in_tree refl refl where
   by_tests : (a b : Bool) → (x == h.me) ≡ a → h.in_tree ≡ b → h.in_tree ≡ true
@@ -42,7 +42,7 @@ adopter_in_tree h x r e = by_tests (x == h.me) h.in_tree refl refl where
   by_tests false true f g = g
   by_tests false false f g = let out : Some refusals.NotJoined ≡ None = rw (f, g) at e in absurd cc
 
--- the lease that an adoption writes is there
+-- the lease that an adoption writes is held
 leased_by_birth : (n : Control) (x s : ℕ) → is_news n.kept.table (birth x s n.me) ≡ true → has_lease (record n { kept = record n.kept { table = put n.kept.table (birth x s n.me) } }) x s ≡ true
 leased_by_birth n x s news =
     ap (λ k. is_number (lease_number n.me k) s) (newest-put_same n.kept.table (birth x s n.me) x refl)

@@ -1,5 +1,5 @@
--- How a node gets a parent or becomes a root: rules 1 to 4 (ask, next try, round, become acting), 8 (take a yes), 9 (take a no),
--- 10 (unreachable) and 11 (relocate) consist of the small changes.
+-- The rules by which a node gets a parent or becomes a root consist of the small changes: rules 1 to 4 (ask, next try, round,
+-- become acting), 8 (take a yes), 9 (take a no), 10 (unreachable) and 11 (relocate).
 use Rattle.std.proofs.Common.{◌≡◌, ℕ, ◌+◌, Bool, true, false, not, ◌&&◌, ◌||◌, ◌==◌, nat_lt, if◌then◌else◌, Option, Some, None, List, [], ◌∷◌, refl, ap, subst, eqb-true}
 use Rattle.std.proofs.lemmas.Bool.{cond_both, and_parts}
 use Rattle.oc_base.specs.declared.rank.Rank.{Rank}
@@ -82,7 +82,7 @@ module _ (came : ℕ → Body → Type 0) (P : Control → List Message → Type
   pub walks_ask_before : (o : Plan) (p : ℕ) → Of P o → Of P (ask_before o p)
   walks_ask_before o p h = walks_ask (set_tries o (Some p)) p (walks_set_tries o (Some p) h)
 
-  -- what a join leaves besides: the ancestors, and what a start clears
+  -- the rest of a join: the ancestors, and the cleared part
   walks_placed : (o : Plan) (s : Soft) (p : ℕ) (xs : List ℕ) → Of P o → Of P (with_soft (write o (records.Ancestors (ancestors_by p xs))) s)
   walks_placed o s p xs h =
       let placed : Plan = write o (records.Ancestors (ancestors_by p xs)) in

@@ -1,4 +1,4 @@
--- How leases are kept up and changes are told: rules 5 (check now), 6 (tick) and 13 (check-ins) consist of the small changes.
+-- The rules that keep leases and tell changes consist of the small changes: rules 5 (check now), 6 (tick) and 13 (check-ins).
 use Rattle.std.proofs.Common.{◌≡◌, ℕ, ◌+◌, max, true, false, not, ◌&&◌, ◌==◌, nat_lt, if◌then◌else◌, Option, Some, None, List, [], ◌∷◌, inl, inr, filter, refl, sym, ◌∙◌, subst, eqb-true}
 use Rattle.std.specs.List.{AllByRecursion}
 use Rattle.std.proofs.lemmas.Bool.{cond_both, and_parts}
@@ -34,7 +34,7 @@ use Rattle.oc_laws_world.proofs.Machine.{IsMachine, Of}
 use Rattle.oc_laws_world.proofs.WalksAdopting.{raise_above, walks_raises, walks_sends_rejoin}
 use Rattle.oc_laws_world.proofs.WalksAsking.{walks_ask_before, walks_round}
 
--- no certificate is news to what it was merged into
+-- a certificate is no news after it was merged
 merged_takes : (o : Plan) (c : Cert) → is_news (merges o c).node.kept.table c ≡ false
 merged_takes o c = cond_both (is_news o.node.kept.table c) (write o (records.Entry c)) o (λ q. is_news q.node.kept.table c ≡ false) (λ _. merge_takes o.node.kept.table c) (λ e. e)
 
@@ -46,7 +46,7 @@ all_merged_keeps : (cs : List Cert) (o : Plan) (d : Cert) → is_news o.node.kep
 all_merged_keeps [] o d known = known
 all_merged_keeps (c ∷ cs) o d known = all_merged_keeps cs (merges o c) d (merged_keeps o c d known)
 
--- nor are those that were merged, one after another
+-- merged certificates are no news after all of them were merged
 all_merged : (cs : List Cert) (o : Plan) → AllByRecursion (λ c. is_news (merges_all cs o).node.kept.table c ≡ false) cs
 all_merged [] o = tt
 all_merged (c ∷ cs) o = (all_merged_keeps cs (merges o c) c (merged_takes o c), all_merged cs (merges o c))
@@ -87,7 +87,7 @@ module _ (came : ℕ → Body → Type 0) (P : Control → List Message → Type
 
   -- Ticks
 
-  -- while leases end, the rows of those children that are left name the node
+  -- the rows of the remaining children name the node while leases end
   walks_ends_each : (xs : List ℕ) (o : Plan) → AllByRecursion (IsRowOf o.node.kept.table o.node.me) xs → Of P o → Of P (ends_each xs o)
   walks_ends_each [] o rows h = h
   walks_ends_each (x ∷ xs) o rows h = by_found (λ q. walks_ends_each xs q) (newest o.node.kept.table x) refl where
@@ -195,7 +195,7 @@ module _ (came : ℕ → Body → Type 0) (P : Control → List Message → Type
       (k.lists merged.node merged.sends (renew merged.node.leases x merged.node.soft.clock) (put_at merged.node.rates x rate) merged.node.counts is_merged))
       (λ _. walks_sends_rejoin came P k o x s h)
 
-  -- an acknowledgement of the parent: its place, its rank, its ancestors
+  -- an acknowledgement of the parent: its place in the log, its rank and its ancestors
   walks_takes_place : (o : Plan) (p upto : ℕ) (r : Rank) (xs : List ℕ) → came p (bodies.CheckAck o.node.kept.seq upto r xs) → o.node.kept.mode ≡ modes.Joined p
       → (Q : Plan → Type 0) → ((q : Plan) → q.node.kept.seq ≡ o.node.kept.seq → q.node.kept.mode ≡ o.node.kept.mode → Of P q → Q q) → Of P o → Q (takes_place o upto)
   walks_takes_place o p upto r xs came_ack joined Q next h =

@@ -1,4 +1,4 @@
--- Rule 14, content, does not change the tree part: it sends chunks and fetches at most.
+-- Rule 14, content, leaves the tree part unchanged: it sends only chunks and fetches.
 use Rattle.std.proofs.Common.{◌≡◌, ℕ, ◌+◌, Bool, true, false, ◌&&◌, ◌==◌, nat_lt, if◌then◌else◌, Option, Some, None, List, [], length}
 use Rattle.std.proofs.lemmas.Bool.{cond_both}
 use Rattle.oc_base.specs.declared.shelf.Shelf.{Shelf}
@@ -18,7 +18,7 @@ use Rattle.oc_base.specs.Shelves.{line_of}
 use Rattle.oc_model.specs.Step.{bytes_wanted, filled}
 use Rattle.oc_laws_world.proofs.Machine.{IsMachine, Of}
 
--- this of a step under way that sends no bytes
+-- a property of a step under way that sends no bytes
 abbrev pub OfDry : (Control → List Message → Type 0) → Plan → Type 0
 OfDry P o = Of P o × (o.wants ≡ None)
 
@@ -48,7 +48,7 @@ module _ (came : ℕ → Body → Type 0) (P : Control → List Message → Type
   pub walks_pulled : (o : Plan) (shelf : List Shelf) (p : ℕ) → Of P o → Of P (pulled o shelf p)
   walks_pulled o shelf p h = cond_both (p == o.node.me) (answers o words.Own) (send o p (bodies.Fetch shelf)) (Of P) (λ _. h) (λ _. k.says o.node o.sends p (bodies.Fetch shelf) tt h)
 
-  -- a chunk that is sent has its bytes
+  -- a chunk that is sent has the bytes of its group
   walks_answers_fetch : (n : Control) (p : ℕ) (have : List Shelf) (l : Option Shelf) (ks : List Group) → P n []
       → P (answers_fetch (begun n) p have l).node (filled (answers_fetch (begun n) p have l).wants ks (answers_fetch (begun n) p have l).sends)
   walks_answers_fetch n p have None ks h = h

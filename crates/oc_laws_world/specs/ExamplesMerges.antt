@@ -47,16 +47,16 @@ abbrev pub CopyingScheduled : Type 0
 CopyingScheduled = IsScheduleOf (new_world two) copying
     (Up 2 ∷ Do (At 2 (Pull 1)) ∷ Up 1 ∷ Do (At 1 (Publish (codes "/a") (codes "hello"))) ∷ Do (Deliver 1) ∷ Do (Deliver 2) ∷ Crash 2 ∷ Up 2 ∷ [])
 
--- by its own record node 2 holds the published bytes
+-- node 2 holds the published bytes by its own record
 abbrev pub CopyingHeld : Type 0
 CopyingHeld = shelf (own_fold two copying 2).groups ≡ record { group = codes "/a"; held = 5; sealed = false } ∷ []
 
--- A record whose second publish was not taken, since the node stopped, and a record whose first publish was taken.
+-- Two records: one whose second publish was not taken, since the node stopped, and one whose first publish was taken.
 
 abbrev adds : List ℕ → Input
 adds bytes = Publish (codes "/a") bytes
 
--- the lengths of all groups, in which these files differ
+-- the lengths of all groups, which differ between these files
 abbrev lengths : Node → List ℕ
 lengths n = map (λ l. l.held) (shelf n.groups)
 

@@ -74,7 +74,7 @@ module _ (digest : Node → List ℕ) (r : Records) (taken : List Line) (w : Wor
   come_of (Delivered m) lawful = absurd lawful
   come_of i lawful = tt
 
-  -- and the other way round
+  -- a statement that can be the next event in the world can be taken
   pub follows : (t : Told) → IsTold r.header.nodes x t → CanGo digest r.header.nodes w x t → CanFollow r.header taken x (entry_of r.header.nodes t)
   follows (Started files) lawful can = tt
   follows (Came bytes) lawful can = (sym own_up ∙ can.0, (can.1, k.sent (message_of r.header.nodes bytes) can.2))

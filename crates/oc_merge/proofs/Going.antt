@@ -51,7 +51,7 @@ before_none x (l ∷ ls) = elim (cases_Bool (l.node == x)) [
   | inr other ↦ ap (λ n. before_own x (drop n (l ∷ ls))) (before_later x l ls other) ∙ before_none x ls
 ]
 
--- and none of x is on the way
+-- no line of x is on the way
 pub own_none : (x : ℕ) (ls : List ToldLine) → own_told x (take (before_own x ls) ls) ≡ []
 own_none x [] = refl
 own_none x (l ∷ ls) = elim (cases_Bool (l.node == x)) [

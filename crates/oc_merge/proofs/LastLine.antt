@@ -19,7 +19,7 @@ digits_published digits (Started files) = refl
 digits_published digits (Came bytes) = refl
 digits_published digits (Took i) = refl
 
--- it publishes no more
+-- the last line publishes no more bytes with its digits
 published_last : (digits : List ℕ) (ls : List ToldLine) (l : ToldLine) → published_in (ls ++ record l { told = with_digits digits l.told } ∷ []) ≡ published_in (ls ++ l ∷ [])
 published_last digits ls l =
     let by_line : ToldLine → ℕ = λ k. published_by k.told in

@@ -317,7 +317,7 @@ set_again [] (suc i) a b = refl
 set_again (x ∷ xs) zero a b = refl
 set_again (x ∷ xs) (suc i) a b = ap (λ ys. x ∷ ys) (set_again xs i a b)
 
--- One fold more, by what is read of the fold of its node
+-- One more fold, by the fold of its line's node
 
 module _ {A : Type 0} (node : A → Node) (digest : Node → List ℕ) (r : Records) (p : ℕ) (folds : List (Option A)) (at : AreFoldsAt node digest r p folds) (l : ToldLine) (there : slice_get r.lines p ≡ Some l) (is : IsNode r.header.nodes l.node) (i : ℕ) (d : Option A) (index : i ≡ l.node - 1) where
   reads : get_or folds i d ≡ get_or folds (l.node - 1) None

@@ -18,8 +18,8 @@
 //! its node and the receivers of its messages wait.
 #![tactic(auto)]
 
-mod alone;
 mod after_line;
+mod alone;
 mod choosing;
 mod fault;
 mod heads;

@@ -13,8 +13,8 @@ ghost use Rattle.oc_merge.specs.declared.told.ToldLine.{ToldLine as Line};
 ghost use Rattle.oc_merge.specs.declared.told.Told.TheVariants.{Came};
 ghost use Rattle.oc_wire.specs.declared.fault.WireFault.TheVariants.{Memory as NoMemory};
 
-use crate::alone::Alone;
 use crate::after_line::AfterLine;
+use crate::alone::Alone;
 use crate::places::find_places;
 use crate::records::Records;
 use crate::told::{Told, ToldLine};
@@ -54,7 +54,11 @@ fn after_taken<A: Alone>(one: A, input: &Input) -> Result<AfterLine<A>, Memory>
 }
 
 /// The node after an input, given the files that the first start after the line finds.
-fn after_input<A: Alone>(one: A, input: &Input, found: Option<&[u8]>) -> Result<AfterLine<A>, Memory>
+fn after_input<A: Alone>(
+    one: A,
+    input: &Input,
+    found: Option<&[u8]>,
+) -> Result<AfterLine<A>, Memory>
     requires { IsInput (A.node one).control.nodes (A.node one).control.me input.now }
     ensures { IfOk result (λ behind. view_of A.node behind ≡ after_input A.digest (A.node one) input.now (option_map (λ digits. digits.now) found.entry)) }
 {

@@ -1,4 +1,4 @@
--- What a comparison that collects all differences knows on its way.
+-- Facts of a comparison that collects all differences.
 use Rattle.std.proofs.Common.{◌≡◌, ℕ, ◌+◌, ◌<◌, List, length, take, get_or, sym, ap, ◌∙◌, arith}
 use Rattle.std.specs.Prelude.{◌↔◌, bit_or, bit_xor}
 use Rattle.std.specs.Int.Bits.{xor_add_and, xor_self}

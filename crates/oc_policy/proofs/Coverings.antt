@@ -48,7 +48,7 @@ an_action : (o : Option Action) → (a : Action) × (is_absent_or same_action o 
 an_action None = (Get, refl)
 an_action (Some a) = (a, (same_action-Decides a a).1 refl)
 
--- a part speaks of what the part that it covers speaks of
+-- a part speaks of all that a part which it covers speaks of
 part_through : {A : Type 0} (same : A → A → Bool) (decides : (a b : A) → Decides (same a b) (a ≡ b)) (part other : Option A) (x : A) → part_covers same part other ≡ true → is_absent_or same other x ≡ true → is_absent_or same part x ≡ true
 part_through same decides None other x h m = refl
 part_through same decides (Some p) None x h m = cc h
@@ -116,7 +116,7 @@ covers_from_test j i good h action group area shown named few m =
     (token_through j.token i.token shown c.2 w.2)
     (speaks_through j.prefix i.prefix group (some_from_prefix j.prefix good) ((is_within-Decides j.prefix i.prefix).0 c.3) w.3)
 
--- and says it of each that does
+-- a rule that covers another passes the test
 test_from_covers : (j i : Rule) → IsPrefix j.prefix → IsPrefix i.prefix → ForSome i.area (λ n. n < 256) → rule_covers j i → (parts_cover j i && is_within j.prefix i.prefix) ≡ true
 test_from_covers j i good other within h =
     let a = an_action i.action in

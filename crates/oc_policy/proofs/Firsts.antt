@@ -58,14 +58,14 @@ shadows_from_cover rules before i a b within a_is b_is covers =
       covers = cover_both _ _ a b a_at b_is covers;
     }
 
--- one that does not cover it does not
+-- an earlier rule that shadows another covers it
 pub covers_from_shadows : (rules : List Rule) (before i : ℕ) (a b : Rule) → slice_get rules before ≡ Some a → slice_get rules (i - 1) ≡ Some b → Shadows rules (before + 1) i → rule_covers a b
 covers_from_shadows rules before i a b a_is b_is h =
     let same : before + 1 - 1 ≡ before = omega arith in
     let a_at : slice_get rules (before + 1 - 1) ≡ Some a = rw same a_is in
     cover_of_both _ _ a b a_at b_is h.covers
 
--- none of those before shadows it, nor the next, which does not cover it
+-- no rule up to the next shadows a rule, where none before does and the next does not
 pub no_more_shadows : (rules : List Rule) (before i : ℕ) → ((k : ℕ) → k ≤ before → ¬ Shadows rules k i) → ¬ Shadows rules (before + 1) i → (k : ℕ) → k ≤ before + 1 → ¬ Shadows rules k i
 no_more_shadows rules before i none next k few = elim (last_or_before k before few) [
   | inl earlier ↦ none k earlier

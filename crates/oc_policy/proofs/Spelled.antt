@@ -1,4 +1,4 @@
--- Which texts spell a key.
+-- The texts that spell a key.
 use Rattle.std.proofs.Common.{◌≡◌, ℕ, Bool, true, false, ◌&&◌, ◌⊎◌, inl, inr, List, length, Result, Ok, Err, refl, arith}
 use Rattle.std.specs.Prelude.{◌↔◌, nat_le, IsSome}
 use Rattle.std.specs.Result.{result_ok}

@@ -15,7 +15,7 @@ last_part (Err e) a b c x y front last = tt
 pub one_more : (a b c x y : List ℕ) → b ≡ a ++ x → c ≡ b ++ y → c ≡ a ++ (x ++ y)
 one_more a b c x y front last = last ∙ ap (λ l. l ++ y) front ∙ append_assoc a x y
 
--- what a search for a rule that shadows gave
+-- the result of a search for a rule that shadows
 pub shadowed : (rules : List Rule) (number : ℕ) (by : Option ℕ) → IfSome by (λ j. Shadows rules j number)
     → IfSome by (λ j. (k : ℕ) → k < j → ¬ Shadows rules k number) → IfNone by ((k : ℕ) → ¬ Shadows rules k number) → IsShadowedBy rules number by
 shadowed rules number None some least none = none

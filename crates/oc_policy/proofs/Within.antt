@@ -1,4 +1,4 @@
--- When a name is within a prefix.
+-- Names within a prefix.
 use Rattle.std.proofs.Common.{◌≡◌, ℕ, ◌<◌, ◌≤◌, Bool, true, false, ◌&&◌, ◌||◌, cond, nat_lt, nat_eq, ◌⊎◌, inl, inr, Option, Some, None, List, [], ◌∷◌, ◌++◌, length, drop, get_or, ◌≢◌, Ok, is_none, IsTrue, refl, sym, ap, ◌∙◌, subst, append_assoc, length-append, arith, codes}
 use Rattle.std.specs.Bool.{Decides}
 use Rattle.std.specs.List.{starts_with}
@@ -10,17 +10,17 @@ use Rattle.oc_base.specs.declared.group_name.NameFault.{NameFault}
 use Rattle.oc_base.specs.declared.group_name.NameFault.TheVariants.{Length}
 use Rattle.oc_policy.specs.Prefixes.{IsPrefix, is_within}
 
--- `/`, or the name, or followed by a slash
+-- a name within a prefix: `/`, the name, or the prefix before a slash
 abbrev pub IsWithin : List ℕ → List ℕ → Type 0
 IsWithin p s = ((p ≡ 47 ∷ []) ⊎ (p ≡ s)) ⊎ ((rest : List ℕ) × (s ≡ (p ++ 47 ∷ []) ++ rest))
 
--- what the test of a beginning says
+-- the test of a beginning decides it
 pub begins-Decides : (s q : List ℕ) → Decides (starts_with nat_eq s q) ((rest : List ℕ) × (s ≡ q ++ rest))
 begins-Decides s q =
     let said = starts_is Decides-eqb s q (starts_with nat_eq s q) refl in
     (λ e. (drop (length q) s, said.0 e), λ w. said.1 w.0 w.1)
 
--- what the test says
+-- the test of a name within a prefix decides it
 pub is_within-Decides : (p s : List ℕ) → Decides (is_within p s) (IsWithin p s)
 is_within-Decides p s =
     Decides-or _ _ (Decides-or _ _ (bytes_eq-Decides p (47 ∷ [])) (bytes_eq-Decides p s)) (begins-Decides s (p ++ 47 ∷ []))
@@ -53,7 +53,7 @@ some_from_prefix p h = elim (prefix_cases p h) [
   | inr named ↦ omega (arith, some_from_name p named)
 ]
 
--- no list is a slash after something and more
+-- a slash is not some bytes with a slash and more after them
 pub no_slash_behind : {P : Type 0} (a r : List ℕ) → 0 < length a → 47 ∷ [] ≡ (a ++ 47 ∷ []) ++ r → P
 no_slash_behind a r some e = absurd (omega (arith, simp length-append at (ap length e)))
 
@@ -65,7 +65,7 @@ beneath a b s r some e (inl (inl root)) = no_slash_behind a r some (sym root ∙
 beneath a b s r some e (inl (inr same)) = inr (r, sym same ∙ e)
 beneath a b s r some e (inr (t, more)) = inr (r ++ 47 ∷ t, more ∙ ap (λ (x : List ℕ). (x ++ 47 ∷ []) ++ t) e ∙ through a r t)
 
--- what is within a prefix that is within another is within that
+-- a name within a prefix that is within another is within the other
 pub within_through : (a b s : List ℕ) → 0 < length a → IsWithin a b → IsWithin b s → IsWithin a s
 within_through a b s some (inl (inl root)) w = inl (inl root)
 within_through a b s some (inl (inr same)) w = subst (λ (x : List ℕ). IsWithin x s) (sym same) w
@@ -98,16 +98,16 @@ within_from_all a b good other all = elim (prefix_cases b other) [
 same_head : (b : ℕ) (test : Bool) → (nat_eq b b && test) ≡ test
 same_head b test = grind (arith, nat_tests)
 
--- after what both begin with, the rests decide
+-- the bytes after a common beginning decide
 pub starts-behind : (p x n : List ℕ) → starts_with nat_eq (p ++ x) (p ++ n) ≡ starts_with nat_eq x n
 starts-behind [] x n = refl
 starts-behind (b ∷ p) x n = same_head b (starts_with nat_eq (p ++ x) (p ++ n)) ∙ starts-behind p x n
 
--- what follows a prefix begins with a slash, or the whole does not begin with both
+-- the bytes after a prefix begin with a slash, or the whole does not begin with both
 pub starts-with_prefix : (s p rest : List ℕ) → s ≡ p ++ rest → starts_with nat_eq rest (codes "/") ≡ starts_with nat_eq s (p ++ codes "/")
 starts-with_prefix s p rest e = rw e (sym (starts-behind p rest (codes "/")))
 
--- what does not begin with a prefix begins with no longer one
+-- a name that does not begin with a prefix begins with no longer one
 pub starts-without_prefix : (s p more : List ℕ) → ((rest : List ℕ) → s ≢ p ++ rest) → starts_with nat_eq s (p ++ more) ≡ false
 starts-without_prefix s p more none =
     not_begun (starts_with nat_eq s (p ++ more)) λ begun.

@@ -4,12 +4,12 @@ use Rattle.std.specs.Str.{bytes_eq}
 use Rattle.oc_policy.specs.Rules.{same_action, is_absent_or, rule_covers}
 use Rattle.oc_policy.specs.declared.rule.Rule.{Rule}
 
--- both rules are there, and the first covers the second
+-- two rules that are there, of which the first covers the second
 abbrev pub BothCover : Option Rule → Option Rule → Type 0
 BothCover (Some j) (Some i) = rule_covers j i
 BothCover j i = ⊥
 
--- rule j comes before rule i and covers it; rules are counted from 1
+-- rule `j` before rule `i`, which it covers; rules are counted from 1
 pub record Shadows (rules : List Rule) (j i : ℕ) : Type 0 where
   pub some : 1 ≤ j
   pub before : j < i

@@ -2,15 +2,15 @@
 use Rattle.std.specs.Prelude.{ℕ, ◌-◌, nat_le, if◌then◌else◌, List, ◌++◌, length, map, replicate, bit_xor}
 use Rattle.sha2.specs.Sha256.{sha256}
 
--- a key longer than a block, which has 64 bytes, is hashed first
+-- the key, hashed first where it is longer than a block of 64 bytes
 abbrev pub short_key : List ℕ → List ℕ
 short_key key = if nat_le (length key) 64 then key else sha256 key
 
--- zeros after it fill the block up
+-- the key as a block, which zeros at the end fill up
 abbrev pub key_block : List ℕ → List ℕ
 key_block key = short_key key ++ replicate (64 - length (short_key key)) 0
 
--- each byte of this block, XOR one byte
+-- the block of the key, each byte XOR one byte
 abbrev pub masked_key : ℕ → List ℕ → List ℕ
 masked_key mask key = map (λ byte. bit_xor byte mask) (key_block key)
 

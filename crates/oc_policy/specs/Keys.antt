@@ -1,4 +1,4 @@
--- Which texts are keys, how a MAC is spelled, and the keys of a network.
+-- The keys of a network, the texts that spell them, and the spelling of MACs.
 use Rattle.std.specs.Prelude.{◌≡◌, ℕ, ◌%◌, ◌≤◌, nat_le, Bool, ◌&&◌, ◌||◌, if◌then◌else◌, Option, None, List, ◌∷◌, length}
 use Rattle.std.specs.List.{AllPass, list_any}
 use Rattle.std.specs.Str.{bytes_eq}
@@ -28,18 +28,18 @@ is_lower_digit byte = (nat_le 48 byte && nat_le byte 57) || (nat_le 97 byte && n
 abbrev pub AreLowerDigits : List ℕ → Type 0
 AreLowerDigits text = AllPass is_lower_digit text
 
--- the keys of a network: what goes out has its MAC under the first alone, and what comes may also have it under one of the others
+-- the keys of a network: a message that goes out has its MAC under the first alone, and one that comes may have it under any other too
 pub record Keyring : Type 0 where
   pub key : List ℕ
   pub accept : List (List ℕ)
 
--- all of them
+-- all keys of a network
 abbrev pub keys_in : Keyring → List (List ℕ)
 keys_in ring = ring.key ∷ ring.accept
 
 abbrev pub is_mac_under : List ℕ → List ℕ → List ℕ → Bool
 is_mac_under body text key = bytes_eq text (mac_digits key body)
 
--- a text is the MAC of a body under one of the keys
+-- a text that is the MAC of a body under one of the keys
 abbrev pub is_mac_in : Keyring → List ℕ → List ℕ → Bool
 is_mac_in ring body text = list_any (is_mac_under body text) (keys_in ring)

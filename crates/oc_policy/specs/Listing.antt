@@ -5,18 +5,18 @@ use Rattle.oc_policy.specs.declared.rule.Action.TheVariants.{Get, Post}
 use Rattle.oc_policy.specs.declared.rule.Action.{Action}
 use Rattle.oc_policy.specs.declared.rule.Rule.{Rule}
 
--- what a rule says of what it matches
+-- the word of a rule that allows or denies
 abbrev pub allow_text : Bool → List ℕ
 allow_text true = codes "allow"
 allow_text false = codes "deny"
 
--- the method of which a rule speaks
+-- the method that a rule speaks of
 abbrev pub method_text : Option Action → List ℕ
 method_text None = codes "any"
 method_text (Some Get) = codes "get"
 method_text (Some Post) = codes "post"
 
--- the area of which a rule speaks
+-- the area that a rule speaks of
 abbrev pub area_text : Option ℕ → List ℕ
 area_text None = codes "any"
 area_text (Some area) = decimal area
@@ -26,7 +26,7 @@ abbrev pub shadow_text : Option ℕ → List ℕ
 shadow_text None = []
 shadow_text (Some number) = codes " shadowed by " ++ decimal number
 
--- the mark of a rule with a token, which says nothing of the token
+-- the mark of a rule with a token, which tells nothing of the token
 abbrev pub token_text : Option (List ℕ) → List ℕ
 token_text None = []
 token_text (Some token) = codes " token"
@@ -36,11 +36,11 @@ abbrev pub rule_text : Rule → List ℕ
 rule_text rule =
     allow_text rule.allow ++ codes " " ++ method_text rule.action ++ codes " " ++ rule.prefix ++ codes " " ++ area_text rule.area ++ token_text rule.token
 
--- the line of a rule: its number, what it says, and the mark of a shadowed rule
+-- the line of a rule: its number, its text, and the mark of a shadowed rule
 abbrev pub rule_line : ℕ → Rule → Option ℕ → List ℕ
 rule_line number rule by = decimal number ++ codes " " ++ rule_text rule ++ shadow_text by ++ codes "\n"
 
--- the first rule that shadows the one of this number, or that none does
+-- the first rule that shadows the one of this number, or none
 abbrev pub IsShadowedBy : List Rule → ℕ → Option ℕ → Type 0
 IsShadowedBy rules number None = (j : ℕ) → ¬ Shadows rules j number
 IsShadowedBy rules number (Some j) = Shadows rules j number × ((k : ℕ) → k < j → ¬ Shadows rules k number)

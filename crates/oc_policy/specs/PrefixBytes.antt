@@ -11,7 +11,7 @@ abbrev pub bytes_of : Option (List ℕ) → List ℕ
 bytes_of None = codes "/"
 bytes_of (Some name) = name
 
--- the name that these bytes are, and none for `/`
+-- the name in these bytes, and none for `/`
 abbrev pub name_in : List ℕ → Option (List ℕ)
 name_in bytes = if bytes_eq bytes (codes "/") then None else Some bytes
 
@@ -29,7 +29,7 @@ named name good = elim (true_or_false (bytes_eq name (codes "/"))) [
   | inr not ↦ rw not refl
 ]
 
--- the name back
+-- the name comes back from the bytes
 pub name_again : (o : Option (List ℕ)) → ForSome o (λ name. IsTrue (is_none (name_fault name))) → name_in (bytes_of o) ≡ o
 name_again None h = refl
 name_again (Some name) h = named name (h name refl)

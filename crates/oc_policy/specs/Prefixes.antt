@@ -5,7 +5,7 @@ use Rattle.std.specs.Str.{bytes_eq}
 use Rattle.oc_base.specs.Names.{name_fault, name_or}
 use Rattle.oc_base.specs.declared.group_name.NameFault.{NameFault}
 
--- why these bytes are no prefix: one slash is one, and any other is a group name
+-- the fault of bytes that are no prefix; one slash is a prefix, and any other is a group name
 abbrev pub prefix_fault : List ℕ → Option NameFault
 prefix_fault bytes = if bytes_eq bytes (codes "/") then None else name_fault bytes
 
@@ -13,7 +13,7 @@ prefix_fault bytes = if bytes_eq bytes (codes "/") then None else name_fault byt
 abbrev pub IsPrefix : List ℕ → Type 0
 IsPrefix bytes = prefix_fault bytes ≡ None
 
--- what parsing gives: these very bytes, or the first fault
+-- the result of parsing: these very bytes, or the first fault
 abbrev pub parsed_prefix : List ℕ → Result (List ℕ) NameFault
 parsed_prefix bytes = name_or bytes (prefix_fault bytes)
 

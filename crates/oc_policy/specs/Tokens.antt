@@ -14,7 +14,7 @@ abbrev pub byte_fault : Option ℕ → Option TokenFault
 byte_fault None = None
 byte_fault (Some at) = Some (Byte at)
 
--- why these bytes are no token, if they are none
+-- the fault of bytes that are no token
 abbrev pub token_fault : List ℕ → Option TokenFault
 token_fault bytes =
     if nat_lt (length bytes) 1 || nat_lt MAX_TOKEN_BYTES (length bytes) then Some Length
@@ -25,15 +25,15 @@ abbrev pub token_or : List ℕ → Option TokenFault → Result (List ℕ) Token
 token_or bytes None = Ok bytes
 token_or bytes (Some fault) = Err fault
 
--- what parsing gives: these very bytes, or the first fault
+-- the result of parsing: these very bytes, or the first fault
 abbrev pub parsed_token : List ℕ → Result (List ℕ) TokenFault
 parsed_token bytes = token_or bytes (token_fault bytes)
 
--- what a request shows for a token
+-- the text that a request shows for a token
 abbrev pub bearer : List ℕ → List ℕ
 bearer token = codes "Bearer " ++ token
 
--- a rule without a token asks for nothing; one with a token asks that the request shows it
+-- a request that shows the token of a rule; a rule without a token asks for nothing
 abbrev pub is_shown : Option (List ℕ) → Option (List ℕ) → Bool
 is_shown None shown = true
 is_shown (Some token) None = false

@@ -4,7 +4,7 @@ ghost use Rattle.oc_policy.specs.Rules.{first_match, verdict, verdict_of};
 use crate::rule::{Action, Rule};
 use oc_base::GroupName;
 
-/// What the access rules say of a request.
+/// The decision of the access rules on a request.
 #[derive(Clone, Copy, Debug, PartialEq, Eq)]
 pub enum Decision {
     Allowed,
@@ -15,9 +15,10 @@ pub enum Decision {
 /// The greatest number of rules in a list.
 pub const MAX_RULES: usize = 256;
 
-/// What the first rule that matches says; a request that no rule matches is allowed. `group` is `None` for what is no
-/// group, as the pages of a node, of which only rules for `/` speak. `shown` is the value of the request's
-/// Authorization field, `None` where it has none, or more than one. Takes no memory.
+/// The decision of the first rule that matches; a request that no rule matches is allowed. `group` is the group that
+/// is asked for, or a page of a node by its name, such as `/-/status`; only rules for `/` speak of a request without a
+/// name, `None`. `shown` is the value of the request's Authorization field, `None` where it has none, or more than
+/// one. Takes no memory.
 pub fn decide<'a>(
     rules: &'a [Rule],
     action: Action,
@@ -50,7 +51,7 @@ fn first_match<'a>(
 }
 
 impl Rule {
-    /// What the rule says of a request that it matches, where it has this number.
+    /// The decision of the rule, which has this number, on a request that it matches.
     fn says(&self, number: u32) -> Decision
         ensures { result ≡ verdict_of (Some self.now) number }
     {

@@ -6,7 +6,7 @@ ghost use Rattle.oc_policy.specs.Tokens.{is_shown};
 use crate::token::Token;
 use std::marker::Model;
 
-/// What a rule demands of a request: a token, or nothing. Contracts see the token, if there is one.
+/// The token that a rule demands of a request, if it demands one. Contracts see the token.
 ///
 /// It is a type of its own because the kit cannot keep a list of rules through a loop where a field of theirs is an
 /// `Option` of a type with an invariant.
@@ -47,7 +47,7 @@ impl Demand {
         self.token.is_some()
     }
 
-    /// Whether a request shows what is demanded. `shown` is the value of its Authorization field, `None` where it has
+    /// Whether a request meets the demand. `shown` is the value of its Authorization field, `None` where it has
     /// none, or more than one.
     pub(crate) fn is_met(&self, shown: Option<&[u8]>) -> bool
         ensures { result ≡ is_shown self.now (option_map (λ s. s.now) shown.entry) }
@@ -59,7 +59,7 @@ impl Demand {
         }
     }
 
-    /// Whether each request that shows what the other demands shows what this does: it demands nothing, or the same.
+    /// Whether each request that meets the other demand meets this one: it demands nothing, or the same.
     pub(crate) fn covers(&self, other: &Demand) -> bool
         ensures { result ≡ part_covers bytes_eq self.now other.now }
     {

@@ -5,7 +5,7 @@ ghost use Rattle.oc_policy.specs.declared.hmac.TheConstants.{BLOCK_BYTES};
 
 use sha2::{Digest, Sha256};
 
-/// How many bytes SHA-256 takes at a time.
+/// The number of bytes that SHA-256 takes at a time.
 pub(crate) const BLOCK_BYTES: usize = 64;
 
 /// `ipad` of RFC 2104.

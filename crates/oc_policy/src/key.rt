@@ -10,9 +10,9 @@ pub(crate) const MIN_KEY_BYTES: usize = 16;
 /// The greatest number of bytes of a key: a block of SHA-256.
 pub(crate) const MAX_KEY_BYTES: usize = 64;
 
-/// The key of a network: 16 to 64 bytes, which its nodes know and nobody else. Contracts see the bytes.
+/// The key of a network: 16 to 64 bytes, which only its nodes know. Contracts see the bytes.
 ///
-/// Its `Debug` tells nothing of them, and it has no `Display` and no comparison.
+/// The `Debug` of a key tells nothing of the bytes, and a key has no `Display` and no comparison.
 #[derive(Drop)]
 pub struct Key {
     bytes: [u8; MAX_KEY_BYTES],
@@ -65,7 +65,7 @@ impl Key {
 impl fmt::Debug for Key {
     ghost use Rattle.std.specs.Prelude.{codes, Some};
 
-    // The same for each key.
+    // The output is the same for each key.
     ghost debug_output = { λ _. Some (codes "Key(..)") };
 
     fn fmt<W: fmt::Write>(&self, f: &mut fmt::Formatter<W>) -> fmt::Result {

@@ -12,9 +12,9 @@ pub const MAX_ACCEPTED: usize = 4;
 /// The keys of a network. Contracts see the record of lists of `specs/Keys`.
 #[derive(Drop)]
 pub struct Keyring {
-    /// The key under which what goes out has its MAC.
+    /// The key for the MACs of messages that go out.
     pub key: Key,
-    /// The keys under which what comes may have its MAC, too.
+    /// The other keys under which a message that comes may have its MAC.
     pub accept: Vec<Key>,
 }
 

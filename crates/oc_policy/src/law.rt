@@ -31,7 +31,7 @@ pub fn macs_are_digits()
     ensures digits { (key body : List ℕ) → AreLowerDigits (mac_digits key body) }
 {}
 
-/// What is spelled alike is alike.
+/// Bytes with the same spelling are the same.
 pub fn no_two_digests_have_one_spelling()
     ensures { (first second : List ℕ) → IsBytes first → IsBytes second → encode_lower first ≡ encode_lower second
         → first ≡ second }

@@ -1,20 +1,20 @@
-//! What a node accepts of whom: the access rules, and the keys of a network with the MAC of a message under one of them.
+//! The access rules of a node, and the keys of a network with the MAC of a message under one of them.
 //!
-//! A rule speaks of an action, of the groups within a prefix and of an area, and may ask for a token; what is absent
-//! speaks of all. [`decide`] gives what the first rule that matches says (`verdict`), and allows where none matches.
-//! [`shadow`] names the first earlier rule that covers a rule: one that matches all that the rule matches, over all
-//! actions, group names and areas (`rule_covers`). [`a_shadowed_rule_decides_nothing`] is the law between the two.
-//! [`rules_text`] writes exactly the lines of the rules (`IsListing`), each with the number of the rule that leaves it
-//! nothing, if there is one; no line tells a token ([`no_line_tells_a_token`]).
+//! A rule speaks of an action, of the groups within a prefix and of an area, and may ask for a token; a rule without
+//! one of these parts speaks of all. [`decide`] gives the decision of the first rule that matches (`verdict`), and allows
+//! where none matches. [`shadow`] names the first earlier rule that covers a rule: one that matches all that the rule
+//! matches, over all actions, group names and areas (`rule_covers`). [`a_shadowed_rule_decides_nothing`] is the law
+//! between the two. [`rules_text`] writes exactly the lines of the rules (`IsListing`), each with the number of the
+//! first rule that shadows it, if there is one; no line tells a token ([`no_line_tells_a_token`]).
 //!
-//! [`Key::parse`] gives the bytes that a text spells, exactly where it is a key's (`specs/Keys`). [`mac_of`] is the MAC
-//! of a body under a key: HMAC-SHA-256, which `specs/Hmac` says as RFC 2104 over the definition of SHA-256 that `sha2`
-//! is proved of, in digits ([`macs_are_digits`]) that stand for nothing else ([`no_two_digests_have_one_spelling`]).
-//! [`is_mac_of`] says whether a text is this one, byte for byte, and [`is_mac_in`] whether it is that of one of the keys
+//! [`Key::parse`] gives the bytes that a text spells, exactly where it spells a key (`specs/Keys`). [`mac_of`] is the MAC
+//! of a body under a key: HMAC-SHA-256, which `specs/Hmac` defines as RFC 2104 does over the definition of SHA-256 that
+//! `sha2` is proved of, in digits ([`macs_are_digits`]) that spell nothing else ([`no_two_digests_have_one_spelling`]).
+//! [`is_mac_of`] tells whether a text is this MAC, byte for byte, and [`is_mac_in`] whether it is that of one of the keys
 //! of a [`Keyring`]. No call copies the body, and only [`rules_text`] takes memory.
 //!
-//! Tokens and MACs are compared over all their bytes, wherever the first that differs is, so that the time which this
-//! takes tells nobody how many were right. No contract says so: the loop of `are_same` has no way out.
+//! Tokens and MACs are compared over all their bytes, wherever the first that differs is: the time that this
+//! takes tells nobody how many were right. No contract promises this: the loop of `are_same` has no way out.
 #![tactic(auto)]
 
 mod deciding;

@@ -11,7 +11,7 @@ use oc_base::{Memory, put, put_number};
 use std::alloc::Global;
 
 /// The lines of these rules, in their order: the number of a rule from 1, whether it allows, the method,
-/// the prefix and the area of which it speaks, with `any` for what is absent, and ` token` where it has a token, which
+/// the prefix and the area that it speaks of, with `any` for an absent part, and ` token` where it has a token, which
 /// is not told; and after a rule that is shadowed the number of the first rule that shadows it.
 pub fn rules_text(alloc: Global, rules: &[Rule]) -> Result<Vec<u8>, Memory>
     requires few { length rules.now ≤ MOST_RULES }
@@ -37,7 +37,7 @@ fn put_line(out: &mut Vec<u8>, number: u32, rule: &Rule, by: Option<u32>) -> Res
     put(out, b"\n")
 }
 
-/// Puts what a rule says.
+/// Puts the text of a rule.
 fn put_rule(out: &mut Vec<u8>, rule: &Rule) -> Result<(), Memory>
     ensures { OnOk result (out.new.items ≡ out.old.items ++ rule_text rule.now) }
 {
@@ -65,7 +65,7 @@ fn allow_word(allow: bool) -> &'static str
     if allow { "allow" } else { "deny" }
 }
 
-/// The method of which a rule speaks.
+/// The method that a rule speaks of.
 fn method_word(action: Option<Action>) -> &'static str
     ensures { result.now ≡ method_text action }
 {
@@ -76,7 +76,7 @@ fn method_word(action: Option<Action>) -> &'static str
     }
 }
 
-/// Puts the area of which a rule speaks.
+/// Puts the area that a rule speaks of.
 fn put_area(out: &mut Vec<u8>, area: Option<u8>) -> Result<(), Memory>
     ensures { OnOk result (out.new.items ≡ out.old.items ++ area_text area) }
 {
@@ -86,7 +86,7 @@ fn put_area(out: &mut Vec<u8>, area: Option<u8>) -> Result<(), Memory>
     }
 }
 
-/// Puts what shadows a rule, if anything does.
+/// Puts the mark of a rule that another one shadows.
 fn put_shadow(out: &mut Vec<u8>, by: Option<u32>) -> Result<(), Memory>
     ensures { OnOk result (out.new.items ≡ out.old.items ++ shadow_text by) }
 {

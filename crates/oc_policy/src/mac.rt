@@ -8,7 +8,7 @@ use crate::key::Key;
 use crate::same::are_same;
 use std::marker::Model;
 
-/// How many digits a MAC has.
+/// The number of digits of a MAC.
 pub const MAC_DIGITS: usize = 64;
 
 /// A MAC as it is written in a head: 64 hexadecimal digits in lower case. Contracts see the digits.

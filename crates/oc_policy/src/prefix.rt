@@ -7,7 +7,7 @@ use oc_base::{GroupName, NameFault};
 use std::fmt;
 use std::marker::Model;
 
-/// Which groups a rule speaks of: `/` for all of them, or a group name for that group and for those
+/// The groups that a rule speaks of: `/` for all of them, or a group name for that group and for those
 /// whose names begin with it and a `/`. Contracts see it as its bytes.
 #[derive(Clone, Copy)]
 pub struct Prefix {
@@ -58,7 +58,7 @@ impl Prefix {
         }
     }
 
-    /// Whether this prefix speaks of a group, or, without one, of what is no group.
+    /// Whether this prefix speaks of a group, or, without one, of a request that names no group.
     pub(crate) fn speaks_of(&self, group: Option<&GroupName>) -> bool
         ensures { result ≡ speaks_of self.now (option_map (λ g. g.now) group.entry) }
     {

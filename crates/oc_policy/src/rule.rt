@@ -7,19 +7,19 @@ use crate::demand::Demand;
 use crate::prefix::Prefix;
 use oc_base::GroupName;
 
-/// What a request wants to do with a group. HEAD counts as `Get`.
+/// The action of a request on a group. HEAD counts as `Get`.
 #[derive(Clone, Copy, Debug, PartialEq, Eq)]
 pub enum Action {
-    /// To read it.
+    /// The request reads the group.
     Get,
-    /// To publish to it or to seal it.
+    /// The request publishes to the group or seals it.
     Post,
 }
 
-/// An access rule: whether what it speaks of is allowed.
+/// An access rule: whether the requests that it speaks of are allowed.
 #[derive(Clone, Copy, Debug)]
 pub struct Rule {
-    /// Whether what it matches is allowed.
+    /// Whether the requests that the rule matches are allowed.
     pub allow: bool,
     /// The action; none speaks of both.
     pub action: Option<Action>,
@@ -84,7 +84,7 @@ fn matches_area(part: Option<u8>, area: u8) -> bool
     }
 }
 
-/// Whether the first part speaks of each action of which the second does.
+/// Whether the first part speaks of each action that the second speaks of.
 fn covers_action(part: Option<Action>, other: Option<Action>) -> bool
     ensures { result ≡ part_covers same_action part other }
 {
@@ -94,7 +94,7 @@ fn covers_action(part: Option<Action>, other: Option<Action>) -> bool
     }
 }
 
-/// Whether the first part speaks of each area of which the second does.
+/// Whether the first part speaks of each area that the second speaks of.
 fn covers_area(part: Option<u8>, other: Option<u8>) -> bool
     ensures test { result ≡ part_covers nat_eq part other }
     ensures range { ForSome other (λ area. area < 256) }

@@ -1,6 +1,6 @@
 ghost use Rattle.std.specs.Prelude.{◌≡◌, ◌↔◌, IsTrue};
 
-/// Whether two texts are the same. Of two texts of one length all bytes are looked at, so the time that it takes does
+/// Whether two texts are the same. All bytes of two texts of one length are looked at, so the time that it takes does
 /// not tell where they differ.
 pub fn are_same(first: &[u8], second: &[u8]) -> bool
     ensures { IsTrue result ↔ (first.now ≡ second.now) }

@@ -4,7 +4,7 @@ ghost use Rattle.oc_policy.specs.Covering.{Shadows};
 use crate::deciding::MAX_RULES;
 use crate::rule::Rule;
 
-/// The number of the first rule before the one with this number that covers it: that matches all that
+/// The number of the first rule before the one with this number that covers it: that matches all requests which
 /// it matches. Rules are counted from 1. Takes no memory.
 pub fn shadow(rules: &[Rule], index: u32) -> Option<u32>
     requires few { length rules.now ≤ MAX_RULES }

@@ -10,12 +10,12 @@ use std::marker::Model;
 /// The greatest number of bytes of a token.
 pub const MAX_TOKEN_BYTES: usize = 200;
 
-/// What is before the token in the value of an Authorization field (RFC 6750, section 2.1).
+/// The bytes before the token in the value of an Authorization field (RFC 6750, section 2.1).
 const SCHEME: &[u8] = b"Bearer ";
 
 /// A token that a request has to show: 1 to 200 bytes from 33 to 126. Contracts see the bytes.
 ///
-/// Its `Debug` tells nothing of them, and it has no `Display` and no comparison.
+/// The `Debug` of a token tells nothing of the bytes, and a token has no `Display` and no comparison.
 #[derive(Clone, Copy)]
 pub struct Token {
     bytes: [u8; MAX_TOKEN_BYTES],
@@ -42,10 +42,10 @@ impl Model for Token {
     } };
 }
 
-/// Why bytes are no token.
+/// The fault of bytes that are no token.
 #[derive(Clone, Copy, Debug, PartialEq, Eq)]
 pub enum TokenFault {
-    /// There are none, or more than 200.
+    /// There are no bytes, or more than 200.
     Length,
     /// The byte at this place, counted from 0, may not occur in a token.
     Byte(usize),
@@ -63,8 +63,8 @@ impl Token {
     }
 
     /// Whether a request that has one Authorization field of this value shows the token: the value is `Bearer `, spelled
-    /// so, and the token. All bytes of a token of this length are looked at, so that the time does not tell where they
-    /// differ.
+    /// in this way, and the token. All bytes of a token of this length are looked at, so that the time does not tell where
+    /// they differ.
     pub(crate) fn is_in(&self, value: &[u8]) -> bool
         ensures { result ≡ is_shown (Some self.now) (Some value.now) }
     {
@@ -124,7 +124,7 @@ fn may_stand(byte: u8) -> bool
 impl fmt::Debug for Token {
     ghost use Rattle.std.specs.Prelude.{codes, Some};
 
-    // The same for each token.
+    // The output is the same for each token.
     ghost debug_output = { λ _. Some (codes "Token(..)") };
 
     fn fmt<W: fmt::Write>(&self, f: &mut fmt::Formatter<W>) -> fmt::Result {

@@ -1,87 +1,73 @@
 -- The peers of a node, one after another.
-use Rattle.std.proofs.Common.{◌≡◌, ℕ, ◌+◌, ◌<◌, ◌≤◌, zero, suc, Bool, true, false, Option, Some, None, List, [], ◌∷◌, ◌++◌, length, get_or, take, drop, refl, sym, ap, ◌∙◌, arith, if◌then◌else◌}
-use Rattle.std.specs.Prelude.{◌==◌, is_some}
-use Rattle.std.proofs.lemmas.List.{append-nil, append_assoc}
-use Rattle.std.specs.List.{slice_get}
-use Rattle.oc_probe.specs.Turns.{peers_from, turned, RotationView}
-
--- a list is split at a place
-record Split (xs : List ℕ) (k : ℕ) : Type 0 where
-  rest : drop k xs ≡ get_or xs k 0 ∷ drop (suc k) xs
-  front : take (suc k) xs ≡ take k xs ++ get_or xs k 0 ∷ []
-
-split : (xs : List ℕ) (k : ℕ) → k < length xs → Split xs k
-split [] k within = absurd (omega (arith, within))
-split (x ∷ xs) zero within = record { rest = refl; front = refl }
-split (x ∷ xs) (suc k) within =
-    let s = split xs k (omega (arith, within)) in
-    record { rest = s.rest; front = ap (λ (ys : List ℕ). x ∷ ys) s.front }
-
--- a list that begins at a place and goes round
-abbrev from_place : ℕ → List ℕ → List ℕ
-from_place k xs = drop k xs ++ take k xs
-
-from-first : (xs : List ℕ) (k : ℕ) → k < length xs → slice_get (from_place k xs) 0 ≡ Some (get_or xs k 0)
-from-first xs k within = let s = split xs k within in rw s.rest refl
-
-from-turned : (xs : List ℕ) (k : ℕ) → k < length xs → turned (from_place k xs) ≡ from_place (suc k) xs
-from-turned xs k within =
-    let s = split xs k within in
-    rw s.rest (append_assoc (drop (suc k) xs) (take k xs) (get_or xs k 0 ∷ []) ∙ ap (λ (front : List ℕ). drop (suc k) xs ++ front) (sym s.front))
-
--- past the end the rotation starts again
-from-end : (xs : List ℕ) (k : ℕ) → k ≡ length xs → from_place k xs ≡ from_place 0 xs
-from-end xs k is = rw (is, drop_whole xs, take_whole xs) (sym (append-nil xs))
-  where
-    drop_whole : (ys : List ℕ) → drop (length ys) ys ≡ []
-    drop_whole [] = refl
-    drop_whole (y ∷ ys) = drop_whole ys
-
-    take_whole : (ys : List ℕ) → take (length ys) ys ≡ ys
-    take_whole [] = refl
-    take_whole (y ∷ ys) = ap (λ (zs : List ℕ). y ∷ zs) (take_whole ys)
-
--- The view of a rotation
-
--- the view, by its parts
-abbrev view : List ℕ → ℕ → RotationView
-view peers given = record { coming = from_place given peers }
-
-pub record Turns (peers : List ℕ) (given : ℕ) (old : RotationView) : Type 0 where
-  pub peer : Some (get_or peers given 0) ≡ slice_get old.coming 0
-  pub on : view peers (given + 1) ≡ record old { coming = turned old.coming }
-  pub round : length peers ≤ given + 1 → view peers 0 ≡ record old { coming = turned old.coming }
-
-pub turns : (peers : List ℕ) (given : ℕ) (old : RotationView) → given < length peers → view peers given ≡ old → Turns peers given old
-turns peers given old within same =
-    let turn : turned (from_place given peers) ≡ from_place (suc given) peers = from-turned peers given within in
-    let told : record (view peers given) { coming = turned (from_place given peers) } ≡ record old { coming = turned old.coming } = ap (λ (v : RotationView). record v { coming = turned v.coming }) same in
-    record {
-      peer = sym (from-first peers given within) ∙ ap (λ (v : RotationView). slice_get v.coming 0) same;
-      on = ap (λ (coming : List ℕ). record (view peers given) { coming = coming }) (ap (λ (k : ℕ). from_place k peers) (omega arith) ∙ sym turn) ∙ told;
-      round = λ most. ap (λ (coming : List ℕ). record (view peers given) { coming = coming }) (sym (from-end peers (suc given) (omega (arith, within, most))) ∙ sym turn) ∙ told;
-    }
-
--- where there is none, none comes
-pub none_comes : (peers : List ℕ) (given : ℕ) (old : RotationView) → length peers ≡ 0 → view peers given ≡ old → old.coming ≡ []
-none_comes [] zero old none same = sym (ap (λ (v : RotationView). v.coming) same)
-none_comes [] (suc given) old none same = sym (ap (λ (v : RotationView). v.coming) same)
-none_comes (id ∷ peers) given old none same = absurd (omega (arith, none))
+use Rattle.std.proofs.Common.{◌≡◌, ℕ, ◌+◌, ◌<◌, ◌≤◌, zero, suc, Bool, true, false, Option, Some, None, List, [], ◌∷◌, ◌++◌, length, get_or, drop, refl, sym, ap, ◌∙◌, arith, if◌then◌else◌}
+use Rattle.std.specs.Prelude.{◌==◌, is_some, not}
+use Rattle.std.proofs.lemmas.List.{append_assoc}
+use Rattle.oc_probe.specs.Turns.{peers_from}
 
 -- The peers of a list of places
 
--- a place, and those after it
-pub peers_more : {A : Type 0} (me id : ℕ) (places : List (Option A)) (k : ℕ) (o : Option A) → k < length places → get_or places k o ≡ o
-    → peers_from me id (drop k places) ≡ (if is_some o then (if id == me then [] else id ∷ []) else []) ++ peers_from me (id + 1) (drop (k + 1) places)
-peers_more me id [] k o within is = absurd (omega (arith, within))
-peers_more me id (None ∷ places) zero None within is = refl
-peers_more me id (None ∷ places) zero (Some x) within is = cc
-peers_more me id (Some x ∷ places) zero None within is = cc
-peers_more me id (Some x ∷ places) zero (Some y) within is = by_test (id == me) where
-  by_test : (b : Bool) → (if b then peers_from me (id + 1) places else id ∷ peers_from me (id + 1) places) ≡ (if b then [] else id ∷ []) ++ peers_from me (id + 1) places
-  by_test true = refl
-  by_test false = refl
-peers_more me id (p ∷ places) (suc k) o within is = peers_more me id places k o (omega (arith, within)) is
+-- a place that holds something
+put_at : {A : Type 0} (me id : ℕ) (places : List (Option A)) (k : ℕ) (o : Option A) → k < length places → get_or places k o ≡ o → is_some o ≡ true → not (id == me) ≡ true
+    → peers_from me id (drop k places) ≡ id ∷ peers_from me (id + 1) (drop (suc k) places)
+put_at me id [] k o within at holds other = absurd (omega (arith, within))
+put_at me id (None ∷ places) zero None within at holds other = cc
+put_at me id (None ∷ places) zero (Some x) within at holds other = cc
+put_at me id (Some x ∷ places) zero o within at holds other = by_test (id == me) other
+  where
+    by_test : (own : Bool) → not own ≡ true → (if own then peers_from me (id + 1) places else id ∷ peers_from me (id + 1) places) ≡ id ∷ peers_from me (id + 1) places
+    by_test true is = cc
+    by_test false is = refl
+put_at me id (p ∷ places) (suc k) o within at holds other = put_at me id places k o (omega (arith, within)) at holds other
+
+-- one that holds nothing
+passed_at : {A : Type 0} (me id : ℕ) (places : List (Option A)) (k : ℕ) (o : Option A) → k < length places → get_or places k o ≡ o → is_some o ≡ false
+    → peers_from me id (drop k places) ≡ peers_from me (id + 1) (drop (suc k) places)
+passed_at me id [] k o within at empty = absurd (omega (arith, within))
+passed_at me id (None ∷ places) zero o within at empty = refl
+passed_at me id (Some x ∷ places) zero None within at empty = cc
+passed_at me id (Some x ∷ places) zero (Some y) within at empty = cc
+passed_at me id (p ∷ places) (suc k) o within at empty = passed_at me id places k o (omega (arith, within)) at empty
+
+-- that of the node itself
+own_at : {A : Type 0} (me id : ℕ) (places : List (Option A)) (k : ℕ) → k < length places → not (id == me) ≡ false
+    → peers_from me id (drop k places) ≡ peers_from me (id + 1) (drop (suc k) places)
+own_at me id [] k within own = absurd (omega (arith, within))
+own_at me id (None ∷ places) zero within own = refl
+own_at me id (Some x ∷ places) zero within own = by_test (id == me) own
+  where
+    by_test : (same : Bool) → not same ≡ false → (if same then peers_from me (id + 1) places else id ∷ peers_from me (id + 1) places) ≡ peers_from me (id + 1) places
+    by_test true is = refl
+    by_test false is = cc
+own_at me id (p ∷ places) (suc k) within own = own_at me id places k (omega (arith, within)) own
+
+-- the peers so far go on with it
+abbrev rest_from : {A : Type 0} → ℕ → List (Option A) → ℕ → List ℕ
+rest_from me places k = peers_from me (k + 1) (drop k places)
+
+pub put : {A : Type 0} (me k : ℕ) (places : List (Option A)) (o : Option A) (so_far all : List ℕ) → k < length places → get_or places k o ≡ o → is_some o ≡ true → not (k + 1 == me) ≡ true
+    → so_far ++ rest_from me places k ≡ all → so_far ++ ((k + 1) ∷ []) ++ rest_from me places (k + 1) ≡ all
+put me k places o so_far all within at holds other same =
+    let on : suc k ≡ k + 1 = omega arith in
+    append_assoc so_far ((k + 1) ∷ []) (rest_from me places (k + 1))
+    ∙ ap (λ (n : ℕ). so_far ++ ((k + 1) ∷ peers_from me (k + 1 + 1) (drop n places))) (sym on)
+    ∙ ap (λ (xs : List ℕ). so_far ++ xs) (sym (put_at me (k + 1) places k o within at holds other))
+    ∙ same
+
+passed : {A : Type 0} (me k : ℕ) (places : List (Option A)) (so_far all : List ℕ) → peers_from me (k + 1) (drop k places) ≡ peers_from me (k + 1 + 1) (drop (suc k) places)
+    → so_far ++ rest_from me places k ≡ all → so_far ++ rest_from me places (k + 1) ≡ all
+passed me k places so_far all is same =
+    let on : suc k ≡ k + 1 = omega arith in
+    ap (λ (n : ℕ). so_far ++ peers_from me (k + 1 + 1) (drop n places)) (sym on)
+    ∙ ap (λ (xs : List ℕ). so_far ++ xs) (sym is)
+    ∙ same
+
+pub pass_empty : {A : Type 0} (me k : ℕ) (places : List (Option A)) (o : Option A) (so_far all : List ℕ) → k < length places → get_or places k o ≡ o → is_some o ≡ false
+    → so_far ++ rest_from me places k ≡ all → so_far ++ rest_from me places (k + 1) ≡ all
+pass_empty me k places o so_far all within at empty same = passed me k places so_far all (passed_at me (k + 1) places k o within at empty) same
+
+pub pass_own : {A : Type 0} (me k : ℕ) (places : List (Option A)) (so_far all : List ℕ) → k < length places → not (k + 1 == me) ≡ false
+    → so_far ++ rest_from me places k ≡ all → so_far ++ rest_from me places (k + 1) ≡ all
+pass_own me k places so_far all within own same = passed me k places so_far all (own_at me (k + 1) places k within own) same
 
 -- after the last there is none
 pub peers_end : {A : Type 0} (me id : ℕ) (places : List (Option A)) (k : ℕ) → length places ≤ k → peers_from me id (drop k places) ≡ []

@@ -17,7 +17,7 @@ read_asked true (Some request) = refl
 read_asked false None = refl
 read_asked false (Some request) = refl
 
--- or memory ran out, and the line of that names none
+-- the line of an end names the same file, whether or not the words were read
 pub line_named : (given : Result Invocation WordsFault) (asked : Option Invocation) (end : End) (usage : List ℕ) → Answers asked given → (given ≡ Err Memory → end ≡ NoMemory)
     → line_of end (file_known given end) usage ≡ line_of end (file_told asked end) usage
 line_named given asked end usage (inl is) none = ap (λ file. line_of end file usage) (ap (file_in (lacks_token end)) is ∙ read_asked (lacks_token end) asked)

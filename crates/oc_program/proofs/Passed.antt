@@ -33,12 +33,12 @@ count_is : (a n b : ℕ) → a ≡ 0 → b ≤ 2 ^ 64 - 1 → Rises a n b → b 
 count_is a n b began fits (inl e) = omega (arith, began, fits, e)
 count_is a n b began fits (inr h) = omega (arith, began, fits, h.0, h.1)
 
--- and one that goes on from another, counted as far as a u64 goes
+-- a counter that goes on from another counts as far as a u64 goes
 count_goes_on : (a n b : ℕ) → b ≤ 2 ^ 64 - 1 → Rises a n b → b ≡ min (min a (2 ^ 64 - 1) + n) (2 ^ 64 - 1)
 count_goes_on a n b fits (inl e) = omega (arith, fits, e)
 count_goes_on a n b fits (inr h) = omega (arith, fits, h.0, h.1)
 
--- and where no count is a u64, told as far as one goes
+-- a counter that is no u64, told as far as a u64 goes
 counted_on : (a n b : ℕ) → Rises a n b → min b (2 ^ 64 - 1) ≡ min (min a (2 ^ 64 - 1) + n) (2 ^ 64 - 1)
 counted_on a n b (inl e) = omega (arith, e)
 counted_on a n b (inr h) = omega (arith, h.0, h.1)
@@ -51,7 +51,7 @@ count_begins : (a n b : ℕ) → a ≡ 0 → Rises a n b → min b (2 ^ 64 - 1) 
 count_begins a n b began (inl e) = omega (arith, began, e)
 count_begins a n b began (inr h) = omega (arith, began, h.0, h.1)
 
--- where a count rose a call failed
+-- a count that rose means that a call failed
 failed_since : (a b : ℕ) → Rose a b → 0 < b
 failed_since a b (inl more) = omega (arith, more)
 failed_since a b (inr last) = omega (arith, last)
@@ -68,7 +68,7 @@ passing scale gives ended old new limits.Lines h = (h.bytes, h.came, h.read)
 passing scale gives ended old new limits.Published h = (h.bytes, h.came, h.read)
 passing scale gives ended old new limits.Settles h = (h.bytes, h.came, h.read)
 
--- ---- from bytes in memory
+-- From bytes in memory
 
 module _ {R : Type 0} (old new : ReaderSource R) (left : R → List ℕ) (began : old.passed ≡ 0) (bytes : List ℕ) (bytes_are : left old.reader ≡ bytes) (few : length bytes ≤ 2 ^ 64 - 1)
     (read : ℕ) (read_is : read ≡ new.passed) (fits : read ≤ 2 ^ 64 - 1) where
@@ -91,7 +91,7 @@ module _ {R : Type 0} (old new : ReaderSource R) (left : R → List ℕ) (began 
       let count = count_is old.passed (length front) read began fits (subst (λ n. Rises old.passed (length front) n) (sym read_is) p.counts) in
       (omega (arith, sum, few, count), omega (arith, sum))
 
-  -- where nothing is left, all came
+  -- all bytes came where nothing is left
   is_whole : (front : List ℕ) → readers.Passed left_of old front new → ended new → bytes ≡ front
   is_whole front p end = sym bytes_are ∙ (p.known ∙ (ap (λ rest. front ++ rest) end.known ∙ append-nil front))
 
@@ -113,7 +113,7 @@ module _ {R : Type 0} (old new : ReaderSource R) (left : R → List ℕ) (began 
   came_it : (front : List ℕ) → readers.Passed left_of old front new → read ≤ length bytes
   came_it front p = let counted = is_counted front p in omega (arith, counted.0, counted.1)
 
-  -- and is a front of it
+  -- the bytes that came are a front of the input
   front_it : (front : List ℕ) → readers.Passed left_of old front new → IsFrontRead bytes read front
   front_it front p = ((left new.reader, sym bytes_are ∙ p.known), (is_counted front p).0)
 
@@ -130,7 +130,7 @@ module _ {R : Type 0} (old new : ReaderSource R) (left : R → List ℕ) (began 
     unread = λ same. read_is ∙ (ap (λ s. s.passed) same ∙ began);
   }
 
--- ---- into memory
+-- Into memory
 
 module _ {W : Type 0} (old new : WriterSink W) (held : W → List ℕ) (began : held old.writer ≡ []) (output : List ℕ) (output_is : output ≡ held new.writer) where
   abbrev held_by : W → Option (List ℕ)
@@ -167,12 +167,12 @@ module _ {W : Type 0} (old mid new : WriterSink W) (held : W → List ℕ) (bega
     silent = λ same. ap (λ s. held s.writer) same ∙ began;
   }
 
-  -- and the line after it
+  -- the line after the progress lines
   pub line_told : (line : List ℕ) → IsWrittenOrCut (writers.Went told_by) (writers.WentAndFailed told_by) (λ s. s.faults) mid new line → IsLineOrFront output (held mid.writer) line
   line_told line (inl h) = inl (output_is ∙ h.passed.known)
   line_told line (inr h) = inr (h.0.0, output_is ∙ h.0.1.passed.known)
 
--- ---- at streams
+-- Over streams
 
 module _ {R : Type 0} (old new : ReaderSource R) (remaining : R → Option (List ℕ)) (began : old.passed ≡ 0) (sound : old.faults ≡ 0)
     (traffic : Traffic) (bytes_are : traffic.bytes ≡ new.passed) (faults_are : traffic.faults ≡ new.faults) (fits : traffic.bytes ≤ 2 ^ 64 - 1) where
@@ -253,7 +253,7 @@ module _ {W : Type 0} (old mid new : WriterSink W) (contents : W → Option (Lis
   was_behind : (text : List ℕ) → writers.Passed contents mid text new → IsCountBehind told_traffic traffic text
   was_behind text p = count_goes_on mid.passed (length text) traffic.bytes fits (subst (λ n. Rises mid.passed (length text) n) (sym bytes_are) p.counts)
 
-  -- and of the line after it
+  -- the traffic of the line after the progress lines
   pub count_told : (line : List ℕ) → IsWrittenOrCut (writers.Went contents) (writers.WentAndFailed contents) (λ s. s.faults) mid new line → IsCountOfLineOrFront told_traffic traffic line
   count_told line (inl h) = inl (was_behind line h.passed)
   count_told line (inr h) = inr ((h.0.0, was_behind _ h.0.1.passed), subst (λ n. 0 < n) (sym faults_are) (failed_since mid.faults new.faults h.1))

@@ -9,7 +9,7 @@ use Rattle.oc_words.specs.declared.words.WordsFault.TheVariants.{Usage, Memory}
 use Rattle.oc_program.specs.Places.{AreAsked, AreNamed}
 use Rattle.oc_program.specs.declared.places.Places.{Places}
 
--- a request was read
+-- the places for a request that was read
 read_so : (asked : Option Invocation) (request : Invocation) (p : Places) → ok_or asked Usage ≡ Ok request → AreNamed (node_of request) (file_of request) (token_file_of request) (folder_of request) p → AreAsked asked p
 read_so None request p is named = cc
 read_so (Some other) request p is named =
@@ -21,7 +21,7 @@ pub asked_by_request : (asked : Option Invocation) (given : Result Invocation Wo
 asked_by_request asked given request p (inl answer) is named = read_so asked request p (cc) named
 asked_by_request asked given request p (inr memory) is named = cc
 
--- the words ask for nothing
+-- the places for words that ask for nothing
 none_so : (asked : Option Invocation) (p : Places) → ok_or asked Usage ≡ Err Usage → AreNamed None None None None p → AreAsked asked p
 none_so None p is named = named
 none_so (Some other) p is named = cc

@@ -23,7 +23,7 @@ use Rattle.oc_words.specs.declared.request.Invocation.{Invocation}
 
 module _ {T D L N P : Type 0} (world : T → World) (view : D → DiskView) (dials : L → Option Story) (dial_faults : L → ℕ)
     (calls : N → Option (List Call)) (counts : N → LinkCounts) where
-  -- the knowledge of streams with this traffic, on the error output `told` before the last line,
+  -- the knowledge of streams with this traffic, where the error output had `told` before the last line,
   -- and of objects from their first to their last value
   abbrev pub seen_over : Option Invocation → Started → Traffic → Things T D L N P → Things T D L N P → sayings.Outside
   seen_over asked ran told first last = record {

@@ -8,13 +8,13 @@ use Rattle.oc_schedule.specs.declared.fault.ScheduleFault.TheVariants.{Limit}
 use Rattle.oc_commands.specs.Outside.{Input, OnError, Output}
 use Rattle.oc_commands.specs.Telling.{IsToldOf}
 
--- ---- in memory
+-- In memory
 
 -- the bytes that were read, which are the first ones of the input
 abbrev pub IsFrontRead : List ℕ → ℕ → List ℕ → Type 0
 IsFrontRead bytes read front = ((rest : List ℕ) × (bytes ≡ front ++ rest)) × (read ≡ length front)
 
--- this number of bytes of the input were read
+-- an input of which this number of bytes was read
 abbrev pub at_bytes : List ℕ → ℕ → Input
 at_bytes bytes read = record {
   says = λ scale says. (schedule_of scale bytes ≡ says) × (read ≡ length bytes);
@@ -28,40 +28,40 @@ at_bytes bytes read = record {
   unread = read ≡ 0;
 }
 
--- the output is this text
+-- an output that is this text
 abbrev pub at_text : List ℕ → Output
 at_text output = record { written = λ text. output ≡ text; cut_off = λ text. output ≡ text }
 
--- the text grew by these bytes
+-- a text that grew by these bytes
 abbrev pub Grew : List ℕ → List ℕ → List ℕ → Type 0
 Grew old bytes new = new ≡ old ++ bytes
 
--- the error output has the progress lines and after them this line, or a prefix of it
+-- an error output with the progress lines and this line after them, or a prefix of this line
 abbrev pub IsLineOrFront : List ℕ → List ℕ → List ℕ → Type 0
 IsLineOrFront output told line = (output ≡ told ++ line) ⊎ SomeFront line (λ front. output ≡ told ++ front)
 
--- this was written on the error output as progress
+-- an error output on which these bytes were written as progress
 abbrev pub at_lines : List ℕ → OnError
 at_lines told = record {
   told = λ whole bytes. IsToldOf (λ text. IsLineOrFront told [] text) whole bytes;
   silent = told ≡ [];
 }
 
--- ---- at streams
+-- Over streams
 
--- as many bytes passed as these are, where a u64 has their number
+-- traffic of the number of these bytes, as far as a u64 goes
 abbrev pub IsCountOf : Traffic → List ℕ → Type 0
 IsCountOf traffic bytes = traffic.bytes ≡ min (length bytes) (2 ^ 64 - 1)
 
--- a call failed
+-- traffic with a failed call
 abbrev pub HasFailed : Traffic → Type 0
 HasFailed traffic = 0 < traffic.faults
 
--- the same, and no call failed
+-- traffic of the number of these bytes, without a failed call
 abbrev pub IsSoundCountOf : Traffic → List ℕ → Type 0
 IsSoundCountOf traffic bytes = IsCountOf traffic bytes × (traffic.faults ≡ 0)
 
--- as many bytes were read as some text has that says this, and no call failed; or one did
+-- an input of which the number of bytes read is that of a text with this meaning, and no call failed; or one failed
 abbrev pub at_input : Traffic → Input
 at_input traffic = record {
   says = λ scale says. (bytes : List ℕ) × IsSoundCountOf traffic bytes × (schedule_of scale bytes ≡ says);
@@ -75,27 +75,27 @@ at_input traffic = record {
   unread = (traffic.bytes ≡ 0) × (traffic.faults ≡ 0);
 }
 
--- as many bytes were written as this text has, and no call failed; or they were, and then one did
+-- an output whose number of bytes is that of this text, and no call failed; or where one failed after them
 abbrev pub at_output : Traffic → Output
 at_output traffic = record {
   written = λ text. IsSoundCountOf traffic text;
   cut_off = λ text. IsCountOf traffic text × HasFailed traffic;
 }
 
--- as many bytes more were written as these are
+-- traffic that grew by the number of these bytes
 abbrev pub IsCountBehind : Traffic → Traffic → List ℕ → Type 0
 IsCountBehind before traffic bytes = traffic.bytes ≡ min (before.bytes + length bytes) (2 ^ 64 - 1)
 
--- these bytes passed, and no call failed
+-- traffic that grew by these bytes, without a failed call
 abbrev pub WentOn : Traffic → List ℕ → Traffic → Type 0
 WentOn before bytes traffic = IsCountBehind before traffic bytes × (traffic.faults ≡ before.faults)
 
--- these bytes passed, and then a call failed
+-- traffic that grew by these bytes, before a call failed
 abbrev pub WentOnAndFailed : Traffic → List ℕ → Traffic → Type 0
 WentOnAndFailed before bytes traffic = IsCountBehind before traffic bytes × HasFailed traffic
 
--- the number of bytes written grew by the length of the line; or by that of a prefix of it, and
--- then a call failed
+-- traffic that grew by the length of this line; or by that of a prefix of the line,
+-- before a call failed
 abbrev pub IsCountOfLineOrFront : Traffic → Traffic → List ℕ → Type 0
 IsCountOfLineOrFront before traffic line = IsCountBehind before traffic line ⊎ (SomeFront line (λ front. IsCountBehind before traffic front) × HasFailed traffic)
 
@@ -103,7 +103,7 @@ IsCountOfLineOrFront before traffic line = IsCountBehind before traffic line ⊎
 abbrev pub no_traffic : Traffic
 no_traffic = record { bytes = 0; faults = 0 }
 
--- this amount was written on the error output as progress
+-- an error output on which this traffic was written as progress
 abbrev pub at_told : Traffic → OnError
 at_told told = record {
   told = λ whole bytes. IsToldOf (λ text. IsCountOfLineOrFront no_traffic told text) whole bytes;

@@ -100,7 +100,7 @@ impl Places {
     }
 }
 
-/// This folder, or the present one if there is none.
+/// The folder, or the present one if there is none.
 fn or_present(folder: Option<&str>) -> &str
     ensures { result.now ≡ unwrap_or (option_map (λ name. name.now) folder.entry) (codes ".") }
 {

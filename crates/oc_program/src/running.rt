@@ -54,8 +54,8 @@ pub fn run<S: Source, K: Sink, E: Sink, T: Stage, D: Disk, L: Dialler, N: Link, 
         × Happened (seen S.gives S.fails S.ended S.faults K.takes K.fails K.faults E.takes E.fails E.faults T.world D.view L.story L.faults N.story N.counts
         (asked (texts_of words.now)) outside told result.outside) end }
 
-    // If nothing fails that the command names in its status, the status is determined by the
-    // meaning of the input, and by the files or the link. Or memory runs out.
+    // The status is determined by the meaning of the input, and by the files or the link, if nothing
+    // fails that the command names in its status. Or memory runs out.
     ensures status_for { StatusFor S.gives S.ended S.faults K.faults D.view L.story L.faults N.counts outside result.outside
         (asked (texts_of words.now)) result.status }
 

@@ -18,12 +18,12 @@ use Rattle.oc_schedule.specs.Script.{Script, published_in, settles_in}
 use Rattle.oc_replay.specs.Ends.{IfLimit, end_of_schedule}
 use Rattle.oc_replay.specs.Replay.{IsInput, PassesLimit}
 
--- it is no refusal for the limit on bytes
+-- a result other than a refusal for the limit on bytes
 abbrev IsOther : {A : Type 0} → Result A ScheduleFault → Type 0
 IsOther (Err (Limit Bytes)) = ⊥
 IsOther read = Unit {0}
 
--- nor are two steps, where neither is
+-- two steps in a row give no such refusal, where neither does
 IsOther-bind : {A B : Type 0} (r : Result A ScheduleFault) (f : A → Result B ScheduleFault) → IsOther r → ((x : A) → IsOther (f x)) → IsOther (r >>= f)
 IsOther-bind (Ok x) f first next = next x
 IsOther-bind (Err (Limit Bytes)) f first next = first
@@ -60,7 +60,7 @@ IsOther-lines scale i (Some s) [] = tt
 IsOther-lines scale i so_far (line ∷ rest) =
     IsOther-bind (read_line scale i so_far line) (λ next. read_lines scale (i + 1) next rest) (IsOther-line scale i so_far line) (λ next. IsOther-lines scale (i + 1) next rest)
 
--- so a text that is refused for it is too long
+-- a text that is refused for the limit on bytes is too long
 too_long : (scale : Scale) (bytes : List ℕ) → schedule_of scale bytes ≡ Err (Limit Bytes) → most_of scale Bytes < length bytes
 too_long scale bytes =
     cond_both (nat_lt (most_of scale Bytes) (length bytes)) (Err (Limit Bytes)) (read_lines scale 1 None (lines bytes)) (λ (read : Result Script ScheduleFault). read ≡ Err (Limit Bytes) → most_of scale Bytes < length bytes)

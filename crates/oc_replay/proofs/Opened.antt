@@ -21,7 +21,7 @@ new_within : (h : Header) (xs : List ℕ) → AllByRecursion (λ p. AreWithinLim
 new_within h [] = tt
 new_within h (x ∷ xs) = ((tt, omega arith, tt), new_within h xs)
 
--- nor has any clock run
+-- no clock of a new world has run
 no_clock : (h : Header) → AreBefore MAX_TIME (new_world h)
 no_clock h x =
     let new = process_in-new h (range_with_len 1 h.nodes) x in
@@ -31,7 +31,7 @@ no_clock h x =
 pub opened-nodes : (h : Header) (w : World) → w ≡ new_world h → length (ids w) ≡ h.nodes
 opened-nodes h w opened = ap (λ (v : World). length (ids v)) opened ∙ ap length (ids-always h []) ∙ length-range_with_len 1 h.nodes
 
--- and the events of the schedule can begin with it
+-- the events of the schedule can begin with that world
 pub opened-opening : (s : Script) (h : Header) (w : World) (es : List Event) → h ≡ s.header → es ≡ s.events → w ≡ new_world h → IsSchedule Large s → IsOpening w es
 opened-opening s h w es header events opened schedule =
     let count : length (ids w) ≡ h.nodes = opened-nodes h w opened in

@@ -74,7 +74,7 @@ early_enough w events.Heal i few before = λ x up. omega (arith, few, before x)
 early_enough w e i few before = tt
 
 module _ (opened : World) (es : List Event) (opening : IsOpening opened es) where
-  -- it begins
+  -- the run is at its beginning
   pub begins : IsOnTheWay opened opened es 0
   begins = record {
     played = refl;
@@ -91,7 +91,7 @@ module _ (opened : World) (es : List Event) (opening : IsOpening opened es) wher
     time = early_enough w e i (omega (arith, within, opening.few)) way.clocks;
   }
 
-  -- and it goes on
+  -- the run is on the way after the next event
   pub goes_on : (w new : World) (e : Event) (i : ℕ) → i < length es → e ≡ get_or es i e → new ≡ next_world w e → IsOnTheWay opened w es i → IsOnTheWay opened new es (i + 1)
   goes_on w new e i within read next way =
       let both = All-drop (IsEvent (length (ids w))) es i e within read way.lawful in

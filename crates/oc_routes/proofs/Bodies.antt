@@ -1,5 +1,5 @@
--- What the body of a request gives, of each route: the one fact on which the laws rest of MACs, of failures and of plain
--- lines. A route without an input, or whose input may have any body, has it by computing.
+-- The input that the body of a request gives, of each route: the one fact that the laws of MACs, of failures and of plain lines rest on.
+-- A route without an input, or whose input may have any body, has it by computing.
 use Rattle.std.proofs.Common.{◌≡◌, ℕ, Bool, true, false, Option, Some, None, Result, Ok, Err, List, length, refl, if◌then◌else◌}
 use Rattle.std.specs.Prelude.{◌==◌}
 use Rattle.oc_model.specs.declared.input.Input.{Input}
@@ -22,7 +22,7 @@ IsOfRequest (inputs.Seal group) = Unit {0}
 IsOfRequest (inputs.Client area start group) = Unit {0}
 IsOfRequest input = ⊥
 
--- such an input, or none; it is refused as no message only where a message is asked, and else only since there is a body
+-- an input of this kind, or none; a body is refused as no message only where a message is asked, and else only since there is a body
 abbrev pub IsOfBody : Operation → Result (Option Input) Refused → Type 0
 IsOfBody operation (Ok None) = Unit {0}
 IsOfBody operation (Ok (Some input)) = IsOfRequest input

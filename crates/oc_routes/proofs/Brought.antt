@@ -8,7 +8,7 @@ use Rattle.oc_routes.specs.Message.{message_response}
 use Rattle.oc_routes.specs.Responses.{typed, whole}
 use Rattle.oc_routes.specs.declared.response.Response.{Response}
 
--- the message is spelled, and what it is spelled as has its MAC
+-- the message is spelled, and its spelling has its MAC
 pub brought : {M : Type 0} (r : Result Response M) (message : Message) (back : Option Message) (key : Option (List ℕ)) (body lent : List ℕ) (mac : Option (List ℕ)) (reply : Reply)
     → back ≡ Some message → body ≡ spelling message → lent ≡ body → mac ≡ mac_for key lent → reply ≡ record (typed body) { mac = mac }
     → IfOk r (λ (x : Response). x ≡ whole reply) → IfOk r (λ (x : Response). x ≡ message_response key back)

@@ -1,4 +1,4 @@
--- Chunks of a content, and of what follows whole chunks.
+-- Chunks of a content, and of the bytes after whole chunks.
 use Rattle.std.proofs.Common.{◌≡◌, ◌≤◌, ◌<◌, ℕ, zero, suc, ◌+◌, ◌*◌, List, [], ◌∷◌, ◌++◌, length, take, drop, inl, inr, refl, sym, ap, ◌∙◌, arith, length-append, length-drop}
 use Rattle.std.proofs.lemmas.List.{append_assoc, take-append-le, drop-append-le}
 use Rattle.std.proofs.lemmas.Bool.{eq-eqb, ne_eqb}
@@ -37,7 +37,7 @@ pub no_chunks : chunks [] ≡ []
 unfolding chunks_written
 no_chunks = refl
 
--- whole chunks, and what follows them
+-- whole chunks, and the bytes after them
 pub chunks_append : (k : ℕ) (front rest : List ℕ) → length front ≡ k * 4096 → chunks (front ++ rest) ≡ chunks front ++ chunks rest
 chunks_append zero [] rest long = ap (λ (x : List ℕ). x ++ chunks rest) (sym no_chunks)
 chunks_append zero (b ∷ front) rest long = absurd (omega arith)

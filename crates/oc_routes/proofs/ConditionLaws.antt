@@ -1,4 +1,4 @@
--- What a condition says of the bytes of its group.
+-- The statements of a condition about the bytes of its group.
 use Rattle.std.proofs.Common.{◌≡◌, ℕ, ◌==◌, Bool, true, false, Some, None, List, length, refl, sym, ap, ◌∙◌, if◌then◌else◌}
 use Rattle.std.proofs.lemmas.Bool.{eqb-true, eqb-false}
 use Rattle.oc_base.specs.Groups.{bytes_of, shelf}
@@ -25,7 +25,7 @@ unmet_length held at other false is some =
 pub met_is : (group : List ℕ) (at : ℕ) (groups : List Group) → unmet_at 1 group (Some at) (shelf groups) ≡ None → length (bytes_of group groups) ≡ at
 met_is group at groups none = sym (held_is group groups) ∙ met_by (holding group (shelf groups)).held at ((holding group (shelf groups)).held == at) refl none
 
--- and where it is not, the refusal says it
+-- the refusal gives the length where a condition is not met
 pub unmet_is : (group : List ℕ) (at other : ℕ) (groups : List Group) → unmet_at 1 group (Some at) (shelf groups) ≡ Some (refusing (At other))
     → (length (bytes_of group groups) ≡ other) × (other ≡ at → ⊥)
 unmet_is group at other groups some =

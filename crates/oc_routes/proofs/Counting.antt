@@ -1,4 +1,4 @@
--- What is counted of rows.
+-- Counts of rows.
 use Rattle.std.proofs.Common.{◌≡◌, ℕ, suc, ◌-◌, Bool, true, false, List, [], ◌∷◌, length, refl, ap, ◌∙◌, map, filter}
 use Rattle.std.proofs.lemmas.List.{length-map}
 use Rattle.oc_base.specs.declared.cert.Cert.{Cert}
@@ -24,7 +24,7 @@ passing_count p q (k ∷ ks) = by_test (passing_count p q ks) (q k) refl where
   by_test rest true e = rw e (ap (λ (n : ℕ). suc n) rest)
   by_test rest false e = rw e rest
 
--- these numbers of the rows of a node's table are what is counted of it
+-- the counts of a node are these numbers of the rows of its table
 pub counted_is : (n : Control) (rows : List Row) (listed many children clients waiting : ℕ)
     → rows ≡ rows_of n.kept.table n.me → listed ≡ length (filter (λ (row : Row). row.listed) rows) → many ≡ length rows
     → children ≡ length (filter (λ (row : Row). is_lease_of n.me row.cert) rows) → clients ≡ n.kept.clients → waiting ≡ n.kept.log.length - n.kept.log.acked

@@ -36,7 +36,7 @@ one_verdict t a bytes v w x y =
 front_more : (left bytes rest more : List ℕ) → left ≡ bytes ++ rest → left ++ more ≡ bytes ++ (rest ++ more)
 front_more left bytes rest more e = ap (λ (x : List ℕ). x ++ more) e ∙ append_assoc bytes rest more
 
--- what was decided before the end stays decided with more bytes
+-- an answer that was decided before the end stays decided with more bytes
 answers_more : (left rest more : List ℕ) (answer : Result Head HttpFault) → AnswersRequest left rest answer → IsDecided answer → (answer ≡ Err Ended → ⊥) → AnswersRequest (left ++ more) (rest ++ more) answer
 answers_more left rest more (Ok head) h own stays = (h.0, front_more left (h.0) rest more (h.1), h.2)
 answers_more left rest more (Err Source) h own stays = absurd own
@@ -92,7 +92,7 @@ routed_more : (t : NodeTerms) (c number : ℕ) (permitted : Bool) (coming : Comi
 routed_more t c number permitted coming came head rest more (Ok said) v is decided = body_more t c number permitted coming came head rest more said v is decided
 routed_more t c number permitted coming came head rest more (Err why) v is decided = is
 
--- what was taken of the bytes is what is taken of them with more
+-- the bytes that were taken are those that are taken with more bytes
 taken_more : (left rest more : List ℕ) (answer : Result Head HttpFault) → AnswersRequest left rest answer → taken left rest ≡ taken (left ++ more) (rest ++ more)
 taken_more left rest more (Ok head) h = taken_front left (h.0) rest more (h.1)
 taken_more left rest more (Err fault) h = taken_front left (h.0) rest more (h.1)
@@ -121,7 +121,7 @@ not_ended : (t : NodeTerms) (c number : ℕ) (permitted : Bool) (bytes rest : Li
 not_ended t c number permitted bytes rest answer v is decided ended =
     decided (is ∙ ap (λ (x : Result Head HttpFault). verdict_for t (arrival c number permitted comings.Open) bytes rest x) ended)
 
--- what is said of bytes after which more may come, and is not to wait, is said with more bytes too
+-- a verdict on bytes after which more may come, and which is not to wait, is the verdict with more bytes too
 pub verdict_stays : (t : NodeTerms) (c number : ℕ) (permitted : Bool) (coming : Coming) (bytes more : List ℕ) (v : Verdict)
     → IsVerdict t (arrival c number permitted comings.Open) bytes v → (v ≡ Wait → ⊥) → IsVerdict t (arrival c number permitted coming) (bytes ++ more) v
 verdict_stays t c number permitted coming bytes more v x decided = record {

@@ -1,4 +1,4 @@
--- What a node holds of a group, by its shelf and by its bytes.
+-- A node's holding of a group, by its shelf and by its bytes.
 use Rattle.std.proofs.Common.{◌≡◌, ℕ, Bool, true, false, Some, List, [], ◌∷◌, length, cond, refl, sym, ap, subst, ◌∙◌, if◌then◌else◌}
 use Rattle.std.specs.Prelude.{find}
 use Rattle.std.specs.Str.{bytes_eq}
@@ -24,7 +24,7 @@ either_side a b = by_tests (same_name a b) refl (same_name b a) refl
         let same : same_name a b ≡ true = subst (λ (c : List ℕ). same_name c b ≡ true) (names_equal b a q) (same_name-itself b) in
         sym p ∙ same
 
--- as many bytes are held as there are
+-- the count of bytes held is that of the bytes there
 pub held_is : (g : List ℕ) (ks : List Group) → (holding g (shelf ks)).held ≡ length (bytes_of g ks)
 held_is g [] = refl
 held_is g (k ∷ ks) = by_test (held_is g ks) (same_name g k.name) refl

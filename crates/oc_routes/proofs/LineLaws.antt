@@ -23,7 +23,7 @@ use Rattle.oc_routes.specs.declared.refused.Refused.{Refused}
 use Rattle.oc_routes.specs.declared.refused.Refused.TheVariants.{Source, Ended, Head, HeadLong, Fields, Host, Coding, Length, BodyLong, Method, Path, Query, Denied, Mac, Message, Body, At}
 use Rattle.oc_routes.proofs.PlainNames.{name_is_plain}
 
--- a part of a line: so many bytes at most, and all of them shown
+-- a part of a line: at most this number of bytes, and all of them shown
 record IsPart (most : ℕ) (text : List ℕ) : Type 0 where
   short : length text ≤ most
   shown : list_all is_shown text ≡ true
@@ -161,7 +161,7 @@ url_shown source group query last tellable is = by_test (length source == 0)
         let url = together 309 200 (codes ", http://" ++ source) group host (named group is) in
         together 509 10 (codes ", http://" ++ source ++ group) query url last
 
--- what begins so and ends with it
+-- a text with this beginning and this end
 at_source : (front query source group : List ℕ) → nat_le 1 (length front) ≡ true → IsPart 100 front → IsPart 10 query → IsTellable source → IsGroupName group
     → IsPlainLine (front ++ source_url source group query ++ 10 ∷ [])
 at_source front query source group long first last tellable is =

@@ -42,7 +42,7 @@ authentic_mac ring mac body is = by_test (is_authentic (Some ring) mac body) ref
     by_test true same e = believed ring mac body same
     by_test false same e = cc
 
--- a request that is answered asks what was asked
+-- a request that is answered asks for the operation that was asked
 answered_asks : (head : Head) (q r : Request) (input : Result (Option Input) Refused) → Ask q ≡ answered head r input → q.asked.operation ≡ r.asked.operation
 answered_asks head q r (Ok input) e = let same : q ≡ record r { input = input_for r.asked.hint input } = cc in ap (λ (x : Request). x.asked.operation) same
 answered_asks head q r (Err why) e = cc
@@ -108,7 +108,7 @@ have_mac t a ring bytes q has asks_message x = by_answer x.answer x.answers x.ve
 
 -- A body is refused as no message only where it came with its MAC
 
--- why a verdict refuses a request, if it does
+-- the cause of a verdict that refuses
 abbrev why_of : Verdict → Option Refused
 why_of (Refuse refusal) = Some refusal.why
 why_of v = None

@@ -14,7 +14,7 @@ marked_none [] xs h = refl
 marked_none (None ∷ rows) xs h = marked_none rows xs h
 marked_none (Some k ∷ rows) xs h = absurd (cc h)
 
--- with a row put at the end, what the rest gives is still the whole
+-- the whole is unchanged with a row put at the end, and the rest after it
 pub marked_go_on : (rows : List (Option Cert)) (i : ℕ) (row : Option Cert) (xs ys : List ℕ) (listed : Bool) (before after whole : List Row) → i < length rows → row ≡ get_or rows i row → listed ≡ is_first row xs → ys ≡ after_row listed xs → after ≡ before ++ row_of row listed → before ++ marked (drop i rows) xs ≡ whole → after ++ marked (drop (i + 1) rows) ys ≡ whole
 marked_go_on rows i row xs ys listed before after whole within e first rest put so =
     let here : marked (drop i rows) xs ≡ row_of row listed ++ marked (drop (i + 1) rows) ys = ap (λ (rs : List (Option Cert)). marked rs xs) (rows_at rows i row within e) ∙ rw (rest, first) refl in
@@ -42,7 +42,7 @@ marked_from p nodes x (Some k ∷ rows) fit = by_test (marked_from p nodes (x + 
       let later : is_first (Some k) (filter p (subjects (entries_of rows))) ≡ false = first_is_later p nodes (x + 1) rows k fit.2 (omega (arith, fit.0)) in
       rw (e, later) (ap (λ (rs : List Row). record { cert = k; listed = false } ∷ rs) rest)
 
--- so what is made of a table's rows and of the nodes that it lists are its rows, marked
+-- the rows made of a table's rows and of the nodes that it lists are its rows, marked
 pub rows_found : (t : List Cert) (r : ℕ) (rows : List (Option Cert)) (xs : List ℕ) (made : List Row) → AreRows rows → entries_of rows ≡ t → xs ≡ listed_in t r → made ≡ marked rows xs → made ≡ rows_of t r
 rows_found t r rows xs made fit same nodes e =
     let found : marked rows (filter (is_listed t r) (subjects (entries_of rows))) ≡ map (λ (k : Cert). record { cert = k; listed = is_listed t r k.subject }) (entries_of rows) = marked_from (is_listed t r) (length rows) 1 rows fit in

@@ -1,4 +1,4 @@
--- What is given of a content piece by piece, and what is owed.
+-- The pieces of a content, and the text that is owed.
 use Rattle.std.proofs.Common.{◌≡◌, ◌⊎◌, ◌≤◌, ◌<◌, ℕ, zero, suc, min, ◌+◌, ◌-◌, ◌*◌, false, true, Bool, List, [], ◌∷◌, ◌++◌, length, take, drop, inl, inr, refl, sym, ap, subst, ◌∙◌, arith, length-append, length-drop, length-take}
 use Rattle.std.proofs.lemmas.List.{append_assoc, append-nil, take-append-le, drop-append-le}
 use Rattle.std.proofs.lemmas.Bool.{cases_lt, false≢true}
@@ -48,12 +48,12 @@ part_length g at w ks fits = omega (arith, length-take w (drop at (bytes_of g ks
 
 -- Whole replies
 
--- the last piece, with what ends the reply
+-- the last piece, with the end of the reply
 last_piece : (chunked : Bool) (bytes piece : List ℕ) → bytes ≡ piece → coded chunked bytes ≡ (pieces chunked piece ++ ending chunked true) ++ []
 last_piece true bytes piece is = ap (λ (x : List ℕ). coded true x) is ∙ sym (append-nil (chunks piece ++ end_written))
 last_piece false bytes piece is = is ∙ sym (append-nil piece) ∙ sym (append-nil (piece ++ []))
 
--- a piece of whole chunks, and what is after it
+-- a piece of whole chunks, and the text after it
 next_piece : (chunked : Bool) (bytes piece rest : List ℕ) → bytes ≡ piece ++ rest → length piece ≡ 64 * 4096 → coded chunked bytes ≡ (pieces chunked piece ++ ending chunked false) ++ coded chunked rest
 next_piece true bytes piece rest is long =
     ap (λ (x : List ℕ). chunks x ++ end_written) is
@@ -62,7 +62,7 @@ next_piece true bytes piece rest is long =
     ∙ ap (λ (x : List ℕ). x ++ (chunks rest ++ end_written)) (sym (append-nil (chunks piece)))
 next_piece false bytes piece rest is long = is ∙ ap (λ (x : List ℕ). x ++ rest) (sym (append-nil piece))
 
--- what is owed is the text of the next piece and what is owed after it
+-- the text that is owed is that of the next piece and the text that is owed after it
 pub piece_owed : (u : UnderWay) (ks : List Group) → IsThere u ks → owed_of u ks ≡ piece_text u (piece_of u ks) ++ owed (rest_after u (length (piece_of u ks))) ks
 piece_owed u ks fits = by_test (leb_tells u.end (u.at + length piece))
   where
@@ -103,11 +103,11 @@ within count at bytes more fits =
 part_grown : (g : List ℕ) (at count : ℕ) (old new : List Group) (more : List ℕ) → count ≤ length (bytes_of g old) - at → bytes_of g new ≡ bytes_of g old ++ more → part_of g at count new ≡ part_of g at count old
 part_grown g at count old new more fits grown = ap (λ (x : List ℕ). take count (drop at x)) grown ∙ within count at (bytes_of g old) more fits
 
--- what is owed stays what it is while the group grows
+-- the text that is owed is unchanged while the group grows
 pub owed_grown : (u : UnderWay) (old new : List Group) (more : List ℕ) → IsThere u old → bytes_of u.group new ≡ bytes_of u.group old ++ more → owed_of u new ≡ owed_of u old
 owed_grown u old new more fits grown = ap (λ (x : List ℕ). coded u.chunked x) (part_grown u.group u.at (u.end - u.at) old new more (omega (arith, fits)) grown)
 
--- what is owed of a content of which nothing was given is the content as it is sent whole
+-- the text that is owed of a content of which nothing was given is that of the whole
 pub owed_begun : (g : List ℕ) (content : GroupRange) (ks : List Group) → owed_of (begun g content) ks ≡ coded content.chunked (part_of g content.start content.count ks)
 owed_begun g content ks =
     let count : (content.start + content.count) - content.start ≡ content.count = omega arith in
@@ -115,7 +115,7 @@ owed_begun g content ks =
 
 -- Contents whose end is told
 
--- as many bytes as were taken are those
+-- the front as long as the bytes that were taken is those bytes
 take_own : (w : ℕ) (bytes : List ℕ) → take (length (take w bytes)) bytes ≡ take w bytes
 take_own zero bytes = refl
 take_own (suc w) [] = refl
@@ -134,7 +134,7 @@ piece_follows u ks start behind_it =
     ∙ ap (λ (n : ℕ). part_of u.group start (u.at - start) ks ++ part_of u.group u.at n ks) count
     ∙ ap (λ (x : List ℕ). part_of u.group start (u.at - start) ks ++ x) (take_own (min PIECE_BYTES (u.end - u.at)) (drop u.at (bytes_of u.group ks))))
 
--- what is owed later begins with the piece of now
+-- the text that is owed later begins with the piece of now
 split_grown : (u : UnderWay) (now later : List Group) (more : List ℕ) → bytes_of u.group later ≡ bytes_of u.group now ++ more
     → part_of u.group u.at (u.end - u.at) later ≡ piece_of u now ++ part_of u.group (u.at + length (piece_of u now)) (u.end - (u.at + length (piece_of u now))) later
 split_grown u now later more grown =
@@ -147,7 +147,7 @@ split_grown u now later more grown =
     (part_grown u.group u.at (length (piece_of u now)) now later more held grown ∙ take_own (min PIECE_BYTES (u.end - u.at)) (drop u.at (bytes_of u.group now)))
     ∙ ap (λ (m : ℕ). piece_of u now ++ part_of u.group (u.at + length (piece_of u now)) m later) left
 
--- a plain piece, and what is after it
+-- a plain piece, and the text after it
 plain_piece : (chunked : Bool) (bytes piece rest : List ℕ) → chunked ≡ false → bytes ≡ piece ++ rest → coded chunked bytes ≡ (pieces chunked piece ++ ending chunked false) ++ coded chunked rest
 plain_piece true bytes piece rest plain is = absurd (false≢true (sym plain))
 plain_piece false bytes piece rest plain is = is ∙ ap (λ (x : List ℕ). x ++ rest) (sym (append-nil piece))
@@ -175,7 +175,7 @@ chunked_owed u now later more there grown =
     piece_owed u later (omega (arith, there, long))
     ∙ ap (λ (x : List ℕ). piece_text u x ++ owed (rest_after u (length x)) later) same
 
--- whatever the group becomes, what is owed of it is the piece of now and what is owed after that
+-- the text that is owed is the piece of now and the text that is owed after it, whatever the group becomes
 pub owed_then : (u : UnderWay) (now later : List Group) (more : List ℕ) → (u.chunked ≡ true → IsThere u now) → bytes_of u.group later ≡ bytes_of u.group now ++ more
     → owed_of u later ≡ piece_text u (piece_of u now) ++ owed (rest_after u (length (piece_of u now))) later
 owed_then u now later more there grown = by_coding u.chunked refl
@@ -184,6 +184,6 @@ owed_then u now later more there grown = by_coding u.chunked refl
     by_coding true is = chunked_owed u now later more (there is) grown
     by_coding false is = plain_owed u now later more is grown
 
--- what was given of a content stays a part of its group
+-- the bytes given of a content are still a part of its group when it has grown
 pub given_grown : (g : List ℕ) (start at : ℕ) (old new : List Group) (more : List ℕ) → at ≤ length (bytes_of g old) → bytes_of g new ≡ bytes_of g old ++ more → part_of g start (at - start) new ≡ part_of g start (at - start) old
 given_grown g start at old new more held grown = part_grown g start (at - start) old new more (omega (arith, held)) grown

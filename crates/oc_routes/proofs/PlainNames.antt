@@ -1,4 +1,4 @@
--- The names of groups stand in quotes as they are.
+-- The names of groups are the same in quotes.
 use Rattle.std.proofs.Common.{◌≡◌, ℕ, ◌+◌, ◌≤◌, inl, inr, Bool, true, false, not, ◌&&◌, ◌||◌, ◌==◌, Option, Some, None, List, [], ◌∷◌, length, refl, ap, ◌∙◌, arith}
 use Rattle.std.specs.Prelude.{nat_lt}
 use Rattle.std.specs.List.{list_all, position, position_or_len}
@@ -28,7 +28,7 @@ no_backslash b h = grind (arith, nat_tests)
 plain_byte : (b : ℕ) → is_name_byte b ≡ true → is_plain b ≡ true
 plain_byte b h = both _ _ (both _ _ (both _ _ (above_space b h) (below_end b h)) (no_quote b h)) (no_backslash b h)
 
--- where the first that fails is past the end, all pass
+-- all pass, where the first that fails is past the end
 all_pass : (p : ℕ → Bool) (xs : List ℕ) → length xs ≤ position_or_len (λ x. not (p x)) xs → list_all p xs ≡ true
 all_pass p [] h = refl
 all_pass p (x ∷ xs) h = elim (cases_Bool (p x)) [
@@ -38,14 +38,14 @@ all_pass p (x ∷ xs) h = elim (cases_Bool (p x)) [
   | inr is ↦ let short : position_or_len (λ x. not (p x)) (x ∷ xs) ≡ 0 = rw is refl in absurd (omega (arith, h, short))
 ]
 
--- what all satisfy is weaker than this
+-- bytes that pass a test pass a weaker one
 all_weaker : (p q : ℕ → Bool) → ((x : ℕ) → p x ≡ true → q x ≡ true) → (xs : List ℕ) → list_all p xs ≡ true → list_all q xs ≡ true
 all_weaker p q weaker [] h = refl
 all_weaker p q weaker (x ∷ xs) h =
     let parts = and_parts (p x) (list_all p xs) h in
     ap (λ b. b && list_all q xs) (weaker x parts.0) ∙ all_weaker p q weaker xs parts.1
 
--- where no place is the first, each is before it
+-- each place is before the first, where there is none
 none_first : (p : ℕ → Bool) (xs : List ℕ) → position p xs ≡ None → length xs ≤ position_or_len p xs
 none_first p xs none = elim (cases_lt (position_or_len p xs) (length xs)) [
   | inl less ↦ let e = rw (lt-ltb _ _ less) at none in cc e
@@ -67,7 +67,7 @@ named bytes name = first_of (position (λ b. not (is_name_byte b)) bytes) (is_pa
     first_of None formed e = refl
     first_of (Some i) formed e = cc
 
--- and is a path
+-- a group name is a path
 pub name_is_path : (bytes : List ℕ) → IsGroupName bytes → is_path bytes ≡ true
 name_is_path bytes name = formed_of (position (λ b. not (is_name_byte b)) bytes) (is_path bytes) (within bytes name)
   where

@@ -1,4 +1,4 @@
--- What a head asks is never refused as a body that is no message, nor as a call that failed.
+-- A head's operation is never refused as a body that is no message, nor as a call that failed.
 use Rattle.std.proofs.Common.{ℕ, Bool, true, false, Option, Some, None, Result, Ok, Err, List, codes, if◌then◌else◌}
 use Rattle.std.specs.Prelude.{not}
 use Rattle.oc_base.specs.Names.{parsed_name}
@@ -27,7 +27,7 @@ IsOther refusals.Message = ⊥
 IsOther refusals.Source = ⊥
 IsOther why = Unit {0}
 
--- not refused so
+-- a result that is not such a refusal
 abbrev pub IsSpared : {A : Type 0} → Result A Refused → Type 0
 IsSpared (Ok x) = Unit {0}
 IsSpared (Err why) = IsOther why
@@ -76,7 +76,7 @@ spared_or : (row : Option Resource) (path : List ℕ) → IsSpared (resource_or 
 spared_or (Some resource) path = tt
 spared_or None path = spared_own path (is_own path)
 
--- whatever rows the table has
+-- the resource of a path, whatever rows the table has
 spared_resource : (action : Action) (path : Option (List ℕ)) → IsSpared (resource_named action path)
 spared_resource action None = tt
 spared_resource action (Some path) = spared_or (resource_at action path) path

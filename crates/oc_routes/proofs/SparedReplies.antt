@@ -1,4 +1,4 @@
--- What a head asks, with what its query tells, is never refused as a body that is no message, nor as a call that failed.
+-- A head's operation, with its query's hint, is never refused as a body that is no message, nor as a call that failed.
 use Rattle.std.proofs.Common.{ℕ, Bool, Option, Result, Ok, Err, List, codes}
 use Rattle.oc_base.specs.declared.limits.TheConstants.{MAX_START}
 use Rattle.oc_http.specs.Queries.{parts}
@@ -41,6 +41,6 @@ spared_both (Err (refusals.Denied rule needs_token)) (Ok hint) s t = tt
 spared_both (Err (refusals.Denied rule needs_token)) (Err why) s t = t
 spared_both (Err why) h s t = s
 
--- what a head asks is not refused so
+-- the operation of a head is not such a refusal
 pub head_spared : (head : Head) (rules : List Rule) → IsSpared (asked_with_hint head rules)
 head_spared head rules = spared_both (asked head rules) (hint_for head.method head.query) (spared_asked head rules) (spared_hint head.method head.query)

@@ -1,4 +1,4 @@
--- What a step answers to the inputs of requests.
+-- The answers of a step to the inputs of requests.
 use Rattle.std.proofs.Common.{ℕ, ◌+◌, ◌-◌, ◌==◌, Bool, true, false, not, ◌&&◌, if◌then◌else◌, Option, Some, None, List, length}
 use Rattle.std.specs.Prelude.{nat_le, nat_lt, is_some}
 use Rattle.oc_base.specs.declared.limits.TheConstants.{MAX_GROUPS, MAX_GROUP_BYTES}

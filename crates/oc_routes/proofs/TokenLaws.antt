@@ -1,4 +1,4 @@
--- What a token does to what is asked.
+-- The effect of a token on the operation that is asked.
 use Rattle.std.proofs.Common.{ℕ, Bool, Option, Some, None, Result, Ok, Err, List, inl, inr, refl}
 use Rattle.std.specs.Prelude.{not}
 use Rattle.oc_base.specs.Steps.{◌>>=◌}
@@ -14,26 +14,26 @@ use Rattle.oc_routes.specs.Routes.{action_of, asked, asked_at, is_conditional, n
 use Rattle.oc_routes.specs.declared.refused.Refused.{Refused}
 use Rattle.oc_routes.specs.declared.routes.Operation.{Operation}
 
--- after the same step, what is alike stays alike
+-- results that are alike stay alike after the same step
 alike_then : {A : Type 0} (r : Result A Refused) (f g : A → Result Operation Refused) → ((x : A) → AreAlike (f x) (g x)) → AreAlike (r >>= f) (r >>= g)
 alike_then (Ok x) f g h = h x
 alike_then (Err why) f g h = inl refl
 
--- two verdicts let the same through, or one of them denies it
+-- two verdicts let the same pass, or one of them denies it
 alike_by : (rules : List Rule) (action : Action) (name : List ℕ) (area : ℕ) (p q : Bool) (v w : Decision) (operation : Operation)
     → AreAlike (permitted_by rules action name area p v >>= (λ allowed. Ok operation)) (permitted_by rules action name area q w >>= (λ allowed. Ok operation))
 alike_by rules action name area p q Allowed Allowed operation = inl refl
 alike_by rules action name area p q Allowed (Denied rule) operation = inr (inr tt)
 alike_by rules action name area p q (Denied rule) w operation = inr (inl tt)
 
--- whatever the rules speak of
+-- the decision, whatever the rules speak of
 alike_permitted : (rules : List Rule) (action : Action) (name : Option (List ℕ)) (area : ℕ) (p q : Bool) (x y : Option (List ℕ)) (operation : Operation)
     → AreAlike (permitted_as rules action name area p x >>= (λ allowed. Ok operation)) (permitted_as rules action name area q y >>= (λ allowed. Ok operation))
 alike_permitted rules action None area p q x y operation = inl refl
 alike_permitted rules action (Some name) area p q x y operation =
     alike_by rules action name area p q (verdict rules action (Some name) area x) (verdict rules action (Some name) area y) operation
 
--- what a request shows decides only whether a rule denies it
+-- the token that a request shows decides only whether a rule denies the request
 pub alike_asked : (head : Head) (rules : List Rule) (p q : Bool) (x y : Option (List ℕ))
     → AreAlike (asked (record head { has_authorization = p; authorization = x }) rules) (asked (record head { has_authorization = q; authorization = y }) rules)
 alike_asked head rules p q x y =

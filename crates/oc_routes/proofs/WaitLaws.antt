@@ -1,4 +1,4 @@
--- When a content under way and a client that has all wait.
+-- The cases in which a content under way waits, and a client that has all.
 use Rattle.std.proofs.Common.{◌≡◌, ℕ, ◌-◌, ◌<◌, ◌≤◌, Bool, true, false, Option, Some, None, List, refl, sym, arith}
 use Rattle.std.specs.Prelude.{◌&&◌, ◌||◌, ◌==◌, not, nat_lt, nat_le, find, if◌then◌else◌}
 use Rattle.std.specs.Str.{bytes_eq}
@@ -29,7 +29,7 @@ open_group true shorter none is = is_not shorter none is
     is_not false e f = absurd (false≢true f)
 open_group false shorter none is = refl
 
--- it waits where its group has nothing new for it, is open, and its time has not passed
+-- a content waits where its group has nothing new for it, is open, and its time has not passed
 pub waits_then : (u : UnderWay) (h : Holding) (idle : ℕ) → u.at < u.end → prospect u h idle ≡ Waits → HasNothingNew u.at h × (idle < IDLE_MILLIS)
 waits_then u h idle some is =
     let t = waits_tests (h.sealed && nat_lt h.held u.end) (nat_lt u.at h.held) (nat_le IDLE_MILLIS idle) is in
@@ -89,7 +89,7 @@ to_wait_parts Known false held sealed start absent none =
     let both = absent refl in
     record { held = omega (arith, both.0); unsealed = both.1 }
 
--- what is not there has no bytes and no seal
+-- a group that is not there has no bytes and no seal
 absent_empty : (line : Option Shelf) → (holding_of line).there ≡ false → ((holding_of line).held ≡ 0) × ((holding_of line).sealed ≡ false)
 absent_empty None is = (refl, refl)
 absent_empty (Some line) is = absurd (false≢true (sym is))

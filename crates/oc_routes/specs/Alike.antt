@@ -1,4 +1,4 @@
--- What a token does to what is asked.
+-- The effect of a token on the operation that is asked.
 use Rattle.std.specs.Prelude.{◌≡◌, Result, Err}
 use Rattle.std.proofs.Common.{◌⊎◌}
 use Rattle.oc_routes.specs.declared.refused.Refused.{Refused}
@@ -10,6 +10,6 @@ abbrev pub IsDenied : Result Operation Refused → Type 0
 IsDenied (Err (Denied rule needs_token)) = Unit {0}
 IsDenied said = ⊥
 
--- they are the same, or one of them is denied
+-- two results that are the same, or of which one is denied
 abbrev pub AreAlike : Result Operation Refused → Result Operation Refused → Type 0
 AreAlike first second = (first ≡ second) ⊎ IsDenied first ⊎ IsDenied second

@@ -1,4 +1,4 @@
--- What a request that is to be answered asks is within the ranges of the node.
+-- The operation of a request that is to be answered is within the ranges of the node.
 use Rattle.std.specs.Prelude.{◌≡◌, ℕ, IfSome, Option, Some}
 use Rattle.oc_model.specs.Lawful.{IsInput}
 use Rattle.oc_model.specs.declared.input.Input.{Input}
@@ -17,7 +17,7 @@ abbrev pub IsInputOf : Operation → Hint → Option Input → Type 0
 IsInputOf (asks.Client group area start manner) hint input = input ≡ input_for hint (Some (inputs.Client area start group))
 IsInputOf other hint input = Unit {0}
 
--- what is asked is within its ranges, the input is one of the node `me` of `nodes` nodes, and that of a client is what it asks
+-- a request whose operation is within its ranges, whose input is one of the node `me` of `nodes` nodes, and that of a client its operation
 pub record IsLawfulAsk (nodes me : ℕ) (request : Request) : Type 0 where
   pub asks : IsAsked request.asked.operation
   pub input : IfSome request.input (IsInput nodes me)

@@ -17,7 +17,7 @@ unmet_by held (Some at) = if held == at then None else Some (refusing (At held))
 abbrev pub unmet_at : ℕ → List ℕ → Option ℕ → List Shelf → Option Refusal
 unmet_at me group at lines = if me == 1 then unmet_by (holding group lines).held at else None
 
--- Why the node `me` with this shelf refuses what is asked for its condition, if it does: its group has another length, this one.
+-- The refusal of the node `me` with this shelf for the condition of an operation: its group has another length, this one.
 abbrev pub unmet : Operation → ℕ → List Shelf → Option Refusal
 unmet (asks.Publish group at) me lines = unmet_at me group at lines
 unmet (asks.Seal group at) me lines = unmet_at me group at lines

@@ -1,4 +1,4 @@
--- When a request is the last of its connection, and when its client waits for the permission to send its body.
+-- The requests that are the last of their connections, and those whose clients wait for the permission to send the body.
 use Rattle.std.specs.Prelude.{ℕ, Bool, not, ◌&&◌, ◌||◌, ◌==◌, nat_le}
 use Rattle.oc_http.specs.declared.head.Head.{Head}
 use Rattle.oc_routes.specs.declared.connections.TheConstants.{MAX_REQUESTS}

@@ -1,4 +1,4 @@
--- A content under way: a place in a group, and what is given of it piece by piece.
+-- A content under way: a place in a group, and the pieces given from there.
 use Rattle.std.specs.Prelude.{ℕ, ◌+◌, ◌-◌, ◌≤◌, Bool, true, false, nat_le, min, if◌then◌else◌, Option, Some, None, List, [], ◌++◌, length, take, drop}
 use Rattle.oc_base.specs.Groups.{bytes_of}
 use Rattle.oc_base.specs.declared.group.Group.{Group}
@@ -25,11 +25,11 @@ coded false bytes = bytes
 abbrev pub begun : List ℕ → GroupRange → UnderWay
 begun group content = record { group = group; at = content.start; end = content.start + content.count; chunked = content.chunked }
 
--- the group has all that is still to be given of it
+-- the group has all bytes of the content that are still to be given
 abbrev pub IsThere : UnderWay → List Group → Type 0
 IsThere u groups = u.end - u.at ≤ length (bytes_of u.group groups) - u.at
 
--- the text that is still to be given of it
+-- the text of the content that is still to be given
 abbrev pub owed_of : UnderWay → List Group → List ℕ
 owed_of u groups = coded u.chunked (part_of u.group u.at (u.end - u.at) groups)
 
@@ -42,19 +42,19 @@ owed (Some u) groups = owed_of u groups
 abbrev pub piece_of : UnderWay → List Group → List ℕ
 piece_of u groups = part_of u.group u.at (min PIECE_BYTES (u.end - u.at)) groups
 
--- nothing of it is left after `count` bytes more
+-- the content has nothing left after `count` bytes more
 abbrev pub is_last : UnderWay → ℕ → Bool
 is_last u count = nat_le u.end (u.at + count)
 
--- what is under way after `count` bytes more
+-- the content under way after `count` bytes more
 abbrev pub rest_after : UnderWay → ℕ → Option UnderWay
 rest_after u count = if is_last u count then None else Some (record u { at = u.at + count })
 
--- what ends a reply, which goes with its last piece
+-- the end of a reply, which goes with its last piece
 abbrev pub ending : Bool → Bool → List ℕ
 ending true true = end_written
 ending chunked last = []
 
--- these bytes, as they are given
+-- the text of these bytes as they are given
 abbrev pub piece_text : UnderWay → List ℕ → List ℕ
 piece_text u bytes = pieces u.chunked bytes ++ ending u.chunked (is_last u (length bytes))

@@ -1,4 +1,4 @@
--- Worked examples: what requests ask, and what they are answered.
+-- Worked examples: the operations of requests, and their answers.
 use Rattle.std.specs.Prelude.{◌≡◌, ℕ, true, false, Bool, Option, Some, None, Result, Ok, Err, List, [], ◌∷◌, ◌++◌, codes, decimal, length}
 use Rattle.oc_http.specs.declared.framing.Persistence.TheVariants.{Close, Keep}
 use Rattle.oc_http.specs.declared.head.Head.{Head}
@@ -34,7 +34,7 @@ use Rattle.oc_routes.specs.declared.response.Response.{Response}
 abbrev head : Method → List ℕ → List ℕ → Head
 head method path query = record { method = method; path = Some path; query = query; length = 0; expects = false; minor = 1; closes = false; has_authorization = false; authorization = None; mac = None }
 
--- what a request without access rules asks
+-- the operation of a request without access rules
 abbrev asks_for : Method → List ℕ → List ℕ → Operation → Type 0
 asks_for method path query wanted = asked (head method path query) [] ≡ Ok wanted
 
@@ -54,16 +54,16 @@ under_rules method path query wanted = asked (head method path query) rules ≡ 
 abbrev pub closed : List Rule
 closed = record { allow = false; action = None; prefix = codes "/"; area = None; token = None } ∷ []
 
--- a rule: what lies within a prefix is allowed to who shows a token
+-- a rule: paths within a prefix are allowed to who shows a token
 abbrev with_token : List ℕ → Rule
 with_token prefix = record { allow = true; action = None; prefix = prefix; area = None; token = Some (codes "secret") }
 
--- what is asked where all is allowed to who shows a token, and to nobody else; an Authorization field is there
+-- the operation where all is allowed to who shows a token, and to nobody else; an Authorization field is there
 abbrev under_token : Option (List ℕ) → Method → List ℕ → Result Operation Refused
 under_token shown method path =
     asked (record (head method path []) { has_authorization = true; authorization = shown }) (with_token (codes "/") ∷ closed)
 
--- what is asked without such a field, where this is allowed to who shows a token, and all else to nobody
+-- the operation without such a field, where this is allowed to who shows a token, and all else to nobody
 abbrev without_token : List ℕ → Method → List ℕ → Result Operation Refused
 without_token prefix method path = asked (head method path []) (with_token prefix ∷ closed)
 
@@ -130,7 +130,7 @@ pub record AreRouted : Type 0 where
   pub news : under_rules methods.Get (codes "/news/a") [] (Ok (operations.Client (codes "/news/a") 0 0 Once))
   pub post_news : under_rules methods.Post (codes "/news/a") [] (Ok (operations.Publish (codes "/news/a") None))
 
--- to node 1 from node 2: a rejoin of ask 7
+-- a message to node 1 from node 2: a rejoin of ask 7
 abbrev rejoin : Message
 rejoin = record { from = 2; to = 1; body = bodies.Rejoin 7 }
 
@@ -158,11 +158,11 @@ says status more line = lines (status ∷ more ++ (codes "Content-Length: " ++ d
 abbrev pub plain_text : List ℕ
 plain_text = codes "Content-Type: text/plain; charset=utf-8"
 
--- what a node has of a group
+-- a node's holding of a group
 abbrev holds : ℕ → Bool → Holding
 holds held sealed = record { there = true; held = held; sealed = sealed }
 
--- what a request is answered that tells nothing else, where the node holds nine bytes of its group
+-- the answer to a request without a hint, where the node holds nine bytes of its group
 abbrev answers_to : Operation → Answer → Bool → Bool → Option (List ℕ) → Response
 answers_to wanted answer sealed last key =
     response_for (record { operation = wanted; hint = Plain }) last answer None (holds 9 sealed) (Some (codes "h:1") ∷ Some (codes "h:2") ∷ []) key []
@@ -174,7 +174,7 @@ answered wanted answer sealed last response = answers_to wanted answer sealed la
 abbrev ends_with : List ℕ → Response
 ends_with text = record { text = text; content = None; connection = Close }
 
--- what one who asks what the node tells of itself is answered
+-- the answer to a request for a report
 abbrev told : Report → Manner → Response → Type 0
 told report manner response =
     response_for (record { operation = operations.Report report manner; hint = Plain }) false answers.Ok None (holds 0 false) [] None (codes "it") ≡ response

@@ -17,7 +17,7 @@ use Rattle.oc_routes.specs.declared.manner.Manner.TheVariants.{Follow}
 use Rattle.oc_routes.specs.declared.response.Response.{Response}
 use Rattle.oc_routes.specs.declared.showing.Shown.{Shown}
 
--- what its step answers
+-- the answers of the step of a client
 abbrev pub IsClientAnswer : Answer → Type 0
 IsClientAnswer (answers.Redirect node) = ⊤
 IsClientAnswer (answers.Serve count) = ⊤
@@ -29,7 +29,7 @@ abbrev pub is_chunked : Manner → Bool → Bool
 is_chunked Follow sealed = not sealed
 is_chunked manner sealed = false
 
--- where the content ends
+-- the end of the content
 abbrev pub framing_for : Bool → ℕ → Framing
 framing_for true count = framings.Chunked
 framing_for false count = framings.Length count
@@ -59,27 +59,30 @@ served_or_past manner sealed last start count h =
 abbrev pub redirection : List ℕ → Reply
 redirection location = record (bare 302) { location = Some location }
 
--- what a client is given that is not sent elsewhere
+-- the reply to a client that is not sent elsewhere
 abbrev pub given_response : ℕ → Manner → Answer → Bool → Bool → Holding → Response
 given_response start manner (answers.Serve count) sealed last h = served_or_past manner sealed last start count h
 given_response start manner refusal sealed last h = whole_for manner (telling 404 no_group_line)
 
--- where the node to which it would be sent has no address: what is here, but 503 to a client that follows, which would ask without end
+-- the reply where the node to which the client would be sent has no address: the bytes that are here, but 503 to one that follows, which would ask without end
 abbrev pub here_response : ℕ → Manner → Bool → Holding → Response
 here_response start Follow last h = whole_for Follow (telling 503 nowhere_line)
 here_response start manner last h = given_response start manner (here_answer h start) h.sealed last h
 
--- to a client of such a node, which is shown `Redirect`, `Serve` or `NoGroup`, of a group that it is shown as sealed or not
+-- the reply to a client that is sent to the node at this address; an empty one is none
+abbrev pub sent_response : List ℕ → ℕ → Manner → List ℕ → List ℕ → Bool → Holding → Response
+sent_response group start manner told address last h =
+    if length address == 0 then here_response start manner last h else whole (redirection (location_of address group start told manner))
+
+-- the reply to a client of such a node, which is shown `Redirect`, `Serve` or `NoGroup`, of a group that it is shown as sealed or not
 abbrev pub client_response : List ℕ → ℕ → Manner → List ℕ → Answer → Bool → Bool → Holding → List (Option (List ℕ)) → Response
-client_response group start manner told (answers.Redirect node) sealed last h addresses =
-    if length (address_of addresses node) == 0 then here_response start manner last h
-    else whole (redirection (location_of (address_of addresses node) group start told manner))
+client_response group start manner told (answers.Redirect node) sealed last h addresses = sent_response group start manner told (address_of addresses node) last h
 client_response group start manner told answer sealed last h addresses = given_response start manner answer sealed last h
 
 abbrev pub shown_response : List ℕ → ℕ → Manner → List ℕ → Shown → Bool → Holding → List (Option (List ℕ)) → Response
 shown_response group start manner told s last h addresses = client_response group start manner told s.answer s.sealed last h addresses
 
--- to a client that tells this, for this answer of the step
+-- the reply to a client that tells this, for this answer of the step
 abbrev pub group_response : List ℕ → ℕ → Manner → Hint → Bool → Answer → Holding → List (Option (List ℕ)) → Response
 group_response group start manner hint last answer h addresses =
     shown_response group start manner (told_text hint h) (shown hint answer h start) last h addresses

@@ -1,4 +1,4 @@
--- What the query of a GET or HEAD of a group tells besides start and area.
+-- The hint in the query of a GET or HEAD of a group, besides start and area.
 use Rattle.std.specs.Prelude.{ℕ, Bool, true, false, if◌then◌else◌, Option, Some, None, Result, Ok, Err, List, codes}
 use Rattle.oc_base.specs.declared.limits.TheConstants.{MAX_START}
 use Rattle.oc_http.specs.Queries.{parts}
@@ -22,7 +22,7 @@ hint_of true known of = Here
 hint_of false known (Some length) = Of length
 hint_of false known None = if known then Known else Plain
 
--- what a query tells, with the length that its first `of=` tells; an `of=` that is no number is refused, with `here` too
+-- the hint of a query, with the length in its first `of=`; an `of=` that is no number is refused, with `here` too
 abbrev pub hinted : Bool → Bool → Result (Option ℕ) Refused → Result Hint Refused
 hinted here known (Ok of) = Ok (hint_of here known of)
 hinted here known (Err why) = Err why
@@ -31,7 +31,7 @@ abbrev pub hint_in : List ℕ → Result Hint Refused
 hint_in query =
     hinted (has_part (codes "here") (parts query)) (has_part (codes "known") (parts query)) (number_told MAX_START (first_value (codes "of=") (parts query)))
 
--- where a group is asked for, what its query tells is looked at before the access rules; that of a report is looked at as well, and tells nothing
+-- the hint of a query for a group, which is looked at before the access rules; that of a report is looked at as well, and tells nothing
 abbrev pub with_hint : Result Operation Refused → Result Hint Refused → Result Asked Refused
 with_hint (Ok (asks.Client group area start manner)) (Ok hint) = Ok (record { operation = asks.Client group area start manner; hint = hint })
 with_hint (Ok (asks.Client group area start manner)) (Err why) = Err why
@@ -42,13 +42,13 @@ with_hint (Err (refusals.Denied rule needs_token)) (Ok hint) = Err (refusals.Den
 with_hint (Err (refusals.Denied rule needs_token)) (Err why) = Err why
 with_hint (Err other) told = Err other
 
--- only a GET or HEAD tells something
+-- the hint of a request, which only a GET or HEAD has
 abbrev pub hint_for : Method → List ℕ → Result Hint Refused
 hint_for methods.Get query = hint_in query
 hint_for methods.Head query = hint_in query
 hint_for methods.Post query = Ok Plain
 hint_for methods.Other query = Ok Plain
 
--- What a head asks under these access rules, with what it tells, or the first fault: method, path, query, rules.
+-- The operation and the hint of a head under these access rules, or the first fault: method, path, query, rules.
 abbrev pub asked_with_hint : Head → List Rule → Result Asked Refused
 asked_with_hint head rules = with_hint (asked head rules) (hint_for head.method head.query)

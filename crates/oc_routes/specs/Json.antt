@@ -1,4 +1,4 @@
--- What the texts of JSON (RFC 8259) are made of.
+-- The parts of the texts of JSON (RFC 8259).
 use Rattle.std.specs.Prelude.{ℕ, Bool, true, false, nat_le, if◌then◌else◌, Option, Some, None, List, [], ◌∷◌, ◌++◌, codes, decimal}
 use Rattle.std.specs.List.{flat_map}
 use Rattle.oc_routes.specs.declared.json.TheConstants.{LAST_EXACT}
@@ -15,7 +15,7 @@ abbrev pub flag_text : Bool → List ℕ
 flag_text true = codes "true"
 flag_text false = codes "false"
 
--- what may be absent
+-- the text of a value that may be absent
 abbrev pub or_null : {A : Type 0} → (A → List ℕ) → Option A → List ℕ
 or_null text None = codes "null"
 or_null text (Some x) = text x

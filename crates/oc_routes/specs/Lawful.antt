@@ -1,4 +1,4 @@
--- What is asked is within the ranges of a node's inputs.
+-- Operations are within the ranges of a node's inputs.
 use Rattle.std.specs.Prelude.{◌≤◌}
 use Rattle.oc_base.specs.Names.{IsGroupName}
 use Rattle.oc_base.specs.declared.limits.TheConstants.{MAX_AREA, MAX_START}

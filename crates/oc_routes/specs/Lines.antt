@@ -1,4 +1,4 @@
--- What holds of the lines of refusals: each is one line, whatever it is made of.
+-- The lines of refusals: each is one line, whatever its parts are.
 use Rattle.std.specs.Prelude.{ℕ, ◌≤◌, ◌<◌, ◌^◌, IsTrue, List, length}
 use Rattle.std.specs.List.{list_all}
 use Rattle.oc_http.specs.PlainLine.{is_shown}

@@ -7,7 +7,7 @@ use Rattle.oc_routes.specs.declared.routes.Operation.{Operation}
 use Rattle.oc_routes.specs.declared.routes.Operation.TheVariants as asks
 use Rattle.oc_wire.specs.Macs.{HasMac, is_authentic}
 
--- it is asked to take a message that is not authentic
+-- an operation to take a message that is not authentic
 abbrev pub is_forged : Option Keyring → Operation → Option (List ℕ) → List ℕ → Bool
 is_forged keys asks.Message mac body = not (is_authentic keys mac body)
 is_forged keys other mac body = false

@@ -1,4 +1,4 @@
--- How a content is asked for, and what depends on it.
+-- The manners in which a content is asked for, and their effects.
 use Rattle.std.specs.Prelude.{ℕ, Bool, false, ◌&&◌, ◌==◌, if◌then◌else◌, Option, Some, None, List, []}
 use Rattle.oc_http.specs.declared.framing.Persistence.{Persistence}
 use Rattle.oc_http.specs.declared.framing.Persistence.TheVariants.{Close, Keep}
@@ -7,7 +7,7 @@ use Rattle.oc_http.specs.declared.head.Method.TheVariants as methods
 use Rattle.oc_routes.specs.declared.manner.Manner.{Manner}
 use Rattle.oc_routes.specs.declared.manner.Manner.TheVariants.{HeadAlone, Once, Follow}
 
--- how a content is asked for: a part `follow` counts in a GET of version 1.1 alone
+-- the manner in which a content is asked for: a part `follow` counts in a GET of version 1.1 alone
 abbrev pub manner_of : Method → ℕ → Bool → Manner
 manner_of methods.Get minor follow = if follow && minor == 1 then Follow else Once
 manner_of method minor follow = HeadAlone

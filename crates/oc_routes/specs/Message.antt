@@ -1,4 +1,4 @@
--- A POST of `/!overcast`: its body is a message to this node, and what goes back to the sender is its reply.
+-- A POST of `/!overcast`: its body is a message to this node, and the message back to the sender is its reply.
 use Rattle.std.specs.Prelude.{ℕ, ◌==◌, if◌then◌else◌, Option, Some, None, Result, Ok, Err, List}
 use Rattle.oc_model.specs.declared.input.Input.{Input}
 use Rattle.oc_model.specs.declared.input.Input.TheVariants as inputs
@@ -16,7 +16,7 @@ abbrev pub delivered : ℕ → Result Message WireFault → Result (Option Input
 delivered me (Ok message) = if message.to == me then Ok (Some (inputs.Delivered message)) else Err refusals.Message
 delivered me (Err fault) = Err refusals.Message
 
--- to a message: the reply to its sender, with its MAC, or nothing
+-- the answer to a message: the reply to its sender, with its MAC, or nothing
 abbrev pub message_response : Option (List ℕ) → Option Message → Response
 message_response key None = status_alone 204
 message_response key (Some message) = whole (record (typed (spelling message)) { mac = mac_for key (spelling message) })

@@ -1,5 +1,5 @@
--- What a node tells of itself at `/!metrics`, in the text format of Prometheus, version 0.0.4: for each metric two lines that
--- name it, and its samples.
+-- The report of a node at `/!metrics`, in the text format of Prometheus, version 0.0.4: for each metric two lines with its name and
+-- meaning, and its samples.
 use Rattle.std.specs.Prelude.{ℕ, ◌-◌, List, ◌++◌, length, codes, decimal}
 use Rattle.std.specs.Int.{from_bool}
 use Rattle.std.specs.List.{flat_map}
@@ -11,7 +11,7 @@ use Rattle.oc_model.specs.Records.{is_joined}
 use Rattle.oc_model.specs.Table.{leased_children, listed_in}
 use Rattle.oc_routes.specs.declared.counts.Counts.{Counts}
 
--- the two lines that name a metric and say what it is
+-- the two lines with the name of a metric and its meaning
 unfoldable pub heading : List ℕ → List ℕ → List ℕ
 heading name says = codes "# HELP " ++ name ++ codes " " ++ says ++ codes "\n# TYPE " ++ name ++ codes " gauge\n"
 
@@ -30,8 +30,8 @@ place_gauges mode =
     ++ gauge (codes "overcast_acting") (codes "The node acts as root.") (from_bool (is_acting mode))
     ++ gauge (codes "overcast_joined") (codes "The node is joined to a parent.") (from_bool (is_joined mode))
 
--- what is counted of the node: who is listed beneath it, the rows of its table, its leased children, the clients in its own count,
--- and what its parent has not acknowledged
+-- the counts of a node: the nodes listed beneath it, the rows of its table, its leased children, the clients in its own count,
+-- and the certificates that its parent has not acknowledged
 abbrev pub counted : Control → Counts
 counted n = record {
   listed = length (listed_in n.kept.table n.me);
@@ -49,7 +49,7 @@ count_gauges counts =
     ++ gauge (codes "overcast_clients") (codes "Clients counted by this node.") counts.clients
     ++ gauge (codes "overcast_certificates_waiting") (codes "Certificates not acknowledged by the parent.") counts.waiting
 
--- how many bytes of each group it holds
+-- the number of bytes of each group that the node holds
 abbrev pub held_samples : List Shelf → List ℕ
 held_samples shelf = flat_map (λ line. sample (codes "overcast_group_bytes") line line.held) shelf
 
@@ -57,7 +57,7 @@ held_samples shelf = flat_map (λ line. sample (codes "overcast_group_bytes") li
 abbrev pub sealed_samples : List Shelf → List ℕ
 sealed_samples shelf = flat_map (λ line. sample (codes "overcast_group_sealed") line (from_bool line.sealed)) shelf
 
--- its groups
+-- the gauges of the groups
 abbrev pub group_gauges : List Shelf → List ℕ
 group_gauges shelf =
     heading (codes "overcast_group_bytes") (codes "Bytes held of a group.") ++ held_samples shelf

@@ -1,4 +1,4 @@
--- The names of groups in what a node tells of itself.
+-- The names of groups in the reports of a node.
 use Rattle.std.specs.Prelude.{◌≡◌, ℕ, Bool, true, ◌&&◌, ◌==◌, not, nat_lt, List}
 use Rattle.std.specs.List.{list_all}
 

@@ -23,7 +23,7 @@ abbrev pub probe_body : Manner → List ℕ
 probe_body HeadAlone = []
 probe_body manner = probe_content
 
--- to a probe
+-- the reply to a probe
 abbrev pub probe_response : Manner → Bool → Response
 probe_response manner last = record {
   text = head_text (typed []) (framings.Length PROBE_BYTES) (connection_for manner last) ++ probe_body manner;

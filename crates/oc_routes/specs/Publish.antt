@@ -6,7 +6,7 @@ use Rattle.oc_routes.specs.Reasons.{publish_line}
 use Rattle.oc_routes.specs.Responses.{status_alone, told}
 use Rattle.oc_routes.specs.declared.response.Response.{Response}
 
--- what its step answers
+-- the answers of the step of a publish
 abbrev pub IsPublishAnswer : Answer → Type 0
 IsPublishAnswer answers.Ok = ⊤
 IsPublishAnswer answers.NotSource = ⊤
@@ -15,13 +15,13 @@ IsPublishAnswer answers.Groups = ⊤
 IsPublishAnswer answers.TooLong = ⊤
 IsPublishAnswer answer = ⊥
 
--- to a publish, which is answered `Ok`, `NotSource`, `Sealed`, `Groups` or `TooLong`
+-- the status for a publish, which is answered `Ok`, `NotSource`, `Sealed`, `Groups` or `TooLong`
 abbrev pub publish_status : Answer → ℕ
 publish_status answers.Ok = 200
 publish_status answers.TooLong = 413
 publish_status refusal = 403
 
--- and what is told by a refusal, where the source has this address, and this is the group
+-- the reply to a publish, where the source has this address, and this is the group
 abbrev pub publish_response : Answer → List ℕ → List ℕ → Response
 publish_response answer source group =
     if publish_status answer == 200 then status_alone 200 else told (publish_status answer) (publish_line answer source group)

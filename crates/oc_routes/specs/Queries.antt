@@ -1,4 +1,4 @@
--- What the query of a request says.
+-- The parts of the query of a request.
 use Rattle.std.specs.Prelude.{ℕ, Bool, if◌then◌else◌, Option, Some, None, Result, Ok, List, [], ◌∷◌, length, take, drop, codes}
 use Rattle.std.specs.List.{list_any}
 use Rattle.std.specs.Option.{option_or}
@@ -39,7 +39,7 @@ abbrev pub condition_in : List ℕ → Bool → Result (Option ℕ) Refused
 condition_in query conditional =
     if conditional then number_told MAX_GROUP_BYTES (first_value (codes "at=") (parts query)) else Ok None
 
--- what a query says: the first start, the first area and, of a conditional request, the first length, and the two parts without a value
+-- the parts of a query: the first start, the first area and, of a conditional request, the first length, and the two parts without a value
 abbrev pub query_in : List ℕ → Bool → Result Query Refused
 query_in query conditional = do
   start ← number_or_nought MAX_START (first_value (codes "start=") (parts query))

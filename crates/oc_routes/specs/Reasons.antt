@@ -1,5 +1,5 @@
--- The body of a reply of status 400 or above: one line that says what is wrong and what to do. The texts are no promise;
--- that each is made of what the arguments here are, and of nothing else, is one: why a request is refused, with the number
+-- The body of a reply of status 400 or above: one line with the cause and a remedy. The texts are no promise;
+-- one promise is that each is made of the arguments here and of nothing else: the cause of a refusal, with the number
 -- of the rule or the length of the group, or the answer of its step; the group's name and length; and the source's address.
 use Rattle.std.specs.Prelude.{ℕ, ◌==◌, Bool, true, false, if◌then◌else◌, Some, None, List, [], ◌++◌, codes, decimal, length}
 use Rattle.oc_http.specs.Writing.{response_text, to_head_text}
@@ -20,24 +20,24 @@ bare status = record { status = status; location = None; content_type = None; co
 abbrev pub telling : ℕ → List ℕ → Reply
 telling status line = record (bare status) { content_type = Some Text; body = line }
 
--- its text, which ends the connection: to a HEAD its head alone, with the length of the body
+-- the text of a reply that ends the connection: to a HEAD its head alone, with the length of the body
 abbrev pub reply_text : Bool → Reply → List ℕ
 reply_text true reply = to_head_text reply
 reply_text false reply = response_text reply
 
 -- Lines of requests that are refused
 
--- by whether a length is given beside a transfer coding
+-- the line for a body with a transfer coding, by whether a length is given too
 abbrev pub coding_line : Bool → List ℕ
 coding_line true = codes "the body has a transfer coding beside its length: give Content-Length alone\n"
 coding_line false = codes "transfer codings are not read: give Content-Length\n"
 
--- by whether the Content-Length is missing
+-- the line for a Content-Length, by whether it is missing
 abbrev pub length_line : Bool → List ℕ
 length_line true = codes "the length of the body is missing: give Content-Length\n"
 length_line false = codes "Content-Length is no number, or there are several: give one\n"
 
--- by whether a token would do
+-- the line for a denied request, by whether a token would do
 abbrev pub denied_line : ℕ → Bool → List ℕ
 denied_line rule true = codes "access rule " ++ decimal rule ++ codes " denies this without a token: send the field Authorization: Bearer TOKEN\n"
 denied_line rule false = codes "access rule " ++ decimal rule ++ codes " denies this: ask who runs this node\n"
@@ -50,7 +50,7 @@ bytes_text count = if count == 1 then codes "1 byte" else decimal count ++ codes
 abbrev pub at_line : ℕ → List ℕ
 at_line length = codes "the group has " ++ bytes_text length ++ codes ": at=" ++ decimal length ++ codes " appends\n"
 
--- of one that is refused for this alone
+-- the line for a request that is refused for this alone
 abbrev pub plain_line : Refused → List ℕ
 plain_line Head = codes "this is no request of HTTP/1.1 or 1.0: send a request line and fields as RFC 9112 has them\n"
 plain_line HeadLong = codes "the head is too long: send at most 8192 bytes\n"
@@ -65,7 +65,7 @@ plain_line Message = codes "the body is no message to this node: only nodes of t
 plain_line Body = codes "a request to seal has no body: publish first, then seal\n"
 plain_line refused = []
 
--- of any: one whose connection failed or ended gets none
+-- the line for any refused request; one whose connection failed or ended gets none
 abbrev pub refused_line : Refused → List ℕ
 refused_line (Coding both) = coding_line both
 refused_line (Length missing) = length_line missing
@@ -79,7 +79,7 @@ refused_line refused = plain_line refused
 abbrev pub source_url : List ℕ → List ℕ → List ℕ → List ℕ
 source_url source group query = if length source == 0 then [] else codes ", http://" ++ source ++ group ++ query
 
--- to a publish
+-- the line to a publish
 abbrev pub publish_line : Answer → List ℕ → List ℕ → List ℕ
 publish_line answers.NotSource source group = codes "this node is not the source: publish at the source" ++ source_url source group [] ++ codes "\n"
 publish_line answers.Sealed source group = codes "the group is sealed, and takes no more: publish another group\n"
@@ -87,20 +87,20 @@ publish_line answers.Groups source group = codes "64 groups are held, the most: 
 publish_line answers.TooLong source group = codes "the group would be too long: at most 1099511627776 bytes fit\n"
 publish_line answer source group = []
 
--- to a seal
+-- the line to a seal
 abbrev pub seal_line : Answer → List ℕ → List ℕ → List ℕ
 seal_line answers.NotSource source group = codes "this node is not the source: seal at the source" ++ source_url source group (codes "?seal") ++ codes "\n"
 seal_line answers.NoGroup source group = codes "there is no such group: publish it first\n"
 seal_line answer source group = []
 
--- to a client
+-- the line to a client
 abbrev pub no_group_line : List ℕ
 no_group_line = codes "there is no such group here: look at /-/status for the names of groups\n"
 
--- to a client that follows a group, where the node that has more of it has no address
+-- the line to a client that follows a group, where the node that has more bytes has no address
 abbrev pub nowhere_line : List ℕ
 nowhere_line = codes "the node that has more of this group has no address: ask again later, or ask another node\n"
 
--- to a client whose start is past the end of a sealed group of this length
+-- the line to a client whose start is past the end of a sealed group of this length
 abbrev pub past_line : ℕ → List ℕ
 past_line length = codes "the group has " ++ bytes_text length ++ codes ", and is sealed: start=" ++ decimal length ++ codes " is the last start\n"

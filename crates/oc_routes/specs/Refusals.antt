@@ -1,4 +1,4 @@
--- What a refused request is answered, and its line.
+-- The answer to a refused request, and its line.
 use Rattle.std.specs.Prelude.{ℕ, Bool, false, if◌then◌else◌, Option, Some, None, option_map, List, [], ◌++◌, codes, decimal}
 use Rattle.oc_http.specs.declared.fault.HttpFault.{HttpFault}
 use Rattle.oc_http.specs.declared.fault.HttpFault.TheVariants as http
@@ -65,7 +65,7 @@ refusal_text r = option_map (λ status. reply_text r.head_alone (refusal status 
 abbrev pub refusing : Refused → Refusal
 refusing why = record { why = why; head_alone = false }
 
--- what the line of a refused request says
+-- the word for the cause of a refusal
 abbrev pub why_text : Refused → List ℕ
 why_text Source = codes "source"
 why_text Ended = codes "ended"

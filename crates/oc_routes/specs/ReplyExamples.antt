@@ -51,22 +51,22 @@ head method path query length = record { method = method; path = Some path; quer
 abbrev open_terms : NodeTerms
 open_terms = terms_of 1 3 [] None
 
--- to node 1 a request came, with a head of 40 bytes, and these after it
+-- a request that came to node 1, with a head of 40 bytes, and these bytes after it
 abbrev came_open : Head → List ℕ → ℕ → Verdict → Type 0
 came_open head rest came verdict = after_head open_terms (arrival 7 1 false comings.Open) came head rest ≡ verdict
 
--- of a publish of three bytes two have come
+-- a publish of three bytes, of which two have come
 abbrev cut_publish : Head
 cut_publish = head methods.Post (codes "/a") [] 3
 
 abbrev published : ℕ → Bool → Verdict
 published count last = verdicts.Ask (record { count = count; asked = record { operation = asks.Publish (codes "/a") None; hint = hints.Plain }; input = Some (inputs.Publish (codes "/a") (codes "abc")); last = last })
 
--- in a network with this key, where it has one
+-- the terms in a network with this key, where it has one
 abbrev keyed : Option (List ℕ) → NodeTerms
 keyed key = terms_of 1 3 [] (option_map (λ k. record { key = k; accept = codes "old" ∷ [] }) key)
 
--- to node 1 from node 2: a rejoin of ask 7, whose bytes are `rejoin_bytes`
+-- a message to node 1 from node 2: a rejoin of ask 7, whose bytes are `rejoin_bytes`
 abbrev to_this_node : Message
 to_this_node = record { from = 2; to = 1; body = bodies.Rejoin 7 }
 
@@ -74,14 +74,14 @@ to_this_node = record { from = 2; to = 1; body = bodies.Rejoin 7 }
 abbrev posted : Option (List ℕ) → Head
 posted mac = record (head methods.Post (codes "/!overcast") [] 17) { mac = mac }
 
--- what came is a head of 40 bytes and this body
+-- a request that came: a head of 40 bytes and this body
 abbrev judged_under : Option (List ℕ) → Head → List ℕ → Verdict → Type 0
 judged_under key head body verdict = after_head (keyed key) (arrival 7 1 false comings.Open) (40 + length body) (record head { length = length body }) body ≡ verdict
 
 abbrev read : Hint → Verdict
 read hint = verdicts.Ask (record { count = 40; asked = record { operation = asks.Client (codes "/a") 0 0 Follow; hint = hint }; input = Some (inputs.Client 0 0 (codes "/a")); last = false })
 
--- what is to be done with a connection
+-- the verdicts on a connection
 pub record AreJudged : Type 0 where
   pub waits : came_open cut_publish (codes "ab") 42 verdicts.Wait
   pub ended : after_head open_terms (arrival 7 1 false comings.Ended) 42 cut_publish (codes "ab") ≡ refuse false refusals.Ended
@@ -113,7 +113,7 @@ pub record AreJudged : Type 0 where
 abbrev asks_under : List Rule → Method → List ℕ → List ℕ → Result Asked Refused → Type 0
 asks_under rules method path query wanted = asked_with_hint (head method path query 0) rules ≡ wanted
 
--- what a query tells
+-- the hints of queries
 pub record AreHinted : Type 0 where
   pub nothing : hint_in (codes "start=4&known=1&Here") ≡ Ok hints.Plain
   pub known : hint_in (codes "start=4&known") ≡ Ok hints.Known
@@ -134,11 +134,11 @@ pub record AreHinted : Type 0 where
   pub not_of_a_report : asks_under [] methods.Get (codes "/!status") (codes "of=5&here") (Ok (record { operation = asks.Report reports.Status Once; hint = hints.Plain }))
   pub not_of_a_probe : asks_under closed methods.Get (codes "/!probe") (codes "of=x") (Ok (record { operation = asks.Probe Once; hint = hints.Plain }))
 
--- what the node `me` says of a condition, where it has five bytes of group `/a`
+-- the answer of the node `me` to a condition, where it has five bytes of group `/a`
 abbrev says_of : Operation → ℕ → Option Refusal → Type 0
 says_of operation me wanted = unmet operation me (record { group = codes "/a"; held = 5; sealed = true } ∷ []) ≡ wanted
 
--- when a condition is met
+-- the conditions that are met, and those that are not
 pub record AreConditions : Type 0 where
   pub met : says_of (asks.Publish (codes "/a") (Some 5)) 1 None
   pub shorter : says_of (asks.Publish (codes "/a") (Some 4)) 1 (Some (refusing (refusals.At 5)))
@@ -152,7 +152,7 @@ pub record AreConditions : Type 0 where
 abbrev groups : List Group
 groups = record { name = codes "/a"; bytes = codes "hello"; sealed = false } ∷ []
 
--- of group `/a`, from this byte up to that one
+-- the content of group `/a` from one byte up to another
 abbrev content : ℕ → ℕ → Bool → UnderWay
 content at end chunked = record { group = codes "/a"; at = at; end = end; chunked = chunked }
 
@@ -162,7 +162,7 @@ first_piece u = piece_text u (piece_of u groups)
 abbrev after_piece : UnderWay → Option UnderWay
 after_piece u = rest_after u (length (piece_of u groups))
 
--- what is given of a content
+-- the pieces of a content
 pub record ArePieces : Type 0 where
   pub plain : first_piece (content 2 5 false) ≡ codes "llo"
   pub plain_is_whole : after_piece (content 2 5 false) ≡ None
@@ -185,7 +185,7 @@ holds_none = record { there = false; held = 0; sealed = false }
 abbrev client : ℕ → Manner → Operation
 client start manner = asks.Client (codes "/a") 0 start manner
 
--- what waits
+-- the requests that wait
 pub record AreWaiting : Type 0 where
   pub held : holding (codes "/a") (record { group = codes "/"; held = 1; sealed = true } ∷ record { group = codes "/a"; held = 5; sealed = false } ∷ []) ≡ holds 5 false
   pub not_held : holding (codes "/a") (record { group = codes "/"; held = 1; sealed = true } ∷ []) ≡ holds_none
@@ -239,15 +239,15 @@ asks_with operation hint = record { operation = operation; hint = hint }
 abbrev rejoin : Message
 rejoin = record { from = 1; to = 2; body = bodies.Rejoin 7 }
 
--- what is answered to a request, where this message goes back
+-- the answer to a request, where this message goes back
 abbrev answered_with : Operation → Answer → Option Message → Response → Type 0
 answered_with operation answer back wanted = response_for (asks_with operation hints.Plain) false answer back holds_none addresses None [] ≡ wanted
 
--- what a client is answered that tells this
+-- the answer to a client that tells this
 abbrev shows : Operation → Hint → Bool → Answer → Holding → Response
 shows operation hint last answer h = response_for (asks_with operation hint) last answer None h addresses None []
 
--- what a client is answered, and anyone
+-- the answers to a client, and to anyone
 pub record AreShown : Type 0 where
   pub plain : shows (client 2 Once) hints.Plain false (answers.Serve 3) (holds 5 false) ≡ gives (codes "Content-Length: 3" ∷ closes ∷ []) (from_to 2 3 false) Close
   pub told : shows (client 2 Once) (hints.Of 9) false (answers.Serve 3) (holds 5 false) ≡ gives (codes "Content-Length: 7" ∷ closes ∷ []) (from_to 2 7 false) Close

@@ -1,4 +1,4 @@
--- What a node tells of itself, as it is asked.
+-- The reports of a node, as they are asked for.
 use Rattle.std.specs.Prelude.{ℕ, Bool, None, List, [], ◌++◌, length}
 use Rattle.oc_base.specs.declared.shelf.Shelf.{Shelf}
 use Rattle.oc_http.specs.Writing.{head_text}
@@ -30,12 +30,12 @@ report_text reports.Status n shelf messages = status_text n shelf
 report_text reports.Metrics n shelf messages = metrics_text n shelf messages
 report_text reports.Page n shelf messages = page_text
 
--- What is told where that is asked, and else nothing.
+-- The text of the report that is asked for; without one no text.
 abbrev pub report_of : Operation → Control → List Shelf → ℕ → List ℕ
 report_of (asks.Report report manner) n shelf messages = report_text report n shelf messages
 report_of other n shelf messages = []
 
--- to one who asks what the node tells of itself, which is this
+-- the reply to a request for a report with this text
 abbrev pub report_response : Report → Manner → Bool → List ℕ → Response
 report_response report manner last text = record {
   text = head_text (typed_as (content_type_of report) []) (framings.Length (length text)) (connection_for manner last) ++ body_for manner text;

@@ -1,4 +1,4 @@
--- What the replies of the routes are made of.
+-- The parts of the replies of the routes.
 use Rattle.std.specs.Prelude.{ℕ, ◌-◌, Bool, true, false, Option, Some, None, unwrap_or, List, [], slice_index_or}
 use Rattle.oc_http.specs.Writing.{response_text}
 use Rattle.oc_http.specs.declared.content_type.ContentType.{ContentType}

@@ -1,4 +1,4 @@
--- The table of routes: what the head of a request asks of a node, which input results from it, and what it is answered.
+-- The table of routes: the operation that the head of a request asks of a node, the input that results, and the answer.
 use Rattle.std.specs.Prelude.{◌≡◌, ℕ, ◌-◌, Bool, true, false, not, ◌&&◌, ◌||◌, nat_eq, if◌then◌else◌, Option, Some, None, Result, Ok, Err, List, [], ◌∷◌, codes, take}
 use Rattle.std.specs.List.{list_any, starts_with}
 use Rattle.std.specs.Str.{bytes_eq}
@@ -48,16 +48,16 @@ use Rattle.oc_routes.specs.declared.report.Report.{Report}
 use Rattle.oc_routes.specs.declared.report.Report.TheVariants as reports
 use Rattle.oc_routes.specs.declared.response.Response.{Response}
 
--- What a path names
+-- The resources that paths name
 
--- what a method does: GET and HEAD read, POST writes
+-- the action of a method: GET and HEAD read, POST writes
 abbrev pub action_of : Method → Result Action Refused
 action_of methods.Get = Ok Get
 action_of methods.Head = Ok Get
 action_of methods.Post = Ok Post
 action_of methods.Other = Err refusals.Method
 
--- the paths that name no group, with what is read there, and what is posted: messages are posted, a probe and reports are
+-- the paths that name no group, with the resources that are read there and posted there: messages are posted, a probe and reports are
 -- read, each report by two names
 abbrev pub rows : Action → List (List ℕ × Resource)
 rows Get =
@@ -71,7 +71,7 @@ rows Get =
     ∷ []
 rows Post = (message_path, Messages) ∷ []
 
--- what the first row of this path names
+-- the resource that the first row of this path names
 abbrev pub named_in : List ℕ → List (List ℕ × Resource) → Option Resource
 named_in path [] = None
 named_in path (row ∷ more) = if bytes_eq path (row.0) then Some (row.1) else named_in path more
@@ -95,24 +95,24 @@ abbrev pub resource_or : Option Resource → List ℕ → Result Resource Refuse
 resource_or (Some resource) path = Ok resource
 resource_or None path = if is_own path then Err refusals.Path else group_in path
 
--- what a path names: a row of the table, and any other path that is not the program's is a group
+-- the resource that a path names: a row of the table, and any other path that is not the program's is a group
 abbrev pub resource_in : Action → List ℕ → Result Resource Refused
 resource_in action path = resource_or (resource_at action path) path
 
--- the same of a path as it was asked for, which is none where an escape of it is broken
+-- the resource of a path as it was asked for, which is none where an escape is broken
 abbrev pub resource_named : Action → Option (List ℕ) → Result Resource Refused
 resource_named action None = Err refusals.Path
 resource_named action (Some path) = resource_in action path
 
--- Which access rules speak of it
+-- The access rules that speak of a resource
 
--- a report is to the rules what a group of its name with `/-/` would be; the page is `/-`, which lies within the same prefixes as `/-/`
+-- the name of a report for the rules, which is that of a group with `/-/`; the page is `/-`, which lies within the same prefixes as `/-/`
 abbrev pub report_name : Report → List ℕ
 report_name reports.Status = codes "/-/status"
 report_name reports.Metrics = codes "/-/metrics"
 report_name reports.Page = codes "/-"
 
--- the name by which the rules speak of it; all else is permitted to all
+-- the name by which the rules speak of a resource; all else is permitted to all
 abbrev pub name_of : Resource → Option (List ℕ)
 name_of (Group group) = Some group
 name_of (OwnReport report) = Some (report_name report)
@@ -126,7 +126,7 @@ would_allow action name area rule = rule.allow && rule_matches (record rule { to
 abbrev pub needs_token : List Rule → Action → List ℕ → ℕ → ℕ → Bool
 needs_token rules action name area number = list_any (would_allow action name area) (take (number - 1) rules)
 
--- what the rules let through; of who has shown nothing that could be a token, it is told whether one would do
+-- the decision of the rules; who has shown nothing that could be a token is told whether one would do
 abbrev pub permitted_by : List Rule → Action → List ℕ → ℕ → Bool → Decision → Result (Unit {0}) Refused
 permitted_by rules action name area bare Allowed = Ok tt
 permitted_by rules action name area bare (Denied rule) = Err (refusals.Denied rule (bare && needs_token rules action name area rule))
@@ -139,9 +139,9 @@ permitted_as rules action (Some name) area bare shown = permitted_by rules actio
 abbrev pub permitted : List Rule → Action → Resource → ℕ → Bool → Option (List ℕ) → Result (Unit {0}) Refused
 permitted rules action resource area bare shown = permitted_as rules action (name_of resource) area bare shown
 
--- What is asked
+-- The operation that is asked
 
--- what is asked of a group: a part `seal` counts in a POST alone
+-- the operation on a group: a part `seal` counts in a POST alone
 abbrev pub asked_of_group : Method → ℕ → Query → List ℕ → Operation
 asked_of_group methods.Post minor query group = if query.seal then operations.Seal group query.at else operations.Publish group query.at
 asked_of_group method minor query group = operations.Client group query.area query.start (manner_of method minor query.follow)
@@ -151,14 +151,14 @@ abbrev pub is_conditional : Action → Resource → Bool
 is_conditional Post (Group group) = true
 is_conditional action resource = false
 
--- what is asked of a resource
+-- the operation on a resource
 abbrev pub asked_at : Method → ℕ → Query → Resource → Operation
 asked_at method minor query Messages = operations.Message
 asked_at method minor query Probe = operations.Probe (manner_of method minor query.follow)
 asked_at method minor query (OwnReport report) = operations.Report report (manner_of method minor query.follow)
 asked_at method minor query (Group group) = asked_of_group method minor query group
 
--- What a head asks under these access rules, or the first fault: method, path, query, rules.
+-- The operation of a head under these access rules, or the first fault: method, path, query, rules.
 abbrev pub asked : Head → List Rule → Result Operation Refused
 asked head rules = do
   action ← action_of head.method
@@ -167,9 +167,9 @@ asked head rules = do
   allowed ← permitted rules action resource query.area (not head.has_authorization) head.authorization
   Ok (asked_at head.method head.minor query resource)
 
--- Which input results from a request
+-- The input that results from a request
 
--- The input of the node `me`, one of `nodes` nodes, that results from what was asked and from the body; a probe and a report give none.
+-- The input of the node `me`, one of `nodes` nodes, that results from an operation and the body; a probe and a report give none.
 abbrev pub input_asked : ℕ → ℕ → Operation → List ℕ → Result (Option Input) Refused
 input_asked nodes me operations.Message body = delivered me (decoded nodes body)
 input_asked nodes me (operations.Publish group at) body = Ok (Some (inputs.Publish group body))
@@ -177,15 +177,15 @@ input_asked nodes me (operations.Seal group at) body = seal_input group body
 input_asked nodes me (operations.Client group area start manner) body = Ok (Some (inputs.Client area start group))
 input_asked nodes me other body = Ok None
 
--- what a call gave is what is said, unless memory ran out
+-- the result of a call, which is the one that is said, unless memory ran out
 abbrev pub Gives : {A : Type 0} → Result A RouteFault → Result A Refused → Type 0
 Gives (Ok value) said = said ≡ Ok value
 Gives (Err (faults.Refused refused)) said = said ≡ Err refused
 Gives (Err faults.Memory) said = Unit {0}
 
--- What a request is answered
+-- The answer to a request
 
--- to what was asked
+-- the answer to an operation
 abbrev pub response_to : Operation → Hint → Bool → Answer → Option Message → Holding → List (Option (List ℕ)) → Option (List ℕ) → List ℕ → Response
 response_to operations.Message hint last answer back h addresses key report = message_response key back
 response_to (operations.Publish group at) hint last answer back h addresses key report = publish_response answer (source_in addresses) group
@@ -195,8 +195,8 @@ response_to (operations.Client group area start manner) hint last answer back h 
 response_to (operations.Probe manner) hint last answer back h addresses key report = probe_response manner last
 response_to (operations.Report what manner) hint last answer back h addresses key report = report_response what manner last report
 
--- What a request is answered for this answer of its step, with this message that goes back to the sender of a message, by
--- what the node holds of the group, the addresses and the key of the network, and what the node tells of itself; `last` says
+-- The answer to a request for this answer of its step, with this message that goes back to the sender of a message, by
+-- the node's holding of the group, the addresses and the key of the network, and the report of the node; `last` says
 -- that the request is the last of its connection whatever it asks.
 abbrev pub response_for : Asked → Bool → Answer → Option Message → Holding → List (Option (List ℕ)) → Option (List ℕ) → List ℕ → Response
 response_for asked last answer back h addresses key report = response_to asked.operation asked.hint last answer back h addresses key report

@@ -21,15 +21,15 @@ leased_among ends cs = map (λ c. record { child = c; lease = at ends c.id None 
 abbrev pub leased_of : Control → List Leased
 leased_of n = leased_among n.leases (told_children n.kept.table n.me n.rates)
 
--- How the rows are found that are listed, where these nodes are the listed ones of the rows from here on.
+-- The rows that are listed, where these nodes are the listed ones of the rows from here on.
 
--- the node of this row is the first of them
+-- the node of this row is the first of the listed ones
 abbrev pub is_first : Option Cert → List ℕ → Bool
 is_first None xs = false
 is_first (Some k) [] = false
 is_first (Some k) (x ∷ xs) = x == k.subject
 
--- those of the rows after it
+-- the listed nodes of the rows after this row
 abbrev pub after_row : Bool → List ℕ → List ℕ
 after_row true xs = drop 1 xs
 after_row false xs = xs

@@ -10,11 +10,11 @@ use Rattle.oc_routes.specs.declared.refused.Refused.{Refused}
 use Rattle.oc_routes.specs.declared.refused.Refused.TheVariants as refusals
 use Rattle.oc_routes.specs.declared.response.Response.{Response}
 
--- its input; a body is refused
+-- the input of a seal; a body is refused
 abbrev pub seal_input : List ℕ → List ℕ → Result (Option Input) Refused
 seal_input group body = if length body == 0 then Ok (Some (inputs.Seal group)) else Err refusals.Body
 
--- what its step answers
+-- the answers of the step of a seal
 abbrev pub IsSealAnswer : Answer → Type 0
 IsSealAnswer answers.Ok = ⊤
 IsSealAnswer answers.Ignored = ⊤
@@ -22,14 +22,14 @@ IsSealAnswer answers.NotSource = ⊤
 IsSealAnswer answers.NoGroup = ⊤
 IsSealAnswer answer = ⊥
 
--- to a seal, which is answered `Ok`, `Ignored`, `NotSource` or `NoGroup`
+-- the status for a seal, which is answered `Ok`, `Ignored`, `NotSource` or `NoGroup`
 abbrev pub seal_status : Answer → ℕ
 seal_status answers.Ok = 200
 seal_status answers.Ignored = 200
 seal_status answers.NoGroup = 404
 seal_status refusal = 403
 
--- and what is told by a refusal, where the source has this address, and this is the group
+-- the reply to a seal, where the source has this address, and this is the group
 abbrev pub seal_response : Answer → List ℕ → List ℕ → Response
 seal_response answer source group =
     if seal_status answer == 200 then status_alone 200 else told (seal_status answer) (seal_line answer source group)

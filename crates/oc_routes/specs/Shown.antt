@@ -1,4 +1,4 @@
--- What a client is shown by what it tells, and where it is sent.
+-- The answer that a client is shown by its hint, and the place to which it is sent.
 use Rattle.std.specs.Prelude.{ℕ, ◌-◌, Bool, true, false, ◌==◌, if◌then◌else◌, List, [], ◌++◌, codes, decimal}
 use Rattle.oc_http.specs.Escapes.{path_text}
 use Rattle.oc_model.specs.declared.answer.Answer.{Answer}
@@ -38,7 +38,7 @@ shown Known answer h start = known_shown answer h.sealed
 
 -- Locations
 
--- what is told of a group to the next node: its length where it is sealed here, and else what the client tells
+-- the hint about a group for the next node, where it is not sealed here: its length, or `known`
 abbrev pub hint_text : Hint → List ℕ
 hint_text (Of length) = codes "of=" ++ decimal length
 hint_text other = codes "known"
@@ -53,7 +53,7 @@ abbrev pub follow_text : Manner → List ℕ
 follow_text manners.Follow = codes "&follow"
 follow_text manner = []
 
--- the URL to which a client is sent: the group's path, `start=N` where N is not 0, then what is told, then `follow`
+-- the URL to which a client is sent: the group's path, `start=N` where N is not 0, then the hint, then `follow`
 abbrev pub location_of : List ℕ → List ℕ → ℕ → List ℕ → Manner → List ℕ
 location_of address group start told manner =
     codes "http://" ++ address ++ path_text group ++ codes "?" ++ start_text start ++ told ++ follow_text manner

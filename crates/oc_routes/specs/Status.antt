@@ -1,4 +1,4 @@
--- What a node tells of itself at `/!status`: one object of JSON, and a line's end.
+-- The report of a node at `/!status`: one object of JSON, and a line's end.
 use Rattle.std.specs.Prelude.{ℕ, not, Option, Some, None, List, ◌++◌, codes, decimal}
 use Rattle.oc_base.specs.declared.cert.Cert.{Cert}
 use Rattle.oc_base.specs.declared.rank.Rank.{Rank}
@@ -27,7 +27,7 @@ peer_of mode = None
 abbrev pub rank_text : Rank → List ℕ
 rank_text rank = quoted (decimal rank.epoch ++ codes "." ++ decimal rank.depth)
 
--- which node it is, and in which network
+-- the id of the node, and its network
 abbrev pub network_text : Control → List ℕ
 network_text n =
     codes "\"node\":" ++ number_text n.me
@@ -35,7 +35,7 @@ network_text n =
     ++ codes ",\"chain\":" ++ number_text n.chain
     ++ codes ",\"chunk\":" ++ number_text n.chunk
 
--- its place in the tree
+-- the place of the node in the tree
 abbrev pub place_text : Control → List ℕ
 place_text n =
     codes ",\"mode\":" ++ quoted (mode_word n.kept.mode)
@@ -43,7 +43,7 @@ place_text n =
     ++ codes ",\"seq\":" ++ number_text n.kept.seq
     ++ codes ",\"rank\":" ++ or_null rank_text n.kept.rank
 
--- its clock, its change log, its own number and count of clients
+-- the clock of the node, its change log, its own number and count of clients
 abbrev pub counts_text : Control → List ℕ
 counts_text n =
     codes ",\"clock\":" ++ number_text n.soft.clock
@@ -52,14 +52,14 @@ counts_text n =
     ++ codes "},\"number\":" ++ number_text n.kept.number
     ++ codes ",\"clients\":" ++ number_text n.kept.clients
 
--- what it holds of a group
+-- the node's holding of a group
 abbrev pub group_text : Shelf → List ℕ
 group_text line =
     codes "{\"name\":" ++ quoted line.group
     ++ codes ",\"bytes\":" ++ number_text line.held
     ++ codes ",\"sealed\":" ++ flag_text line.sealed ++ codes "}"
 
--- what a certificate says of its node: at which ask of which parent it is, and whether it is up
+-- the part of a certificate about its node: the ask and the parent where the node is, and whether it is up
 unfoldable pub cert_text : Cert → List ℕ
 cert_text cert =
     codes "{\"node\":" ++ number_text cert.subject
@@ -67,7 +67,7 @@ cert_text cert =
     ++ codes ",\"seq\":" ++ number_text cert.seq
     ++ codes ",\"up\":" ++ flag_text (not cert.dead)
 
--- and what the node told of itself: its own number and count of clients
+-- the part of a certificate that the node told: its own number and count of clients
 unfoldable pub own_text : Cert → List ℕ
 own_text cert =
     codes ",\"number\":" ++ number_text cert.number

@@ -1,4 +1,4 @@
--- Worked examples: what nodes tell of themselves.
+-- Worked examples of the reports of nodes.
 use Rattle.std.specs.Prelude.{◌≡◌, ℕ, true, false, Some, None, List, [], ◌∷◌, ◌++◌, codes}
 use Rattle.oc_base.specs.declared.cert.Cert.{Cert}
 use Rattle.oc_base.specs.declared.shelf.Shelf.{Shelf}

@@ -1,4 +1,4 @@
--- When a content under way and a client that has all wait, in the words of their groups.
+-- The cases in which a content under way waits, and a client that has all, in the words of their groups.
 use Rattle.std.specs.Prelude.{◌≡◌, ℕ, ◌-◌, ◌<◌, ◌≤◌, false}
 use Rattle.oc_routes.specs.declared.holding.Holding.{Holding}
 use Rattle.oc_routes.specs.declared.waiting.Follower.{Follower}

@@ -1,4 +1,4 @@
--- What is to be done with the bytes that came on a connection.
+-- The verdict on the bytes that came on a connection.
 use Rattle.std.specs.Prelude.{◌≡◌, ℕ, ◌+◌, ◌-◌, Bool, true, false, not, ◌&&◌, nat_lt, if◌then◌else◌, Option, Some, None, Result, Ok, Err, List, [], ◌∷◌, length, take}
 use Rattle.oc_link.specs.declared.event.Arrival.{Arrival}
 use Rattle.oc_link.specs.declared.event.Coming.{Coming}
@@ -30,7 +30,7 @@ use Rattle.oc_routes.specs.declared.verdict.Request.{Request}
 use Rattle.oc_routes.specs.declared.verdict.Verdict.{Verdict}
 use Rattle.oc_routes.specs.declared.verdict.Verdict.TheVariants.{Wait, Leave, Permit, Refuse, Ask}
 
--- by what requests are read: the node's id, among how many, its access rules, and the keys of its network, where it has some
+-- the terms by which requests are read: the node's id, the number of nodes, the access rules, and the keys of the network, where it has some
 pub record NodeTerms : Type 0 where
   pub me : ℕ
   pub nodes : ℕ
@@ -83,7 +83,7 @@ whole t head request body =
     if is_forged t.keys request.asked.operation head.mac body then refuse (is_head head.method) refusals.Mac
     else answered head request (input_asked t.nodes t.me request.asked.operation body)
 
--- a head that asks this, with what came after it of the bytes that came
+-- the verdict on a head with this operation, with the bytes that came after it
 abbrev pub with_body : NodeTerms → Arrival → ℕ → Head → List ℕ → Asked → Verdict
 with_body t a came head rest said =
     if awaits_continue head && not a.permitted then Permit
@@ -99,7 +99,7 @@ abbrev pub routed : NodeTerms → Arrival → ℕ → Head → List ℕ → Resu
 routed t a came head rest (Ok said) = with_body t a came head rest said
 routed t a came head rest (Err why) = refuse (is_head head.method) why
 
--- a whole head, with what came after it
+-- the verdict on a whole head, with the bytes that came after it
 abbrev pub after_head : NodeTerms → Arrival → ℕ → Head → List ℕ → Verdict
 after_head t a came head rest = routed t a came head rest (asked_with_hint head t.rules)
 
@@ -113,16 +113,16 @@ abbrev pub unread : Coming → Bool → Bool → Option RouteFault → Verdict
 unread coming none head_alone None = unfinished coming none
 unread coming none head_alone (Some fault) = refused_for head_alone fault
 
--- what a reader of heads took of these bytes, of which it left that
+-- the bytes that a reader of heads took of these, of which it left those
 abbrev pub taken : List ℕ → List ℕ → List ℕ
 taken bytes rest = take (length bytes - length rest) bytes
 
--- what a reader of heads answered, with what it left; a head with a fault is a HEAD where it begins so
+-- the verdict on the answer of a reader of heads, with the bytes that it left; a head with a fault is a HEAD where it begins as one
 abbrev pub verdict_for : NodeTerms → Arrival → List ℕ → List ℕ → Result Head HttpFault → Verdict
 verdict_for t a bytes rest (Ok head) = after_head t a (length bytes) head rest
 verdict_for t a bytes rest (Err fault) = unread a.coming (is_none bytes) (begins_with_head (taken bytes rest)) (fault_met fault)
 
--- The verdict on these bytes: what a source that gives these bytes and then ends is answered, where its end is what it is here.
+-- The verdict on these bytes: the answer to a source that gives these bytes and then ends, where its end is what it is here.
 pub record IsVerdict (t : NodeTerms) (a : Arrival) (bytes : List ℕ) (v : Verdict) : Type 0 where
   pub answer : Result Head HttpFault
   pub rest : List ℕ

@@ -1,4 +1,4 @@
--- What waits at a node, and until when: a content whose end is told, and a client that follows a group and has all of it.
+-- The requests that wait at a node, and their times: a content whose end is told, and a client that follows a group and has all of its bytes.
 use Rattle.std.specs.Prelude.{ℕ, ◌-◌, Bool, true, false, not, ◌&&◌, ◌||◌, ◌==◌, nat_lt, nat_le, if◌then◌else◌, Option, Some, None, List, find}
 use Rattle.std.specs.Str.{bytes_eq}
 use Rattle.oc_base.specs.declared.shelf.Shelf.{Shelf}
@@ -16,13 +16,13 @@ use Rattle.oc_routes.specs.declared.waiting.Prospect.{Prospect}
 use Rattle.oc_routes.specs.declared.waiting.Prospect.TheVariants.{Gives, Waits, Breaks}
 use Rattle.oc_routes.specs.declared.waiting.TheConstants.{FOLLOW_MILLIS, IDLE_MILLIS}
 
--- What a node holds
+-- The holdings of a node
 
 abbrev pub holding_of : Option Shelf → Holding
 holding_of None = record { there = false; held = 0; sealed = false }
 holding_of (Some line) = record { there = true; held = line.held; sealed = line.sealed }
 
--- what a node with this shelf holds of the group of this name
+-- the holding of the group of this name, at a node with this shelf
 abbrev pub holding : List ℕ → List Shelf → Holding
 holding group lines = holding_of (find (λ line. bytes_eq line.group group) lines)
 
@@ -51,12 +51,12 @@ abbrev pub is_to_wait : Operation → Hint → Answer → Holding → Bool
 is_to_wait (asks.Client group area start Follow) hint answer h = gives_nothing hint answer h start
 is_to_wait asked hint answer h = false
 
--- its group has grown past its start, or was sealed, or its time has passed
+-- a follower whose group has grown past its start, or was sealed, or whose time has passed
 abbrev pub is_due : Follower → Holding → ℕ → Bool
 is_due f h now = nat_lt f.start h.held || h.sealed || nat_le FOLLOW_MILLIS (now - f.since)
 
 -- Times
 
--- how many of these milliseconds are left
+-- the number of these milliseconds that are left
 abbrev pub left_of : ℕ → ℕ → ℕ → ℕ
 left_of most since now = most - (now - since)

@@ -6,9 +6,9 @@ ghost use Rattle.oc_routes.specs.Status.{list_text};
 
 use oc_base::{Memory, put};
 
-/// What an array contains.
+/// An item of an array.
 pub(crate) trait ArrayItem {
-    /// Its text.
+    /// The text of the item.
     ghost text: { Self → List ℕ };
 
     /// Puts its text.

@@ -11,8 +11,8 @@ use oc_base::{GroupName, NodeId, Shelf};
 /// The node at which groups are published.
 const SOURCE: NodeId = NodeId(1);
 
-/// Why the node `me` with this shelf refuses what is asked for its condition, if it does: at the source the group has
-/// another length than the request says, and the refusal carries this length. It is asked before the input is taken.
+/// The refusal of the node `me` with this shelf for the condition of an operation: at the source the group has
+/// another length than the request says, and the refusal has this length. It is asked before the input is taken.
 pub fn unmet(operation: &Operation, me: NodeId, shelf: &[Shelf]) -> Option<Refusal>
     ensures { result ≡ unmet operation.now me shelf.now }
 {

@@ -6,7 +6,7 @@ use oc_http::Head;
 /// The greatest number of requests on one connection.
 pub const MAX_REQUESTS: u64 = 16;
 
-/// What is written before the body is read, where the client waits for it (RFC 9110, section 15.2.1).
+/// The text before the body is read, where the client waits for it (RFC 9110, section 15.2.1).
 pub const CONTINUE: &[u8] = b"HTTP/1.1 100 Continue\r\n\r\n";
 
 /// Whether the request of this number, counted from 1, is the last of its connection whatever it asks.

@@ -4,7 +4,7 @@ ghost use Rattle.oc_routes.specs.Contents.{begun, rest_after, is_last};
 use crate::GroupRange;
 use oc_base::GroupName;
 
-/// How many bytes of a content are given at a time: 64 whole chunks.
+/// The number of bytes of a content that are given at a time: 64 whole chunks.
 pub const PIECE_BYTES: usize = 262_144;
 
 /// The content of a group that is under way: a place in the group.
@@ -15,7 +15,7 @@ pub struct UnderWay {
     pub at: u64,
     /// The offset at which it ends.
     pub end: u64,
-    /// It is given as chunks (RFC 9112, section 7.1).
+    /// Whether the content is given as chunks (RFC 9112, section 7.1).
     pub chunked: bool,
 }
 
@@ -33,14 +33,14 @@ impl UnderWay {
         }
     }
 
-    /// Whether nothing of it is left after `count` bytes more.
+    /// Whether the content has nothing left after `count` bytes more.
     pub fn is_last(&self, count: usize) -> bool
         ensures { result ≡ is_last self.now count }
     {
         self.end <= self.at.saturating_add(count as u64)
     }
 
-    /// What is under way after `count` bytes more; `None` where all of it was given.
+    /// The content under way after `count` bytes more; `None` where all of it was given.
     pub fn rest_after(self, count: usize) -> Option<UnderWay>
         ensures { result ≡ rest_after self count }
     {

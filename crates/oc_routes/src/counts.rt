@@ -1,4 +1,4 @@
-//! What is counted of a node.
+//! The counts of a node.
 
 ghost use Rattle.std.specs.Prelude.{◌≡◌, filter, length};
 ghost use Rattle.oc_model.specs.Table.{is_lease_of};
@@ -9,14 +9,14 @@ use crate::rows::Row;
 use oc_base::NodeId;
 use oc_node::Node;
 
-/// What is counted of a node for its metrics.
+/// The counts of a node for its metrics.
 #[derive(Clone, Copy)]
 pub(crate) struct Counts {
     /// Nodes listed beneath it.
     pub(crate) listed: u64,
     /// Rows of its table.
     pub(crate) rows: u64,
-    /// Its leased children.
+    /// The leased children of the node.
     pub(crate) children: u64,
     /// The clients in its own count.
     pub(crate) clients: u64,
@@ -38,14 +38,14 @@ pub(crate) fn counted(node: &Node, rows: &[Row]) -> Counts
     }
 }
 
-/// How many of these rows are listed.
+/// The number of these rows that are listed.
 fn listed_among(rows: &[Row]) -> usize
     ensures { result ≡ length (filter (λ row. row.listed) rows.now) }
 {
     rows.iter().filter(|row| row.listed).count()
 }
 
-/// How many of these rows are of leased children of a node.
+/// The number of these rows that are of leased children of a node.
 fn children_among(rows: &[Row], me: NodeId) -> usize
     ensures { result ≡ length (filter (λ row. is_lease_of me row.cert) rows.now) }
 {

@@ -1,6 +1,6 @@
 use oc_policy::Key;
 
-/// What the replies of a node depend on of its network.
+/// The parts of its network that the replies of a node depend on.
 #[derive(Clone, Copy, Drop)]
 pub struct Directory<'a> {
     /// The addresses of the nodes, by their ids, where they have one.

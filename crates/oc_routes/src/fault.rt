@@ -9,7 +9,7 @@ use std::alloc::{AllocError, AllocFailed};
 use std::error::Error;
 use std::fmt;
 
-/// Why a request gave nothing.
+/// The cause that a request gave nothing.
 #[derive(Clone, Copy, Debug, PartialEq, Eq)]
 pub enum RouteFault {
     /// The request is refused.

@@ -1,4 +1,4 @@
-//! What the query of a GET or HEAD of a group tells besides start and area.
+//! The hint in the query of a GET or HEAD of a group, besides start and area.
 
 ghost use Rattle.std.specs.Prelude.{◌≡◌, ◌≤◌, length, IfOk};
 ghost use Rattle.oc_base.specs.declared.limits.TheConstants.{MAX_START as START_LIMIT};
@@ -13,7 +13,7 @@ use oc_base::MAX_START;
 use oc_http::{Head, Method};
 use oc_policy::Rule;
 
-/// What a client that asks for a group tells of it.
+/// The hint of a client that asks for a group: its knowledge of the group.
 #[derive(Clone, Copy, Debug, PartialEq, Eq)]
 pub enum Hint {
     /// Nothing.
@@ -26,14 +26,14 @@ pub enum Hint {
     Known,
 }
 
-/// What a head asks, and what it tells.
+/// The operation of a head, and its hint.
 #[derive(Clone, Copy, Debug)]
 pub struct Asked {
     pub operation: Operation,
     pub hint: Hint,
 }
 
-/// What the head of a request asks under these access rules, with what its query tells, or the first
+/// The operation of the head of a request under these access rules, with the hint of its query, or the first
 /// fault: of the method, the path, the query, and then the rule that denies it. Takes no memory.
 pub fn route_with_hint(head: &Head, rules: &[Rule]) -> Result<Asked, Refused>
     requires { length rules.now ≤ MOST_RULES }
@@ -60,7 +60,7 @@ pub fn route_with_hint(head: &Head, rules: &[Rule]) -> Result<Asked, Refused>
     }
 }
 
-/// This is asked, and nothing is told.
+/// This operation, without a hint.
 fn plain(operation: Operation) -> Asked
     ensures { result ≡ record { operation = operation; hint = Hint.Plain } }
 {
@@ -70,7 +70,7 @@ fn plain(operation: Operation) -> Asked
     }
 }
 
-/// What a query tells, which only that of a GET or HEAD does.
+/// The hint of a query; only that of a GET or HEAD has one.
 fn hint_for(method: Method, query: &[u8]) -> Result<Hint, Refused>
     ensures { result ≡ hint_for method query.now }
 {
@@ -80,7 +80,7 @@ fn hint_for(method: Method, query: &[u8]) -> Result<Hint, Refused>
     }
 }
 
-/// What a query tells.
+/// The hint of a query.
 fn hint_in(query: &[u8]) -> Result<Hint, Refused>
     ensures { result ≡ hint_in query.now }
 {
@@ -88,7 +88,7 @@ fn hint_in(query: &[u8]) -> Result<Hint, Refused>
     Ok(hint_of(has_part("here", query), has_part("known", query), length))
 }
 
-/// What these parts tell together.
+/// The hint of these parts together.
 fn hint_of(here: bool, known: bool, length: Option<u64>) -> Hint
     ensures { result ≡ hint_of here known length }
 {

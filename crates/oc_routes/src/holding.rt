@@ -4,18 +4,18 @@ ghost use Rattle.oc_routes.specs.Waits.{holding};
 
 use oc_base::{GroupName, Shelf};
 
-/// What a node holds of a group.
+/// A node's holding of a group.
 #[derive(Clone, Copy, Debug, PartialEq, Eq)]
 pub struct Holding {
     /// The group is there.
     pub there: bool,
-    /// How many of its bytes.
+    /// The number of its bytes that the node holds.
     pub held: u64,
     pub sealed: bool,
 }
 
 impl Holding {
-    /// What a node with this shelf holds of a group.
+    /// The holding of a group, at a node with this shelf.
     pub fn in_shelf(shelf: &[Shelf], group: &GroupName) -> Holding
         ensures { result ≡ holding group.now shelf.now }
     {

@@ -1,4 +1,4 @@
-//! What is to be done with the bytes that came on a connection so far.
+//! The verdict on the bytes that came on a connection so far.
 
 ghost use Rattle.std.specs.Prelude.{◌≡◌, ◌≤◌, ◌++◌, length, option_map, IfOk};
 ghost use Rattle.oc_base.specs.declared.limits.TheConstants.{MAX_BODY_BYTES as MOST_BODY};
@@ -18,8 +18,8 @@ use oc_link::{Arrival, Coming};
 use oc_model::Input;
 use std::alloc::Global;
 
-/// What is to be done with a connection for the bytes of its request that came so far. For a request it is
-/// what it would be if these bytes came in one piece, however they are cut.
+/// The verdict on a connection for the bytes of its request that came so far. For a request it is the one
+/// on the same bytes in one piece, however they are cut.
 pub fn judge(
     alloc: Global,
     heads: &mut HeadReader,
@@ -51,7 +51,7 @@ pub fn judge(
     }
 }
 
-/// What was taken of these bytes, of which that is left.
+/// The bytes that were taken of these, of which those are left.
 fn taken<'a>(bytes: &'a [u8], left: &[u8]) -> &'a [u8]
     ensures { result.now ≡ taken bytes.now left.now }
 {

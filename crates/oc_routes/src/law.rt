@@ -33,8 +33,8 @@ pub fn steps_answer_by_the_table()
     ensures client { (n : Node) (area start : ℕ) (group : List ℕ) → IsClientAnswer (step n (ClientInput area start group)).answer }
 {}
 
-/// What a request shows, as a token, decides only whether a rule denies it, and is told so by 401: what is asked, and each
-/// other refusal with its line and its reply, is the same whatever is shown.
+/// The token that a request shows decides only whether a rule denies the request, and 401 tells this: the operation, and
+/// each other refusal with its line and its reply, is the same whatever is shown.
 pub fn a_token_tells_nothing()
     ensures { (head : Head) (rules : List Rule) (p q : Bool) (x y : Option (List ℕ))
         → AreAlike (asked (record head { has_authorization = p; authorization = x }) rules) (asked (record head { has_authorization = q; authorization = y }) rules) }

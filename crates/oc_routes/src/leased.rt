@@ -33,7 +33,7 @@ pub(crate) fn leased_of(
     with_ends(alloc, &told, ends)
 }
 
-/// These children, each with the end of its lease.
+/// The children, each with the end of its lease.
 fn with_ends(
     alloc: Global,
     children: &[Child],

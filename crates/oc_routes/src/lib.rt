@@ -1,49 +1,49 @@
-//! Requests and replies of a running node, and what a node tells of itself: what the bytes of a connection ask of it,
-//! what that gives the node, and what it is answered, piece by piece. No link, disk or clock is in it: functions over
+//! Requests and replies of a running node, and its reports: the request in the bytes of a connection, the input
+//! that results, and the answer, piece by piece. No link, disk or clock is in it: functions over
 //! values.
 //!
-//! A request goes through the node as one value, and so does what answers it: its bytes give a [`Verdict`], which for a
-//! whole one is a [`Request`] with what it [`Asked`], and for a refused one a [`Refusal`]; after the step of its input the
-//! node has for it what is [`Answered`], of which [`respond`] makes the [`Response`].
+//! A request goes through the node as one value, and its answer too: its bytes give a [`Verdict`], which for a
+//! whole one is a [`Request`] with its operation ([`Asked`]), and for a refused one a [`Refusal`]; after the step of its
+//! input the node has the parts of the reply ([`Answered`]), of which [`respond`] makes the [`Response`].
 //!
 //! `src/routes.rt` and `specs/Routes` are the table of routes: which operation a head asks for under the access rules
 //! (`asked`), with its faults in their order, which input results from it and the body (`input_asked`), and the reply
-//! of each operation (`response_for`). What belongs to one route alone is in its file of `src/routes`, and its definitions
+//! of each operation (`response_for`). The parts of one route alone are in its file of `src/routes`, and its definitions
 //! are in `specs/Message`, `Publish`, `Seal`, `Group`, `Probe`, `Status`, `Metrics` and `Page`. `specs/Refusals` has the
-//! line and the reply of a refused request, and `specs/Reasons` the texts that say why and what to do: one line each
+//! line and the reply of a refused request, and `specs/Reasons` the texts with the cause and a remedy: one line each
 //! ([`a_refusal_is_one_line`]), made of nothing that a token, a key or a field could be in.
 //!
-//! The contracts used above: [`route`] gives exactly `asked`, [`input_of`] exactly `input_asked`, and what
-//! it gives is an input of this node; [`respond`] gives exactly `response_for` of the answer of the step.
+//! The contracts used above: [`route`] gives exactly `asked`, [`input_of`] exactly `input_asked`, and the
+//! input that it gives is one of this node; [`respond`] gives exactly `response_for` of the answer of the step.
 //! The content of a group is given in the [`Response`] as a [`GroupRange`]; the layer above reads and sends
-//! it. [`is_last`] and [`awaits_continue`] say what becomes of the connection of a request, and
+//! it. [`is_last`] and [`awaits_continue`] tell the fate of the connection of a request, and
 //! [`split_reply`] takes the reply out of the messages of a step. [`steps_answer_by_the_table`] says that
 //! a step gives the input of a request one of the answers to which the table has a reply.
 //!
-//! [`judge`] says what is to be done with a connection for the bytes of a request that came so far: to wait, to permit
-//! its body, to refuse it, or to answer what it asks. `specs/Verdicts` has the definition: what a source that gives
-//! these bytes and then ends is answered, by the definitions of `oc_http` and of the routes, where its end is what it is
-//! on the connection. [`a_request_has_one_verdict`] says that this is one, however the bytes are cut.
+//! [`judge`] gives the verdict on a connection for the bytes of a request that came so far: to wait, to permit
+//! its body, to refuse it, or to answer it. `specs/Verdicts` has the definition: the answer to a source that gives
+//! these bytes and then ends, by the definitions of `oc_http` and of the routes, where its end is that
+//! on the connection. [`a_request_has_one_verdict`] says that there is one, however the bytes are cut.
 //!
 //! A path is looked up as `oc_http` decoded it, byte by byte, and a Location has it in escapes
 //! ([`a_location_names_its_group`]).
 //!
-//! A request that publishes or seals may say which length its group has to have; [`unmet`] says whether the source refuses
-//! it for that.
+//! A request that publishes or seals may name the length that its group has to have; [`unmet`] tells whether the source
+//! refuses the request for that.
 //!
 //! A content under way ([`UnderWay`]) is a place in a group; the layer above reads its next piece from
 //! the content file. [`pieces_are_the_content`]: piece by piece they are the text of the whole content, whatever came
-//! between. [`is_to_wait`], [`Follower::is_due`] and [`UnderWay::prospect`] say who waits, and until when.
+//! between. [`is_to_wait`], [`Follower::is_due`] and [`UnderWay::prospect`] tell who waits, and until when.
 //!
-//! What a query tells besides start and area (`of=`, `known`, `here`) is a [`Hint`], by which a client is shown the answer
-//! of the step.
+//! The parts of a query besides start and area (`of=`, `known`, `here`) are a [`Hint`], by which a client is shown the
+//! answer of the step.
 //!
-//! What a node tells of itself ([`report_of`]), to those who look after it, is `/-/status` as JSON, `/-/metrics` in the text
+//! The reports of a node ([`report_of`]), for those who look after it, are `/-/status` as JSON, `/-/metrics` in the text
 //! format of Prometheus, and the page `/-/` that draws the first; each has a second name, with `!`. [`status`] is
 //! `status_text` of the node's control state and its shelf, and [`metrics`] is `metrics_text` of these and of the number of
 //! messages in the outbox. The two definitions (`specs/Status`, `specs/Metrics`) are the formats: who reads them needs
 //! nothing else. No byte of a group's name has to be escaped in either ([`names_are_plain`]), and the worked examples
-//! compute ([`examples_are_told`]). [`page`] is a text of this crate and nothing more: no contract speaks of what it draws.
+//! compute ([`examples_are_told`]). [`page`] is a text of this crate and nothing more: no contract speaks of its drawing.
 //!
 //! In a network with a key a message is read only from a body whose MAC came with it ([`a_message_has_its_mac`]).
 #![tactic(auto)]

@@ -3,14 +3,14 @@ ghost use Rattle.oc_routes.specs.Manners.{body_for, connection_for, content_for,
 
 use oc_http::{Method, Persistence};
 
-/// How a content is asked for.
+/// The manner in which a content is asked for.
 #[derive(Clone, Copy, Debug, PartialEq, Eq)]
 pub enum Manner {
-    /// By HEAD: its head alone.
+    /// HEAD: the head of the reply alone.
     HeadAlone,
-    /// By GET: once.
+    /// GET, once.
     Once,
-    /// By a GET of version 1.1 with a part `follow`: if it is of a group, more is asked for on the same connection.
+    /// A GET of version 1.1 with a part `follow`: if it is of a group, more is asked for on the same connection.
     Follow,
 }
 
@@ -26,7 +26,7 @@ impl Manner {
     }
 }
 
-/// How a content is asked for; `follow` counts only in a GET of version 1.1.
+/// The manner in which a content is asked for; `follow` counts only in a GET of version 1.1.
 pub(crate) fn manner_of(method: Method, minor: u8, follow: bool) -> Manner
     ensures { result ≡ manner_of method minor follow }
 {
@@ -47,7 +47,7 @@ pub(crate) fn body_for(manner: Manner, text: &[u8]) -> &[u8]
     }
 }
 
-/// What becomes of the connection.
+/// The fate of the connection.
 pub(crate) fn connection_for(manner: Manner, last: bool) -> Persistence
     ensures { result ≡ connection_for manner last }
 {

@@ -1,4 +1,4 @@
-//! What the arrays of a status contain.
+//! The items of the arrays of a status.
 
 ghost use Rattle.std.specs.Prelude.{◌≡◌, ◌++◌, not, OnOk};
 ghost use Rattle.oc_routes.specs.Json.{number_text};
@@ -53,7 +53,7 @@ impl ArrayItem for Leased {
     }
 }
 
-/// Puts what a certificate says of its node.
+/// Puts the part of a certificate about its node.
 #[tactic(auto, unfolding(crate::specs::Status::cert_text))]
 fn put_cert(out: &mut Vec<u8>, cert: &Cert) -> Result<(), Memory>
     ensures { OnOk result (out.new.items ≡ out.old.items ++ cert_text cert.now) }
@@ -64,7 +64,7 @@ fn put_cert(out: &mut Vec<u8>, cert: &Cert) -> Result<(), Memory>
     put_flag(out, ",\"up\":", !cert.dead)
 }
 
-/// Puts what the node of a certificate told of itself.
+/// Puts the part of a certificate that its node told.
 #[tactic(auto, unfolding(crate::specs::Status::own_text))]
 fn put_own(out: &mut Vec<u8>, cert: &Cert) -> Result<(), Memory>
     ensures { OnOk result (out.new.items ≡ out.old.items ++ own_text cert.now) }

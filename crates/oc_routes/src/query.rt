@@ -8,22 +8,22 @@ use crate::refused::Refused;
 use oc_base::words::{is, number};
 use oc_base::{MAX_AREA, MAX_GROUP_BYTES, MAX_START, cut};
 
-/// What the query of a request says.
+/// The parts of the query of a request.
 #[derive(Clone, Copy, Debug)]
 pub(crate) struct Query {
     /// The byte from which a group is asked for.
     pub(crate) start: u64,
     /// The area that the client says.
     pub(crate) area: u8,
-    /// There is a part `follow`.
+    /// Whether there is a part `follow`.
     pub(crate) follow: bool,
-    /// There is a part `seal`.
+    /// Whether there is a part `seal`.
     pub(crate) seal: bool,
     /// The length that the group has to have, where one is said and counts.
     pub(crate) at: Option<u64>,
 }
 
-/// What a query says; a condition counts where it is that of a `conditional` request.
+/// The parts of a query; a condition counts where it is that of a `conditional` request.
 pub(crate) fn query_in(query: &[u8], conditional: bool) -> Result<Query, Refused>
     ensures said { result ≡ query_in query.now conditional }
     ensures lawful { IfOk result (λ said. (said.start ≤ START_LIMIT) × (said.area ≤ AREA_LIMIT)) }

@@ -1,5 +1,5 @@
-//! The body of a reply of status 400 or above: one line that says what is wrong and what to do. It is made of why a
-//! request is refused or what its step answered, with the number of a rule, the name and the length of a group and the
+//! The body of a reply of status 400 or above: one line with the cause and a remedy. It is made of the cause of a
+//! refusal or the answer of a step, with the number of a rule, the name and the length of a group and the
 //! address of the source; no byte of a token, of a key or of a field is given to these functions.
 
 ghost use Rattle.std.specs.Prelude.{◌≡◌, ◌++◌, IfOk, OnOk};
@@ -96,7 +96,7 @@ fn plain_line(refused: Refused) -> &'static [u8]
     }
 }
 
-/// By whether a length is given beside a transfer coding.
+/// The line for a body with a transfer coding, by whether a length is given too.
 fn coding_line(both: bool) -> &'static [u8]
     ensures { result.now ≡ coding_line both }
 {
@@ -107,7 +107,7 @@ fn coding_line(both: bool) -> &'static [u8]
     }
 }
 
-/// By whether the Content-Length is missing.
+/// The line for a Content-Length, by whether it is missing.
 fn length_line(missing: bool) -> &'static [u8]
     ensures { result.now ≡ length_line missing }
 {
@@ -245,7 +245,7 @@ pub(crate) fn no_group_line(alloc: Global) -> Result<Vec<u8>, Memory>
     Ok(line)
 }
 
-/// The line to a client that follows a group, where the node that has more of it has no address.
+/// The line to a client that follows a group, where the node that has more bytes has no address.
 pub(crate) fn nowhere_line(alloc: Global) -> Result<Vec<u8>, Memory>
     ensures { IfOk result (λ line. line.items ≡ nowhere_line) }
 {

@@ -1,4 +1,4 @@
-/// Why a request becomes no input. If a request has several of these faults, the first in this order
+/// The fault of a request that becomes no input. If a request has several of these faults, the first in this order
 /// counts; `Source` and `Ended` come where the head is read and where the body is.
 #[derive(Clone, Copy, Debug, PartialEq, Eq)]
 pub enum Refused {
@@ -36,7 +36,7 @@ pub enum Refused {
     Denied {
         /// The number of the rule, counted from 1.
         rule: u32,
-        /// It has no Authorization field, and with its token an earlier rule would allow it.
+        /// Whether it has no Authorization field, and an earlier rule would allow it with its token.
         needs_token: bool,
     },
     /// The head of a message has not just one MAC, or it is not that of the body under the key of the network.

@@ -30,8 +30,8 @@ ghost use Rattle.oc_routes.specs.declared.refused.Refused.TheVariants.{At, Messa
 ghost use Rattle.oc_routes.specs.declared.response.GroupRange.{GroupRange};
 ghost use Rattle.oc_routes.specs.declared.routes.Operation.TheVariants.{Message as MessageAsked};
 
-/// The same bytes of a request get the same verdict, however they are cut: there is one verdict, and what is
-/// said of them while more may come, and is not to wait, is said with any bytes after them, however these end.
+/// The same bytes of a request get the same verdict, however they are cut: there is one verdict, and one on bytes
+/// after which more may come, and which is not to wait, is that on any more bytes too, however these end.
 pub fn a_request_has_one_verdict()
     ensures one { (t : NodeTerms) (a : Arrival) (bytes : List ℕ) (v w : Verdict) → IsVerdict t a bytes v → IsVerdict t a bytes w → v ≡ w }
     ensures cut { (t : NodeTerms) (c number : ℕ) (permitted : Bool) (coming : Coming) (bytes more : List ℕ) (v : Verdict)
@@ -54,8 +54,8 @@ pub fn a_message_has_its_mac()
     ensures read { (t : NodeTerms) (a : Arrival) (ring : Keyring) (bytes : List ℕ) (head_alone : Bool) → t.keys ≡ Some ring → IsVerdict t a bytes (refuse head_alone NoMessage) → HaveMac ring bytes }
 {}
 
-/// The pieces of a content are its text: what is owed before the first is the content as it is sent whole, what is
-/// owed before each is its text and what is owed after it, and what is owed stays what it is while the group grows.
+/// The pieces of a content are its text: the text that is owed before the first is that of the whole, the one before
+/// each is its text and the text owed after it, and the text that is owed is unchanged while the group grows.
 pub fn pieces_are_the_content()
     ensures begun { (group : List ℕ) (content : GroupRange) (groups : List Group)
         → owed (Some (begun group content)) groups ≡ coded content.chunked (part_of group content.start content.count groups) }
@@ -66,8 +66,8 @@ pub fn pieces_are_the_content()
 {}
 
 /// The pieces of a content whose end is told, and which its group may not have yet: they follow one another in the
-/// group, from the start on, and what was given stays a part of the group while it grows. Whatever a group becomes, what
-/// is owed of it then is the piece of now and what is owed after that.
+/// group, from the start on, and the bytes given are still a part of the group when it has grown. Whatever a group
+/// becomes, the text that is owed then is the piece of now and the text that is owed after it.
 pub fn pieces_follow_one_another()
     ensures follows { (u : UnderWay) (groups : List Group) (start : ℕ) → start ≤ u.at
         → part_of u.group start (u.at - start) groups ++ piece_of u groups ≡ part_of u.group start ((u.at + length (piece_of u groups)) - start) groups }

@@ -1,4 +1,4 @@
-//! What a node tells of itself to those who look after it. [`crate::routes`] has a file for each report.
+//! The reports of a node to those who look after it. [`crate::routes`] has a file for each report.
 
 ghost use Rattle.std.specs.Prelude.{◌≡◌, IfOk};
 ghost use Rattle.oc_routes.specs.Reports.{content_type_of, report_of, report_response, report_text};
@@ -15,12 +15,12 @@ use oc_base::{Memory, Text, put};
 use oc_http::{ContentType, Framing, write_reply_head};
 use std::alloc::Global;
 
-/// What a node tells of itself.
+/// A report of a node.
 #[derive(Clone, Copy, Debug, PartialEq, Eq)]
 pub enum Report {
-    /// Its state, as JSON.
+    /// The state of the node, as JSON.
     Status,
-    /// Its metrics, for Prometheus.
+    /// The metrics of the node, for Prometheus.
     Metrics,
     /// The page that shows the status.
     Page,
@@ -39,7 +39,7 @@ impl Report {
     }
 }
 
-/// What a node tells of itself where that is asked, and else nothing.
+/// The report of a node that is asked for; without one no text.
 pub fn report_of(alloc: Global, operation: &Operation, seen: &Seen<'_>) -> Result<Vec<u8>, Memory>
     ensures { IfOk result (λ text. text.items ≡ report_of operation.now seen.now.node.now.control seen.now.shelf.now seen.now.messages) }
 {

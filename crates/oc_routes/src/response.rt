@@ -1,14 +1,14 @@
 use oc_base::Text;
 use oc_http::Persistence;
 
-/// What a request is answered.
+/// The answer to a request.
 #[derive(Debug, Drop)]
 pub struct Response {
-    /// What is written first: the head, and the body where it is not the content of a group.
+    /// The text to write first: the head, and the body where it is not the content of a group.
     pub text: Text,
     /// The content that is written after it, where there is one.
     pub content: Option<GroupRange>,
-    /// What becomes of the connection after it.
+    /// The fate of the connection after the reply.
     pub connection: Persistence,
 }
 
@@ -19,6 +19,6 @@ pub struct GroupRange {
     pub start: u64,
     /// The number of its bytes; there are none where the start is at or past the group's end.
     pub count: u64,
-    /// It is sent as chunks (RFC 9112, section 7.1).
+    /// Whether the content is sent as chunks (RFC 9112, section 7.1).
     pub chunked: bool,
 }

@@ -1,4 +1,4 @@
-//! What the replies of the routes are made of.
+//! The parts of the replies of the routes.
 
 ghost use Rattle.std.specs.Prelude.{◌≡◌, [], IfOk};
 ghost use Rattle.oc_http.specs.Writing.{HasPhrase, head_text};

@@ -1,4 +1,4 @@
-//! The table of routes: what is asked at which path, which access rules speak of it, the input that results, and the
+//! The table of routes: the operation at each path, the access rules that speak of it, the input that results, and the
 //! reply. Each route has a file of its own, and a row in each of the functions here.
 //!
 //! | path | method | file | operation | input | reply |
@@ -14,10 +14,10 @@
 //! | the name of a group | POST with `seal` | `seal` | `Seal` | `Seal` | a status |
 //!
 //! A path is looked up in [`resource_at`] alone, once a request: another name of a route is another row there. A POST of a
-//! group may say by `at=N` which length the group has to have; whether it has is looked at by the layer above.
+//! group may name by `at=N` the length that its group has to have; the layer above looks whether it has this length.
 //!
 //! The laws look at no single route: that of tokens rests on the names of which the rules speak ([`name_of`]), those of MACs,
-//! of failures and of plain lines on what a body gives (`proofs/Bodies`), which computes for a route without an input.
+//! of failures and of plain lines on the input that a body gives (`proofs/Bodies`), which computes for a route without one.
 
 ghost use Rattle.std.specs.Prelude.{◌≡◌, ◌≤◌, length, IfOk, IfSome, map, option_map, string_bytes};
 ghost use Rattle.std.specs.Option.{ForSome};
@@ -63,7 +63,7 @@ use seal::to_seal;
 use status::{STATUS_NAME, STATUS_PATH};
 use std::alloc::Global;
 
-/// What a path names.
+/// The resource that a path names.
 #[derive(Clone, Copy, Debug)]
 pub(crate) enum Resource {
     Messages,
@@ -72,40 +72,40 @@ pub(crate) enum Resource {
     Group(GroupName),
 }
 
-/// What a request asks of a node.
+/// The operation that a request asks of a node.
 #[derive(Clone, Copy, Debug)]
 pub enum Operation {
-    /// To take the message that the body is.
+    /// The body is a message to take.
     Message,
-    /// To add the body at the end of a group, where the group has the length `at`, if one is said.
+    /// The body goes at the end of a group, where the group has the length `at`, if one is given.
     Publish {
         group: GroupName,
         at: Option<u64>,
     },
-    /// To close a group, where it has the length `at`, if one is said.
+    /// A group is to be closed, where it has the length `at`, if one is given.
     Seal {
         group: GroupName,
         at: Option<u64>,
     },
-    /// To give a group from byte `start` on, to a client in this area.
+    /// A group is to be given from byte `start` on, to a client in this area.
     Client {
         group: GroupName,
         area: u8,
         start: u64,
         manner: Manner,
     },
-    /// To give the content by which rates are measured.
+    /// The content by which rates are measured is to be given.
     Probe {
         manner: Manner,
     },
-    /// To tell of itself.
+    /// A report of the node is to be given.
     Report {
         report: Report,
         manner: Manner,
     },
 }
 
-/// What the head of a request asks under these access rules, or the first fault: of the method, the
+/// The operation of the head of a request under these access rules, or the first fault: of the method, the
 /// path, the query, and then the rule that denies it. Takes no memory.
 pub fn route(head: &Head, rules: &[Rule]) -> Result<Operation, Refused>
     requires { length rules.now ≤ MAX_RULES }
@@ -126,7 +126,7 @@ pub fn route(head: &Head, rules: &[Rule]) -> Result<Operation, Refused>
     Ok(asked_at(head.method, head.minor, &query, &resource))
 }
 
-/// What a method does with a path.
+/// The action of a method.
 pub(crate) fn action_of(method: Method) -> Result<Action, Refused>
     ensures { result ≡ action_of method }
 {
@@ -137,7 +137,7 @@ pub(crate) fn action_of(method: Method) -> Result<Action, Refused>
     }
 }
 
-/// What a path names, as it was asked for; none where an escape of it is broken.
+/// The resource of a path, as it was asked for; none where an escape is broken.
 fn resource_named(action: Action, path: &Option<Text>) -> Result<Resource, Refused>
     ensures said { result ≡ resource_named action path.now }
     ensures lawful { IfOk result IsResource }
@@ -148,7 +148,7 @@ fn resource_named(action: Action, path: &Option<Text>) -> Result<Resource, Refus
     }
 }
 
-/// What a path names, where it has a route for this action: a row of the table, or else a group, where the path is not
+/// The resource of a path, where it has a route for this action: a row of the table, or else a group, where the path is not
 /// the program's own.
 fn resource_in(action: Action, path: &[u8]) -> Result<Resource, Refused>
     ensures said { result ≡ resource_in action path.now }
@@ -161,7 +161,7 @@ fn resource_in(action: Action, path: &[u8]) -> Result<Resource, Refused>
     }
 }
 
-/// The rows of the table: what is read, and what is posted, at a path that names no group.
+/// The rows of the table: the resources that are read, and those that are posted, at a path that names no group.
 fn resource_at(action: Action, path: &[u8]) -> Option<Resource>
     ensures said { result ≡ resource_at action path.now }
     ensures lawful { IfSome result IsResource }
@@ -205,7 +205,7 @@ fn is_conditional(action: Action, resource: &Resource) -> bool
     matches!((action, resource), (Action::Post, Resource::Group(_)))
 }
 
-/// Refuses what the rules deny to a request that shows this; `bare` says that it has no Authorization field.
+/// Refuses a request that the rules deny, where it shows this; `bare` says that it has no Authorization field.
 fn permit(
     rules: &[Rule],
     action: Action,
@@ -256,7 +256,7 @@ fn report_name(report: Report) -> GroupName
     }
 }
 
-/// Whether one of the rules before the one of this number would allow what it denies, with its token.
+/// Whether one of the rules before the one of this number would allow, with its token, the action that this one denies.
 fn needs_token(rules: &[Rule], action: Action, name: &GroupName, area: u8, number: u32) -> bool
     requires { length rules.now ≤ MAX_RULES }
     ensures { result ≡ needs_token rules.now action name.now area number }
@@ -278,7 +278,7 @@ fn would_allow(action: Action, name: &GroupName, area: u8, rule: &Rule) -> bool
     rule.allow && asking_nothing.matches(action, Some(name), area, None)
 }
 
-/// What a request shows: the value of its Authorization field, where there is just one.
+/// The text that a request shows: the value of its Authorization field, where there is just one.
 fn shown_by(authorization: &Option<Text>) -> Option<&[u8]>
     ensures { option_map (λ s. s.now) result ≡ authorization.now }
 {
@@ -288,7 +288,7 @@ fn shown_by(authorization: &Option<Text>) -> Option<&[u8]>
     }
 }
 
-/// What is asked of a resource.
+/// The operation on a resource.
 fn asked_at(method: Method, minor: u8, query: &Query, resource: &Resource) -> Operation
     requires resource { IsResource resource.now }
     requires start { query.now.start ≤ START_LIMIT }
@@ -309,7 +309,7 @@ fn asked_at(method: Method, minor: u8, query: &Query, resource: &Resource) -> Op
     }
 }
 
-/// What is asked of a group.
+/// The operation on a group.
 fn asked_of_group(method: Method, minor: u8, query: &Query, group: &GroupName) -> Operation
     requires group { IsGroupName group.now }
     requires start { query.now.start ≤ START_LIMIT }
@@ -336,7 +336,7 @@ fn asked_of_group(method: Method, minor: u8, query: &Query, group: &GroupName) -
     }
 }
 
-/// The input of the node `me`, one of `nodes` nodes, that results from what was asked and from the body of the
+/// The input of the node `me`, one of `nodes` nodes, that results from the operation and the body of the
 /// request; a probe and a report give none. Refused for a body that is no message to this node, and for a body of
 /// a request to seal.
 pub fn input_of(
@@ -350,7 +350,7 @@ pub fn input_of(
     requires body { length body.items ≤ MAX_PUBLISH_BYTES }
     ensures said { Gives result (input_asked nodes me operation.now body.items) }
 
-    // It is an input of this node, and has a line.
+    // The input is one of this node, and has a line.
     ensures lawful { IfOk result (λ input. IfSome input (IsInput nodes me)) }
     ensures line { IfOk result (λ input. IfSome input HasLine) }
 {
@@ -376,7 +376,7 @@ pub fn input_of(
     }
 }
 
-/// What a request is answered; `last` says that it is the last of its connection whatever it asks.
+/// The answer to a request; `last` says that it is the last of its connection whatever it asks.
 pub fn respond(
     alloc: Global,
     asked: Asked,

@@ -1,4 +1,4 @@
-//! The rows of a table, and which of them are listed.
+//! The rows of a table, and those that are listed.
 
 ghost use Rattle.std.specs.Prelude.{◌≡◌, ◌++◌, map, IfOk, OnOk};
 ghost use Rattle.oc_routes.specs.Rows.{after_row, is_first, marked, row_of, rows_of};
@@ -12,11 +12,11 @@ use std::alloc::Global;
 #[derive(Clone, Copy)]
 pub(crate) struct Row {
     pub(crate) cert: Cert,
-    /// Its node is listed.
+    /// Whether the node of the row is listed.
     pub(crate) listed: bool,
 }
 
-/// The rows of the table of a node. Who is listed is found for all of them together.
+/// The rows of the table of a node. The listed ones are found for all rows together.
 pub(crate) fn rows_of(alloc: Global, table: &Table, me: NodeId) -> Result<Vec<Row>, Memory>
     ensures { IfOk result (λ made. made.items ≡ rows_of table.now.entries me) }
 {

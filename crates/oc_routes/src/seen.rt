@@ -5,7 +5,7 @@ use oc_node::Node;
 #[derive(Clone, Copy, Drop)]
 pub struct Seen<'a> {
     pub node: &'a Node,
-    /// What it holds of each group.
+    /// The node's holding of each group.
     pub shelf: &'a [Shelf],
     /// The number of messages in its outbox.
     pub messages: usize,

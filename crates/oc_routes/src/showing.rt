@@ -1,8 +1,7 @@
-//! What a client is answered by what it tells.
+//! The answer that a client is shown by its hint.
 
 ghost use Rattle.std.specs.Prelude.{◌≡◌, ◌++◌, IfOk, OnOk, map, option_map, string_bytes};
-ghost use Rattle.oc_routes.specs.Group.{given_response, group_response, here_response, redirection, served_or_past};
-ghost use Rattle.oc_routes.specs.Responses.{whole};
+ghost use Rattle.oc_routes.specs.Group.{given_response, group_response, here_response, sent_response, served_or_past};
 ghost use Rattle.oc_routes.specs.Shown.{here_answer, known_shown, location_of, of_shown, follow_text, shown, start_text, told_text};
 
 use crate::hint::Hint;
@@ -14,14 +13,14 @@ use oc_http::put_path;
 use oc_model::Answer;
 use std::alloc::Global;
 
-/// A client that asks for a group, and what it tells of it.
+/// A client that asks for a group, and its hint.
 #[derive(Clone, Copy, Debug)]
 pub(crate) struct Client {
     pub(crate) group: GroupName,
     pub(crate) start: u64,
     pub(crate) manner: Manner,
     pub(crate) hint: Hint,
-    /// Its request is the last of its connection whatever it asks.
+    /// Whether its request is the last of its connection whatever it asks.
     pub(crate) last: bool,
 }
 
@@ -32,7 +31,7 @@ pub(crate) struct Shown {
     pub sealed: bool,
 }
 
-/// What a client is answered, where the addresses of the nodes are these.
+/// The answer to a client, where the addresses of the nodes are these.
 pub(crate) fn to_client(
     alloc: Global,
     client: &Client,
@@ -45,19 +44,13 @@ pub(crate) fn to_client(
     let holding = answered.holding;
     let shown = as_shown(client.hint, answered.answer, holding, client.start);
     match shown.answer {
-        Answer::Redirect(node) => {
-            let address = address_of(addresses, node);
-            if address.is_empty() {
-                return here(alloc, client, holding);
-            }
-            sent_on(alloc, client, holding, address)
-        }
+        Answer::Redirect(node) => sent_on(alloc, client, holding, address_of(addresses, node)),
         _ => given(alloc, client, shown, holding),
     }
 }
 
-/// What a client is given of what is here, where the node to which it would be sent has no address; one that follows,
-/// which would ask without end, is told so.
+/// The bytes that are here, for a client where the node to which it would be sent has no address; one that follows,
+/// which would ask without end, is told this.
 fn here(alloc: Global, client: &Client, holding: Holding) -> Result<Response, Memory>
     ensures { IfOk result (λ response. response ≡ here_response client.now.start client.now.manner client.now.last holding) }
 {
@@ -73,7 +66,7 @@ fn here(alloc: Global, client: &Client, holding: Holding) -> Result<Response, Me
     }
 }
 
-/// What a client is given that is not sent elsewhere.
+/// The reply to a client that is not sent elsewhere.
 fn given(alloc: Global, client: &Client, shown: Shown, holding: Holding) -> Result<Response, Memory>
     ensures { IfOk result (λ response. response ≡ given_response client.now.start client.now.manner shown.answer shown.sealed client.now.last holding) }
 {
@@ -83,7 +76,7 @@ fn given(alloc: Global, client: &Client, shown: Shown, holding: Holding) -> Resu
     }
 }
 
-/// Sends a client to the node at an address.
+/// Sends a client to the node at an address; where that is empty the node has none, and the client is given what is here.
 fn sent_on(
     alloc: Global,
     client: &Client,
@@ -91,8 +84,11 @@ fn sent_on(
     address: &str,
 ) -> Result<Response, Memory>
     ensures { IfOk result (λ response. response
-        ≡ whole (redirection (location_of address.now client.now.group client.now.start (told_text client.now.hint holding) client.now.manner))) }
+        ≡ sent_response client.now.group client.now.start client.now.manner (told_text client.now.hint holding) address.now client.now.last holding) }
 {
+    if address.is_empty() {
+        return here(alloc, client, holding);
+    }
     let told = told_text(alloc, client.hint, holding)?;
     let location = location_of(alloc, address, client, &told)?;
     sent_to(alloc, location)
@@ -174,7 +170,7 @@ fn known_shown(answer: Answer, sealed: bool) -> Shown
     }
 }
 
-/// What is told of a group to the next node.
+/// The hint about a group for the next node.
 fn told_text(alloc: Global, hint: Hint, holding: Holding) -> Result<Vec<u8>, Memory>
     ensures { IfOk result (λ text. text.items ≡ told_text hint holding) }
 {

@@ -1,4 +1,4 @@
-//! Laws of what a node tells of itself.
+//! Laws of the reports of a node.
 
 ghost use Rattle.std.specs.Prelude.{ℕ, List};
 ghost use Rattle.oc_base.specs.Names.{IsGroupName};
@@ -10,7 +10,7 @@ pub fn names_are_plain()
     ensures { (group : List ℕ) → IsGroupName group → IsPlain group }
 {}
 
-/// The worked examples compute from the definitions: what nodes tell of themselves, byte by byte.
+/// The worked examples compute from the definitions: the reports of nodes, byte by byte.
 pub fn examples_are_told()
     ensures { AreTold }
 {}

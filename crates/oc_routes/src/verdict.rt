@@ -1,14 +1,14 @@
 use crate::{Asked, Refused};
 use oc_model::Input;
 
-/// What is to be done with a connection for the bytes that came on it.
+/// The verdict on a connection for the bytes that came on it.
 #[derive(Debug, Drop)]
 pub enum Verdict {
     /// More bytes are waited for.
     Wait,
-    /// It ended before a byte of a request, and nothing is said of it.
+    /// The connection ended before a byte of a request, and is left without a word.
     Leave,
-    /// Its client is given the permission to send the body (RFC 9110, section 10.1.1).
+    /// The client is given the permission to send the body (RFC 9110, section 10.1.1).
     Permit,
     /// The request is refused.
     Refuse(Refusal),
@@ -24,7 +24,7 @@ pub struct Request {
     pub asked: Asked,
     /// The input that results from it, if any.
     pub input: Option<Input>,
-    /// It is the last of its connection whatever it asks.
+    /// Whether the request is the last of its connection whatever it asks.
     pub last: bool,
 }
 
@@ -32,6 +32,6 @@ pub struct Request {
 #[derive(Clone, Copy, Debug, PartialEq, Eq)]
 pub struct Refusal {
     pub why: Refused,
-    /// It is a HEAD, so that its reply has no body.
+    /// Whether the request is a HEAD, whose reply has no body.
     pub head_alone: bool,
 }

@@ -1,4 +1,4 @@
-//! What waits at a node, and until when.
+//! The requests that wait at a node, and their times.
 
 ghost use Rattle.std.specs.Prelude.{◌≡◌};
 ghost use Rattle.oc_routes.specs.Waits.{gives_nothing, is_due, is_to_wait, left_of, prospect};
@@ -10,35 +10,35 @@ use crate::{Manner, Operation};
 use oc_base::GroupName;
 use oc_model::Answer;
 
-/// How many milliseconds a client that has all of a group waits at most.
+/// The number of milliseconds that a client that has all of a group waits at most.
 pub const FOLLOW_MILLIS: u64 = 10_000;
 
-/// How many milliseconds a content waits at most for its group to grow.
+/// The number of milliseconds that a content waits at most for its group to grow.
 pub const IDLE_MILLIS: u64 = 30_000;
 
-/// What becomes of a content under way.
+/// The prospect of a content under way.
 #[derive(Clone, Copy, Debug, PartialEq, Eq)]
 pub enum Prospect {
-    /// Its group has more of it.
+    /// The group has more bytes of the content.
     Gives,
-    /// It waits until its group has grown.
+    /// The content waits until its group has grown.
     Waits,
-    /// It is broken off.
+    /// The content is broken off.
     Breaks,
 }
 
-/// A request of a client that follows a group and has all of it.
+/// A request of a client that follows a group and has all of its bytes.
 #[derive(Clone, Copy, Debug, PartialEq, Eq)]
 pub struct Follower {
     pub group: GroupName,
     /// The byte from which it asks.
     pub start: u64,
-    /// When it came, in milliseconds.
+    /// The time at which the request came, in milliseconds.
     pub since: u64,
 }
 
 impl UnderWay {
-    /// What becomes of a content for what the node holds of its group, which has given nothing of it for this
+    /// The prospect of a content by the node's holding of its group, where nothing of the content was given for this
     /// many milliseconds.
     pub fn prospect(&self, holding: Holding, idle: u64) -> Prospect
         ensures { result ≡ prospect self.now holding idle }
@@ -56,7 +56,7 @@ impl UnderWay {
 }
 
 impl Follower {
-    /// Whether its request is to be taken at this time, for what the node holds of its group.
+    /// Whether the request is to be taken at this time, by the node's holding of its group.
     pub fn is_due(&self, holding: Holding, now: u64) -> bool
         ensures { result ≡ is_due self.now holding now }
     {
@@ -66,7 +66,7 @@ impl Follower {
     }
 }
 
-/// Whether a request is to wait whose answer now would be this one, for what the node holds of its group.
+/// Whether a request is to wait whose answer now would be this one, by the node's holding of its group.
 pub fn is_to_wait(operation: &Operation, hint: Hint, answer: Answer, holding: Holding) -> bool
     ensures { result ≡ is_to_wait operation.now hint answer holding }
 {
@@ -95,7 +95,7 @@ fn gives_nothing(hint: Hint, answer: Answer, holding: Holding, start: u64) -> bo
     }
 }
 
-/// How many of these milliseconds are left, which began at `since`.
+/// The number of these milliseconds that are left, which began at `since`.
 pub fn millis_left(most: u64, since: u64, now: u64) -> u64
     ensures { result ≡ left_of most since now }
 {

@@ -1,4 +1,4 @@
--- What an act line says is within its range.
+-- The ranges of the values that act lines give.
 use Rattle.std.proofs.Common.{◌≡◌, ℕ, ◌≤◌, Bool, true, false, cond, not, ◌&&◌, Option, Some, None, Result, Ok, List, refl, subst, arith, nat_le, codes}
 use Rattle.std.specs.Str.{bytes_eq}
 use Rattle.std.specs.Str.Parse.{digits_value}
@@ -21,7 +21,7 @@ use Rattle.oc_schedule.specs.Fields.{group_in, bytes_in}
 use Rattle.oc_schedule.specs.Acts.{ticked_in, tick_in, check_in, pair_in, move_in, fail_in, pull_in, measure_in, publish_in, seal_in, client_in, delivered_in, deliver_in, act_in, bytes_of_act, most_byte}
 use Rattle.oc_base.specs.Steps.{with_fault}
 
--- a number is from least to most
+-- a number between the least and the greatest one
 pub number_range : (least most : ℕ) (field : List ℕ) (n : ℕ) → number_in least most field ≡ Ok n → (least ≤ n) × (n ≤ most)
 number_range least most field n h =
     let spelled = behind_guard (not (is_number field)) causes.Number _ n h in
@@ -40,7 +40,7 @@ group_range field g h =
     let name = named field (name_fault field) g h in
     subst (λ (bytes : List ℕ). name_fault bytes ≡ None) name.1 name.0
 
--- Of an act that is read all is in range, where it does not publish too much.
+-- An act that is read is within its ranges, unless it publishes too many bytes.
 
 abbrev pub IsActIfFew : ℕ → Act → Type 0
 IsActIfFew nodes act = bytes_of_act act ≤ 1000000 → IsAct nodes act

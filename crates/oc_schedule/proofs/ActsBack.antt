@@ -15,7 +15,7 @@ use Rattle.oc_schedule.proofs.LineBack.{AreWords}
 use Rattle.oc_schedule.specs.Acts.{act_fields, act_in, act_word, act_words, input_fields, input_word, pair_in, ticked_in, most_byte, PublishesBytes}
 use Rattle.oc_schedule.specs.Fields.{group_in}
 
--- the first step gives x, and the next gives y
+-- a first step that gives x, and a second that gives y
 pub then : {A B E : Type 0} (r : Result A E) (f : A → Result B E) (x : A) (y : B) → r ≡ Ok x → f x ≡ Ok y → (r >>= f) ≡ Ok y
 then r f x y is next = ap (λ s. s >>= f) is ∙ next
 
@@ -72,7 +72,7 @@ act_back nodes (acts.At x i) few h bytes = input_back nodes x i few h.0 h.1 byte
 act_back nodes (acts.Deliver k) few h bytes =
     then (number_in 1 number_end (decimal k)) _ k _ (number_back 1 number_end k (omega (arith, h.1)) h.0 (omega (arith, h.1))) refl
 
--- the word of an input is one, and so are its fields
+-- the word of an input and its fields are words
 word_of_input : (i : Input) → AreWords (input_word i ∷ [])
 word_of_input (inputs.Tick t) = (refl, tt)
 word_of_input inputs.CheckNow = (refl, tt)

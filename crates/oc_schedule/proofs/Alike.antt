@@ -8,14 +8,14 @@ use Rattle.std.proofs.lemmas.Slice.Eq.{bytes_eq-Decides}
 use Rattle.std.specs.Prelude.{slice_index}
 use Rattle.std.specs.Str.{bytes_eq}
 
--- texts of different lengths are not the same
+-- texts of different lengths differ
 pub of_other_length : (a b : List ℕ) → ¬ (length a ≡ length b) → bytes_eq a b ≡ false
 of_other_length a b other = elim (cases_Bool (bytes_eq a b)) [
   | inl same ↦ absurd (other (ap length ((bytes_eq-Decides a b).0 same)))
   | inr apart ↦ apart
 ]
 
--- a byte and those after it
+-- the rest of a text is its next byte and the bytes after it
 next : (a : List ℕ) (i : ℕ) → i < length a → drop i a ≡ slice_index a i ∷ drop (i + 1) a
 next a i inside = rw (add-one, drop-cons a i 0) refl
 
@@ -28,15 +28,15 @@ heads_apart x y xs ys e = let apart : (x == y) ≡ false = grind (arith, nat_tes
 from_heads : (a b : List ℕ) (i : ℕ) → i < length a → i < length b → bytes_eq (drop i a) (drop i b) ≡ bytes_eq (slice_index a i ∷ drop (i + 1) a) (slice_index b i ∷ drop (i + 1) b)
 from_heads a b i ia ib = ap (λ (x : List ℕ). bytes_eq x (drop i b)) (next a i ia) ∙ ap (λ (y : List ℕ). bytes_eq (slice_index a i ∷ drop (i + 1) a) y) (next b i ib)
 
--- after a byte that is the same, what is left decides
+-- the rest decides after a byte that is the same in both
 pub same_here : (a b : List ℕ) (i : ℕ) → i < length a → length a ≡ length b → slice_index a i ≡ slice_index b i → bytes_eq (drop (i + 1) a) (drop (i + 1) b) ≡ bytes_eq (drop i a) (drop i b)
 same_here a b i inside long e = sym (from_heads a b i inside (omega (arith, inside, long)) ∙ heads_same (slice_index a i) (slice_index b i) (drop (i + 1) a) (drop (i + 1) b) e)
 
--- at a byte that is not, they are not the same
+-- texts with different bytes at one place differ
 pub apart_here : (a b : List ℕ) (i : ℕ) → i < length a → length a ≡ length b → ¬ (slice_index a i ≡ slice_index b i) → bytes_eq (drop i a) (drop i b) ≡ false
 apart_here a b i inside long other = from_heads a b i inside (omega (arith, inside, long)) ∙ heads_apart (slice_index a i) (slice_index b i) (drop (i + 1) a) (drop (i + 1) b) other
 
--- where nothing is left, they are the same
+-- texts are the same where nothing is left of them
 pub same_to_end : (a b : List ℕ) (i : ℕ) → length a ≤ i → length a ≡ length b → bytes_eq (drop i a) (drop i b) ≡ true
 same_to_end [] [] zero past long = refl
 same_to_end [] [] (suc i) past long = refl

@@ -1,11 +1,11 @@
--- What is drawn from a later state is what is drawn later.
+-- Draws from a later state: they are the later draws.
 use Rattle.std.proofs.Common.{◌≡◌, ℕ, zero, suc, ◌+◌, ◌%◌, ◌/◌, ◌^◌, List, [], ◌∷◌, ◌++◌, map, refl, ap, sym, ◌∙◌, append_assoc, arith}
 use Rattle.std.specs.List.{range_with_len}
 use Rattle.oc_model.specs.declared.event.Event.{Event}
 use Rattle.oc_model.specs.declared.event.Event.TheVariants.{Up}
 use Rattle.oc_schedule.specs.Generator.{next_state, state_after, draw_at, made, draws_of, events_from}
 
--- one start more
+-- one more start
 pub one_start_more : (front : List Event) (x left k : ℕ) → left ≡ suc k → (front ++ Up x ∷ []) ++ map (λ y. Up y) (range_with_len (x + 1) k) ≡ front ++ map (λ y. Up y) (range_with_len x left)
 one_start_more front x left k more =
     append_assoc front (Up x ∷ []) (map (λ y. Up y) (range_with_len (x + 1) k)) ∙ ap (λ n. front ++ map (λ y. Up y) (range_with_len x n)) (sym more)
@@ -36,7 +36,7 @@ shifted seed k nodes i at m (suc n) e =
     ap (λ event. event ∷ events_from seed nodes (i + 1) (m + draws_of (draw_at seed m % 16)) n) same
     ∙ ap (λ events. made i (draw_at s at % 16) (1 + draw_at s (at + 1) % nodes) (draw_at s (at + 2)) ∷ events) rest
 
--- one event more
+-- one more event
 pub one_event_more : (front : List Event) (s nodes i left k : ℕ) (event : Event) → left ≡ suc k → event ≡ made i (draw_at s 0 % 16) (1 + draw_at s 1 % nodes) (draw_at s 2) →
     (front ++ event ∷ []) ++ events_from (state_after s (draws_of (draw_at s 0 % 16))) nodes (i + 1) 0 k ≡ front ++ events_from s nodes i 0 left
 one_event_more front s nodes i left k event more is =

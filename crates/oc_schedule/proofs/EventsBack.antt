@@ -18,7 +18,7 @@ use Rattle.oc_schedule.specs.Lines.{act_alone_in, event_fields, event_in, event_
 use Rattle.oc_schedule.specs.Printing.{IsOfBytes}
 use Rattle.oc_schedule.specs.Schedule.{is_comment}
 
--- an act line is an event line of its own
+-- an act line by itself is an event line
 input_alone : (nodes x : ℕ) (i : Input) → event_in nodes (input_word i) (decimal x ∷ input_fields i) ≡ act_alone_in nodes (input_word i) (decimal x ∷ input_fields i)
 input_alone nodes x (inputs.Tick t) = refl
 input_alone nodes x inputs.CheckNow = refl
@@ -60,7 +60,7 @@ event_are_words nodes (events.Do act) few h bytes = act_are_words nodes act few 
 event_are_words nodes events.Settle few h bytes = (refl, tt)
 event_are_words nodes events.Heal few h bytes = (refl, tt)
 
--- no act line begins as a comment or an area does
+-- the word of an act line begins neither a comment nor an area line
 input_is_no_other : (i : Input) → (is_comment (input_word i) ≡ false) × (bytes_eq (input_word i) (codes "area") ≡ false)
 input_is_no_other (inputs.Tick t) = (refl, refl)
 input_is_no_other inputs.CheckNow = (refl, refl)
@@ -77,7 +77,7 @@ act_is_no_other : (act : Act) → (is_comment (act_word act) ≡ false) × (byte
 act_is_no_other (acts.At x i) = input_is_no_other i
 act_is_no_other (acts.Deliver k) = (refl, refl)
 
--- nor does an event line
+-- the word of an event line begins neither of these
 pub event_is_no_other : (e : Event) → (is_comment (event_word e) ≡ false) × (bytes_eq (event_word e) (codes "area") ≡ false)
 event_is_no_other (events.Up x) = (refl, refl)
 event_is_no_other (events.Crash x) = (refl, refl)

@@ -20,14 +20,14 @@ use Rattle.oc_base.proofs.Numerals.{numerals}
 use Rattle.oc_schedule.proofs.LineBack.{is_word}
 use Rattle.oc_schedule.specs.Fields.{bytes_in, bytes_text, group_in}
 
--- what passes a test passes a weaker one
+-- bytes that all pass a test all pass a weaker one
 weaker : (p q : ℕ → Bool) → ((b : ℕ) → p b ≡ true → q b ≡ true) → (bs : List ℕ) → list_all p bs ≡ true → list_all q bs ≡ true
 weaker p q h [] all = refl
 weaker p q h (b ∷ bs) all =
     let parts = and_parts (p b) (list_all p bs) all in
     ap (λ r. r && list_all q bs) (h b parts.0) ∙ weaker p q h bs parts.1
 
--- some bytes greater than a space are a word
+-- one or more bytes greater than a space are a word
 word_of : (w : List ℕ) → 0 < length w → list_all (λ b. nat_lt 32 b) w ≡ true → is_word w ≡ true
 word_of w some all =
     let there : nat_lt 0 (length w) ≡ true = grind (arith, nat_tests) in
@@ -45,7 +45,7 @@ digit_above b h = grind (arith, nat_tests)
 pub decimal_word : (n : ℕ) → n < 2 ^ 64 → is_word (decimal n) ≡ true
 decimal_word n h = word_of (decimal n) (decimal_nonempty n h) (weaker is_ascii_digit (λ b. nat_lt 32 b) digit_above (decimal n) (digits_decimal numerals n h))
 
--- it begins with a zero only where it is one digit
+-- a number begins with a zero only where it has one digit
 no_zero_first : (n : ℕ) → n < 2 ^ 64 → (nat_lt 1 (length (decimal n)) && slice_index (decimal n) 0 == byte "0") ≡ false
 no_zero_first zero h = ap (λ field. nat_lt 1 (length field) && slice_index field 0 == byte "0") (decimal_digit zero (omega arith))
 no_zero_first (suc n) h =
@@ -74,7 +74,7 @@ true_or_false : (b : Bool) → (b ≡ true) ⊎ (b ≡ false)
 true_or_false true = inl refl
 true_or_false false = inr refl
 
--- where no element passes before the end, none does
+-- no element passes where the first that passes is at the end
 none_passes : (p : ℕ → Bool) (xs : List ℕ) → length xs ≤ position_or_len p xs → list_all (λ x. not (p x)) xs ≡ true
 none_passes p [] h = refl
 none_passes p (x ∷ xs) h = elim (true_or_false (p x)) [
@@ -88,7 +88,7 @@ none_from_cond : (b : Bool) (n : ℕ) → cond b (Some n) None ≡ None → b �
 none_from_cond true n h = absurd (cc h)
 none_from_cond false n h = refl
 
--- a name has no fault: its length, its bytes
+-- a name without a fault in its length or its bytes
 no_fault : (long : Bool) (at : Option ℕ) (formed : Bool) → cond long (Some Length) (fault_at at formed) ≡ None → (long ≡ false) × (at ≡ None)
 no_fault true at formed h = absurd (cc h)
 no_fault false (Some i) formed h = absurd (cc h)
@@ -113,12 +113,12 @@ name_word g h =
 pub group_back : (g : List ℕ) → IsGroupName g → group_in g ≡ Ok g
 group_back g h = ap (λ fault. with_fault causes.Group (name_or g fault)) h
 
--- Bytes
+-- Bytes in hexadecimal
 
 hex_above : (b : ℕ) → is_hex_digit b ≡ true → nat_lt 32 b ≡ true
 hex_above b h = grind (arith, nat_tests)
 
--- two digits a byte
+-- hexadecimal digits, two for each byte
 hex_digits : (bs : List ℕ) → IsBytes bs → (list_all is_hex_digit (encode_lower bs) ≡ true) × (length (encode_lower bs) ≡ 2 * length bs)
 hex_digits bs h =
     let back = decode_of-ok (encode_lower bs) bs (decode_of-encode_lower bs h) in
@@ -130,7 +130,7 @@ bytes_word (b ∷ bs) h =
     let digits = hex_digits (b ∷ bs) h in
     word_of (encode_lower (b ∷ bs)) (omega (arith, digits.1)) (weaker is_hex_digit (λ c. nat_lt 32 c) hex_above (encode_lower (b ∷ bs)) digits.0)
 
--- two digits are no dash
+-- two digits are not the dash
 no_dash : (text : List ℕ) → 1 < length text → bytes_eq text (codes "-") ≡ false
 no_dash [] h = absurd (omega (arith, h))
 no_dash (c ∷ []) h = absurd (omega (arith, h))

@@ -1,4 +1,4 @@
--- What is generated is a schedule within the ranges and the limits.
+-- Generated schedules: they are within the ranges and the limits.
 use Rattle.std.proofs.Common.{◌≡◌, ℕ, zero, suc, ◌+◌, ◌%◌, ◌≤◌, Bool, true, false, cond, ◌==◌, nat_le, List, [], ◌∷◌, ◌++◌, map, length, refl, ap, arith, codes, length-append}
 use Rattle.std.specs.List.{AllByRecursion, range_with_len}
 use Rattle.std.proofs.lemmas.List.{length-replicate}
@@ -18,13 +18,13 @@ use Rattle.oc_schedule.specs.Schedule.{IsSchedule}
 use Rattle.oc_schedule.specs.Script.{published_by, published_in, settles_by, settles_in}
 use Rattle.oc_schedule.proofs.Ranges.{zeros_are_areas}
 
--- an event of the generator: it is lawful, publishes at most a byte, and neither settles nor heals
+-- an event of the generator: it is within its ranges, publishes at most one byte, and neither settles nor heals
 record IsDrawn (nodes : ℕ) (e : Event) : Type 0 where
   lawful : IsEvent nodes e
   published : published_by e ≤ 1
   settles : settles_by e ≡ 0
 
--- of two values that are so, the chosen one is
+-- a property of both values holds of the chosen one
 either : (P : Event → Type 0) (b : Bool) (x y : Event) → P x → P y → P (cond b x y)
 either P true x y px py = px
 either P false x y px py = py
@@ -41,7 +41,7 @@ made_is_drawn nodes i kind node third is few one last =
     let up : P (Up node) = record { lawful = is; published = omega arith; settles = refl } in
     either P (nat_le kind 5) _ _ tick (either P (nat_le kind 12) _ _ delivery (either P (kind == 13) _ _ publish (either P (kind == 14) _ _ crash up)))
 
--- events that are so, and how many
+-- n events of the generator
 record AreDrawn (nodes n : ℕ) (es : List Event) : Type 0 where
   lawful : AllByRecursion (IsEvent nodes) es
   count : length es ≡ n

@@ -1,4 +1,4 @@
--- A schedule that is read is within the ranges and the limits.
+-- A schedule that is read: it is within the ranges and the limits.
 use Rattle.std.proofs.Common.{◌≡◌, ℕ, ◌+◌, ◌-◌, ◌≤◌, false, ◌&&◌, ◌==◌, nat_lt, Option, Some, None, Result, Ok, Err, IfOk, List, [], ◌∷◌, ◌++◌, length, inl, inr, ◌∙◌, subst, arith, codes, length-append}
 use Rattle.std.specs.List.{AllByRecursion}
 use Rattle.std.specs.Str.{bytes_eq}
@@ -24,7 +24,7 @@ use Rattle.oc_schedule.specs.Reading.{Gives, at_line}
 use Rattle.oc_schedule.specs.Schedule.{IsSchedule, after_area, after_event, is_comment, first_script, read_line, read_lines, read_statement, read_words, script_after, with_area, with_event}
 use Rattle.oc_schedule.specs.Script.{Script, published_by, published_in, settles_in}
 
--- a script before the line of this number, which is not the first
+-- a script before the line of this number, which is not the first line
 record IsBefore (scale : Scale) (i : ℕ) (s : Script) : Type 0 where
   header : IsHeader s.header
   events : AllByRecursion (IsEvent s.header.nodes) s.events
@@ -32,12 +32,12 @@ record IsBefore (scale : Scale) (i : ℕ) (s : Script) : Type 0 where
   published : published_in s.events ≤ most_of scale limits.Published
   settles : settles_in s.events ≤ MAX_SCHEDULE_SETTLES
 
--- before this line there is no script, or one
+-- no script before this line, or such a script
 abbrev AreBefore : Scale → ℕ → Option Script → Type 0
 AreBefore scale i None = Unit {0}
 AreBefore scale i (Some s) = IsBefore scale i s
 
--- what a line without the limit on published bytes leaves
+-- a script after a line, before the limit on published bytes is tested
 record IsSaid (scale : Scale) (i : ℕ) (s : Script) : Type 0 where
   header : IsHeader s.header
   events : published_in s.events ≤ most_of scale limits.Published → AllByRecursion (IsEvent s.header.nodes) s.events
@@ -79,7 +79,7 @@ said_area scale i s fields t before h =
     } in
     subst (IsSaid scale i) same (record { header = header; events = λ few. before.events; few = omega (arith, before.few) })
 
--- an event that is not refused publishes no more than one publish may have, where all of them are within the limit
+-- an event that is not refused publishes no more than one publish may, where all bytes together are within the limit
 one_publish : (scale : Scale) (n all : ℕ) → is_large scale && nat_lt MAX_PUBLISH_BYTES n ≡ false → n ≤ all → all ≤ most_of scale limits.Published → n ≤ 1000000
 one_publish Usual n all within part few = omega (arith, part, few)
 one_publish Large n all within part few = ltb-false MAX_PUBLISH_BYTES n within
@@ -107,7 +107,7 @@ said_range scale i (Some s) word fields t first before h =
       | inr event ↦ said_event scale i s word fields t before event.1
     ]
 
--- after the limit on published bytes all of it is in range
+-- the script is within its ranges once the limit on published bytes is passed
 statement_range : (scale : Scale) (i : ℕ) (so_far : Option Script) (word : List ℕ) (fields : List (List ℕ)) (t : Script) → 1 ≤ i → AreBefore scale i so_far → read_statement scale i so_far word fields ≡ Ok t → IsBefore scale (i + 1) t
 statement_range scale i so_far word fields t first before h =
     steps (at_line i (script_after scale so_far word fields)) _ _ h λ s is_said then.
@@ -143,7 +143,7 @@ lines_range scale i so_far (line ∷ rest) t first few before h =
     let among : i ≤ most_of scale limits.Lines = ltb-false _ _ within.0 in
     lines_range scale (i + 1) next rest t (omega arith) (omega (arith, among)) (words_range scale i so_far (words line) next first before within.1) then
 
--- what a call gave of these lines is a schedule within the ranges and the limits
+-- a script that a call gave for these lines is a schedule within the ranges and the limits
 pub IsSchedule-from_lines : (scale : Scale) (ls : List (List ℕ)) (r : Result Script ScheduleFault) → Gives r (read_lines scale 1 None ls) → IfOk r (IsSchedule scale)
 IsSchedule-from_lines scale ls (Ok s) h = lines_range scale 1 None ls s (omega arith) (omega arith) tt h
 IsSchedule-from_lines scale ls (Err fault) h = tt

@@ -31,7 +31,7 @@ bytes_of_word (b ∷ bs) h =
     let greater : 32 < b = grind (arith, nat_tests) in
     (greater, bytes_of_word bs parts.1)
 
--- of what is greater than a space nothing is one
+-- no byte greater than a space is a space
 no_space : (bs : List ℕ) → AllByRecursion (λ b. 32 < b) bs → AllByRecursion (λ b. (b == 32) ≡ false) bs
 no_space [] h = tt
 no_space (b ∷ bs) h = let other : (b == 32) ≡ false = grind (arith, nat_tests) in (other, no_space bs h.1)
@@ -57,7 +57,7 @@ plain_spaced (w ∷ ws) h =
     let bytes = bytes_of_word w (and_parts (nat_lt 0 (length w)) _ h.0).1 in
     plain_append w _ (plain_word w bytes) (plain_more ws h.1)
 
--- a word is kept as one
+-- a word is kept when empty words are removed
 kept_word : (w : List ℕ) (ws : List (List ℕ)) → is_word w ≡ true → filter (λ word. not (length word == 0)) (w ∷ ws) ≡ w ∷ filter (λ word. not (length word == 0)) ws
 kept_word w ws h =
     let some = (and_parts (nat_lt 0 (length w)) _ h).0 in

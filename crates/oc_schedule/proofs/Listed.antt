@@ -8,7 +8,7 @@ use Rattle.oc_schedule.specs.Lines.{event_words}
 use Rattle.oc_schedule.specs.Printing.{events_text}
 use Rattle.oc_schedule.specs.Texts.{line_text}
 
--- the line of an event is put, and then come those of the events after it
+-- the line of an event is put, and those of the events after it remain
 pub line_put : (front put : List ℕ) (es : List Event) (i : ℕ) → i < length es → ((e : Event) → slice_get es i ≡ Some e → put ≡ front ++ line_text (event_words e)) → put ++ events_text (drop (i + 1) es) ≡ front ++ events_text (drop i es)
 line_put front put es i within told =
     let e = get_or es i Settle in

@@ -1,4 +1,4 @@
--- What is read is within its range.
+-- The ranges of the values that lines give.
 use Rattle.std.specs.List.{AllByRecursion}
 use Rattle.std.proofs.Common.{◌≡◌, ℕ, zero, suc, ◌≤◌, [], ◌∷◌, Result, Ok, Err, List, subst, arith, min, replicate, codes}
 use Rattle.std.specs.Prelude.{slice_set}
@@ -25,7 +25,7 @@ pub zeros_are_areas : (n : ℕ) → AllByRecursion (λ a. a ≤ MAX_AREA) (repli
 zeros_are_areas zero = tt
 zeros_are_areas (suc n) = (omega arith, zeros_are_areas n)
 
--- a further area is one too
+-- a list of areas with one more area set
 pub set_keeps_areas : (areas : List ℕ) (i a : ℕ) → AllByRecursion (λ a. a ≤ MAX_AREA) areas → a ≤ MAX_AREA → AllByRecursion (λ a. a ≤ MAX_AREA) (slice_set areas i a)
 set_keeps_areas [] i a all small = tt
 set_keeps_areas (x ∷ areas) zero a all small = (small, all.1)
@@ -42,7 +42,7 @@ sizes_range n c chunk sizes some fits h =
     subst (λ (s : Sizes). IsHeader (header_without_areas s)) same
     (record { some = a.0; few = a.1; chain = b.0; short = omega arith; within = omega arith; chunk = some; fits = fits; areas = length-replicate nodes 0; bytes = zeros_are_areas nodes })
 
--- what a chunk's number is
+-- the range of a chunk's number
 chunk_range : (words : List (List ℕ)) (chunk : ℕ) → chunk_in words ≡ Ok chunk → (1 ≤ chunk) × (chunk ≤ MAX_CHUNK_BYTES)
 chunk_range [] chunk h = let same : USUAL_CHUNK_BYTES ≡ chunk = cc h in (omega (arith, same), omega (arith, same))
 chunk_range (name ∷ fields) chunk h =
@@ -62,14 +62,14 @@ without_fault : {A E F : Type 0} (fault : F) (r : Result A E) (y : A) → with_f
 without_fault fault (Ok x) y h = cc h
 without_fault fault (Err e) y h = absurd (cc h)
 
--- a header that is read is one
+-- a header that is read is within its ranges
 pub header_range : (words : List (List ℕ)) (h : Header) → header_in words ≡ Ok h → IsHeader h
 header_range words h is =
     steps (with_fault causes.Header (opening_in words)) _ _ is λ sizes first_script end.
     let same : header_without_areas sizes ≡ h = cc end in
     subst IsHeader same (opening_range words sizes (without_fault causes.Header (opening_in words) sizes first_script))
 
--- so is the area of a node
+-- the area of a node that is read is within its range
 pub area_range : (nodes : ℕ) (fields : List (List ℕ)) (area : ℕ × ℕ) → area_in nodes fields ≡ Ok area → IsNode nodes area.0 × (area.1 ≤ MAX_AREA)
 area_range nodes fields area h =
     steps (two fields) _ _ h λ f is_two then.
@@ -79,7 +79,7 @@ area_range nodes fields area h =
     subst (λ (x : ℕ × ℕ). IsNode nodes x.0 × (x.1 ≤ MAX_AREA)) same
     (number_range 1 nodes f.0 node is_node, (number_range 0 most_byte f.1 a is_area).1)
 
--- Of an event that is read all is in range, where it does not publish too much.
+-- An event that is read is within its ranges, unless it publishes too many bytes.
 
 abbrev IsEventIfFew : ℕ → Event → Type 0
 IsEventIfFew nodes event = published_by event ≤ 1000000 → IsEvent nodes event
@@ -112,7 +112,7 @@ show_range nodes fields event h =
     let same : Show node ≡ event = cc end in
     subst (IsEventIfFew nodes) same λ few. node_range nodes fields node is_node
 
--- an event without fields is that event
+-- an event without fields is read as that event
 is_alone : (event : Event) (fields : List (List ℕ)) (other : Event) → alone event fields ≡ Ok other → event ≡ other
 is_alone event [] other h = cc h
 is_alone event (field ∷ fields) other h = absurd (cc h)
@@ -133,7 +133,7 @@ alone_range nodes word fields event h =
     let same : Do act ≡ event = cc end in
     subst (IsEventIfFew nodes) same (act_range nodes word fields act is_act)
 
--- an event that is read is one, where it does not publish too much
+-- an event that is read is within its ranges, unless it publishes too many bytes
 pub event_range : (nodes : ℕ) (word : List ℕ) (fields : List (List ℕ)) (event : Event) → event_in nodes word fields ≡ Ok event → published_by event ≤ 1000000 → IsEvent nodes event
 event_range nodes word fields event h =
     let P = IsEventIfFew nodes event in

@@ -1,4 +1,4 @@
--- A schedule that is printed is read as the same one.
+-- Printed schedules: each is read as the same schedule.
 use Rattle.std.proofs.Common.{◌≡◌, ℕ, zero, suc, ◌+◌, ◌-◌, ◌^◌, ◌<◌, ◌≤◌, Bool, true, false, cond, ◌&&◌, ◌==◌, nat_lt, min, Option, Some, None, Ok, Err, List, [], ◌∷◌, ◌++◌, length, refl, ap, sym, ◌∙◌, arith, codes, decimal, append_assoc, replicate, length-append}
 use Rattle.std.specs.List.{AllByRecursion}
 use Rattle.std.specs.Str.Lines.{lines}
@@ -36,7 +36,7 @@ use Rattle.oc_schedule.specs.Script.{Script, published_by, published_in, settles
 
 -- One line
 
--- a line of these words, where they are no comment and say this script, which passes no limit
+-- a line of these words is read as this script, if it is no comment and the script passes no limit
 line_read : (scale : Scale) (i : ℕ) (so_far : Option Script) (w : List ℕ) (ws : List (List ℕ)) (s : Script) → i ≤ most_of scale limits.Lines → AreWords (w ∷ ws) → is_comment w ≡ false →
     script_after scale so_far w ws ≡ Ok s → within_limits scale s ≡ Ok s → read_line scale i so_far (spaced (w ∷ ws)) ≡ Ok (Some s)
 line_read scale i so_far w ws s few are plain says within =
@@ -49,7 +49,7 @@ line_read scale i so_far w ws s few are plain says within =
 
 -- Events
 
--- an act within its ranges publishes no more than one publish may have
+-- an act within its ranges publishes no more than one publish may
 act_publishes : (nodes : ℕ) (act : Act) → IsAct nodes act → bytes_of_act act ≤ MAX_PUBLISH_BYTES
 act_publishes nodes (At x (inputs.Publish g bs)) h = h.1.1
 act_publishes nodes (At x (inputs.Tick t)) h = omega arith
@@ -73,7 +73,7 @@ event_publishes nodes (events.Show x) h = omega arith
 event_publishes nodes events.Settle h = omega arith
 event_publishes nodes events.Heal h = omega arith
 
--- so it is refused at no scale
+-- an event within its ranges is refused at no scale
 in_range_back : (scale : Scale) (s : Script) (e : Event) → published_by e ≤ MAX_PUBLISH_BYTES → event_in_range scale s e ≡ Ok (with_event s e)
 in_range_back Usual s e few = refl
 in_range_back Large s e few =
@@ -105,7 +105,7 @@ events_read scale i s (e ∷ es) few lawful bytes short published settles =
 
 -- Areas
 
--- a schedule before its events
+-- the script of a schedule before its events
 abbrev opened : ℕ → ℕ → ℕ → List ℕ → Script
 opened nodes chain chunk areas = record { header = record { nodes = nodes; chain = chain; chunk = chunk; areas = areas }; events = [] }
 
@@ -117,7 +117,7 @@ area_back nodes x a few node small =
     then (node_in nodes (decimal x)) _ x _ (node_back nodes x few node)
     (then (number_in 0 most_byte (decimal a)) _ a _ (number_back 0 most_byte a (omega (arith, small)) (omega arith) small) refl)
 
--- an area line sets its node's area
+-- an area line sets the area of its node
 area_says : (scale : Scale) (nodes chain chunk x a : ℕ) (front behind : List ℕ) → nodes ≤ MAX_NODES → (1 ≤ x) × (x ≤ nodes) → a ≤ MAX_AREA → length front + 1 ≡ x →
     script_after scale (Some (opened nodes chain chunk (front ++ 0 ∷ behind))) (codes "area") (decimal x ∷ decimal a ∷ []) ≡ Ok (opened nodes chain chunk (front ++ a ∷ behind))
 area_says scale nodes chain chunk x a front behind few node small at =
@@ -162,7 +162,7 @@ sizes_back n c b some few one short within =
     then (number_in 1 MAX_NODES (decimal n)) _ n _ (number_back 1 MAX_NODES n (omega (arith, few)) some few)
     (then (number_in 1 (min MAX_CHAIN n) (decimal c)) _ c _ (number_back 1 (min MAX_CHAIN n) c (omega (arith, short)) one (omega (arith, short, within))) refl)
 
--- the number of a chunk, which is left out where it is the usual one
+-- the number of a chunk, which is omitted where it is the usual one
 pub chunk_back : (b : ℕ) → 1 ≤ b → b ≤ MAX_CHUNK_BYTES → chunk_in (chunk_words b) ≡ Ok b
 chunk_back b some fits = by_test (b == USUAL_CHUNK_BYTES) refl where
   by_test : (t : Bool) → (b == USUAL_CHUNK_BYTES) ≡ t → chunk_in (cond t [] (codes "chunk" ∷ decimal b ∷ [])) ≡ Ok b
@@ -185,7 +185,7 @@ header_says scale n c b some few one short within chunk fits =
     ap (λ opening. (with_fault causes.Header opening >>= λ sizes. Ok (header_without_areas sizes)) >>= λ header. Ok (record { header = header; events = [] }))
     (opening_back n c b some few one short within chunk fits)
 
--- All of it
+-- The whole text
 
 -- a text that is not too long is its lines
 text_read : (scale : Scale) (text : List ℕ) → length text ≤ most_of scale limits.Bytes → schedule_of scale text ≡ read_lines scale 1 None (lines text)

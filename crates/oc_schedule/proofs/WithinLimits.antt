@@ -12,7 +12,7 @@ use Rattle.oc_schedule.specs.Reading.{at_line}
 use Rattle.oc_schedule.specs.Schedule.{first_script, limited, within_limits}
 use Rattle.oc_schedule.specs.Script.{Script, published_in, settles_in}
 
--- few bytes and few settles pass no limit
+-- a script with few published bytes and few settles is within the limits
 pub limits_back : (scale : Scale) (s : Script) → published_in s.events ≤ most_of scale limits.Published → settles_in s.events ≤ MAX_SCHEDULE_SETTLES → within_limits scale s ≡ Ok s
 limits_back scale s published settles =
     let few : nat_lt (most_of scale limits.Published) (published_in s.events) ≡ false = le-ltb _ _ published in
@@ -20,7 +20,7 @@ limits_back scale s published settles =
     ap (λ b. cond b (Err (Limit limits.Published)) (cond (nat_lt MAX_SCHEDULE_SETTLES (settles_in s.events)) (Err (Limit limits.Settles)) (Ok s))) few
     ∙ ap (λ b. cond b (Err (Limit limits.Settles)) (Ok s)) rare
 
--- nor does a header
+-- a header is within the limits
 pub header_limited : (scale : Scale) (i : ℕ) (ws : List (List ℕ)) (s : Script) → first_script ws ≡ Ok s → limited scale (at_line i (first_script ws)) ≡ Ok s
 header_limited scale i ws s is =
     steps (header_in ws) _ _ is λ header is_header end.

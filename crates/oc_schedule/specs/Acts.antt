@@ -1,4 +1,4 @@
--- Act lines: what the fields of each kind say, the words that say it, and what an act publishes.
+-- Act lines: the values that the fields of each kind give, the words of each line, and the bytes that an act publishes.
 use Rattle.std.specs.Prelude.{ℕ, if◌then◌else◌, Result, Ok, Err, List, [], ◌∷◌, length, codes, decimal}
 use Rattle.std.specs.Str.{bytes_eq}
 use Rattle.hex.specs.Hex.{IsBytes}
@@ -114,7 +114,7 @@ deliver_in fields = do
   number ← delivered_in fields
   Ok (Deliver number)
 
--- an act line, by its word; ticks and deliveries come first, since long schedules are full of them
+-- an act line, by its word; ticks and deliveries come first, since long schedules have mostly these
 abbrev pub act_in : ℕ → List ℕ → List (List ℕ) → Result Act Why
 act_in nodes word fields =
     if bytes_eq word (codes "tick") then tick_in nodes fields
@@ -142,7 +142,7 @@ input_word (Seal group) = codes "seal"
 input_word (Client area start group) = codes "client"
 input_word (Delivered message) = codes "recv"
 
--- its fields after the node
+-- the fields of an input's line after the node
 abbrev pub input_fields : Input → List (List ℕ)
 input_fields (Tick now) = decimal now ∷ []
 input_fields CheckNow = []
@@ -174,7 +174,7 @@ abbrev pub bytes_of_act : Act → ℕ
 bytes_of_act (At node (Publish group bytes)) = length bytes
 bytes_of_act act = 0
 
--- what an act publishes is bytes
+-- an act publishes bytes
 abbrev pub PublishesBytes : Act → Type 0
 PublishesBytes (At node (Publish group bytes)) = IsBytes bytes
 PublishesBytes act = Unit {0}

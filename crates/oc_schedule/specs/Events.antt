@@ -10,7 +10,7 @@ use Rattle.oc_schedule.specs.declared.listed_event.ListedEvent.TheVariants.{Made
 use Rattle.oc_schedule.specs.declared.kept_event.KeptEvent.{KeptEvent}
 use Rattle.oc_schedule.specs.declared.kept_event.KeptEvent.TheVariants.{Up, Crash, Tick, Deliver, Other}
 
--- the event that is kept so
+-- the event of its kept form
 abbrev pub event_of : KeptEvent → Event
 event_of (Up node) = events.Up node
 event_of (Crash node) = events.Crash node
@@ -18,11 +18,11 @@ event_of (Tick node now) = events.Do (At node (inputs.Tick now))
 event_of (Deliver number) = events.Do (acts.Deliver number)
 event_of (Other event) = event.value
 
--- the events that are kept so
+-- the events of their kept forms
 abbrev pub events_of : List KeptEvent → List Event
 events_of kept = map event_of kept
 
--- the event of a list that is made, or lent
+-- the event of a list, made for the caller or lent
 abbrev pub listed : ListedEvent → Event
 listed (Made event) = event
 listed (Lent event) = event.now

@@ -9,12 +9,12 @@ use Rattle.oc_schedule.specs.declared.fault.ScheduleFault.TheVariants.{Line}
 use Rattle.oc_schedule.specs.declared.scale.Scale.TheVariants.{Usual}
 use Rattle.oc_schedule.specs.Schedule.{schedule_of}
 
--- Worked examples: what these texts say.
+-- Worked examples: the schedules that texts give.
 
 abbrev two_nodes : List ℕ
 two_nodes = codes "overcast 1 nodes 2 chain 1\n"
 
--- two nodes in the area 0, and these events
+-- the text is a schedule of two nodes in area 0 with these events
 abbrev says : List ℕ → List Event → Type 0
 says text events = schedule_of Usual text ≡ Ok (record { header = record { nodes = 2; chain = 1; chunk = 4096; areas = 0 ∷ 0 ∷ [] }; events = events })
 

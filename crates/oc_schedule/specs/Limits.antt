@@ -7,7 +7,7 @@ use Rattle.oc_schedule.specs.declared.scale.Scale.{Scale}
 use Rattle.oc_schedule.specs.declared.scale.Scale.TheVariants.{Usual, Large}
 use Rattle.oc_schedule.specs.declared.scale.TheConstants.{MAX_LARGE_LINES, MAX_LARGE_BYTES, MAX_LARGE_PUBLISHED}
 
--- how many there may be of each; settles are as few in a large schedule, since each of them may take very long
+-- the greatest number of each; the limit on settles is the same in a large schedule, since each may take very long
 abbrev pub most_of : Scale → What → ℕ
 most_of Usual Lines = MAX_SCHEDULE_LINES
 most_of Usual Bytes = MAX_SCHEDULE_BYTES
@@ -22,7 +22,7 @@ abbrev pub is_large : Scale → Bool
 is_large Usual = false
 is_large Large = true
 
--- the word that names each
+-- the word that names each limit
 abbrev pub what_text : What → List ℕ
 what_text Lines = codes "lines"
 what_text Bytes = codes "bytes"

@@ -1,4 +1,4 @@
--- The header, areas and event lines: for each kind what its fields say, and beside it the words that say it.
+-- The header, areas and event lines: the values that the fields of each kind give, and the words of each line.
 use Rattle.std.specs.Prelude.{ℕ, ◌==◌, if◌then◌else◌, Result, Ok, Err, List, [], ◌∷◌, min, replicate, codes, decimal}
 use Rattle.std.specs.Str.{bytes_eq}
 use Rattle.oc_base.specs.Steps.{◌>>=◌, with_fault}
@@ -12,26 +12,26 @@ use Rattle.oc_model.specs.Node.{Header}
 use Rattle.oc_model.specs.declared.header.Sizes.{Sizes}
 use Rattle.oc_schedule.specs.Acts.{act_in, act_word, act_fields, act_words, most_byte}
 
--- the numbers of nodes and of chain members, beside that of a chunk
+-- the numbers of nodes and of chain members, with that of a chunk
 abbrev pub sizes_in : List ℕ → List ℕ → ℕ → Result Sizes Why
 sizes_in n c chunk = do
   nodes ← number_in 1 MAX_NODES n
   chain ← number_in 1 (min MAX_CHAIN nodes) c
   Ok (record { nodes = nodes; chain = chain; chunk = chunk })
 
--- the field after this word, with which the fields begin, and the rest of them
+-- the fields begin with this word: the field after it, and the rest
 abbrev pub named_in : List ℕ → List (List ℕ) → Result (List ℕ × List (List ℕ)) Why
 named_in name (word ∷ field ∷ rest) = if bytes_eq word name then Ok (field, rest) else Err causes.Word
 named_in name fields = Err causes.Count
 
--- the greatest number of bytes of a chunk: `chunk B`, or nothing
+-- the greatest number of bytes of a chunk: `chunk B`, or the usual one where nothing follows
 abbrev pub chunk_in : List (List ℕ) → Result ℕ Why
 chunk_in [] = Ok USUAL_CHUNK_BYTES
 chunk_in (name ∷ fields) = do
   b ← one fields
   if bytes_eq name (codes "chunk") then number_in 1 MAX_CHUNK_BYTES b else Err causes.Word
 
--- `overcast 1 nodes N chain C`, and perhaps `chunk B`
+-- `overcast 1 nodes N chain C`, and optionally `chunk B`
 abbrev pub opening_in : List (List ℕ) → Result Sizes Why
 opening_in words = do
   (version, after_version) ← named_in (codes "overcast") words
@@ -40,11 +40,11 @@ opening_in words = do
   chunk ← chunk_in after_chain
   if bytes_eq version (codes "1") then sizes_in n c chunk else Err causes.Word
 
--- a header with these numbers, where areas are 0
+-- a header with these numbers and with areas 0
 abbrev pub header_without_areas : Sizes → Header
 header_without_areas s = record { nodes = s.nodes; chain = s.chain; chunk = s.chunk; areas = replicate s.nodes 0 }
 
--- the header, each fault of which is `header`
+-- the header; each fault in it is `header`
 abbrev pub header_in : List (List ℕ) → Result Header Why
 header_in words = do
   sizes ← with_fault causes.Header (opening_in words)
@@ -107,16 +107,16 @@ abbrev pub alone : Event → List (List ℕ) → Result Event Why
 alone event [] = Ok event
 alone event (field ∷ fields) = Err causes.Count
 
--- the first three fields and those after them
+-- the first three fields, and the fields after them
 abbrev pub first_three : List (List ℕ) → Result (List ℕ × List ℕ × List ℕ × List (List ℕ)) Why
 first_three (a ∷ b ∷ c ∷ rest) = Ok (a, b, c, rest)
 first_three fields = Err causes.Count
 
--- the greatest number of device calls that a stop lets work
+-- the greatest number of device calls that work before a stop
 abbrev pub most_calls : ℕ
 most_calls = 4
 
--- `stop K P` and an act line: the two numbers are looked at before the act
+-- `stop K P` and an act line: the two numbers are tested before the act
 abbrev pub stop_in : ℕ → List (List ℕ) → Result Event Why
 stop_in nodes words = do
   (k, p, word, fields) ← first_three words

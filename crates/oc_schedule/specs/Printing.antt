@@ -12,11 +12,11 @@ use Rattle.oc_schedule.specs.Limits.{most_of}
 use Rattle.oc_schedule.specs.Schedule.{IsSchedule}
 use Rattle.oc_schedule.specs.Script.{Script}
 
--- the line of a node's area, unless that is 0
+-- the line of a node's area, unless the area is 0
 abbrev pub area_text : ℕ → ℕ → List ℕ
 area_text node area = if area == 0 then [] else line_text (area_words node area)
 
--- those of the nodes from this one on
+-- the lines of the areas of the nodes from this one on
 abbrev pub areas_text : ℕ → List ℕ → List ℕ
 areas_text node [] = []
 areas_text node (area ∷ areas) = area_text node area ++ areas_text (node + 1) areas
@@ -30,7 +30,7 @@ events_text (event ∷ events) = line_text (event_words event) ++ events_text ev
 abbrev pub script_text : Script → List ℕ
 script_text s = line_text (header_words s.header.nodes s.header.chain s.header.chunk) ++ areas_text 1 s.header.areas ++ events_text s.events
 
--- how many areas have a line
+-- the number of areas that have a line
 abbrev pub area_lines : List ℕ → ℕ
 area_lines [] = 0
 area_lines (area ∷ areas) = if area == 0 then area_lines areas else area_lines areas + 1

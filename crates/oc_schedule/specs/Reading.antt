@@ -6,13 +6,13 @@ use Rattle.oc_schedule.specs.declared.fault.ScheduleFault.TheVariants.{Line, Lim
 use Rattle.oc_base.specs.Steps.{map_fault}
 use Rattle.oc_base.specs.declared.why.Why.{Why}
 
--- How reading is said: a function on lists gives a value or the first fault, and a call gives what it gives.
+-- The result of reading: a function on lists gives a value or the first fault, and a call gives the same.
 
--- a cause, at this line
+-- a cause as a fault of this line
 abbrev pub at_line : {A : Type 0} → ℕ → Result A Why → Result A ScheduleFault
 at_line i r = map_fault (λ why. Line i why) r
 
--- what a call gave, seen by view, is what reading says, unless memory ran out
+-- a call gave, seen by view, the result of the function, unless memory ran out
 abbrev pub GivesBy : {X A : Type 0} → (X → A) → Result X ScheduleFault → Result A ScheduleFault → Type 0
 GivesBy view (Ok x) read = read ≡ Ok (view x)
 GivesBy view (Err (Line i why)) read = read ≡ Err (Line i why)
@@ -27,7 +27,7 @@ abbrev pub fault_at : ℕ → LineFault → ScheduleFault
 fault_at i (lines.Cause why) = Line i why
 fault_at i lines.Memory = Memory
 
--- the same for one line, seen by view, where the only fault is a cause
+-- the same for one line, where the only fault is a cause
 abbrev pub GivesLineBy : {X A : Type 0} → (X → A) → Result X LineFault → Result A Why → Type 0
 GivesLineBy view (Ok x) read = read ≡ Ok (view x)
 GivesLineBy view (Err (lines.Cause why)) read = read ≡ Err why

@@ -1,4 +1,4 @@
--- What a schedule says, and what is counted of it.
+-- The contents of a schedule, and the numbers counted of it.
 use Rattle.std.specs.Prelude.{ℕ, List}
 use Rattle.std.specs.List.{sum_by}
 use Rattle.oc_schedule.specs.Acts.{bytes_of_act}
@@ -6,7 +6,7 @@ use Rattle.oc_model.specs.declared.event.Event.{Event}
 use Rattle.oc_model.specs.declared.event.Event.TheVariants.{Do, Stop, Settle, Heal}
 use Rattle.oc_model.specs.Node.{Header}
 
--- how the world opens, and what happens in it, in this order
+-- the header of the world, and its events in order
 pub record Script : Type 0 where
   pub header : Header
   pub events : List Event
@@ -21,12 +21,12 @@ published_by event = 0
 abbrev pub published_in : List Event → ℕ
 published_in events = sum_by published_by events
 
--- settling and healing count together
+-- 1 for an event that settles or heals, 0 for any other
 abbrev pub settles_by : Event → ℕ
 settles_by Settle = 1
 settles_by Heal = 1
 settles_by event = 0
 
--- how often the events settle or heal
+-- the number of events that settle or heal
 abbrev pub settles_in : List Event → ℕ
 settles_in events = sum_by settles_by events

@@ -9,7 +9,7 @@ use crate::texts::{put_hex, put_number_field};
 use oc_base::{Memory, NodeId, put};
 use oc_model::Input;
 
-/// Puts the line of an input at a node, but what a message says, which is at [`put_recv_line`].
+/// Puts the line of an input at a node, except for a message, whose line [`put_recv_line`] puts.
 pub fn put_act_line(out: &mut Vec<u8>, node: NodeId, input: &Input) -> Result<(), Memory>
     ensures { OnOk result (out.new.items ≡ out.old.items ++ act_line (At node input.now)) }
 {

@@ -1,7 +1,7 @@
-//! Act lines: for each kind how it is read, and in `put_act` how it is written.
+//! Act lines: one reader for each kind, and their writer `put_act`.
 //!
-//! A new kind needs one more pair of definitions in `specs/Acts`, one reader here, and a branch of
-//! [`act`] and [`put_act`].
+//! A new kind needs one more pair of definitions in `specs/Acts`, one reader here, and a branch of [`act`] and
+//! [`put_act`].
 
 ghost use Rattle.std.specs.Prelude.{◌≡◌, [], ◌∷◌, ◌++◌, OnOk, decimal};
 ghost use Rattle.oc_base.specs.Words.{words};
@@ -153,8 +153,8 @@ pub(crate) fn deliver(fields: &[u8]) -> Result<u64, Why>
     number(k, 1, u64::MAX)
 }
 
-/// The act that a line of this word and these fields says, in a run of `nodes` nodes, or the first
-/// cause for which it says none.
+/// The act of a line with this word and these fields, in a run of `nodes` nodes, or the first cause for which the
+/// line is no act.
 pub fn act(alloc: Global, nodes: u32, word: &[u8], fields: &[u8]) -> Result<Act, LineFault>
     ensures { GivesLine result (act_in nodes word.now (words fields.now)) }
 {
@@ -211,7 +211,7 @@ pub(crate) fn put_input(out: &mut Vec<u8>, node: NodeId, input: &Input) -> Resul
     put_fields(out, input)
 }
 
-/// Puts the fields of the line of an input, but the node.
+/// Puts the fields of the line of an input, except the node.
 fn put_fields(out: &mut Vec<u8>, input: &Input) -> Result<(), Memory>
     ensures { OnOk result (out.new.items ≡ out.old.items ++ fields_text (input_fields input.now)) }
 {

@@ -20,9 +20,9 @@ use std::alloc::Global;
 #[derive(Drop)]
 pub(crate) struct ScheduleBuilder {
     schedule: Schedule,
-    /// The bytes that its events publish.
+    /// The bytes that the events publish.
     published: usize,
-    /// How often they settle or heal.
+    /// The number of events that settle or heal.
     settles: u32,
     ghost counted: { published ≡ published_in schedule.events },
     ghost counted_settles: { settles ≡ settles_in schedule.events },
@@ -49,8 +49,7 @@ impl ScheduleBuilder {
         })
     }
 
-    /// The builder after one more line, which is not skipped and has this number, first word and
-    /// fields.
+    /// The builder after one more line, which is not skipped and has this number, first word and fields.
     pub fn with_line(
         self,
         alloc: Global,
@@ -102,8 +101,8 @@ impl ScheduleBuilder {
         }
     }
 
-    /// The builder with the event of the line of this number, where it publishes no more than one publish
-    /// has, and passes no limit.
+    /// The builder with the event of the line of this number, if the event publishes no more than one publish may
+    /// and passes no limit.
     fn with_event_at(
         self,
         scale: Scale,
@@ -122,7 +121,7 @@ impl ScheduleBuilder {
         self.with_event(scale, event)
     }
 
-    /// The builder with one more event, where it passes no limit.
+    /// The builder with one more event, if it passes no limit.
     fn with_event(self, scale: Scale, event: KeptEvent) -> Result<ScheduleBuilder, ScheduleFault>
         ensures { GivesBy (λ d. d.schedule) result
             (within_limits scale (with_event self.schedule (event_of event))) }

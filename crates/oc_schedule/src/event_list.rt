@@ -6,7 +6,7 @@ use crate::kept_event::KeptEvent;
 use std::alloc::{AllocError, Global};
 use std::marker::Model;
 
-/// The events of a schedule, in their order. Contracts see the list of them.
+/// The events of a schedule, in their order. Contracts see them as a list.
 ///
 /// Starts, crashes, ticks and deliveries take 16 bytes each.
 #[derive(Debug, Drop)]
@@ -34,14 +34,14 @@ impl EventList {
         }
     }
 
-    /// How many there are.
+    /// The number of events.
     pub fn len(&self) -> usize
         ensures { result ≡ length self.now }
     {
         self.kept.len()
     }
 
-    /// Whether there are none.
+    /// Whether there are no events.
     pub fn is_empty(&self) -> bool
         ensures { result ≡ (length self.now == 0) }
     {
@@ -56,7 +56,7 @@ impl EventList {
         self.kept[place].event()
     }
 
-    /// Puts one at the end.
+    /// Puts an event at the end.
     pub fn push(&mut self, event: KeptEvent) -> Result<(), AllocError>
         ensures { OnOk result (self.new ≡ self.old ++ event_of event ∷ []) }
     {

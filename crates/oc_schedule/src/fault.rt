@@ -7,10 +7,10 @@ use std::alloc::{AllocError, AllocFailed};
 use std::error::Error;
 use std::fmt;
 
-/// Why a text is no schedule.
+/// The fault for which a text is no schedule.
 #[derive(Clone, Copy, Debug, PartialEq, Eq)]
 pub enum ScheduleFault {
-    /// This line, counted from 1, is refused for this cause.
+    /// The line with this number, counted from 1, is refused for this cause.
     Line { line: u32, why: Why },
     /// The text has more of these than its scale allows.
     Limit(What),
@@ -18,14 +18,14 @@ pub enum ScheduleFault {
     Memory,
 }
 
-/// What a text may not have too many of.
+/// The counts of a text that have a limit.
 #[derive(Clone, Copy, Debug, PartialEq, Eq)]
 pub enum What {
-    /// Lines, those that are skipped too.
+    /// Lines, including those that are skipped.
     Lines,
     /// Bytes.
     Bytes,
-    /// Bytes that its events publish.
+    /// Bytes that the events publish.
     Published,
     /// Lines that settle or heal.
     Settles,
@@ -83,17 +83,17 @@ impl<T: Drop> From<AllocFailed<T>> for ScheduleFault {
     }
 }
 
-/// Why a line is not read, where its number is not known.
+/// The fault for which a line is not read, while its number is not known.
 #[derive(Clone, Copy, Debug, PartialEq, Eq)]
 pub enum LineFault {
-    /// It is refused for this cause.
+    /// The line is refused for this cause.
     Cause(Why),
     /// Memory ran out.
     Memory,
 }
 
 impl LineFault {
-    /// The fault of the text, where the line has this number.
+    /// The fault of the text, with this number for the line.
     pub fn at(self, line: u32) -> ScheduleFault
         ensures { result ≡ fault_at line self }
     {

@@ -8,7 +8,7 @@ use hex::FromHexError;
 use oc_base::{Bytes, GroupName, Why};
 use std::alloc::Global;
 
-/// Whether a word is this text. Most words differ from a text in their length, so that is looked at first.
+/// Whether a word is this text. The lengths are compared first, since most words differ from a text in length.
 #[tactic(auto, using(crate::proofs::Alike::of_other_length))]
 pub(crate) fn is(word: &[u8], text: &str) -> bool
     ensures { result ≡ bytes_eq word.now text.now }
@@ -20,7 +20,7 @@ pub(crate) fn is(word: &[u8], text: &str) -> bool
     are_same(word, text)
 }
 
-/// Whether two texts of one length are the same.
+/// Whether two texts of the same length are the same.
 #[tactic(auto, using(crate::proofs::Alike::are_read))]
 fn are_same(a: &[u8], b: &[u8]) -> bool
     requires { length a.now ≡ length b.now }
@@ -34,14 +34,14 @@ fn are_same(a: &[u8], b: &[u8]) -> bool
     true
 }
 
-/// The group whose name a field is.
+/// The group that a field names.
 pub(crate) fn group(field: &[u8]) -> Result<GroupName, Why>
     ensures { result ≡ group_in field.now }
 {
     GroupName::parse(field).map_err(|_| Why::Group)
 }
 
-/// The bytes that a field writes in hexadecimal, or none by `-`.
+/// The bytes that a field writes in hexadecimal; none for `-`.
 pub(crate) fn bytes(alloc: Global, field: &[u8]) -> Result<Bytes, LineFault>
     ensures { GivesLine result (bytes_in field.now) }
 {

@@ -16,10 +16,10 @@ use oc_base::{Bytes, GroupName, Memory, NodeId, USUAL_CHUNK_BYTES};
 use oc_model::{Act, Event, Header, Input, Sizes};
 use std::alloc::Global;
 
-/// The greatest number of events of a schedule that is generated.
+/// The greatest number of events of a generated schedule.
 pub const MAX_GENERATED_EVENTS: u32 = 99_999;
 
-/// The greatest number of chain members of a schedule that is generated.
+/// The greatest number of chain members of a generated schedule.
 const CHAIN: u32 = 3;
 
 /// The schedule of a seed: all nodes start, and then come ticks, deliveries, publishes of a byte,
@@ -59,7 +59,7 @@ fn put_starts(events: &mut EventList, nodes: u32) -> Result<(), Memory>
     Ok(())
 }
 
-/// Puts the events that are drawn, up to this number.
+/// Puts the drawn events, up to this number.
 fn put_drawn(
     alloc: Global,
     events: &mut EventList,
@@ -128,7 +128,7 @@ impl Draws {
     }
 }
 
-/// One byte is published in the group `/g`.
+/// A publish of one byte in the group `/g`.
 fn publish(alloc: Global, byte: u8) -> Result<Act, Memory>
     ensures { IfOk result (λ act. act ≡ At 1 (Publish (codes "/g") (byte ∷ []))) }
 {

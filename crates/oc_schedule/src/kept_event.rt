@@ -8,7 +8,7 @@ use oc_base::NodeId;
 use oc_model::{Act, Event, Input};
 use std::alloc::{AllocError, Global};
 
-/// An event as it is kept: those of which long schedules are full take 16 bytes, and any other one has
+/// An event in its kept form: the events that long schedules mostly have take 16 bytes, and any other event has
 /// memory of its own.
 #[derive(Debug, Drop)]
 pub enum KeptEvent {
@@ -16,7 +16,7 @@ pub enum KeptEvent {
     Up(NodeId),
     /// The node stops between two inputs.
     Crash(NodeId),
-    /// The clock of the node shows this, in seconds.
+    /// The clock of the node shows this time, in seconds.
     Tick { node: NodeId, now: u64 },
     /// The message of this number arrives.
     Deliver { number: u64 },

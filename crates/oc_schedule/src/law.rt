@@ -6,12 +6,12 @@ ghost use Rattle.oc_schedule.specs.declared.scale.Scale.TheVariants.{Usual};
 ghost use Rattle.oc_schedule.specs.Schedule.{IsSchedule};
 ghost use Rattle.oc_schedule.specs.Examples.{AreRead};
 
-/// The worked examples, as the definitions read them.
+/// The worked examples, read by the definitions.
 pub fn examples_are_read()
     ensures { AreRead }
 {}
 
-/// What is generated is a schedule within the ranges and the usual limits.
+/// A generated schedule is within the ranges and the usual limits.
 pub fn generated_schedules_are_lawful()
     ensures { (seed nodes more : ℕ) → 1 ≤ nodes → nodes ≤ MAX_NODES → nodes + more ≤ MAX_GENERATED_EVENTS
         → IsSchedule Usual (generated seed nodes more) }

@@ -1,7 +1,7 @@
-//! The header, areas and event lines: for each kind how it is read, and in `put_event` how it is written.
+//! The header, areas and event lines: one reader for each kind, and their writer `put_event`.
 //!
-//! A new kind needs one more definition in `specs/Lines`, one reader here, and a branch of [`event`]
-//! and [`put_event`].
+//! A new kind needs one more definition in `specs/Lines`, one reader here, and a branch of [`event`] and
+//! [`put_event`].
 
 ghost use Rattle.std.specs.Prelude.{◌≡◌, ◌≤◌, ◌++◌, OnOk, IfOk, codes, decimal};
 ghost use Rattle.oc_base.specs.Lawful.{IsNode};
@@ -24,10 +24,10 @@ use oc_base::{MAX_CHAIN, MAX_CHUNK_BYTES, MAX_NODES, Memory, NodeId, USUAL_CHUNK
 use oc_model::{Event, Sizes};
 use std::alloc::Global;
 
-/// The greatest number of device calls that a stop lets work.
+/// The greatest number of device calls that work before a stop.
 const MAX_CALLS: u64 = 4;
 
-/// `overcast 1 nodes N chain C`, and after it perhaps `chunk B`: the sizes of the network.
+/// `overcast 1 nodes N chain C`, and optionally `chunk B`: the sizes of the network.
 pub fn opening(line: &[u8]) -> Result<Sizes, Why>
     ensures { result ≡ opening_in (words line.now) }
 {
@@ -42,7 +42,7 @@ pub fn opening(line: &[u8]) -> Result<Sizes, Why>
     }
 }
 
-/// The field after this word, with which a line begins, and what follows both.
+/// The line begins with this word: the field after it, and the rest of the line.
 fn named<'a>(line: &'a [u8], name: &str) -> Result<(&'a [u8], &'a [u8]), Why>
     ensures { GivesFields (λ f. (f.0.now, words f.1.now)) result (named_in name.now (words line.now)) }
 {
@@ -59,7 +59,7 @@ fn named<'a>(line: &'a [u8], name: &str) -> Result<(&'a [u8], &'a [u8]), Why>
     }
 }
 
-/// The greatest number of bytes of a chunk that the end of a header says.
+/// The greatest number of bytes of a chunk, by the end of a header.
 fn chunk(line: &[u8]) -> Result<u32, Why>
     ensures said { result ≡ chunk_in (words line.now) }
     ensures range { IfOk result (λ chunk. (1 ≤ chunk) × (chunk ≤ MAX_CHUNK_BYTES)) }
@@ -75,7 +75,7 @@ fn chunk(line: &[u8]) -> Result<u32, Why>
     }
 }
 
-/// The numbers of nodes and of chain members, beside that of a chunk.
+/// The numbers of nodes and of chain members, with that of a chunk.
 fn sizes_of(n: &[u8], c: &[u8], chunk: u32) -> Result<Sizes, Why>
     ensures { result ≡ sizes_in n.now c.now chunk }
 {
@@ -99,7 +99,7 @@ pub fn area(nodes: u32, fields: &[u8]) -> Result<(NodeId, u8), Why>
     Ok((node_id, area as u8))
 }
 
-/// The number of an area or of an image, which fits a byte.
+/// The number of an area or of an image, which fits in a byte.
 fn byte(field: &[u8]) -> Result<u64, Why>
     ensures said { result ≡ number_in 0 most_byte field.now }
     ensures range { IfOk result (λ number. number ≤ most_byte) }
@@ -135,7 +135,7 @@ fn heal(fields: &[u8]) -> Result<Event, LineFault>
     }
 }
 
-/// The first three fields of a line, and what follows them.
+/// The first three fields of a line, and the rest.
 type FirstThree<'a> = (&'a [u8], &'a [u8], &'a [u8], &'a [u8]);
 
 fn three_and_more(line: &[u8]) -> Result<FirstThree<'_>, Why>
@@ -153,7 +153,7 @@ fn three_and_more(line: &[u8]) -> Result<FirstThree<'_>, Why>
     Ok((a, b, c, rest))
 }
 
-/// `stop K P` and an act line. The two numbers are looked at before the act.
+/// `stop K P` and an act line. The two numbers are tested before the act.
 fn stop(alloc: Global, nodes: u32, fields: &[u8]) -> Result<Event, LineFault>
     ensures { GivesLine result (stop_in nodes (words fields.now)) }
 {
@@ -196,7 +196,7 @@ pub(crate) fn event(
     }
 }
 
-/// An act line by itself. Ticks and deliveries are kept as what they say.
+/// An act line by itself. Ticks and deliveries have their own kept form.
 fn act_alone(alloc: Global, nodes: u32, word: &[u8], fields: &[u8]) -> Result<KeptEvent, LineFault>
     ensures { GivesLineBy event_of result (act_alone_in nodes word.now (words fields.now)) }
 {

@@ -3,7 +3,7 @@ ghost use Rattle.oc_schedule.specs.Events.{listed};
 
 use oc_model::Event;
 
-/// An event of a list: made of what is kept of it, or lent as it is kept.
+/// An event of a list: made from its kept form, or lent.
 #[derive(Drop)]
 pub enum ListedEvent<'a> {
     Made(Event),

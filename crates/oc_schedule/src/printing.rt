@@ -15,8 +15,8 @@ use oc_base::{Memory, USUAL_CHUNK_BYTES, put};
 use oc_model::{Event, Sizes};
 use std::alloc::Global;
 
-/// Writes the text of a schedule: the header, a line for each area that is not 0, ascending, and a
-/// line for each event. Reading it gives the same schedule, at each scale whose limits the text is within.
+/// Writes the text of a schedule: the header, a line for each area that is not 0, ascending, and a line for each
+/// event. Reading the text gives the same schedule at each scale whose limits it is within.
 pub fn print(alloc: Global, schedule: &Schedule) -> Result<Vec<u8>, Memory>
     ensures text { IfOk result (λ text. text.items ≡ script_text schedule.now) }
     ensures read_back { (scale : ScaleValue) → IsPrintable scale schedule.now → IfOk result (λ text. schedule_of scale text.items ≡ Ok schedule.now) }
@@ -46,7 +46,7 @@ fn put_header(out: &mut Vec<u8>, sizes: Sizes) -> Result<(), Memory>
     }
 }
 
-/// Puts a header that says how many bytes a chunk has at most.
+/// Puts a header with the greatest number of bytes of a chunk.
 fn put_long_header(out: &mut Vec<u8>, sizes: Sizes) -> Result<(), Memory>
     ensures { OnOk result (out.new.items ≡ out.old.items ++ line_text (header_with sizes.nodes sizes.chain (codes "chunk" ∷ decimal sizes.chunk ∷ []))) }
 {
@@ -56,7 +56,7 @@ fn put_long_header(out: &mut Vec<u8>, sizes: Sizes) -> Result<(), Memory>
     put(out, b"\n")
 }
 
-/// Puts a header that does not.
+/// Puts a header without the greatest number of bytes of a chunk.
 fn put_short_header(out: &mut Vec<u8>, sizes: Sizes) -> Result<(), Memory>
     ensures { OnOk result (out.new.items ≡ out.old.items ++ line_text (header_with sizes.nodes sizes.chain [])) }
 {
@@ -64,7 +64,7 @@ fn put_short_header(out: &mut Vec<u8>, sizes: Sizes) -> Result<(), Memory>
     put(out, b"\n")
 }
 
-/// Puts what both begin with.
+/// Puts the front of both kinds of headers.
 fn put_front(out: &mut Vec<u8>, sizes: Sizes) -> Result<(), Memory>
     ensures { OnOk result (out.new.items ≡ out.old.items ++ spaced (header_with sizes.nodes sizes.chain [])) }
 {
@@ -84,7 +84,7 @@ fn put_areas(out: &mut Vec<u8>, areas: &[u8]) -> Result<(), Memory>
     Ok(())
 }
 
-/// Puts the line of an area, unless it is 0.
+/// Puts the line of an area, unless the area is 0.
 fn put_area(out: &mut Vec<u8>, node: u64, area: u8) -> Result<(), Memory>
     ensures { OnOk result (out.new.items ≡ out.old.items ++ area_text node area) }
 {
@@ -112,7 +112,7 @@ fn put_event_at(out: &mut Vec<u8>, events: &EventList, place: usize) -> Result<(
 {
     let event = events.event(place);
     let done = put_line(out, event.get());
-    // Dropped by a call, the event costs one proof; out of scope it costs one for each kind.
+    // Dropped by a call, the event costs one proof; dropped at the end of its scope it costs one for each kind.
     drop(event);
     done
 }

@@ -17,17 +17,17 @@ pub const MAX_LARGE_BYTES: usize = 4_294_967_296;
 /// The greatest number of bytes that the publish lines of a large schedule have together: 2^32.
 pub const MAX_LARGE_PUBLISHED: usize = 4_294_967_296;
 
-/// How much a schedule may have.
+/// The size of a schedule, which sets its limits.
 #[derive(Clone, Copy, Debug, PartialEq, Eq)]
 pub enum Scale {
-    /// As much as is written by hand or generated: it is played in little memory.
+    /// The size of a schedule that is written by hand or generated: playing it takes little memory.
     Usual,
-    /// As much as running nodes record.
+    /// The size of a schedule that running nodes record.
     Large,
 }
 
 impl Scale {
-    /// How many of these it may have.
+    /// The greatest number of these.
     pub fn most(self, what: What) -> usize
         ensures { result ≡ most_of self what }
     {
@@ -39,14 +39,14 @@ impl Scale {
         }
     }
 
-    /// Whether it is that of a large schedule.
+    /// Whether this is the scale of a large schedule.
     pub(crate) fn is_large(self) -> bool
         ensures { result ≡ is_large self }
     {
         matches!(self, Scale::Large)
     }
 
-    /// How many lines it may have.
+    /// The greatest number of lines.
     pub(crate) fn lines(self) -> u32
         ensures exact { result ≡ most_of self Lines }
         ensures few { result ≤ MAX_LARGE_LINES }
@@ -57,7 +57,7 @@ impl Scale {
         }
     }
 
-    /// How many bytes it may have.
+    /// The greatest number of bytes.
     fn bytes(self) -> usize
         ensures { result ≡ most_of self Bytes }
     {
@@ -67,7 +67,7 @@ impl Scale {
         }
     }
 
-    /// How many bytes its publish lines may have together.
+    /// The greatest number of bytes that all publish lines together have.
     pub(crate) fn published(self) -> usize
         ensures exact { result ≡ most_of self Published }
         ensures few { result ≤ MAX_LARGE_PUBLISHED }

@@ -2,8 +2,7 @@ use crate::EventList;
 use oc_model::Header;
 use std::marker::Model;
 
-/// What a schedule says: how the world opens, and what happens in it. Contracts see it as the
-/// record `Script` of lists.
+/// A schedule: the header of the world, and its events in order. Contracts see it as the record `Script` of lists.
 #[derive(Debug, Drop)]
 pub struct Schedule {
     pub header: Header,

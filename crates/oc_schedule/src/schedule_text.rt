@@ -14,12 +14,11 @@ use oc_base::Why;
 use oc_base::words::{first_line, first_word};
 use std::alloc::Global;
 
-/// Reads the text of a schedule, any bytes: what it says, or its first fault.
+/// Reads the text of a schedule, any bytes: the schedule, or its first fault.
 ///
-/// A text of too many bytes is refused before all else. Then each line is refused in this order:
-/// where there are too many lines, for the cause of the line, where too many bytes are published,
-/// where it settles or heals too often. A text without a header is refused at the line after its last.
-/// Of these limits `scale` says how many there may be of each.
+/// A text of too many bytes is refused before all else. Then each line is refused in this order: where there are
+/// too many lines, for the cause of the line, where too many bytes are published, where the line settles or heals
+/// too often. A text without a header is refused at the line after its last. `scale` sets these limits.
 pub fn read(alloc: Global, scale: Scale, bytes: &[u8]) -> Result<Schedule, ScheduleFault>
     ensures exact { Gives result (schedule_of scale bytes.now) }
 
@@ -58,7 +57,7 @@ fn read_lines(alloc: Global, scale: Scale, bytes: &[u8]) -> Result<Schedule, Sch
     }
 }
 
-/// The builder after one more line, where there is none before the header.
+/// The builder after one more line; there is none before the header.
 fn read_line(
     alloc: Global,
     scale: Scale,
@@ -75,7 +74,7 @@ fn read_line(
     }
 }
 
-/// The builder after a line that is not skipped, in which this word and these fields were found.
+/// The builder after a line that is not skipped, with this word and these fields.
 fn read_statement(
     alloc: Global,
     scale: Scale,

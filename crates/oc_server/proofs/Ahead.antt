@@ -1,4 +1,4 @@
--- What is written of an input before its frame, and then a part that takes it.
+-- The text of an input before its frame, and then a part that takes the input.
 use Rattle.std.proofs.Common.{◌≡◌, ℕ, false, Option, List, [], ◌∷◌, ◌++◌, refl, sym, subst}
 use Rattle.oc_link.specs.declared.call.Call.{Call}
 use Rattle.oc_link.specs.declared.counts.LinkCounts.{LinkCounts}
@@ -23,7 +23,7 @@ module _ {D L K : Type 0} (view : D → DiskView) (takes fails : K → List ℕ 
   abbrev line : List ℕ
   line = told_ahead a.log a.kept.node.control.me i
 
-  -- it ended so in the line
+  -- a part that ended in the line of its input
   pub ahead_stops : (takes_nothing : (k : K) → takes k [] k) (end : TurnEnd) (p : Part) (c : Server D L K) → a.kept.closed ≡ false → NoteBreaks view takes fails faults story counts end line a c
       → Stops view takes fails faults story counts end (says_ahead i >> p) a c
   ahead_stops takes_nothing end p c is_open breaks =

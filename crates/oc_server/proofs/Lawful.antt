@@ -10,7 +10,7 @@ use Rattle.oc_deeds.specs.Lawful.{IsLawfulDial, IsLawfulWork, IsPlaced}
 use Rattle.oc_deeds.specs.Sending.{AreSendable}
 use Rattle.oc_server.specs.declared.server.Server.{Server}
 
--- what is lawful among some nodes is lawful at another moment of the same node
+-- a server that is lawful among some nodes is lawful at another moment of the same node
 pub lawful_of : {D L K : Type 0} (old new : Server D L K) → IsSameNode old.kept.node.control new.kept.node.control
     → (AreSendable old.kept.node.control.nodes old.outbox → AreSendable old.kept.node.control.nodes new.outbox)
     → (AllByRecursion (IsLawfulWork old.kept.node.control.nodes old.kept.node.control.me) old.works → AllByRecursion (IsLawfulWork old.kept.node.control.nodes old.kept.node.control.me) new.works)

@@ -25,7 +25,7 @@ go_on_none view d = record {
   content = record { honest = refl; reliable = refl; name = refl; listed = refl; count = omega arith };
 }
 
--- what is said of the node of one moment is said of the same node at another
+-- a statement about the node of one moment holds of the same node at another
 pub named : (P : Header → ℕ → Type 0) → {D : Type 0} → (old new : KeptView D) → IsSameNode old.node.control new.node.control → P (header_of new.node.control) new.node.control.me → P (header_of old.node.control) old.node.control.me
 named P old new same p = subst (λ (me : ℕ). P (header_of old.node.control) me) same.me (subst (λ (h : Header). P h new.node.control.me) same.header p)
 
@@ -71,7 +71,7 @@ module _ {D : Type 0} (view : D → DiskView) where
       let there = all_honest view (disks_of at) (disks_of next) one.goes_on here in
       omega (arith, looks.generation honest, one.generation here, keeps_no_fall is next b rest there)
 
-  -- why a look after a look ended
+  -- the cause for which a look after a look ended
   look_cause : (end : TurnEnd) (a b c : KeptView D) → LooksOnly view a b → LookCause view end b c → LookCause view end a c
   look_cause ends.Disk a b c p cause = one_rose_after view (disks_of a) (disks_of b) (disks_of c) p.goes_on cause
   look_cause ends.Memory a b c p cause = tt

@@ -29,7 +29,7 @@ module _ {D L K : Type 0} (view : D → DiskView) (takes fails : K → List ℕ 
       → Did view takes faults story counts (d ∷ []) a b → Does view takes faults story counts p a b
   does_one d p a b is did = record { deeds = d ∷ []; did = did; are = λ honest. sym (is honest) }
 
-  -- what the node is after a part
+  -- the node after a part
   pub behind_part : (p : Part) (a b : Server D L K) → (does : Does view takes faults story counts p a b) → IsHonest view a.kept
       → running b ≡ after_all (p (setting a) (running a)) (running a)
   behind_part p a b does honest = (does.did.done honest).after ∙ ap (λ (ds : List Deed). after_all ds (running a)) (does.are honest)
@@ -41,7 +41,7 @@ module _ {D L K : Type 0} (view : D → DiskView) (takes fails : K → List ℕ 
       ap (λ (s : Setting). q s (running b)) (setting_stays view takes fails faults story counts a b does.did.same does.did.log)
       ∙ ap (λ (r : Running). q (setting a) r) (behind_part p a b does honest)
 
-  -- one part after another, which was told by what is known there
+  -- one part after another, which was decided by the facts there
   pub does_after : (takes_then : (a b c : K) (x y : List ℕ) → takes a x b → takes b y c → takes a (x ++ y) c) (p q r : Part) (a b c : Server D L K)
       → Does view takes faults story counts p a b → (IsHonest view a.kept → r (setting b) (running b) ≡ q (setting b) (running b))
       → Does view takes faults story counts r b c → Does view takes faults story counts (p >> q) a c
@@ -64,7 +64,7 @@ module _ {D L K : Type 0} (view : D → DiskView) (takes fails : K → List ℕ 
       → Does view takes faults story counts p a b → Does view takes faults story counts q a b
   does_as p q a b same does = record { deeds = does.deeds; did = does.did; are = λ honest. does.are honest ∙ sym (same honest) }
 
-  -- what holds between any two calls holds after a part
+  -- the facts between any two calls hold after a part
   pub does_serve : (p : Part) (a b : Server D L K) → Does view takes faults story counts p a b → IsServing a → IsServing b
   does_serve p a b does serving = still_serving view takes fails faults story counts does.deeds a b does.did serving
 
@@ -73,7 +73,7 @@ module _ {D L K : Type 0} (view : D → DiskView) (takes fails : K → List ℕ 
 
   -- Parts that ended partway through
 
-  -- at once
+  -- a part that stops at once
   pub stops_first : (takes_nothing : (k : K) → takes k [] k) (end : TurnEnd) (under : Under) (p : Part) (a c : Server D L K) → a.kept.closed ≡ false
       → (IsHonest view a.kept → IsUnder under (p (setting a) (running a))) → Breaks view takes fails faults story counts end under a c
       → Stops view takes fails faults story counts end p a c
@@ -84,7 +84,7 @@ module _ {D L K : Type 0} (view : D → DiskView) (takes fails : K → List ℕ 
     cut = λ honest. cuts_none (p (setting a) (running a)) under (is honest);
   }
 
-  -- in the first of two parts
+  -- a part that stops in the first of two parts
   pub stops_in : (end : TurnEnd) (p q : Part) (a c : Server D L K) → Stops view takes fails faults story counts end p a c
       → Stops view takes fails faults story counts end (p >> q) a c
   stops_in end p q a c stops = record {
@@ -101,7 +101,7 @@ module _ {D L K : Type 0} (view : D → DiskView) (takes fails : K → List ℕ 
       (cuts_behind (p (setting a) (running a)) (q (setting a) (after_all (p (setting a) (running a)) (running a))) stops.deeds stops.under
       (subst (λ (ds : List Deed). Cuts ds stops.deeds stops.under) (same honest ∙ deeds_behind p q a b does honest) (stops.cut (does_honest p a b does honest))))
 
-  -- in the second, which was told by what is known there
+  -- a part that stops in the second of two, which was decided by the facts there
   pub stops_after : (takes_then : (a b c : K) (x y : List ℕ) → takes a x b → takes b y c → takes a (x ++ y) c) (end : TurnEnd) (p q r : Part) (a b c : Server D L K)
       → Does view takes faults story counts p a b → (IsHonest view a.kept → r (setting b) (running b) ≡ q (setting b) (running b))
       → Stops view takes fails faults story counts end r b c → Stops view takes fails faults story counts end (p >> q) a c
@@ -128,7 +128,7 @@ module _ {D L K : Type 0} (view : D → DiskView) (takes fails : K → List ℕ 
     refl,
   )
 
-  -- in the second
+  -- a part that stops in the second of two parts
   pub stops_behind : (takes_then : (a b c : K) (x y : List ℕ) → takes a x b → takes b y c → takes a (x ++ y) c) (end : TurnEnd) (p q : Part) (a b c : Server D L K)
       → Does view takes faults story counts p a b → Stops view takes fails faults story counts end q b c
       → Stops view takes fails faults story counts end (p >> q) a c

@@ -23,7 +23,7 @@ no_line : (g : List ℕ) (ks : List Group) → held_of g (shelf ks) ≡ None →
 no_line g [] none = refl
 no_line g (k ∷ ks) none = unnamed (same_name g k.name) g k ks (no_line g ks) none
 
--- of a group that is not held there is nothing to read
+-- a group that is not held has no piece to read
 pub no_piece : {D : Type 0} (view : D → DiskView) (k : KeptView D) (g : List ℕ) (at w : ℕ) (lines : List Shelf) → (IsHonest view k → lines ≡ shelf (node_of k).groups) → held_of g lines ≡ None → IsHonest view k
     → [] ≡ part_of g at w (node_of k).groups
 no_piece view k g at w lines is none honest =

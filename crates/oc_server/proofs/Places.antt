@@ -16,7 +16,7 @@ both false b is = absurd cc
 host_of : (text : List ℕ) → config.is_address text ≡ true → IsHost text
 host_of text is = let bytes = address_bytes text is in record { some = omega (arith, bytes.some); most = bytes.most; bytes = bytes.bytes }
 
--- what is said at any place is reached
+-- an address at any place can be reached
 reached_at : (addresses : List (Option (List ℕ))) (i : ℕ) → AllPassing config.is_reachable addresses → IfSome (get_or addresses i None) (λ text. config.is_reachable text ≡ true)
 reached_at [] zero all = tt
 reached_at [] (suc i) all = tt

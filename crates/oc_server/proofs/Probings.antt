@@ -1,4 +1,4 @@
--- What is kept to probe with stays what was made for a node.
+-- The state kept for probes is still that of a node.
 use Rattle.std.proofs.Common.{◌≡◌, ℕ, Option, IfSome, List, sym, subst}
 use Rattle.oc_probe.specs.declared.probing.Probing.{Probing}
 use Rattle.oc_keep.specs.KeptView.{header_of}
@@ -12,16 +12,16 @@ use Rattle.oc_deeds.specs.declared.dials.Dialling.{Dialling}
 use Rattle.oc_server.specs.declared.turns.Turns.{Turns}
 use Rattle.oc_deeds.proofs.Probings.{made_probed}
 
--- It is ready for another turn
+-- The node is ready for another turn
 module _ {D L K : Type 0} (old new : Turns D L K) (ready : IsReady old) (serving : IsServing new.server) (same : header_of new.server.kept.node.control ≡ header_of old.server.kept.node.control) where
   ready_if : IfSome new.probing (IsMadeFor old.server.kept.node.control.nodes) → IsReady new
   ready_if made = record { serving = serving; probing = subst (λ (h : Header). IfSome new.probing (IsMadeFor h.nodes)) (sym same) made }
 
-  -- after what came
+  -- the state after this news
   pub ready_then : (came : Came) (now : ℕ) (ds : List Dialling) → new.probing ≡ probed came now ds old.probing → IsReady new
   ready_then came now ds is =
       ready_if (subst (λ (o : Option Probing). IfSome o (IsMadeFor old.server.kept.node.control.nodes)) (sym is) (made_probed old.server.kept.node.control.nodes came now ds old.probing ready.probing))
 
-  -- with what it probes by as before
+  -- the state for probes as before
   pub ready_still : new.probing ≡ old.probing → IsReady new
   ready_still is = ready_if (subst (λ (o : Option Probing). IfSome o (IsMadeFor old.server.kept.node.control.nodes)) (sym is) ready.probing)

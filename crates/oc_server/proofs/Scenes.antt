@@ -35,7 +35,7 @@ use Rattle.oc_server.proofs.Chains.{nodes_behind}
 use Rattle.oc_server.proofs.Moments.{prefix_then}
 use Rattle.oc_server.proofs.Looking.{go_on_none, keeps_no_fall, keeps_then, looks_none, named}
 
--- What deeds make of a running node
+-- A running node after deeds
 
 -- nothing
 pub done_none : (s : Setting) (a : Running) (story : Option (List Call)) → AreDone s [] a a story story
@@ -111,7 +111,7 @@ module _ {D L K : Type 0} (view : D → DiskView) (takes fails : K → List ℕ 
         (second.moments (all_honest view (disks_of a.kept) (disks_of b.kept) first.goes_on honest)))));
   }
 
-  -- What holds between any two calls holds after deeds
+  -- The facts between any two calls hold after deeds
   pub still_serving : (ds : List Deed) (a b : Server D L K) → Did view takes faults story counts ds a b → IsServing a → IsServing b
   still_serving ds a b did serving =
       let set = did.set (record { placed = serving.placed; rules = serving.rules }) in
@@ -134,24 +134,24 @@ module _ {D L K : Type 0} (view : D → DiskView) (takes fails : K → List ℕ 
   pub did_node : (ds : List Deed) (a b : Server D L K) → Did view takes faults story counts ds a b → IsHonest view a.kept → node_of b.kept ≡ after_inputs (node_of a.kept) (inputs_of ds)
   did_node ds a b did honest = ap (λ (r : Running). r.node) (did.done honest).after ∙ nodes_behind ds (running a)
 
-  -- It ended so after deeds
+  -- Breaks after deeds
 
-  -- after one list of deeds
+  -- a break after one list of deeds
   pub breaks_behind : (ds : List Deed) (under : Under) (end : TurnEnd) (a b c : Server D L K)
       → Did view takes faults story counts ds a b → Breaks view takes fails faults story counts end under b c → BreaksAfter view takes fails faults story counts end ds under a c
   breaks_behind ds under end a b c did breaks = (b, did, breaks)
 
-  -- after none
+  -- a break after no deeds
   pub breaks_first : (takes_nothing : (k : K) → takes k [] k) (under : Under) (end : TurnEnd) (a c : Server D L K)
       → a.kept.closed ≡ false → Breaks view takes fails faults story counts end under a c → BreaksAfter view takes fails faults story counts end [] under a c
   breaks_first takes_nothing under end a c is_open breaks = (a, did_none takes_nothing a is_open, breaks)
 
-  -- after further ones
+  -- a break after further deeds
   pub breaks_then : (takes_then : (a b c : K) (x y : List ℕ) → takes a x b → takes b y c → takes a (x ++ y) c) (ds es : List Deed) (under : Under) (end : TurnEnd) (a b c : Server D L K)
       → Did view takes faults story counts ds a b → BreaksAfter view takes fails faults story counts end es under b c → BreaksAfter view takes fails faults story counts end (ds ++ es) under a c
   breaks_then takes_then ds es under end a b c did (at, more, breaks) = (at, did_then takes_then ds es a b at did more, breaks)
 
-  -- What is left where it ended so after deeds
+  -- The files and outputs at a break after deeds
 
   under_of : (a b c : KeptView D) (under : Under) (n m : Node) → IsSameNode a.node.control b.node.control → m ≡ n → LeavesUnder view b c m under → LeavesUnder view a c n under
   under_of a b c (Taking i) n m same is leaves =
@@ -196,7 +196,7 @@ module _ {D L K : Type 0} (view : D → DiskView) (takes fails : K → List ℕ 
   cause_of a b c ends.Memory under x y z p q r on few same cause = tt
   cause_of a b c ends.Served under x y z p q r on few same cause = cause
 
-  -- why it ended: a count rose, or a file is full
+  -- the cause of a break: a count rose, or a file is full
   pub broken_cause : (ds : List Deed) (under : Under) (end : TurnEnd) (a c : Server D L K) → BreaksAfter view takes fails faults story counts end ds under a c
       → HasCause view faults end under a.kept c.kept a.sink c.sink (counts a.link) (counts c.link)
   broken_cause ds under end a c (b, did, breaks) =

@@ -41,7 +41,7 @@ module _ {D L K : Type 0} (view : D → DiskView) (takes fails : K → List ℕ 
       let more = serves_did takes_nothing takes_then n at b (still_serving view takes fails faults story counts turned.does.deeds a.server at.server first serving) rest in
       (turned.does.deeds ++ more.0, did_then view takes fails faults story counts takes_then turned.does.deeds more.0 a.server at.server b.server first more.1)
 
-  -- and where they ended early, the deeds after which they did
+  -- the deeds after which turns broke, where they ended early
   pub up_to_broken : (takes_nothing : (k : K) → takes k [] k) (takes_then : (a b c : K) (x y : List ℕ) → takes a x b → takes b y c → takes a (x ++ y) c) (most : ℕ) (end : TurnEnd) (a c : Turns D L K)
       → IsServing a.server → ServesUpTo view takes fails faults story counts most end a c
       → (deeds : List Deed) × (under : Under) × BreaksAfter view takes fails faults story counts end deeds under a.server c.server

@@ -70,7 +70,7 @@ module _ {D L K : Type 0} (view : D → DiskView) (takes fails : K → List ℕ 
         text;
   }
 
-  -- one that changes what is under way and the link
+  -- a deed that changes the works and the link
   pub did_works : (takes_nothing : (k : K) → takes k [] k) (d : Deed) (old : Server D L K) (ws : List Work) (link : L) → deed_input d ≡ None → reread_of d ≡ None → line (setting old) d ≡ []
       → old.kept.closed ≡ false → CountsAll (d ∷ []) (counts old.link) (counts link)
       → (AllByRecursion (IsLawfulWork old.kept.node.control.nodes old.kept.node.control.me) old.works → AllByRecursion (IsLawfulWork old.kept.node.control.nodes old.kept.node.control.me) ws)
@@ -80,7 +80,7 @@ module _ {D L K : Type 0} (view : D → DiskView) (takes fails : K → List ℕ 
       did_step d old (record old { works = ws; link = link }) none unread refl refl (subst (λ (t : List ℕ). takes old.sink t old.sink) (sym silent) (takes_nothing old.sink)) (omega arith)
       counted (looks_none view old.kept is_open) (lawful_of old (record old { works = ws; link = link }) (record { me = refl; header = refl }) (λ all. all) lawful (λ all. all)) (λ honest. is) (λ honest. made)
 
-  -- one that writes a line, and changes what is under way and the link
+  -- a deed that writes a line, and changes the works and the link
   pub did_line : (d : Deed) (old : Server D L K) (sink : K) (ws : List Work) (link : L) → deed_input d ≡ None → reread_of d ≡ None
       → old.kept.closed ≡ false → CountsAll (d ∷ []) (counts old.link) (counts link) → takes old.sink (line (setting old) d) sink → NoFall (faults old.sink) (faults sink)
       → (AllByRecursion (IsLawfulWork old.kept.node.control.nodes old.kept.node.control.me) old.works → AllByRecursion (IsLawfulWork old.kept.node.control.nodes old.kept.node.control.me) ws)
@@ -90,7 +90,7 @@ module _ {D L K : Type 0} (view : D → DiskView) (takes fails : K → List ℕ 
       did_step d old (record old { sink = sink; works = ws; link = link }) none unread refl refl text few counted (looks_none view old.kept is_open)
       (lawful_of old (record old { sink = sink; works = ws; link = link }) (record { me = refl; header = refl }) (λ all. all) lawful (λ all. all)) (λ honest. is) (λ honest. made)
 
-  -- one after a look that changes what is under way and the link
+  -- a deed after a look that changes the works and the link
   pub did_given : (takes_nothing : (k : K) → takes k [] k) (d : Deed) (old : Server D L K) (kept : KeptView D) (ws left : List Work) (link : L) → deed_input d ≡ None → reread_of d ≡ None → line (setting old) d ≡ []
       → LooksOnly view old.kept kept → CountsAll (d ∷ []) (counts old.link) (counts link)
       → (AllByRecursion (IsLawfulWork old.kept.node.control.nodes old.kept.node.control.me) old.works → AllByRecursion (IsLawfulWork old.kept.node.control.nodes old.kept.node.control.me) ws)
@@ -161,7 +161,7 @@ module _ {D L K : Type 0} (view : D → DiskView) (takes fails : K → List ℕ 
           ∙ ap (λ (ds : List Dialling). record { node = node_of old.kept; outbox = old.outbox; works = old.works; dials = ds; config = new.config }) dials
           ∙ ap (λ (c : Settings). record { node = node_of old.kept; outbox = old.outbox; works = old.works; dials = old.dials; config = c }) config
 
-  -- It ended so at once
+  -- A break at once
 
   -- memory ran out, or a disk failed in a look
   pub look_breaks : (takes_nothing : (k : K) → takes k [] k) (end : TurnEnd) (old new : Server D L K) → new.sink ≡ old.sink → story new.link ≡ story old.link → counts new.link ≡ counts old.link
@@ -241,7 +241,7 @@ module _ {D L K : Type 0} (view : D → DiskView) (takes fails : K → List ℕ 
 pub put_first : (old text new : List ℕ) → old ≡ [] → new ≡ old ++ text → new ≡ text
 put_first old text new none is = is ∙ ap (λ (t : List ℕ). t ++ text) none
 
--- What the link tells
+-- The news of the link
 
 -- an event came by some bytes
 pub event_bytes : (event : LinkEvent) (lent : List ℕ) (a b : Option (List Call)) → Told (GivesEvent event lent) a b → (bytes : List ℕ) × AddsAll (acts.Next event bytes ∷ []) a b
@@ -249,9 +249,9 @@ event_bytes event lent a None told = ([], tt)
 event_bytes event lent None (Some b) told = absurd told
 event_bytes event lent (Some a) (Some b) told = (told.bytes, told.made)
 
--- What a connection is given
+-- The bytes given to a connection
 
--- a text, and the end of the reply where nothing is left of it
+-- a text, and the end of the reply where nothing of the content is left
 pub gave : (c : ℕ) (bytes text : List ℕ) (keeps told : Bool) (rest left : Option Transfer) (a b d : Option (List Call)) → bytes ≡ text → rest ≡ left
     → AddsAll (acts.Give c bytes ∷ []) a b → AddsAll (finish c keeps told rest) b d → AddsAll (acts.Give c text ∷ finish c keeps told left) a d
 gave c bytes text keeps told rest left a b d same is given finished =

@@ -20,31 +20,31 @@ use Rattle.oc_server.proofs.Parts.{stops_first}
 use Rattle.oc_server.proofs.Steps.{line_breaks_as, look_breaks, memory_breaks}
 
 module _ {D L K : Type 0} (view : D → DiskView) (takes fails : K → List ℕ → K → Type 0) (faults : K → ℕ) (story : L → Option (List Call)) (counts : L → LinkCounts) (takes_nothing : (k : K) → takes k [] k) where
-  -- with nothing under way
+  -- a part that stops with nothing under way
   pub stops_idle : (end : TurnEnd) (p : Part) (a c : Server D L K) → a.kept.closed ≡ false
       → Breaks view takes fails faults story counts end Idle a c → Stops view takes fails faults story counts end p a c
   stops_idle end p a c is_open breaks = stops_first view takes fails faults story counts takes_nothing end Idle p a c is_open (λ honest. tt) breaks
 
-  -- where memory ran out, and the files are as they were
+  -- a part that stops where memory ran out, and the files are as they were
   pub memory_stops : (p : Part) (a c : Server D L K) → a.kept.closed ≡ false → c.kept ≡ a.kept → c.sink ≡ a.sink → story c.link ≡ story a.link → counts c.link ≡ counts a.link
       → (IsHonest view a.kept → NodeSurvives view a.kept (node_of a.kept)) → Stops view takes fails faults story counts ends.Memory p a c
   memory_stops p a c is_open kept sink told counted survives =
       stops_idle ends.Memory p a c is_open (memory_breaks view takes fails faults story counts takes_nothing a c kept sink told counted survives)
 
-  -- in a look
+  -- a part that stops in a look
   pub look_stops : (end : TurnEnd) (p : Part) (a c : Server D L K) → a.kept.closed ≡ false → c.sink ≡ a.sink → story c.link ≡ story a.link → counts c.link ≡ counts a.link
       → LookStops view end a.kept c.kept → Stops view takes fails faults story counts end p a c
   look_stops end p a c is_open sink told counted stops =
       stops_idle end p a c is_open (look_breaks view takes fails faults story counts takes_nothing end a c sink told counted stops)
 
-  -- with what its only deed has under way
+  -- a part that stops in its only deed, with the input or line of that deed under way
   pub stops_deed : (end : TurnEnd) (under : Under) (d : Deed) (p : Part) (a c : Server D L K) → a.kept.closed ≡ false
       → (IsHonest view a.kept → p (setting a) (running a) ≡ d ∷ []) → IsUnder under (d ∷ [])
       → Breaks view takes fails faults story counts end under a c → Stops view takes fails faults story counts end p a c
   stops_deed end under d p a c is_open is next breaks =
       stops_first view takes fails faults story counts takes_nothing end under p a c is_open (λ honest. subst (λ (ds : List Deed). IsUnder under ds) (sym (is honest)) next) breaks
 
-  -- in the line of its only deed
+  -- a part that stops in the line of its only deed
   pub note_stops : (end : TurnEnd) (line : List ℕ) (d : Deed) (p : Part) (a c : Server D L K) → a.kept.closed ≡ false
       → (IsHonest view a.kept → p (setting a) (running a) ≡ d ∷ []) → Noting line ≡ under_of d
       → NoteBreaks view takes fails faults story counts end line a c → Stops view takes fails faults story counts end p a c
@@ -55,7 +55,7 @@ module _ {D L K : Type 0} (view : D → DiskView) (takes fails : K → List ℕ 
   note_stops ends.Link line d p a c is_open is next breaks = absurd breaks
   note_stops ends.Served line d p a c is_open is next breaks = absurd breaks
 
-  -- the same by what the output tells
+  -- a part that stops in the line of its only deed, by the statement of the output
   pub line_stops : (end : TurnEnd) (text line : List ℕ) (d : Deed) (p : Part) (a c : Server D L K) → a.kept.closed ≡ false
       → (IsHonest view a.kept → p (setting a) (running a) ≡ d ∷ []) → Noting line ≡ under_of d
       → text ≡ line → c.kept ≡ a.kept → story c.link ≡ story a.link → counts c.link ≡ counts a.link
@@ -63,7 +63,7 @@ module _ {D L K : Type 0} (view : D → DiskView) (takes fails : K → List ℕ 
   line_stops end text line d p a c is_open is next same kept told counted stops survives =
       note_stops end line d p a c is_open is next (line_breaks_as view takes fails faults story counts end text line a c same kept told counted stops survives)
 
-  -- in its input
+  -- a part that stops in its input
   pub takes_stops : (end : TurnEnd) (i : Input) (p : Part) (a c : Server D L K) → a.kept.closed ≡ false
       → (IsHonest view a.kept → p (setting a) (running a) ≡ Takes i ∷ [])
       → Breaks view takes fails faults story counts end (Taking i) a c → Stops view takes fails faults story counts end p a c

@@ -53,7 +53,7 @@ pub step_sendable : (nodes : ℕ) (n : Node) (i : Input) → ((m : Message) → 
 step_sendable nodes n i text lawful = lawful_are nodes (step n i).sends text lawful.sends
 
 module _ {D : Type 0} (view : D → DiskView) (law : Law view) (old new : KeptView D) (i : Input) where
-  -- while no disk failed every crash leaves the node that is there
+  -- every crash leaves the node that is there while no disk failed
   open_leaves : IsSameNode old.node.control new.node.control → AllGoOn view (disks_of old) (disks_of new) → (IsHonest view old → node_of new ≡ node_of old)
       → new.closed ≡ false → (new.closed ≡ false → IsHonest view new → NodeSurvives view new (node_of new))
       → IsHonest view old → Survives view (header_of old.node.control) old.node.control.me (disks_of new) (node_of old)
@@ -154,7 +154,7 @@ module _ {D L K : Type 0} (view : D → DiskView) (takes fails : K → List ℕ 
       → Did view takes faults story counts (Takes i ∷ []) old new
   did_take i outcome old new = did_input (Takes i) i outcome (λ ms. ms) old new refl refl refl (λ a. refl) (λ a. refl) refl (λ ms all. all)
 
-  -- all but what goes back to the sender
+  -- the outbox gets all messages but the one back to the sender
   pub did_accept : (i : Input) (outcome : OutcomeView) (old new : Server D L K) → old.kept.closed ≡ false → KeepsOne view i outcome old.kept new.kept
       → takes old.sink (taken_line old.log old.kept.node.control.me i) new.sink → NoFall (faults old.sink) (faults new.sink)
       → new.config ≡ old.config → new.log ≡ old.log → new.link ≡ old.link → new.works ≡ old.works → new.dials ≡ old.dials → new.outbox ≡ with_messages old.outbox (for_outbox i outcome.sends)
@@ -218,7 +218,7 @@ pub has_line : (nodes me : ℕ) (i : Input) → ((m : Message) → IsMessage nod
 has_line nodes me (inputs.Delivered m) text lawful = text m lawful.0
 has_line nodes me i text lawful = tt
 
--- some first bytes of a line are a prefix of it
+-- the first bytes of a line are a prefix of the line
 pub front_of : (n : ℕ) (bytes line : List ℕ) → bytes ≡ line → IsFront (take n bytes) line
 front_of n bytes line is = (drop n bytes, sym is ∙ parts n bytes)
   where

@@ -21,7 +21,7 @@ use Rattle.oc_server.proofs.Looking.{named}
 use Rattle.oc_server.proofs.Moments.{one_look}
 
 module _ {D : Type 0} (view : D → DiskView) (old new : KeptView D) where
-  -- with the same control state and the same content it is the same node
+  -- a node with the same control state and the same content is the same node
   same_node : new.node.control ≡ old.node.control → new.content ≡ old.content → node_of new ≡ node_of old
   same_node control content =
       ap (λ (n : Control). record { control = n; groups = groups_in new.content.journal.frames }) control

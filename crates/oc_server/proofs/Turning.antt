@@ -43,9 +43,9 @@ use Rattle.oc_server.specs.declared.turns.Turns.{Turns}
 use Rattle.oc_server.proofs.Parts.{does_after, does_as, does_then, one_then}
 use Rattle.oc_server.proofs.Scenes.{breaks_behind, breaks_first, still_honest, still_renewed}
 
--- What was lent
+-- Bytes that were lent
 
--- what follows the same calls is the same
+-- the calls after the same calls are the same
 cancel : (xs ys zs : List Call) → xs ++ ys ≡ xs ++ zs → ys ≡ zs
 cancel [] ys zs e = e
 cancel (x ∷ xs) ys zs e = let rest : xs ++ ys ≡ xs ++ zs = cc in cancel xs ys zs rest
@@ -55,7 +55,7 @@ same_bytes : (event : LinkEvent) (calls now : List Call) (x y : List ℕ) → no
 same_bytes event calls now x y p q =
     let e : acts.Next event x ∷ [] ≡ acts.Next event y ∷ [] = cancel calls (acts.Next event x ∷ []) (acts.Next event y ∷ []) (sym p ∙ q) in cc
 
--- what is lent is what the story says, as far as it is looked at
+-- the bytes that were lent are those of the story, as far as it is looked at
 pub record Lent (a z : Option (List Call)) (event : LinkEvent) (bytes lent : List ℕ) : Type 0 where
   pub bytes_lent : List ℕ
   pub is_lent : IsLent a z event bytes bytes_lent
@@ -78,7 +78,7 @@ lent_is event bytes lent more (Some calls) b None told adds behind = record { by
 lent_is event bytes lent more (Some calls) None (Some end) told adds behind = absurd behind
 lent_is event bytes lent more (Some calls) (Some now) (Some end) told adds behind = lent_by event calls now end bytes lent told adds
 
--- What came was dealt with.
+-- The news was dealt with.
 pub record Dealt {D L K : Type 0} (view : D → DiskView) (takes : K → List ℕ → K → Type 0) (faults : K → ℕ) (story : L → Option (List Call)) (counts : L → LinkCounts) (came : Came) (now : ℕ) (old new : Turns D L K) : Type 0 where
   pub median : ℕ
   pub started : ℕ
@@ -97,7 +97,7 @@ pub record DealStops {D L K : Type 0} (view : D → DiskView) (takes fails : K �
   pub stops : Stops view takes fails faults story counts end (deals old.pace old.probing came now median started seconds) old.server new.server
 
 module _ {D L K : Type 0} (view : D → DiskView) (takes fails : K → List ℕ → K → Type 0) (faults : K → ℕ) (story : L → Option (List Call)) (counts : L → LinkCounts) where
-  -- What is kept to read heads
+  -- The state kept to read heads
 
   pub did_heads : (ds : List Deed) (a b c : Server D L K) → c ≡ record b { heads = c.heads } → Did view takes faults story counts ds a b → Did view takes faults story counts ds a c
   did_heads ds a b c same did = subst (λ (x : Server D L K). Did view takes faults story counts ds a x) (sym same) (record {
@@ -124,13 +124,13 @@ module _ {D L K : Type 0} (view : D → DiskView) (takes fails : K → List ℕ 
     lawful = record { sendable = serving.lawful.sendable; works = serving.lawful.works; dials = serving.lawful.dials };
   })
 
-  -- What is told of a node at two moments
+  -- The terms of a node at two moments
 
   -- the story of the link after deeds
   told_behind : (ds : List Deed) (a b : Server D L K) → Did view takes faults story counts ds a b → IsHonest view a.kept → AddsAll (calls_of (setting a) ds (running a)) (story a.link) (story b.link)
   told_behind ds a b did honest = (did.done honest).calls
 
-  -- by what requests are read, where no other configuration is gone by
+  -- the terms by which requests are read
   pub reads_same : (ds : List Deed) (a b : Server D L K) → Did view takes faults story counts ds a b → config_behind ds a.config ≡ a.config → reads_by b ≡ reads_by a
   reads_same ds a b did same =
       ap (λ (me : ℕ). terms_of me b.kept.node.control.nodes b.config.rules b.config.keys) did.same.me
@@ -143,14 +143,14 @@ module _ {D L K : Type 0} (view : D → DiskView) (takes fails : K → List ℕ 
     first : Does view takes faults story counts (one (Reads before)) a b
     first = record { deeds = Reads before ∷ []; did = did; are = λ honest. refl }
 
-    -- the node when it was asked what is due
+    -- the node when it was asked for due work
     pub due_then : (lines : List Shelf) → (IsHonest view b.kept → lines ≡ shelf (node_of b.kept).groups) → IsHonest view a.kept
         → due_in a before ≡ due_index b.works lines before
     due_then lines held honest =
         ap (λ (r : Running). due_index r.works (shelf r.node.groups) before) (sym (did.done honest).after)
         ∙ ap (λ (ls : List Shelf). due_index b.works ls before) (sym (held (still_honest view takes fails faults story counts (Reads before ∷ []) a b did honest)))
 
-    -- what a turn does by what was due
+    -- the deeds of a turn by the work that was due
     one_by : (due : Option ℕ) (pace : Pace) (probing : Option Probing) (t : Observation) → t.before ≡ before → (IsHonest view a.kept → due_in a before ≡ due) → IsHonest view a.kept
         → takes_at due pace probing t (setting b) (running b) ≡ takes_one pace probing t (setting b) (running b)
     one_by due pace probing t begins is honest =
@@ -200,7 +200,7 @@ module _ {D L K : Type 0} (view : D → DiskView) (takes fails : K → List ℕ 
     seen : Did view takes faults story counts (sees ∷ []) old.server b
     seen = subst (λ (n : ℕ). Did view takes faults story counts (Sees event n bytes ∷ []) old.server b) is did
 
-    -- memory ran out before what came was understood
+    -- memory ran out before the news was understood
     pub next_unread : (end : TurnEnd) (new : Turns D L K) → Breaks view takes fails faults story counts end Idle b new.server → NextStops view takes fails faults story counts end before old new
     next_unread end new breaks = record {
       told = told_with comes.Nothing 0 0 0 0;
@@ -224,7 +224,7 @@ module _ {D L K : Type 0} (view : D → DiskView) (takes fails : K → List ℕ 
       seen_whole : Did view takes faults story counts (sees ∷ []) old.server c
       seen_whole = did_heads (sees ∷ []) old.server b c heads seen
 
-      -- the node when what came is dealt with
+      -- the node when the news is dealt with
       node_then : IsHonest view old.server.kept → running d ≡ after (Sees event (wait_for old.pace old.server.works before) bytes) (running old.server)
       node_then honest = (read.done (still_honest view takes fails faults story counts (sees ∷ []) old.server c seen_whole honest)).after ∙ (seen_whole.done honest).after
 
@@ -234,7 +234,7 @@ module _ {D L K : Type 0} (view : D → DiskView) (takes fails : K → List ℕ 
       honest_then : IsHonest view old.server.kept → IsHonest view d.kept
       honest_then honest = still_honest view takes fails faults story counts (Reads now ∷ []) c d read (still_honest view takes fails faults story counts (sees ∷ []) old.server c seen_whole honest)
 
-      -- what came is what the link told
+      -- the news is that of the link
       pub is_read : (median started seconds : ℕ) (more : List Call) → AddsAll more (story b.link) (story new.server.link) → IsMeasured old.probing came now median → IsHonest view old.server.kept
           → IsRead old (story old.server.link) (story new.server.link) (told_with came now median started seconds)
       is_read median started seconds more behind measured honest =
@@ -325,7 +325,7 @@ module _ {D L K : Type 0} (view : D → DiskView) (takes fails : K → List ℕ 
 
     -- none was due
     module _ (is : IsHonest view old.server.kept → due_in old.server before ≡ None) where
-      -- what was read of the link is what it told in this turn
+      -- the news that was read is that of the link in this turn
       read_then : (t : Observation) (more : List Call) → t.before ≡ before → IsHonest view old.server.kept → AddsAll more (story b.link) (story new.server.link)
           → IsRead (record old { server = b }) (story b.link) (story new.server.link) t → MayRead story (due_in old.server t.before) old new.server t
       read_then t more begins honest behind read =
@@ -381,7 +381,7 @@ module _ {D L K : Type 0} (view : D → DiskView) (takes fails : K → List ℕ 
             ];
           }
 
-  -- it ended before it began
+  -- the turn ended before it began
   pub stopped_at_once : (takes_nothing : (k : K) → takes k [] k) (end : TurnEnd) (old new : Turns D L K) → old.server.kept.closed ≡ false → Breaks view takes fails faults story counts end Idle old.server new.server
       → HandleStops view takes fails faults story counts end old new
   stopped_at_once takes_nothing end old new is_open breaks = record {

@@ -26,7 +26,7 @@ use Rattle.oc_server.specs.declared.turns.Turns.{Turns}
 use Rattle.oc_deeds.proofs.TurnOrdered.{asked_only, calls_joined, due_or_asked, same_story, served_in_order, was_told}
 
 module _ {D L K : Type 0} (view : D → DiskView) (takes fails : K → List ℕ → K → Type 0) (faults : K → ℕ) (story : L → Option (List Call)) (counts : L → LinkCounts) where
-  -- what was read was told after these calls
+  -- the news that was read was told after these calls
   told_at : (due : Option ℕ) (old new : Turns D L K) (t : Observation) (made later : List Call) → story old.server.link ≡ Some made → story new.server.link ≡ Some later → MayRead story due old new.server t
       → IsToldAt due t (made ++ (acts.Millis t.before ∷ []))
   told_at (Some place) old new t made later before behind read = tt

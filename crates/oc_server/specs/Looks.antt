@@ -18,7 +18,7 @@ pub record RunsSafely {D : Type 0} (view : D → DiskView) (h : Header) (me : �
   pub goes_on : AllGoOn view old new
   pub any_moment : AlwaysLeaves view h me old new P
 
--- this many calls on the files: every crash at any moment of each leaves this node
+-- this number of calls on the files, where every crash at any moment of each leaves this node
 abbrev pub LooksOn : {D : Type 0} → (D → DiskView) → Header → ℕ → Node → ℕ → Disks D → Disks D → Type 0
 LooksOn view h me n zero d e = e ≡ d
 LooksOn {D} view h me n (suc k) d e = (at : Disks D) × RunsSafely view h me d at (SameDurable n) × LooksOn view h me n k at e
@@ -40,7 +40,7 @@ pub record LooksOnly {D : Type 0} (view : D → DiskView) (old new : KeptView D)
 abbrev pub Renews : {D : Type 0} → (D → DiskView) → KeptView D → KeptView D → Type 0
 Renews view old new = IsHonest view old → IsRipe old → old.store.generation < new.store.generation
 
--- why a look ended
+-- the cause for which a look ended
 abbrev pub LookCause : {D : Type 0} → (D → DiskView) → TurnEnd → KeptView D → KeptView D → Type 0
 LookCause view ends.Disk old new = OneRose view (disks_of old) (disks_of new)
 LookCause view ends.Memory old new = Unit {0}
@@ -53,13 +53,13 @@ pub record LookStops {D : Type 0} (view : D → DiskView) (end : TurnEnd) (old n
   pub moments : IsHonest view old → LooksUntil view old (disks_of new)
   pub cause : LookCause view end old new
 
--- why the files are not tidied; those of a node whose disks failed never are
+-- the cause for which the files are not tidied; those of a node whose disks failed never are
 abbrev pub end_of_tidy : TidyError → TurnEnd
 end_of_tidy tidies.Closed = ends.Disk
 end_of_tidy tidies.Memory = ends.Memory
 end_of_tidy tidies.Disk = ends.Disk
 
--- why an input is not made ready
+-- the cause for which an input is not made ready
 abbrev pub end_of_ready : ReadyError → TurnEnd
 end_of_ready readies.Closed = ends.Disk
 end_of_ready readies.Memory = ends.Memory

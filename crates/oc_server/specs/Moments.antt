@@ -1,4 +1,4 @@
--- What every crash leaves while deeds are done, at each prefix of them.
+-- The nodes that crashes leave while deeds are done, at each prefix of the deeds.
 use Rattle.std.specs.Prelude.{◌≡◌, ℕ, Option, None, Some, List, [], ◌∷◌}
 use Rattle.oc_io.specs.DiskView.{DiskView}
 use Rattle.oc_keep.specs.Files.{Disks, SameAsEither}
@@ -18,8 +18,8 @@ abbrev pub TakesOne : {D : Type 0} → (D → DiskView) → Header → ℕ → O
 TakesOne view h me None n d e = e ≡ d
 TakesOne view h me (Some i) n d e = RunsSafely view h me d e (SameAsEither n (step n i).node)
 
--- From one moment to a later one, deed by deed: the files were only looked at until the input of the deed was taken, and what the deed says was
--- written. So at each prefix what its deeds say was written, and from there to the next prefix every crash at any moment leaves the node of the
+-- From one moment to a later one, deed by deed: the files were only looked at until the input of the deed was taken, and the text of the deed was
+-- written. At each prefix the texts of its deeds were written, and from there to the next prefix every crash at any moment leaves the node of the
 -- inputs so far, or with that of the next deed.
 abbrev pub AtEachPrefix : {D K : Type 0} → (D → DiskView) → Header → ℕ → (K → List ℕ → K → Type 0) → (Deed → List ℕ) → List Deed → Node → Disks D → K → Disks D → K → Type 0
 AtEachPrefix view h me takes says [] n d s e t = (k : ℕ) × LooksOn view h me n k d e × (t ≡ s)

@@ -16,7 +16,7 @@ abbrev pub LineStops : {K : Type 0} → (K → List ℕ → K → Type 0) → (K
 LineStops fails faults ends.Sink line old new = (front : List ℕ) × IsFront front line × fails old front new × Rose (faults old) (faults new)
 LineStops fails faults end line old new = ⊥
 
--- it ended with this line, or before it because memory ran out
+-- the end in this line, or before it because memory ran out
 abbrev pub NoteBreaks : {D L K : Type 0} → (D → DiskView) → (K → List ℕ → K → Type 0) → (K → List ℕ → K → Type 0) → (K → ℕ) → (L → Option (List Call)) → (L → LinkCounts) → TurnEnd → List ℕ → Server D L K → Server D L K → Type 0
 NoteBreaks view takes fails faults story counts ends.Memory line old new = Breaks view takes fails faults story counts ends.Memory Idle old new
 NoteBreaks view takes fails faults story counts ends.Sink line old new = Breaks view takes fails faults story counts ends.Sink (Noting line) old new

@@ -1,4 +1,4 @@
--- A part of a turn: the deeds that a running node does then. And what of it was done where it ended partway through.
+-- A part of a turn: the deeds that a running node does then, and the front that was done where the part ended partway through.
 use Rattle.std.specs.Prelude.{◌≡◌, ℕ, Option, List}
 use Rattle.oc_link.specs.declared.call.Call.{Call}
 use Rattle.oc_link.specs.declared.counts.LinkCounts.{LinkCounts}

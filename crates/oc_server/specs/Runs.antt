@@ -31,7 +31,7 @@ use Rattle.oc_deeds.specs.declared.ends.TurnEnd.TheVariants as ends
 use Rattle.oc_server.specs.declared.server.Server.{Server}
 use Rattle.oc_server.specs.declared.turns.Turns.{Turns}
 
--- by what a server reads requests now
+-- the terms by which a server reads requests
 abbrev pub reads_by : {D L K : Type 0} → Server D L K → NodeTerms
 reads_by s = terms_in (setting s) (running s)
 
@@ -39,24 +39,24 @@ reads_by s = terms_in (setting s) (running s)
 abbrev pub due_in : {D L K : Type 0} → Server D L K → ℕ → Option ℕ
 due_in s before = due_index s.works (shelf (node_of s.kept).groups) before
 
--- What was read
+-- The news that was read
 
--- what an event lends after these calls
+-- the bytes that an event lends after these calls
 abbrev pub lent_in : LinkEvent → List ℕ → List Call → List ℕ
 lent_in (events.Request a) bytes calls = held a.connection calls
 lent_in event bytes calls = bytes
 
--- where a story was told when the link was asked, and is told now, these bytes were lent
+-- these bytes were lent, where a story was told when the link was asked, and is told now
 abbrev pub IsLent : Option (List Call) → Option (List Call) → LinkEvent → List ℕ → List ℕ → Type 0
 IsLent (Some calls) (Some now) event bytes lent = lent ≡ lent_in event bytes (calls ++ acts.Next event bytes ∷ [])
 IsLent old new event bytes lent = Unit {0}
 
--- where a story was told when the link was asked, and is told now, the event could come then
+-- the event could come, where a story was told when the link was asked, and is told now
 abbrev pub CouldCome : Option (List Call) → Option (List Call) → LinkEvent → Type 0
 CouldCome (Some calls) (Some now) event = IsTrue (may event calls)
 CouldCome old new event = Unit {0}
 
--- What came is what the link told, which was asked at that point of its story, as it was read.
+-- The news is that of the link, which was asked at that point of its story, as it was read.
 pub record IsRead {D L K : Type 0} (old : Turns D L K) (asked now : Option (List Call)) (t : Observation) : Type 0 where
   pub lent : List ℕ
   pub is_lent : IsLent asked now t.event t.bytes lent
@@ -68,7 +68,7 @@ pub record IsRead {D L K : Type 0} (old : Turns D L K) (asked now : Option (List
 abbrev pub after_reading : ℕ → Option (List Call) → Option (List Call)
 after_reading before story = option_map (λ calls. calls ++ acts.Millis before ∷ []) story
 
--- it is so where nothing was due
+-- the news is read where no work was due
 abbrev pub MayRead : {D L K : Type 0} → (L → Option (List Call)) → Option ℕ → Turns D L K → Server D L K → Observation → Type 0
 MayRead story None old new t = IsRead old (after_reading t.before (story old.server.link)) (story new.link) t
 MayRead story (Some place) old new t = Unit {0}
@@ -86,7 +86,7 @@ pub record NextTaken {D L K : Type 0} (view : D → DiskView) (takes : K → Lis
   pub probing : IsHonest view old.server.kept → new.probing ≡ probed told.came told.now (dials_after told.event old.server.dials) old.probing
   pub reading : new.reading ≡ old.reading
 
--- A front of that was done, and then it ended so. What came was read, where more was done than to ask for it.
+-- A front of these deeds was done before this end. The news was read, where more was done than to ask for it.
 pub record NextStops {D L K : Type 0} (view : D → DiskView) (takes fails : K → List ℕ → K → Type 0) (faults : K → ℕ) (story : L → Option (List Call)) (counts : L → LinkCounts) (end : TurnEnd) (before : ℕ) (old new : Turns D L K) : Type 0 where
   pub told : Observation
   pub begins : told.before ≡ before
@@ -173,7 +173,7 @@ pub record ServesUpTo {D L K : Type 0} (view : D → DiskView) (takes fails : K 
   pub serves : Serves view takes faults story counts done old at
   pub stops : TurnStops view takes fails faults story counts end at new
 
--- this many turns ended so
+-- the end of this number of turns
 abbrev pub ServeEnds : {D L K : Type 0} → (D → DiskView) → (K → List ℕ → K → Type 0) → (K → List ℕ → K → Type 0) → (K → ℕ) → (L → Option (List Call)) → (L → LinkCounts) → ℕ → TurnEnd → Turns D L K → Turns D L K → Type 0
 ServeEnds view takes fails faults story counts most ends.Served old new = Serves view takes faults story counts most old new
 ServeEnds view takes fails faults story counts most end old new = ServesUpTo view takes fails faults story counts most end old new

@@ -32,7 +32,7 @@ use Rattle.oc_deeds.specs.declared.ends.TurnEnd.{TurnEnd}
 use Rattle.oc_deeds.specs.declared.ends.TurnEnd.TheVariants as ends
 use Rattle.oc_server.specs.declared.server.Server.{Server}
 
--- What a server is seen as
+-- The view of a server
 
 abbrev pub running : {D L K : Type 0} → Server D L K → Running
 running s = record { node = node_of s.kept; outbox = s.outbox; works = s.works; dials = s.dials; config = s.config }
@@ -40,9 +40,9 @@ running s = record { node = node_of s.kept; outbox = s.outbox; works = s.works; 
 abbrev pub setting : {D L K : Type 0} → Server D L K → Setting
 setting s = record { me = s.kept.node.control.me; log = s.log }
 
--- What holds between any two calls
+-- The facts between any two calls
 
--- what is to be sent can be sent, and what is under way is lawful
+-- a server whose messages can be sent, and whose works are lawful
 pub record IsLawful {D L K : Type 0} (s : Server D L K) : Type 0 where
   pub sendable : AreSendable s.kept.node.control.nodes s.outbox
   pub works : AllByRecursion (IsLawfulWork s.kept.node.control.nodes s.kept.node.control.me) s.works
@@ -78,7 +78,7 @@ pub record KeepsOne {D : Type 0} (view : D → DiskView) (i : Input) (outcome : 
   pub generation : IsHonest view old → new.store.generation ≡ old.store.generation
   pub any_moment : IsHonest view old → AtAnyMoment view old new (SameAsEither (node_of old) (step (node_of old) i).node)
 
--- these inputs were taken one after another, and between them the files were only looked at or turned over
+-- inputs that were taken one after another, between which the files were only looked at or turned over
 abbrev pub KeepsAll : {D : Type 0} → (D → DiskView) → List Input → KeptView D → KeptView D → Type 0
 KeepsAll {D} view [] old new = LooksOnly view old new
 KeepsAll {D} view (i ∷ is) old new = (at next : KeptView D) × (outcome : OutcomeView) × LooksOnly view old at × KeepsOne view i outcome at next × KeepsAll view is next new
@@ -100,30 +100,30 @@ pub record Did {D L K : Type 0} (view : D → DiskView) (takes : K → List ℕ 
   pub moments : IsHonest view old.kept
       → AtEachPrefix view (header_of old.kept.node.control) old.kept.node.control.me takes (line (setting old)) deeds (node_of old.kept) (disks_of old.kept) old.sink (disks_of new.kept) new.sink
 
--- What is under way where it ends
+-- Inputs and lines under way at the end
 
--- What every crash leaves where a disk or the output failed: with one more input under way, the node before it or after it.
+-- The node that every crash leaves where a disk or the output failed: with one more input under way, the node before it or after it.
 abbrev pub LeavesUnder : {D : Type 0} → (D → DiskView) → KeptView D → KeptView D → Node → Under → Type 0
 LeavesUnder view old new n (Taking i) = Leaves view (header_of old.node.control) old.node.control.me (disks_of new) (SameAsEither n (step n i).node)
 LeavesUnder view old new n under = Survives view (header_of old.node.control) old.node.control.me (disks_of new) n
 
--- what every crash leaves, by how it ended
+-- the node that every crash leaves, by this end
 abbrev pub LeavesAt : {D : Type 0} → (D → DiskView) → KeptView D → KeptView D → TurnEnd → Node → Under → Type 0
 LeavesAt view old new ends.Disk n under = LeavesUnder view old new n under
 LeavesAt view old new ends.Sink n under = LeavesUnder view old new n under
 LeavesAt view old new end n under = LeavesUnder view old new n Idle
 
--- Until it ended so, with this under way, every crash at any moment left the node; with one more input under way, before it or after it.
+-- The node that every crash at any moment leaves until this end; with one more input under way, before it or after it.
 abbrev pub EndsOn : {D : Type 0} → (D → DiskView) → Header → ℕ → Node → Under → Disks D → Disks D → Type 0
 EndsOn view h me n (Taking i) d e = RunsSafely view h me d e (SameAsEither n (step n i).node) ⊎ (e ≡ d)
 EndsOn view h me n under d e = (k : ℕ) × LooksOn view h me n k d e
 
--- where the output failed, some prefix of another line was written after the text, and else nothing more was
+-- some prefix of another line was written after the text, where the output failed, and else nothing more
 abbrev pub WritesAt : {K : Type 0} → (K → List ℕ → K → Type 0) → (K → List ℕ → K → Type 0) → K → K → TurnEnd → List ℕ → List ℕ → Type 0
 WritesAt takes fails old new ends.Sink text line = (front : List ℕ) × IsFront front line × fails old (text ++ front) new
 WritesAt takes fails old new end text line = takes old text new
 
--- why it ended
+-- the cause of an end
 abbrev pub HasCause : {D K : Type 0} → (D → DiskView) → (K → ℕ) → TurnEnd → Under → KeptView D → KeptView D → K → K → LinkCounts → LinkCounts → Type 0
 HasCause view faults ends.Disk under old new sink after before behind = OneRose view (disks_of old) (disks_of new)
 HasCause view faults ends.Sink under old new sink after before behind = Rose (faults sink) (faults after)
@@ -146,7 +146,7 @@ abbrev pub CountsAt : TurnEnd → LinkCounts → LinkCounts → Type 0
 CountsAt ends.Link old new = CountsFailure old new
 CountsAt end old new = new ≡ old
 
--- It ended so at once, perhaps with one input or one line under way.
+-- The end came at once, perhaps with one input or one line under way.
 pub record Breaks {D L K : Type 0} (view : D → DiskView) (takes fails : K → List ℕ → K → Type 0) (faults : K → ℕ) (story : L → Option (List Call)) (counts : L → LinkCounts) (end : TurnEnd) (under : Under) (old new : Server D L K) : Type 0 where
   pub text : WritesAt takes fails old.sink new.sink end [] (under_line (setting old) under)
   pub leaves : IsHonest view old.kept → LeavesAt view old.kept new.kept end (node_of old.kept) under
@@ -157,21 +157,21 @@ pub record Breaks {D L K : Type 0} (view : D → DiskView) (takes fails : K → 
   pub told : story new.link ≡ story old.link
   pub counted : CountsAt end (counts old.link) (counts new.link)
 
--- These deeds were done, and then it ended so at once.
+-- The end came at once after these deeds.
 abbrev pub BreaksAfter : {D L K : Type 0} → (D → DiskView) → (K → List ℕ → K → Type 0) → (K → List ℕ → K → Type 0) → (K → ℕ) → (L → Option (List Call)) → (L → LinkCounts) → TurnEnd → List Deed → Under → Server D L K → Server D L K → Type 0
 BreaksAfter {D} {L} {K} view takes fails faults story counts end deeds under old new = (at : Server D L K)
     × Did view takes faults story counts deeds old at × Breaks view takes fails faults story counts end under at new
 
 -- One input
 
--- why an input is not taken; a node whose disks failed takes none
+-- the cause for which an input is not taken; a node whose disks failed takes none
 abbrev pub end_of : KeepError → TurnEnd
 end_of keeps.Closed = ends.Disk
 end_of keeps.Memory = ends.Memory
 end_of keeps.Full = ends.Full
 end_of keeps.Disk = ends.Disk
 
--- why an input was not taken into the files
+-- the cause for which an input was not taken into the files
 abbrev pub KeepCause : {D : Type 0} → (D → DiskView) → TurnEnd → Input → KeptView D → KeptView D → Type 0
 KeepCause view ends.Disk i old new = OneRose view (disks_of old) (disks_of new)
 KeepCause view ends.Full i old new = IsFullAt new i

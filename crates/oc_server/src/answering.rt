@@ -1,4 +1,4 @@
-//! How a request is answered, and whether it waits.
+//! The answers to requests, and the requests that wait.
 
 ghost use Rattle.std.specs.Prelude.{◌≡◌, false, IfErr, IfOk, IfSome, OnOk};
 ghost use Rattle.oc_base.specs.Groups.{shelf};
@@ -31,7 +31,7 @@ use oc_routes::{
 use std::alloc::Global;
 
 impl<D: Disk, L: Link, K: Sink> Server<D, L, K> {
-    /// What a request is answered by what its input brought.
+    /// The answer to a request by the result of its input.
     pub(crate) fn response_to(
         &self,
         pending: &Pending,
@@ -51,7 +51,7 @@ impl<D: Disk, L: Link, K: Sink> Server<D, L, K> {
     }
 }
 
-/// What a request is answered by a node that is so.
+/// The answer to a request by a node in this state.
 fn response_to(
     alloc: Global,
     config: &Config,
@@ -79,7 +79,7 @@ fn response_to(
     respond(alloc, pending.asked, pending.last, &answered, &network)
 }
 
-/// Whether a request is to wait: it is of a client that follows a group and has all of it.
+/// Whether a request is to wait: one of a client that follows a group and has all of its bytes.
 pub(crate) fn has_to_wait<D: Disk>(kept: &mut Kept<D>, request: &Request) -> Result<bool, TurnEnd>
     requires open { kept.old.closed ≡ false }
     requires request { IsLawfulAsk kept.old.node.control.nodes kept.old.node.control.me request.now }
@@ -139,7 +139,7 @@ fn answer_to<D: Disk>(kept: &mut Kept<D>, input: Input) -> Result<Answer, TurnEn
     }
 }
 
-/// How a turn ends where an input is not made ready.
+/// The end of a turn where an input is not made ready.
 fn end_of(error: ReadyError) -> TurnEnd
     ensures { result ≡ end_of_ready error }
 {

@@ -1,4 +1,4 @@
-//! What a turn asks of its link: one thing that happened, and the time.
+//! The questions of a turn to its link: one event, and the time.
 
 ghost use Rattle.std.specs.Prelude.{◌≡◌, ◌∷◌, [], Ok, List, ℕ, IfErr, IfOk};
 ghost use Rattle.oc_link.specs.Told.{NextGives};
@@ -11,7 +11,7 @@ use oc_deeds::{Errand, TurnEnd, errand_in};
 use oc_io::{Disk, Sink};
 use oc_link::{Link, LinkEvent};
 
-/// One thing that happened, and for what a dial was made whose reply it is.
+/// One event, and the purpose of the dial whose reply it is.
 #[derive(Clone, Copy, Debug)]
 pub struct Heard {
     pub event: LinkEvent,

@@ -1,4 +1,4 @@
-//! What a server does: each deed, on its files, its link and its output.
+//! The deeds of a server, on its files, its link and its output.
 
 ghost use Rattle.oc_keep.specs.KeptView.{IsHonest};
 ghost use Rattle.oc_server.specs.Parts.{Does, Stops};

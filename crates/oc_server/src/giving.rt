@@ -1,4 +1,4 @@
-//! What connections are given.
+//! The bytes given to connections.
 
 ghost use Rattle.std.specs.Prelude.{◌≡◌, ◌≤◌, ◌++◌, OnOk, IfErr, IfOk, false, length, option_map, take, unwrap_or, vec_len};
 ghost use Rattle.oc_link.specs.Told.{AddsAll};
@@ -16,7 +16,7 @@ use oc_link::{ConnectionId, Ending, Link};
 use oc_routes::{PIECE_BYTES, UnderWay};
 use std::alloc::Global;
 
-/// The next piece of a content, as it is sent, and what is left of it.
+/// The next piece of a content, as it is sent, and the rest of the content.
 #[derive(Drop)]
 pub(crate) struct Piece {
     pub(crate) text: Vec<u8>,
@@ -33,7 +33,7 @@ pub(crate) fn take_request<L: Link>(link: &mut L, request: &Pending)
     }
 }
 
-/// Says that a reply is whole, where nothing of it is left.
+/// Tells the link that a reply is whole, where nothing of it is left.
 pub(crate) fn finish<L: Link>(
     link: &mut L,
     connection: ConnectionId,
@@ -61,7 +61,7 @@ pub(crate) fn joined(alloc: Global, first: &[u8], more: &[u8]) -> Result<Option<
     Ok(Some(both))
 }
 
-/// Both texts, or else the first.
+/// Both texts together, or else the first.
 pub(crate) fn whole<'a>(both: &'a Option<Vec<u8>>, first: &'a [u8]) -> &'a [u8]
     ensures { result.now ≡ unwrap_or (option_map (λ text. text.items) both.now) first.now }
 {

@@ -1,4 +1,4 @@
-//! What came by an event, read from the bytes that the link lends.
+//! The news of an event, read from the bytes that the link lends.
 
 ghost use Rattle.std.specs.Prelude.{◌≡◌, ◌≤◌, IfErr, IfOk, IfSome, None, length, option_map};
 ghost use Rattle.oc_link.specs.declared.event.LinkEvent.TheVariants as events;
@@ -27,7 +27,7 @@ use oc_routes::{Terms, judge};
 use std::alloc::Global;
 
 impl<D: Disk, L: Link, K: Sink> Server<D, L, K> {
-    /// What came by the event that the link told last. It is to be asked before any other call of the link.
+    /// The news of the event that the link told last. It is to be asked before any other call of the link.
     pub fn understands(&mut self, happened: Heard) -> Result<Came, TurnEnd>
         requires serving { IsServing self.old }
         requires errand { IfSome happened.errand (IsLawfulErrand self.old.kept.node.control.nodes) }
@@ -68,7 +68,7 @@ impl<D: Disk, L: Link, K: Sink> Server<D, L, K> {
         }
     }
 
-    /// What is to be done with a request that came so far.
+    /// The verdict on a request that came so far.
     fn hears(&mut self, arrival: Arrival) -> Result<Came, Memory>
         requires { length self.old.config.rules ≤ MAX_RULES }
         ensures means { IfOk result (Means (reads_by self.old) (L.lends self.old.link) None (events.Request arrival)) }
@@ -85,7 +85,7 @@ impl<D: Disk, L: Link, K: Sink> Server<D, L, K> {
         )
     }
 
-    /// What came back on a dial that was made for this; nothing where there is none.
+    /// The news of a dial that was made for this; none where there is none.
     fn hears_back(&mut self, errand: Option<Errand>, coming: Coming) -> Result<Came, Memory>
         requires { IfSome errand (IsLawfulErrand self.old.kept.node.control.nodes) }
         ensures means { IfOk result (MeansBack (reads_by self.old) (L.lends self.old.link) errand coming) }
@@ -107,7 +107,7 @@ impl<D: Disk, L: Link, K: Sink> Server<D, L, K> {
     }
 }
 
-/// What a node with this configuration is to do with a request that came so far.
+/// The verdict of a node with this configuration on a request that came so far.
 fn judged<D: Disk>(
     alloc: Global,
     kept: &Kept<D>,

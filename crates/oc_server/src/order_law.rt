@@ -21,7 +21,7 @@ use oc_io::{Disk, Sink};
 use oc_link::Link;
 
 /// A turn does its deeds in order, and after it the works fit each connection as they did before. It answers each request
-/// by the step of its input. So whatever number of turns are done, and wherever the last ends partway through: each
+/// by the step of its input. Whatever number of turns are done, and wherever the last ends partway through: each
 /// connection was given a beginning of the replies to its requests, and all of them where its next request is awaited or
 /// its last reply is whole.
 pub fn turns_are_in_order<D: Disk, L: Link, K: Sink>()

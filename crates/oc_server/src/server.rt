@@ -6,23 +6,23 @@ use oc_keep::Kept;
 use oc_link::Link;
 use std::alloc::Global;
 
-/// A running node: its files, what it has still to send and to answer, its configuration, and what it reaches the
-/// world by.
+/// A running node: its files, the messages to send and the requests to answer, its configuration, and its ways to the
+/// world.
 #[derive(Drop)]
 pub struct Server<D: Disk, L: Link, K: Sink> {
     pub alloc: Global,
     pub kept: Kept<D>,
     /// The messages that are still to be sent.
     pub outbox: Outbox,
-    /// What is under way on its connections.
+    /// The works on its connections.
     pub works: Works,
-    /// What it has dialled.
+    /// The dials of the node.
     pub dials: Dials,
     pub config: Config,
-    /// What it writes of its inputs.
+    /// The form of its log of inputs.
     pub log: Log,
     pub link: L,
-    /// Where its lines go.
+    /// The output for its lines.
     pub sink: K,
     pub heads: HeadReader,
 }

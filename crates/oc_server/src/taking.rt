@@ -29,7 +29,7 @@ use std::alloc::Global;
 
 impl<D: Disk, L: Link, K: Sink> Server<D, L, K> {
     /// Takes an input: makes its frame safe, changes the node, and then writes its line, where each input has one there.
-    /// What it sends goes to the outbox. It answers what the step does.
+    /// The messages of the step go to the outbox. Gives the answer of the step.
     pub fn takes(&mut self, input: Input) -> Result<Answer, TurnEnd>
         requires serving { IsServing self.old }
         requires input { IsInput self.old.kept.node.control.nodes self.old.kept.node.control.me input }
@@ -64,7 +64,7 @@ pub(crate) fn line_of<D: Disk>(
     }
 }
 
-/// What is written of an input of this node before its frame: in a record its line.
+/// The text of an input of this node before its frame: in a record its line.
 pub(crate) fn line_ahead<D: Disk>(
     alloc: Global,
     log: Log,
@@ -114,7 +114,7 @@ pub(crate) fn keep<D: Disk>(kept: &mut Kept<D>, input: Input) -> Result<Outcome,
     }
 }
 
-/// What an input brings is bytes, which the type of a slice says of its items.
+/// The items of an input are bytes, which the type of a slice says.
 fn brings_bytes(input: &Input)
     ensures { BringsBytes input.now }
 {
@@ -125,7 +125,7 @@ fn brings_bytes(input: &Input)
     }
 }
 
-/// What the body of a message brings is bytes, too.
+/// The items of a message's body are bytes, too.
 fn has_bytes(body: &Body)
     ensures { HasBytes body.now }
 {
@@ -140,7 +140,7 @@ fn are_bytes(items: &[u8])
     ensures { IsBytes items.now }
 {}
 
-/// Why an input is not taken.
+/// The cause for which an input is not taken.
 fn end_of(error: KeepError) -> TurnEnd
     ensures { result ≡ scenes.end_of error }
 {

@@ -1,4 +1,4 @@
-//! Inputs that are taken, with what is told of them.
+//! Inputs that are taken, with their lines.
 
 ghost use Rattle.std.specs.Prelude.{◌≡◌, ◌∷◌, [], IfErr, OnOk};
 ghost use Rattle.oc_model.specs.Lawful.{IsInput};
@@ -21,7 +21,7 @@ use oc_link::Link;
 use oc_model::Input;
 
 impl<D: Disk, L: Link, K: Sink> Server<D, L, K> {
-    /// Takes an input of which nothing is told after it, and writes before it what is told there.
+    /// Takes an input without lines after it, and writes those before it.
     pub fn takes_ahead(&mut self, input: Input) -> Result<(), TurnEnd>
         requires serving { IsServing self.old }
         requires input { IsInput self.old.kept.node.control.nodes self.old.kept.node.control.me input }
@@ -33,7 +33,7 @@ impl<D: Disk, L: Link, K: Sink> Server<D, L, K> {
         Ok(())
     }
 
-    /// Writes what is told of an input before its frame. Where the output fails, no frame is made.
+    /// Writes the text of an input before its frame. Where the output fails, no frame is made.
     pub(crate) fn says_ahead(&mut self, input: &Input) -> Result<(), TurnEnd>
         requires serving { IsServing self.old }
         requires input { IsInput self.old.kept.node.control.nodes self.old.kept.node.control.me input.now }
@@ -45,7 +45,7 @@ impl<D: Disk, L: Link, K: Sink> Server<D, L, K> {
         write_line(&mut self.sink, &line)
     }
 
-    /// Writes what is told of a node that begins.
+    /// Writes the lines of a node that begins.
     pub fn says_first(&mut self) -> Result<(), TurnEnd>
         requires serving { IsServing self.old }
         requires areas { self.old.config.areas ≡ self.old.kept.node.control.areas }

@@ -1,4 +1,4 @@
-//! What a turn does before anything else: the files of a node are turned over, and read ahead.
+//! The beginning of a turn: the files of a node are turned over, and read ahead.
 
 ghost use Rattle.std.specs.Prelude.{◌≡◌, ◌+◌, IfErr, OnOk, [], false};
 ghost use Rattle.oc_keep.specs.KeptView.{IsRipe};
@@ -13,8 +13,8 @@ use oc_keep::{Kept, TidyError};
 use oc_link::Link;
 
 impl<D: Disk, L: Link, K: Sink> Server<D, L, K> {
-    /// Turns the control files over, where they are ripe, and reads what a child is likely to ask for next: by now the
-    /// reply of the turn before is on its way.
+    /// Turns the control files over, where they are ripe, and reads the bytes that a child is likely to ask for next: by now
+    /// the reply of the turn before is on its way.
     pub fn tidies(&mut self) -> Result<(), TurnEnd>
         requires { IsServing self.old }
         ensures did { OnOk result (Did D.view K.takes K.faults L.story L.counts [] self.old self.new) }
@@ -54,7 +54,7 @@ fn turn_over<D: Disk>(kept: &mut Kept<D>) -> Result<(), TurnEnd>
     }
 }
 
-/// Reads what a child is likely to ask for next.
+/// Reads the bytes that a child is likely to ask for next.
 fn read_ahead<D: Disk>(kept: &mut Kept<D>) -> Result<(), TurnEnd>
     requires open { kept.old.closed ≡ false }
     ensures looks { OnOk result (LooksOnly D.view kept.old kept.new) }
@@ -67,7 +67,7 @@ fn read_ahead<D: Disk>(kept: &mut Kept<D>) -> Result<(), TurnEnd>
     }
 }
 
-/// How a turn ends where the files are not tidied.
+/// The end of a turn where the files are not tidied.
 fn end_of(error: TidyError) -> TurnEnd
     ensures { result ≡ end_of_tidy error }
 {

@@ -15,9 +15,9 @@ use oc_probe::Probing;
 #[derive(Drop)]
 pub struct Turns<D: Disk, L: Link, K: Sink> {
     pub server: Server<D, L, K>,
-    /// When its next tick is due.
+    /// The times of its ticks.
     pub pace: Pace,
-    /// By what it probes, if it does.
+    /// The state for probes, if it probes.
     pub probing: Option<Probing>,
     /// The bytes of its configuration that were read last; none where the last reading failed.
     pub reading: Option<Bytes>,
@@ -44,11 +44,11 @@ impl<D: Disk, L: Link, K: Sink> Turns<D, L, K> {
     pub fn turn(&mut self) -> Result<bool, TurnEnd>
         requires { IsReady self.old }
 
-        // What it did, by what the link and the clock told; where it ended partway through, a front of that.
+        // A turn was done, by the news of the link and the clock; where it ended partway through, a front of it.
         ensures turned { IfOk result (λ served. Turned D.view K.takes K.faults L.story L.counts served self.old self.new) }
         ensures stops { IfErr result (λ end. TurnStops D.view K.takes K.fails K.faults L.story L.counts end self.old self.new) }
 
-        // It is ready for another turn.
+        // The node is ready for another turn.
         ensures ready { OnOk result (IsReady self.new) }
     {
         let served = self.handles()?;

@@ -28,7 +28,7 @@ use Rattle.oc_deeds.specs.declared.dials.Errand.{Errand}
 use Rattle.oc_deeds.specs.declared.pace.Pace.{Pace}
 use Rattle.oc_service.specs.Alike.{AreAlike, told_request}
 
--- What a link lends
+-- Bytes that a link lends
 
 two_pieces : (b : Bool) (first more : List ℕ) → (if b then first else []) ++ ((if b then more else []) ++ []) ≡ (if b then first ++ more else []) ++ []
 two_pieces true first more = sym (append_assoc first more [])
@@ -101,7 +101,7 @@ module _ (one : (t : NodeTerms) (a : Arrival) (bytes : List ℕ) (v w : Verdict)
       alike_turn pace probing t a a bytes other a.connection (length lent) (length lent) (first.0) (second.0) x y s r (first.2) (second.2)
       (one n a lent (first.0) (second.0) (first.1) (second.1))
 
-  -- a front of them, by which it is answered already, and all of them
+  -- a front of the bytes, which is answered already, and all of them
   pub early_alike : ((t : NodeTerms) (c number : ℕ) (permitted : Bool) (coming : Coming) (bytes more : List ℕ) (v : Verdict)
       → IsVerdict t (arrival c number permitted Open) bytes v → (v ≡ verdicts.Wait → ⊥) → IsVerdict t (arrival c number permitted coming) (bytes ++ more) v)
       → (n : NodeTerms) (pace : Pace) (probing : Option Probing) (t : Observation) (s : Setting) (r : Running) (c number : ℕ) (permitted : Bool) (coming : Coming) (lent more bytes other : List ℕ) (e f : Option Errand) (x y : Came)

@@ -162,9 +162,9 @@ mild_end pace now seconds s a =
     let ds : List Deed = ticks pace now seconds s a in
     mild_then ds (sends MAX_DIALS s (after_all ds a)) (mild_ticks pace now seconds s a) (mild_sends MAX_DIALS s (after_all ds a))
 
--- What was read of a request
+-- Requests that were read
 
--- it is refused as a call that failed only where one failed
+-- a verdict that refuses a request as a call that failed only where one failed
 abbrev FailsBy : Bool → Verdict → Type 0
 FailsBy failed (verdicts.Refuse refusal) = refusal.why ≡ refusals.Source → failed ≡ true
 FailsBy failed v = Unit {0}
@@ -228,7 +228,7 @@ verdict_fails t x bytes rest (Err http.Memory) decided = absurd decided
 read_fails : (t : NodeTerms) (x : Arrival) (bytes : List ℕ) (v : Verdict) → IsVerdict t x bytes v → FailsBy (has_failed x.coming) v
 read_fails t x bytes v is = subst (λ (w : Verdict). FailsBy (has_failed x.coming) w) (sym is.verdict) (verdict_fails t x bytes is.rest is.answer is.decided)
 
--- What is done with a request
+-- The deeds of a request
 
 failure_of : (why : Refused) (failed : Type 0) → (why ≡ refusals.Source → failed) → IsFailure why failed
 failure_of refusals.Source failed fails = fails refl
@@ -284,7 +284,7 @@ obeyed event c count verdicts.Permit now s a fails = (tt, tt)
 obeyed event c count (verdicts.Refuse why) now s a fails = (refused event c count why fails, tt)
 obeyed event c count (verdicts.Ask request) now s a fails = taken_on event c request now s a
 
--- What else came
+-- The deeds of other news
 
 mild_moves : (p : Transfer) (now : ℕ) (what : Prospect) → all_mild (moves p now what) ≡ true
 mild_moves p now prospects.Gives = refl
@@ -449,7 +449,7 @@ front_of_few (x ∷ xs) ys (d ∷ ds) es k is few =
     let more = front_of_few xs ys ds es k others (omega (arith, few)) in
     (more.0, ap (λ (y : Deed). y ∷ (ds ++ take k es)) first ∙ ap (λ (zs : List Deed). x ∷ zs) (more.1))
 
--- where nothing is due a turn begins with three deeds that tell of no failure
+-- a turn in which nothing was due begins with three deeds that tell of no failure
 mild_begin : (due : Option ℕ) (s : Setting) (t : Observation) (m : Machine) (more : List Deed) → due ≡ None → all_mild (take 3 ((Reads t.before ∷ takes_at due m.pace m.probing t s m.running) ++ more)) ≡ true
 mild_begin None s t m more none = refl
 mild_begin (Some place) s t m more none = let no : Some place ≡ None = none in absurd (cc no)
@@ -508,7 +508,7 @@ module _ (event : LinkEvent) (terms : NodeTerms) (calls : Option (List Call)) (s
       by_heard (inl few) = by_due few (due_or_none (due_at last (machine_after s ms ts m)))
       by_heard (inr heard_last) = by_whole (heard_borne later heard_last)
 
--- By the counts of the link
+-- The counts of the link
 
 rise_one : (event : LinkEvent) (wait : ℕ) (old now : LinkCounts) (d : Deed) → CountsEvent event wait old now → IsBorneOut event d → RisesFor d old now
 rise_one event wait old now (Refuses c count refusal) counts borne = by_why refusal.why borne

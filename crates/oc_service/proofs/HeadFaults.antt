@@ -17,7 +17,7 @@ abbrev pub IsOther : Refused → Type 0
 IsOther refusals.Source = ⊥
 IsOther why = Unit {0}
 
--- not refused so
+-- a result that is not such a refusal
 abbrev pub IsSpared : {A : Type 0} → Result A Refused → Type 0
 IsSpared (Ok x) = Unit {0}
 IsSpared (Err why) = IsOther why

@@ -64,7 +64,7 @@ module _ {D L K : Type 0} (view : D → DiskView) (c : Settings) (me : ℕ) (pro
 pub loaded_areas : {D : Type 0} (view : D → DiskView) (c config : Settings) (me : ℕ) (d : Disks D) (k : KeptView D) → IsNodeOf view (header_of_settings c) me d k → config ≡ c → config.areas ≡ k.node.control.areas
 loaded_areas view c config me d k node is = ap (λ (x : Settings). x.areas) is ∙ sym (ap (λ (h : Header). h.areas) node.header)
 
--- as the machine of the node's deeds
+-- the machine of the node's deeds is that of the node that was loaded
 pub loaded_machine : {D L K : Type 0} (view : D → DiskView) (c : Settings) (task : Task) (site : Site D L K) (turns : Turns D L K) → IsLoaded view c task site turns → AreHonest view (disks_in site.files)
     → machine turns ≡ machine_on view c task (disks_in site.files)
 loaded_machine view c task site turns loaded honest =

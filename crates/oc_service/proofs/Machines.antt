@@ -121,7 +121,7 @@ module _ {D L K : Type 0} (view : D → DiskView) (takes fails : K → List ℕ 
   made zero old new is_open same = made_none old new is_open same
   made (suc n) old new is_open (served, at, turned, rest) = made_more n old at new turned (made n at new turned.does.did.is_open rest)
 
-  -- their deeds are those of the turns one by one
+  -- the deeds of the machine are those of the turns one by one
   pub made_deeds : (n : ℕ) (old new : Turns D L K) (is_open : old.server.kept.closed ≡ false) (serves : Serves view takes faults story counts n old new)
       → (made n old new is_open serves).deeds ≡ deeds_of view takes faults story counts n old new serves
   unfolding made made_none made_more

@@ -12,11 +12,11 @@ use Rattle.oc_service.specs.WhatNodeDoes.{own_measure, own_measures}
 abbrev pub taken : Setting → Measure → List Deed
 taken s m = Says (told_ahead s.log s.me (Measured m.peer m.rate m.hops)) ∷ Takes (Measured m.peer m.rate m.hops) ∷ []
 
--- it is taken
+-- a measure of this node is taken
 pub own_deeds : (s : Setting) (m : Measure) → m.from ≡ s.me → own_measure s m ≡ taken s m
 own_deeds s m is = ap (λ b. cond b (taken s m) []) (eq-eqb m.from s.me is)
 
--- and one of another node is not
+-- a measure of another node is not taken
 pub other_deeds : (s : Setting) (m : Measure) → m.from ≢ s.me → own_measure s m ≡ []
 other_deeds s m is = ap (λ b. cond b (taken s m) []) (ne_eqb m.from s.me is)
 
@@ -37,6 +37,6 @@ measure_more s ms i m deeds within is so_far =
     ∙ append_assoc deeds (own_measure s m) (own_measures s (drop (suc i) ms))
     ∙ sym (measures_here s ms i m deeds within is so_far)
 
--- after the last measure there are all
+-- all measures are taken after the last
 pub all_measured : (s : Setting) (ms : List Measure) (i : ℕ) (deeds : List Deed) → length ms ≤ i → deeds ++ own_measures s (drop i ms) ≡ own_measures s ms → deeds ≡ own_measures s ms
 all_measured s ms i deeds past so_far = sym (append-nil deeds) ∙ ap (λ (l : List Measure). deeds ++ own_measures s l) (sym (drop_all i ms past)) ∙ so_far

@@ -178,7 +178,7 @@ module _ {D L K : Type 0} (view : D → DiskView) (takes fails : K → List ℕ 
     within_on : (deeds : List Deed) (at : Server D L K) → Did view takes faults story counts deeds l at → AllByRecursion (IsWithin h.nodes me) (inputs_of deeds)
     within_on deeds at did = named (λ x y. AllByRecursion (IsWithin x.nodes y) (inputs_of deeds)) (kept_within view (inputs_of deeds) first.server.kept at.kept did.keeps)
 
-    -- at each prefix of deeds, and after them
+    -- the nodes that crashes leave at each prefix of deeds, and after them
     moments_on : AreHonest view d → (deeds : List Deed) (at : Server D L K) → Did view takes faults story counts deeds l at → (under : Under)
         → EndsOn view (header_of at.kept.node.control) at.kept.node.control.me (node_of at.kept) under (disks_of at.kept) e → AlwaysRecovers view h me takes (line (setting_of task)) deeds under d e first.server.sink at.sink
     moments_on honest deeds at did under behind = record {
@@ -412,7 +412,7 @@ module _ {D L K : Type 0} (view : D → DiskView) (takes fails : K → List ℕ 
   ends_on ends.Sink r = halts_on ends.Sink r
   ends_on ends.Memory r = halts_on ends.Memory r
 
--- how it ended, of these files, links and outputs
+-- the end over these files, links and outputs
 abbrev pub EndsAs : {D L K : Type 0} → (D → DiskView) → (K → List ℕ → K → Type 0) → (K → List ℕ → K → Type 0) → (K → ℕ) → (L → Option (List Call)) → (L → LinkCounts) → Settings → Task → Disks D → TurnEnd → Disks D → L → L → K → K → Type 0
 EndsAs view takes fails faults story counts s task d end e l m k j =
     NodeEnds (at_run view story counts takes fails s task d e l m k j) (λ text. takes k text j) (λ text. fails k text j × Rose (faults k) (faults j)) (setting_of task) (Turned end)

@@ -23,7 +23,7 @@ made_for f me places p gauge rotation = subst (λ (n : ℕ). IsMadeFor n p) (sym
 abbrev probing_from : List (List ℕ) → RotationView → Probing
 probing_from gauge rotation = record { gauge = gauge; rotation = rotation }
 
--- and a node begins with it
+-- a node begins with this state for probes
 pub first_is : {A : Type 0} (f : A → List ℕ) (me : ℕ) (places : List (Option A)) (p : Probing) → p.gauge ≡ replicate (length places) [] → p.rotation ≡ record { coming = peers_of me places }
     → p ≡ probing_of me (map (option_map f) places)
 first_is f me places p gauge rotation =

@@ -55,7 +55,7 @@ module _ (s : Setting) (recorded : s.log ≡ logs.Record) where
         inputs = inputs_told ds;
       }
 
--- of deeds that begin so, a front is a record
+-- a front of deeds with this beginning is a record
 front_record : (s : Setting) (n : Node) (told deeds behind : List Deed) → (s.log ≡ logs.Record → Leads s None told None) → Says (told_first s.log n.control (shelf n.groups)) ∷ told ≡ deeds ++ behind
     → IsRecordOf s n deeds behind
 front_record s n told [] behind whole is = tt
@@ -71,7 +71,7 @@ pub node_record : (s : Setting) (ms : List Measure) (ts : List Observation) (m :
 node_record s ms ts m deeds are =
     front_record s m.running.node (own_measures s ms ++ turns_deeds s ts (begun s ms m)) deeds [] (λ recorded. rest_whole s recorded ms ts m) (sym are ∙ sym (append-nil deeds))
 
--- a front of them, and of one more turn
+-- a front of the deeds, and of those of one more turn
 pub cut_record : (s : Setting) (ms : List Measure) (ts : List Observation) (last : Observation) (m : Machine) (deeds : List Deed) (under : Under)
     → (cut : Cuts (node_deeds s ms ts m ++ turn_deeds s last (machine_after s ms ts m)) deeds under) → IsRecordOf s m.running.node deeds cut.behind
 cut_record s ms ts last m deeds under cut =

@@ -31,7 +31,7 @@ use Rattle.oc_service.specs.WhatNodeGives.{ServesFrom}
 use Rattle.oc_service.specs.WhatNodeHears.{until}
 use Rattle.oc_service.proofs.Stories.{Follows}
 
--- What was measured touches no connection
+-- Measures touch no connection
 
 quiet_behind : (text : List ℕ) (i : Input) (b : Bool) (ds : List Deed) → AllQuiet ds → AllQuiet ((if b then Says text ∷ Takes i ∷ [] else []) ++ ds)
 quiet_behind text i true ds quiet = (tt, (tt, quiet))
@@ -46,7 +46,7 @@ one_works : (text : List ℕ) (i : Input) (b : Bool) (a : Running) → (after_al
 one_works text i true a = refl
 one_works text i false a = refl
 
--- and leaves what is under way
+-- measures leave the works
 own_works : (s : Setting) (ms : List Measure) (a : Running) → (after_all (own_measures s ms) a).works ≡ a.works
 own_works s [] a = refl
 own_works s (x ∷ ms) a =
@@ -54,7 +54,7 @@ own_works s (x ∷ ms) a =
     ∙ own_works s ms (after_all (own_measure s x) a)
     ∙ one_works (told_ahead s.log s.me (Measured x.peer x.rate x.hops)) (Measured x.peer x.rate x.hops) (x.from == s.me) a
 
--- and so it is with all that it begins with
+-- all deeds of the beginning touch no connection
 pub begins_quiet : (s : Setting) (ms : List Measure) (n : Node) → AllQuiet (begins s ms n)
 begins_quiet s ms n = (tt, own_quiet s ms)
 
@@ -114,7 +114,7 @@ module _ (s : Setting) (own : List Deed) (a : Running) (quiet : AllQuiet own) (n
   serves_behind ds b (Some x) (Some y) (Some z) left is adds follows served = λ settled.
       behind_own x y z ds b settled adds is (served y z refl refl (still_settled x y settled adds left))
 
-  -- a front of them
+  -- a front of the deeds
   pub serves_front : (ds behind : List Deed) (x z : Option (List Call)) → own ≡ ds ++ behind → AddsAll (calls_of s ds a) x z → ServesFrom s ds a x z
   serves_front ds behind x None front adds = tt
   serves_front ds behind None (Some z) front adds = absurd adds

@@ -24,17 +24,17 @@ pub record TellsRun (r q : OnRun) : Type 0 where
   pub stopped : (end : TurnEnd) (deeds : List Deed) (under : Under) → r.stopped end deeds under → q.stopped end deeds under
   pub deaf : r.deaf → q.deaf
 
--- An output that is seen as another one: each takes what the other takes
+-- An output that is seen as another one: each takes the bytes that the other takes
 module _ {D K J : Type 0} (view : D → DiskView) (takes fails : K → List ℕ → K → Type 0) (adds adds_less : J → List ℕ → J → Type 0) (seen : K → J)
     (added : (a b : K) (text : List ℕ) → takes a text b → adds (seen a) text (seen b)) (added_less : (a b : K) (text : List ℕ) → fails a text b → adds_less (seen a) text (seen b)) where
-  -- at each prefix of deeds
+  -- the statement at each prefix of deeds
   prefix_retold : (h : Header) (me : ℕ) (says : Deed → List ℕ) (ds : List Deed) (n : Node) (d : Disks D) (s : K) (e : Disks D) (t : K)
       → AtEachPrefix view h me takes says ds n d s e t → AtEachPrefix view h me adds says ds n d (seen s) e (seen t)
   prefix_retold h me says [] n d s e t (k, looks, same) = (k, looks, ap seen same)
   prefix_retold h me says (x ∷ xs) n d s e t (k, at, next, u, looks, taken, text, rest) =
       (k, at, next, seen u, looks, taken, added s u (says x) text, prefix_retold h me says xs (node_after x n) next u e t rest)
 
-  -- at every moment
+  -- the statement at every moment
   recovers_retold : (h : Header) (me : ℕ) (says : Deed → List ℕ) (ds : List Deed) (under : Under) (d e : Disks D) (s t : K)
       → AlwaysRecovers view h me takes says ds under d e s t → AlwaysRecovers view h me adds says ds under d e (seen s) (seen t)
   recovers_retold h me says ds under d e s t r = record {
@@ -45,7 +45,7 @@ module _ {D K J : Type 0} (view : D → DiskView) (takes fails : K → List ℕ 
     ends = r.ends;
   }
 
-  -- after the last deed
+  -- the statement after the last deed
   rest_retold : (s t : K) (end : TurnEnd) (text line : List ℕ) → WritesAt takes fails s t end text line → WritesAt adds adds_less (seen s) (seen t) end text line
   rest_retold s t ends.Sink text line (front, is, cut) = (front, is, added_less s t _ cut)
   rest_retold s t ends.Served text line h = added s t text h

@@ -69,7 +69,7 @@ module _ {D L K : Type 0} (view : D → DiskView) (takes fails : K → List ℕ 
   abbrev own : List Deed
   own = begins_on s old.server.config.measures old.server.kept.node.control old.server.kept.content.shelves
 
-  -- over honest disks it is told of the node
+  -- the deeds of the beginning, over honest disks those of the node
   abbrev own_told : List Deed
   own_told = begins s old.server.config.measures (node_of old.server.kept)
 
@@ -271,7 +271,7 @@ module _ {D L K : Type 0} (view : D → DiskView) (takes fails : K → List ℕ 
         (subst (λ (ds : List Deed). IsServedSince at (ds ++ up.stops.stops.deeds) (story new.server.link))
         (sym (made_deeds view takes fails faults story counts takes_nothing takes_then up.done first up.at did.is_open up.serves)) served)
 
-    -- how the turns ended
+    -- the end of the turns
     pub serve_ends : (end : TurnEnd) (new : Turns D L K) (ended : ServeEnds view takes fails faults story counts most end first new)
         → IsServedSince at (deeds_until view takes fails faults story counts most end first new ended) (story new.server.link) → RunEnds view takes fails faults story counts most end old new
     serve_ends ends.Served new h served =
@@ -283,9 +283,9 @@ module _ {D L K : Type 0} (view : D → DiskView) (takes fails : K → List ℕ 
     serve_ends ends.Sink new h served = halts_of ends.Sink new h served
     serve_ends ends.Memory new h served = halts_of ends.Memory new h served
 
-  -- It ended before its first turn
+  -- The run ended before its first turn
 
-  -- that turn would be told something
+  -- some news for that turn
   abbrev no_told : Observation
   no_told = record { before = 0; event = events.Quiet; bytes = []; came = comes.Nothing; now = 0; median = 0; started = 0; seconds = 0; look = looks.Nothing; reread = rereads.Nothing }
 
@@ -331,7 +331,7 @@ module _ {D L K : Type 0} (view : D → DiskView) (takes fails : K → List ℕ 
   early_ends ends.Sink new stops = early ends.Sink new stops
   early_ends ends.Memory new stops = early ends.Memory new stops
 
-  -- and told of the measures of the server that listens
+  -- the measures of the server that listens
 
   pub served_ends : (at : Server D L K) → Did view takes faults story counts (begins_on (setting listening) listening.config.measures listening.kept.node.control listening.kept.content.shelves) listening at
       → (end : TurnEnd) (new : Turns D L K) (ended : ServeEnds view takes fails faults story counts most end (record old { server = at }) new)

@@ -9,7 +9,7 @@ use Rattle.oc_model.specs.Node.{Header}
 use Rattle.oc_server.specs.Scenes.{KeepsAll}
 use Rattle.oc_deeds.specs.Within.{IsWithin}
 
--- at a moment of the same node
+-- an input is within the ranges at a moment of the same node
 within_same : {D : Type 0} (i : Input) (old new : KeptView D) → IsSameNode old.node.control new.node.control
     → IsWithin new.node.control.nodes new.node.control.me i → IsWithin old.node.control.nodes old.node.control.me i
 within_same i old new same within =

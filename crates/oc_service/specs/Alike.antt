@@ -11,8 +11,8 @@ use Rattle.oc_deeds.specs.declared.came.Came.{Came}
 abbrev pub told_request : Observation → Arrival → List ℕ → Came → Observation
 told_request t a bytes came = record t { event = Request a; bytes = bytes; came = came }
 
--- From one node, two lists of deeds write the same lines, give each connection the same bytes, and
--- leave the same node.
+-- Two lists of deeds that write the same lines, give each connection the same bytes, and leave the
+-- same node, from one node.
 pub record AreAlike (s : Setting) (ds es : List Deed) (a : Running) : Type 0 where
   pub lines_are : lines s ds ≡ lines s es
   pub given_are : (c : ℕ) → given c (calls_of s ds a) ≡ given c (calls_of s es a)

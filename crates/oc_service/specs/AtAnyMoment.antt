@@ -10,7 +10,7 @@ use Rattle.oc_server.specs.Moments.{AtEachPrefix}
 use Rattle.oc_server.specs.Scenes.{EndsOn}
 use Rattle.oc_deeds.specs.Under.{Under}
 
--- From these files to those, and from this output to that one: while the node was loaded every
+-- The files and the output at every moment of a run: while the node was loaded every
 -- crash left the files as a crash at the start would have left them, and nothing was written; then,
 -- at each prefix of its deeds, their lines were written, and every crash leaves the node of their
 -- inputs, or with that of the next deed; and the same with this under way after them all.

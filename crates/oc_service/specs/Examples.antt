@@ -51,15 +51,15 @@ pub record AreTold : Type 0 where
   pub reads : refuses comings.Failed (codes "GE") 2 refusals.Source ≡ Reads 0 ∷ Sees (request comings.Failed) 100 (codes "GE") ∷ Reads 5 ∷ Refuses 8 2 (refusing refusals.Source) ∷ Looks looks.Nothing ∷ []
   pub read : AreBorneOut events.Quiet (refuses comings.Failed (codes "GE") 2 refusals.Source)
   pub sent : AreBorneOut events.Quiet (Sees (events.Gone 8 losses.Failed) 100 [] ∷ Reads 5 ∷ Drops 8 true ∷ [])
-  -- and not after a request that ended, nor a connection that gave way
+  -- a failure is not borne out by a request that ended, nor by a connection that gave way
   pub ended : AreBorneOut events.Quiet (refuses comings.Ended (codes "GE") 2 refusals.Source) → ⊥
   pub gave_way : AreBorneOut events.Quiet (Sees (events.Gone 8 losses.GaveWay) 100 [] ∷ Reads 5 ∷ Drops 8 true ∷ []) → ⊥
-  -- nor a turn later
+  -- a failure is not borne out a turn later
   pub late : AreBorneOut events.Quiet (Sees (request comings.Failed) 100 [] ∷ Sees events.Quiet 100 [] ∷ Refuses 8 2 (refusing refusals.Source) ∷ []) → ⊥
 
 pub record AreCut : Type 0 where
   -- a request in two pieces
   pub held_of_two : held 8 (Next (request comings.Open) (codes "GET /a H") ∷ Next (request comings.Open) (codes "TTP/1.1\r\n") ∷ []) ≡ codes "GET /a HTTP/1.1\r\n"
-  -- one that is refused by its first line, and by all of it
+  -- a request that is refused by its first line, and by all of its bytes
   pub line : lines example (refuses comings.Open (codes "GET /!x HTTP/1.1\r\n") 18 refusals.Path) ≡ codes "! path\n"
   pub alike : AreAlike example (refuses comings.Open (codes "GET /!x HTTP/1.1\r\n") 18 refusals.Path) (refuses comings.Ended (codes "\r\n") 20 refusals.Path) idle

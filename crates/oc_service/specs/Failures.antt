@@ -29,7 +29,7 @@ abbrev pub AreBorneOut : LinkEvent → List Deed → Type 0
 AreBorneOut event [] = Unit {0}
 AreBorneOut event (d ∷ ds) = IsBorneOut event d × AreBorneOut (told_last event d) ds
 
--- By the counts of the link
+-- The counts of the link
 
 -- the count that this line reports rose from `old` to `now`
 abbrev pub RisesFor : Deed → LinkCounts → LinkCounts → Type 0

@@ -67,7 +67,7 @@ probing_at_first false me addresses = None
 abbrev pub machine_on : {D : Type 0} → (D → DiskView) → Settings → Task → Disks D → Machine
 machine_on view c task d = at_first (is_record task.log) (most_interval task.probes task.me) (probing_at_first task.probes task.me c.addresses) task.text c (first_node view (header_of_settings c) task.me d)
 
--- Its link
+-- The link of the node
 
 -- the link listens, and then each deed makes its calls
 abbrev pub node_calls : Settings → Task → List Deed → Machine → List Call

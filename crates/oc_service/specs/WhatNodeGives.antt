@@ -6,7 +6,7 @@ use Rattle.oc_deeds.specs.Answered.{AreAnswered}
 use Rattle.oc_deeds.specs.Deeds.{Deed, Running, Setting}
 use Rattle.oc_deeds.specs.Settled.{AreServed, IsSettled}
 
--- From these calls on, if the link tells them to the end, and no reply was under way then: the deeds were done in order, so that each connection
+-- The deeds were done in order from these calls on, if the link tells them to the end, and no reply was under way then: each connection
 -- was given a beginning of the replies to its requests, and all of them where its next request is awaited or its last reply is whole.
 abbrev pub ServesFrom : Setting → List Deed → Running → Option (List Call) → Option (List Call) → Type 0
 ServesFrom s deeds a = Told (λ made later. IsSettled made [] → AreServed s made later deeds a)

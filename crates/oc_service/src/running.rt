@@ -80,8 +80,8 @@ pub fn run_node<D: Disk, L: Link, K: Sink>(
         (λ text. K.fails site.sink text result.site.sink × Rose (K.faults site.sink) (K.faults result.site.sink))
         (setting_of config task) result.end }
 
-    // With the files of a node on honest disks, if neither a disk nor the output nor the asking of
-    // the link fails, all turns are made, unless memory runs out or a file is full.
+    // All turns are made, unless memory runs out or a file is full, with the files of a node on honest
+    // disks, if neither a disk nor the output nor the asking of the link fails.
     ensures unfailed { AreHonest D.view (disks_in site.files)
         → HoldFiles D.view (length config.addresses) (disks_in site.files)
         → (OneRose D.view (disks_in site.files) (disks_in result.site.files) → ⊥)
@@ -108,7 +108,7 @@ pub fn run_node<D: Disk, L: Link, K: Sink>(
     }
 }
 
-/// Begins the run, and makes `most` turns; a law states what connections are given.
+/// Begins the run, and makes `most` turns; a law states the bytes that connections are given.
 fn run<D: Disk, L: Link, K: Sink>(turns: &mut Turns<D, L, K>, most: u64) -> TurnEnd
     requires ready { IsReady turns.old }
     requires measures { All (IsMeasure turns.old.server.kept.node.control.nodes) turns.old.server.config.measures }

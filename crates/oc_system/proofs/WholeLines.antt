@@ -13,18 +13,18 @@ use Rattle.oc_system.specs.declared.extent.HeadProgress.{HeadProgress}
 use Rattle.oc_system.specs.declared.extent.HeadProgress.TheVariants as progress
 use Rattle.oc_system.specs.declared.extent.Outline.{Outline}
 
--- where no line has ended, the bytes are unfinished
+-- bytes of which no line has ended are unfinished
 pub no_line : (bytes lines : List ℕ) → AreWholeLines bytes lines → lines ≡ [] → IsUnfinished ReadsRequest bytes
 no_line bytes lines are none =
     let first : IsUnfinished ReadsRequest lines = subst (IsUnfinished ReadsRequest) (sym none) (IsUnfinished-none request_form) in
     subst (IsUnfinished ReadsRequest) (sym are.split) (IsUnfinished-more request_form lines are.rest first are.begun)
 
--- where the last line that ended leaves a head open, the bytes are unfinished
+-- bytes whose last line that ended leaves a head open are unfinished
 open_line : (lines line : List ℕ) → lines ≡ ended line → HasNoRequest lines → MayBecomeRequest lines → IsUnfinished ReadsRequest lines
 open_line lines line text none may =
     IsUnfinished-open lines none (subst (CanBecome ReadsRequest) (sym text) (CanBecome-request line (subst MayBecomeRequest text may)))
 
--- where no bytes can follow the lines that make them a head, that is known of the bytes
+-- lines that no bytes can make a head make the bytes no request
 never_lines : (bytes lines line : List ℕ) → AreWholeLines bytes lines → lines ≡ ended line → NeverHasRequest lines → IsNoRequest bytes
 never_lines bytes lines line are text never =
     let none : NeverHasRequest bytes = λ more head rest reads.

@@ -10,8 +10,8 @@ const LAST_STREAM: i32 = 2;
 ///
 /// The system gives the number of a closed stream to the next file or socket that is opened.
 /// Without the guard that would be a file of a node or a connection, and each line for the stream
-/// would be written there. The guard opens a folder at the number instead: reads and writes of it
-/// fail, as those of a closed stream do.
+/// would be written there. The guard opens a folder at the number instead: reads and writes of this
+/// folder fail, as those of a closed stream do.
 #[derive(Drop)]
 pub struct ClosedStreams {
     _first: Option<File>,

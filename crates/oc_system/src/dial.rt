@@ -162,7 +162,7 @@ impl Dial {
     }
 
     /// Sends the request. A reply may have come before a write fails: a peer that refuses a request
-    /// need not read all of it.
+    /// need not read the whole request.
     fn ask(&mut self, stream: &mut TcpStream, tools: &mut Tools, now: u64) {
         if !self.is_writable {
             return;

@@ -124,8 +124,9 @@ impl Incoming {
     }
 
     /// Whether the request can be looked at: it is whole, or its head asks for the permission to
-    /// send the body, or it is longer than a request may be, or no head can begin with its bytes. A
-    /// request that was left can be looked at only after more of it came.
+    /// send the body, or names a transfer coding, for which a reader refuses the request, or it is longer
+    /// than a request may be, or no head can begin with its bytes. A request that was left can be
+    /// looked at only after more bytes of it came.
     pub(crate) fn is_ripe(&self, permitted: bool) -> bool
         ensures left { self.now.was_left ≡ true → result ≡ false }
     {
@@ -135,7 +136,8 @@ impl Incoming {
         match &self.outline {
             Some(outline) => {
                 let body = outline.body.unwrap_or(0);
-                body > MAX_BODY_BYTES
+                outline.coded
+                    || body > MAX_BODY_BYTES
                     || (outline.expects && body > 0 && !permitted)
                     || self.bytes.len() as u64 >= body.saturating_add(outline.head as u64)
             }

@@ -1,4 +1,4 @@
-//! The limits of the sockets and files. No contract speaks of them. Times are in milliseconds.
+//! The limits of the sockets and files. No contract mentions them. Times are in milliseconds.
 
 use oc_base::{MAX_BODY_BYTES, MAX_HEAD_BYTES, MAX_SCHEDULE_BYTES};
 

@@ -15,7 +15,7 @@ use Rattle.oc_wire.specs.FieldReading.{is_after}
 abbrev pub IsNextChild : ℕ → ℕ → Child → Type 0
 IsNextChild nodes before c = ((before + 1 ≤ c.id) × (c.id ≤ nodes)) × IsRate c.rate
 
--- all these have greater ids
+-- all these children have greater ids
 abbrev AllAfter : ℕ → List Child → Type 0
 AllAfter before cs = AllByRecursion (λ (d : Child). before < d.id) cs
 
@@ -41,7 +41,7 @@ all_positive : (nodes : ℕ) (cs : List Child) → AreChildren nodes cs → AllA
 all_positive nodes [] h = tt
 all_positive nodes (c ∷ cs) h = (omega (arith, h.0.0), all_positive nodes cs h.3)
 
--- and lawful ones follow one another
+-- lawful children follow one another
 pub children_are_next : (nodes : ℕ) (cs : List Child) → AreChildren nodes cs → Follow (IsNextChild nodes) (λ child. child.id) 0 cs
 children_are_next nodes cs h = next_children nodes 0 cs h (all_positive nodes cs h)
 
@@ -49,7 +49,7 @@ few_behind : (nodes before : ℕ) (cs : List Child) → before ≤ nodes → Are
 few_behind nodes before [] le h after = omega (arith, le)
 few_behind nodes before (c ∷ cs) le h after = omega (arith, after.0, few_behind nodes c.id cs h.0.1 h.3 h.2)
 
--- there are no more of them than nodes
+-- the lawful children are no more than the nodes
 pub few_children : (nodes : ℕ) (cs : List Child) → AreChildren nodes cs → length cs ≤ nodes
 few_children nodes cs h = omega (arith, few_behind nodes 0 cs (omega arith) h (all_positive nodes cs h))
 
@@ -94,6 +94,6 @@ next_lines : (before : Option (List ℕ)) (ls : List Shelf) → AreLines ls → 
 next_lines before [] h behind = tt
 next_lines before (l ∷ ls) h behind = ((h.0, after_first before l ls behind), next_lines (Some l.group) ls h.2 h.1)
 
--- and lawful ones follow one another
+-- lawful lines follow one another
 pub lines_are_next : (ls : List Shelf) → AreLines ls → Follow IsNextLine (λ line. Some line.group) None ls
 lines_are_next ls h = next_lines None ls h tt

@@ -9,11 +9,11 @@ use Rattle.oc_http.specs.Writing.{IsMac, is_mac_digit}
 use Rattle.oc_policy.specs.Keys.{mac_digits, AreLowerDigits}
 use Rattle.oc_wire.specs.Macs.{mac_for}
 
--- the MAC of a body is one for a head
+-- the MAC of a body is a MAC of a head
 pub is_mac : (key body : List ℕ) → length (mac_digits key body) ≡ 64 → AreLowerDigits (mac_digits key body) → IsMac (mac_digits key body)
 is_mac key body long digits = record { long = long; digits = list_all-from_AllPass is_mac_digit (mac_digits key body) digits }
 
--- with or without a key
+-- the MAC for a body is a MAC of a head, with or without a key
 pub some_is_mac : (key : Option (List ℕ)) (body : List ℕ) → ((k b : List ℕ) → length (mac_digits k b) ≡ 64) → ((k b : List ℕ) → AreLowerDigits (mac_digits k b)) → IfSome (mac_for key body) IsMac
 some_is_mac None body long digits = tt
 some_is_mac (Some key) body long digits = is_mac key body (long key body) (digits key body)

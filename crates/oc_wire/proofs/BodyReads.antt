@@ -13,7 +13,7 @@ use Rattle.oc_wire.specs.FieldReading.{look_is_at, ask_at, yes_at, no_at, check_
 use Rattle.oc_wire.specs.MessageReading.{body_at}
 use Rattle.oc_wire.proofs.KindReads.{IsTaken, Taken, look_is, ask, yes, no, check_in, check_ack, rejoin, fetch, chunk}
 
--- what was read and did not fail
+-- a value that was read without a fault
 abbrev pub given : {A : Type 0} → A → Result A WireFault
 given x = Ok x
 
@@ -29,7 +29,7 @@ pub field_given : {A : Type 0} (read : Reading A) (x : A) (next : ℕ) → of_fi
 field_given (Ok y) x next e = cc
 field_given (Err fault) x next e = absurd cc
 
--- of a kind with this code
+-- a body of the kind with this code
 by_code : (nodes code k : ℕ) (bytes : List ℕ) (read : ℕ → Reading Body) (at : ℕ) (b : Body) (next : ℕ) → Taken nodes k bytes read → IsBytes bytes → (code == k) ≡ true → of_field (read at) ≡ Ok (b, next) → IsTaken nodes code bytes at b next
 by_code nodes code k bytes read at b next taken fits is e = subst (λ (n : ℕ). IsTaken nodes n bytes at b next) (sym (eqb-true code k is)) (taken fits at b next (field_given (read at) b next e))
 
@@ -38,7 +38,7 @@ look_taken nodes code bytes at b next is e =
     let made : Body × ℕ = (Look, at) in
     subst (λ (y : Body × ℕ). IsTaken nodes code bytes at y.0 y.1) (given_is made (b, next) e) (record { lawful = tt; fits = tt; kind = sym (eqb-true code 1 is); text = takes_nothing bytes at })
 
--- what is read for a code has that code, and its text is there
+-- the body that is read for a code has that code, and its text is there
 pub body_takes : (nodes code : ℕ) (bytes : List ℕ) → IsBytes bytes → (at : ℕ) (b : Body) (next : ℕ) → body_at code nodes bytes at ≡ Ok (b, next) → IsTaken nodes code bytes at b next
 unfolding body_at
 body_takes nodes code bytes fits at b next e =

@@ -28,7 +28,7 @@ pub record IsTaken (nodes code : ℕ) (bytes : List ℕ) (at : ℕ) (b : Body) (
   pub kind : code_of b ≡ code
   pub text : Takes bytes at (fields_bytes b) next
 
--- what is read is so taken
+-- each body that is read is taken in this way
 abbrev pub Taken : ℕ → ℕ → List ℕ → (ℕ → Reading Body) → Type 0
 Taken nodes code bytes read = IsBytes bytes → (at : ℕ) (b : Body) (next : ℕ) → read at ≡ Ok (b, next) → IsTaken nodes code bytes at b next
 
@@ -114,7 +114,7 @@ fetch nodes bytes =
       λ have few at next h fits t. made_again parts Fetch few at have next h t,
     )
 
--- of many bytes or of few
+-- chunks of many bytes or of few
 pub chunk : (large : Bool) (nodes : ℕ) (bytes : List ℕ)
     → Taken nodes (chunk_code large) bytes (chunk_at large bytes) × ((group : List ℕ) (start : ℕ) (piece : List ℕ) (last : Bool) → is_large piece ≡ large → Again nodes bytes (chunk_at large bytes) (Chunk group start piece last))
 unfolding chunk_at

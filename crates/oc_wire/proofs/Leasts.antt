@@ -1,4 +1,4 @@
--- The least lengths of the fields of the kinds, and the lengths of what follows the refusals' codes.
+-- The least lengths of the fields of the kinds, and the lengths of the fields after the refusals' codes.
 use Rattle.std.proofs.Common.{◌≡◌, ℕ, ◌+◌, ◌^◌, ◌≤◌, ◌++◌, Bool, true, false, ◌&&◌, ◌==◌, cond, Option, Some, None, List, [], ◌∷◌, length, replicate, refl, sym, ap, subst, ◌∙◌, arith}
 use Rattle.std.specs.List.{AllByRecursion}
 use Rattle.std.proofs.lemmas.Bool.{and_parts, eqb-true, le-leb, leb-true}
@@ -63,7 +63,7 @@ are_shortest [] bs = true
 are_shortest (row ∷ rows) [] = false
 are_shortest (row ∷ rows) (b ∷ bs) = is_shortest row b && are_shortest rows bs
 
--- then the row has the least length of its kind
+-- a row with such a body has the least length of its kind
 has_least : (row : CodeRow) (b : Body) → IsBody 1 b → is_shortest row b ≡ true → HasLeast row
 has_least row b lawful is_so =
     let both = and_parts (code_of b == row.code) (length (fields_bytes b) == row.least && least_of row.code == row.least) is_so in
@@ -91,7 +91,7 @@ shortest =
       rank : Rank
       rank = record { epoch = 0; depth = 0 }
 
--- each is lawful for one node
+-- each of them is lawful for one node
 pub are_lawful : AllByRecursion (IsBody 1) shortest
 are_lawful = search arith
 
@@ -110,7 +110,7 @@ large_of piece size =
 pub large_least : HasLeast (record { code = 14; least = 65552 })
 large_least = let zero : ℕ = 0 in large_of (replicate (2 ^ 16) zero) (length-replicate (2 ^ 16) zero)
 
--- what follows the code of a refusal
+-- the length of the fields after the code of a refusal
 abbrev length_of : ℕ → ℕ
 length_of code = cond (code == 5) 4 0
 

@@ -1,4 +1,4 @@
--- What is read as a field is read so as a field of a message.
+-- A value that is read as a field is read the same as a field of a message.
 use Rattle.std.proofs.Common.{◌≡◌, Ok, Err, sym, ap}
 use Rattle.oc_base.specs.declared.field_fault.FieldFault.{FieldFault}
 use Rattle.oc_base.specs.declared.field_fault.FieldFault.TheVariants as fields
@@ -13,7 +13,7 @@ fault_given fields.Short read given = ap of_field given
 fault_given fields.Value read given = ap of_field given
 fault_given fields.Memory read given = tt
 
--- what was read is given
+-- the value that was read is given
 pub given_same : {A : Type 0} (answer read : Reading A) → answer ≡ read → base.Gives answer read
 given_same (Ok x) read same = sym same
 given_same (Err fields.Short) read same = sym same

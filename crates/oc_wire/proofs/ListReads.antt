@@ -82,7 +82,7 @@ reads_have nodes bytes =
       again = λ few at ls next h t. all.again few at ls next ((omega arith, h.1), lines_are_next ls h.0) t;
     }
 
--- how many bytes a chunk has, of many or of few
+-- the length of a chunk in bytes, of many or of few
 abbrev IsChunkLength : Bool → ℕ → Type 0
 IsChunkLength true n = (2 ^ 16 ≤ n) × (n ≤ MAX_CHUNK_BYTES)
 IsChunkLength false n = (0 ≤ n) × (n ≤ 2 ^ 16 - 1)

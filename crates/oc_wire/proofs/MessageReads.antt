@@ -32,7 +32,7 @@ all_of bytes text next t end =
     let none : rest ≡ [] = nil_from_length rest (omega (arith, t.moved, end, ap (λ (x : List ℕ). length x) t.there.1, length-append text rest)) in
     t.there.1 ∙ ap (λ (x : List ℕ). text ++ x) none ∙ append-nil text
 
--- what is spelled is there
+-- a spelling that is all of the bytes is there
 is_there : (bytes text : List ℕ) → bytes ≡ text → Takes bytes 0 text (length bytes)
 is_there bytes text e = record { there = ([], e ∙ sym (append-nil text)); moved = omega (arith, ap (λ (x : List ℕ). length x) e) }
 
@@ -72,7 +72,7 @@ body_is nodes from to code at bytes m fits front e =
     let b = bind_ok (body_at code nodes bytes at) (λ body. closed from to (length bytes) body) m e in
     end_is nodes code from to bytes at b.0 m (node_is nodes from both.0) (node_is nodes to both.1) front (body_takes nodes code bytes fits at b.0.0 b.0.1 b.1) b.2) (λ e. absurd cc)
 
--- what is read is spelled so
+-- a message that is read is spelled by the bytes
 pub is_spelled : (nodes : ℕ) (bytes : List ℕ) (m : Message) → IsBytes bytes → decoded nodes bytes ≡ Ok m → Spells nodes bytes m
 unfolding decoded
 is_spelled nodes bytes m fits e =
@@ -102,7 +102,7 @@ code_fits (Chunk group start piece last) = by_size (is_large piece) where
   by_size true = omega arith
   by_size false = omega arith
 
--- what is spelled so is read
+-- a message that the bytes spell is read
 pub is_read : (nodes : ℕ) (bytes : List ℕ) (m : Message) → nodes < 2 ^ 32 → Spells nodes bytes m → decoded nodes bytes ≡ Ok m
 unfolding decoded
 is_read nodes bytes m few h =
@@ -133,7 +133,7 @@ has_spelling nodes (Rejoin seq) few h = tt
 has_spelling nodes (Fetch have) few h = omega (arith, h.1)
 has_spelling nodes (Chunk group start piece last) few h = omega (arith, h.2)
 
--- and so has a lawful message
+-- a lawful message has a spelling
 pub is_its_spelling : (nodes : ℕ) (m : Message) → nodes ≤ MAX_NODES → IsMessage nodes m → Spells nodes (spelling m) m
 is_its_spelling nodes m few h = record { lawful = h; fits = has_spelling nodes m.body few h.body; exact = refl }
 

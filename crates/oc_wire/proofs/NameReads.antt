@@ -13,7 +13,7 @@ use Rattle.oc_base.proofs.ListReads.{reads_list}
 use Rattle.oc_wire.specs.Spelling.{name_bytes}
 use Rattle.oc_wire.specs.FieldReading.{if_name, name_at, is_after, next_name_at}
 
--- what is taken as a name is one
+-- a text that is taken as a name is one
 named_is : (text : List ℕ) (at : ℕ) (name : List ℕ) (next : ℕ) → if_name (parsed_name text) at ≡ Ok (name, next) → IsGroupName text × (text ≡ name) × (at ≡ next)
 named_is text at name next e = by_fault (name_fault text) refl e
   where

@@ -1,4 +1,4 @@
--- There is one answer to the bytes of a request, and a message that was sent is it.
+-- There is one answer to the bytes of a request, and a message that was sent is that answer.
 use Rattle.std.proofs.Common.{◌≡◌, ℕ, ◌⊎◌, inl, inr, Option, List, [], length, take, Result, Ok, Err, refl, sym, ap, ◌∙◌, arith}
 use Rattle.std.proofs.lemmas.List.{append-nil, length-append, take_at}
 use Rattle.oc_http.specs.Answers.{IsDecided, written_head}
@@ -43,7 +43,7 @@ one_route one nodes bytes read x y =
     let same = one_request one bytes x.head y.head x.body y.body x.request y.request in
     absurd (cc (rw same.0 at x.route, y.route))
 
--- and brings one message, or has one fault
+-- a request brings one message, or has one fault
 one_read : HasOneHead → (nodes : ℕ) (bytes : List ℕ) (first second : Result Message WireFault) → Brings nodes bytes first → Brings nodes bytes second → first ≡ second
 one_read one nodes bytes first second x y = sym x.reads ∙ ap (decoded nodes) (one_request one bytes x.head y.head x.body y.body x.request y.request).1 ∙ y.reads
 
@@ -81,7 +81,7 @@ brings nodes mac host m says reads = record {
   reads = reads;
 }
 
--- so it is the answer, unless memory ran out
+-- the message that is brought is the answer, unless memory ran out
 pub is_given : ((nodes : ℕ) (bytes : List ℕ) (first second : Result Message HttpWireFault) → AnswersRequest nodes bytes first → AnswersRequest nodes bytes second → HasMemory first → HasMemory second → first ≡ second)
     → (nodes : ℕ) (bytes : List ℕ) (answer : Result Message HttpWireFault) (m : Message) → AnswersRequest nodes bytes answer → Brings nodes bytes (Ok m) → IsGiven answer m
 is_given one nodes bytes (Ok n) m x y = one nodes bytes (Ok n) (Ok m) x y tt tt

@@ -24,7 +24,7 @@ item_more text xs i x start front before after lt is so_far put =
     let whole : (start ++ (front ++ flat_map text (take i xs))) ++ text x ≡ start ++ (front ++ (flat_map text (take i xs) ++ text x)) = simp append_assoc in
     put ∙ ap (λ (y : List ℕ). y ++ text x) so_far ∙ whole ∙ ap (λ (y : List ℕ). start ++ (front ++ y)) (sym (texts_more text xs i x lt is))
 
--- the last text is put after what was put, where that goes well
+-- the last text is put after the others, where that goes well
 pub more_if_ok : {T E : Type 0} (out text last before after : List ℕ) (done : Result T E) → before ≡ out ++ text → OnOk done (after ≡ before ++ last) → OnOk done (after ≡ out ++ (text ++ last))
 more_if_ok out text last before after (Ok x) e f = more out text last before after e f
 more_if_ok out text last before after (Err x) e f = tt

@@ -1,4 +1,4 @@
--- What reading a source in memory tells of its bytes.
+-- Facts of the bytes of a source in memory that reading tells.
 use Rattle.std.proofs.Common.{◌≡◌, ℕ, inl, inr, true, List, [], ◌++◌, length, Ok, Err, refl, sym, ap, ◌∙◌, arith}
 use Rattle.std.specs.Prelude.{Contains}
 use Rattle.std.proofs.lemmas.List.{append-nil}
@@ -72,7 +72,7 @@ body_refused bytes mid new head (http.Length missing) reads over h = absurd h.2
 body_refused bytes mid new head http.BodyLong reads over h = absurd h.2
 body_refused bytes mid new head http.Memory reads over h = tt
 
--- why there is no request is why there is no message
+-- the cause that there is no request is the cause that there is no message
 pub request_fault : (nodes : ℕ) (bytes : List ℕ) (fault : HttpFault) → IsRequestOrFault bytes (Err fault) → AnswersRequest nodes bytes (Err (fault_of_http fault))
 request_fault nodes bytes http.Source h = h
 request_fault nodes bytes http.Ended h = h
@@ -85,7 +85,7 @@ request_fault nodes bytes (http.Length missing) h = h
 request_fault nodes bytes http.BodyLong h = h
 request_fault nodes bytes http.Memory h = tt
 
--- and so is why the body is none
+-- the cause that a body is none is the cause that there is no message
 pub message_fault : (nodes : ℕ) (bytes : List ℕ) (head : Head) (body : List ℕ) (fault : WireFault) → IsRequest bytes head body → is_route head ≡ true → Gives (Err fault) (decoded nodes body) → AnswersRequest nodes bytes (Err (fault_of_wire fault))
 message_fault nodes bytes head body wire.Stranger request route given = record { head = head; body = body; request = request; route = route; reads = given }
 message_fault nodes bytes head body (wire.Kind code) request route given = record { head = head; body = body; request = request; route = route; reads = given }

@@ -11,7 +11,7 @@ use Rattle.oc_wire.specs.declared.fault.WireFault.TheVariants.{Kind}
 use Rattle.oc_wire.specs.MessageFaults.{of_field}
 use Rattle.oc_wire.specs.MessageReading.{fields_at, body_at}
 
--- what follows the last row
+-- a row after the last
 abbrev no_row : CodeRow
 no_row = record { code = 0; least = 0 }
 
@@ -41,7 +41,7 @@ all_before n none = by_test (nat_lt n 11) refl none where
   by_test true is e = cc
   by_test false is e = ltb-false n 11 is
 
--- a code that is in no row is none of these
+-- a code that is in no row is not that of any row
 other_code : (code k : ℕ) → row_of code CODES ≡ None → k < 11 → (code == (get_or CODES k no_row).code) ≡ false
 other_code code k none within =
     let behind = all_before (position_or_len (λ (r : CodeRow). r.code == code) CODES) none in

@@ -18,7 +18,7 @@ use Rattle.oc_wire.specs.Spelling.{child_bytes, line_bytes, is_large, length_byt
 use Rattle.oc_wire.proofs.Ascending.{few_children}
 use Rattle.oc_wire.proofs.NameReads.{name_size}
 
--- what is a text of one length for each item
+-- the texts of ids have four bytes for each
 ids_size : (ids : List ℕ) → length (flat_map four ids) ≡ 4 * length ids
 ids_size [] = refl
 ids_size (id ∷ ids) = ap (λ (x : List ℕ). length x) (flat_map-cons four id ids) ∙ omega (arith, ids_size ids)
@@ -38,7 +38,7 @@ lines_size : (ls : List Shelf) → AreLines ls → length (flat_map line_bytes l
 lines_size [] h = omega arith
 lines_size (l ∷ ls) h = omega (arith, ap (λ (x : List ℕ). length x) (flat_map-cons line_bytes l ls), length-append (line_bytes l) (flat_map line_bytes ls), line_size l h.0, lines_size ls h.2)
 
--- the length of a text has at most four
+-- the length of a text takes at most four bytes
 length_size : (large : Bool) (n : ℕ) → length (length_bytes large n) ≤ 4
 length_size true n = omega arith
 length_size false n = omega arith
@@ -63,6 +63,6 @@ fields_size nodes (Rejoin seq) few h = omega arith
 fields_size nodes (Fetch have) few h = omega (arith, lines_size have h.0, h.1)
 fields_size nodes (Chunk group start piece last) few h = simp length-append (omega (arith, (name_size group h.0).1, length_size (is_large piece) (length piece), h.2))
 
--- so a message fits in a request
+-- a message fits in a request
 pub fits_a_request : (nodes : ℕ) (m : Message) → nodes ≤ MAX_NODES → IsMessage nodes m → length (spelling m) ≤ MAX_BODY_BYTES
 fits_a_request nodes m few h = omega (arith, fields_size nodes m.body few h.body)

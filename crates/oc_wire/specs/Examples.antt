@@ -24,7 +24,7 @@ chain_no_message = record { from = 2; to = 3; body = No 7 (Chain 1) }
 abbrev pub stranger : List ℕ
 stranger = 0 ∷ 0 ∷ 0 ∷ 4 ∷ 0 ∷ 0 ∷ 0 ∷ 2 ∷ 99 ∷ []
 
--- one of a node, of that kind
+-- a message of a node, of that kind
 abbrev pub strange_kind : List ℕ
 strange_kind = 0 ∷ 0 ∷ 0 ∷ 3 ∷ 0 ∷ 0 ∷ 0 ∷ 2 ∷ 99 ∷ []
 

@@ -1,4 +1,4 @@
--- What bytes stand for as the fields of each kind of message, with the first fault.
+-- The fields of each kind of message, as bytes spell them, with the first fault.
 use Rattle.std.specs.Prelude.{ℕ, ◌+◌, ◌-◌, ◌^◌, Bool, true, false, ◌==◌, if◌then◌else◌, Option, Some, None, Result, Ok, Err, List}
 use Rattle.std.specs.Int.{w8, w16, w32, w64}
 use Rattle.std.specs.Ordering.{nat_cmp, is_lt}
@@ -104,7 +104,7 @@ line_at before bytes at =
 unfoldable pub have_at : List ℕ → ℕ → Reading (List Shelf)
 have_at bytes at = list_at (within_at w8 0 MAX_GROUPS bytes) (items_at (λ before. line_at before bytes) (λ line. Some line.group) None) at
 
--- how many bytes a chunk has: more than two bytes can count, or no more
+-- the length of a chunk in bytes: more than two bytes can count, or no more
 abbrev pub chunk_length_at : Bool → List ℕ → ℕ → Reading ℕ
 chunk_length_at true bytes = within_at w32 (2 ^ 16) MAX_CHUNK_BYTES bytes
 chunk_length_at false bytes = within_at w16 0 (2 ^ 16 - 1) bytes

@@ -6,17 +6,17 @@ use Rattle.oc_model.specs.declared.message.Message.{Message}
 use Rattle.oc_policy.specs.Keys.{Keyring, is_mac_in, keys_in, mac_digits}
 use Rattle.oc_wire.specs.Spelling.{spelling}
 
--- what a head says of a body under this key
+-- the MAC in the head of a message with this body under this key; none without a key
 abbrev pub mac_for : Option (List ℕ) → List ℕ → Option (List ℕ)
 mac_for key body = option_map (λ k. mac_digits k body) key
 
--- where there are keys, a head says the MAC of the body under one of them; without keys it does not matter what it says
+-- with keys, a head has the MAC of the body under one of them; without keys any head will do
 abbrev pub is_authentic : Option Keyring → Option (List ℕ) → List ℕ → Bool
 is_authentic None said body = true
 is_authentic (Some ring) None body = false
 is_authentic (Some ring) (Some said) body = is_mac_in ring body said
 
--- a head says the MAC of a body under one of the keys
+-- a head with the MAC of the body under one of the keys
 abbrev pub HasMac : Keyring → Option (List ℕ) → List ℕ → Type 0
 HasMac ring said body = Any (λ key. said ≡ Some (mac_digits key body)) (keys_in ring)
 

@@ -12,6 +12,6 @@ fault_of fields.Short = Short
 fault_of fields.Value = Value
 fault_of fields.Memory = Memory
 
--- what was read, or such a fault
+-- the value that was read, or such a fault
 abbrev pub of_field : {A : Type 0} → Result A FieldFault → Result A WireFault
 of_field r = map_fault fault_of r

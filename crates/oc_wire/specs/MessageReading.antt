@@ -1,4 +1,4 @@
--- What bytes stand for as a message, with the first fault.
+-- The message that bytes spell, or the first fault.
 use Rattle.std.specs.Prelude.{◌≡◌, ℕ, Bool, true, false, ◌&&◌, ◌==◌, nat_le, if◌then◌else◌, Result, Ok, Err, List, length}
 use Rattle.std.specs.Int.{w32}
 use Rattle.oc_base.specs.Fields.{number_at}
@@ -45,7 +45,7 @@ body_at code nodes bytes at =
 
 -- Messages
 
--- whether this is one of the nodes
+-- whether an id is that of one of the nodes
 abbrev pub is_node : ℕ → ℕ → Bool
 is_node nodes id = nat_le 1 id && nat_le id nodes
 
@@ -58,7 +58,8 @@ abbrev pub message_at : ℕ → ℕ → ℕ → ℕ → List ℕ → ℕ → Res
 message_at nodes from to code bytes at =
     if is_node nodes from && is_node nodes to then (body_at code nodes bytes at >>= λ body. closed from to (length bytes) body) else Err faults.Stranger
 
--- the message that all of the bytes are; too few bytes for sender, receiver and kind come first, then strangers, the kind, the fields and what follows them
+-- the message that all of the bytes are, or the first fault: too few bytes for sender, receiver and kind, then strangers, the kind, the fields,
+-- and bytes after them
 unfoldable pub decoded : ℕ → List ℕ → Result Message WireFault
 decoded nodes bytes = do
   from ← of_field (or_short (number_at w32 bytes 0))
@@ -66,7 +67,7 @@ decoded nodes bytes = do
   code ← of_field (byte_at bytes to.1)
   message_at nodes from.0 to.0 code.0 bytes code.1
 
--- what a call answered is what reading gives, unless memory ran out
+-- the answer of a call is that of reading, unless memory ran out
 abbrev pub Gives : {A : Type 0} → Result A WireFault → Result A WireFault → Type 0
 Gives (Err faults.Memory) read = Unit {0}
 Gives answer read = read ≡ answer

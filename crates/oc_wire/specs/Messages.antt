@@ -1,10 +1,10 @@
--- Which bytes spell which message.
+-- The bytes that spell a message.
 use Rattle.std.specs.Prelude.{◌≡◌, ℕ, List}
 use Rattle.oc_model.specs.Lawful.{IsMessage}
 use Rattle.oc_model.specs.declared.message.Message.{Message}
 use Rattle.oc_wire.specs.Spelling.{spelling, HasSpelling}
 
--- the bytes are the spelling of this message, which is lawful between these many nodes
+-- bytes that spell this message, which is lawful between `nodes` nodes
 pub record Spells (nodes : ℕ) (bytes : List ℕ) (m : Message) : Type 0 where
   pub lawful : IsMessage nodes m
   pub fits : HasSpelling m.body

@@ -1,4 +1,4 @@
--- What the bytes of a request bring.
+-- The message that the bytes of a request bring.
 use Rattle.std.specs.Prelude.{◌≡◌, ℕ, ◌<◌, ◌⊎◌, Bool, true, false, ◌&&◌, ◌==◌, Option, Some, None, Result, Ok, Err, List, ◌++◌, length, ⊤}
 use Rattle.std.specs.Global.{Vec}
 use Rattle.std.specs.Str.{bytes_eq}
@@ -15,7 +15,7 @@ use Rattle.oc_wire.specs.declared.http_fault.HttpWireFault.{HttpWireFault}
 use Rattle.oc_wire.specs.declared.http_fault.HttpWireFault.TheVariants as faults
 use Rattle.oc_wire.specs.MessageReading.{decoded}
 
--- the path stands for these bytes
+-- the path that decodes to these bytes
 abbrev pub is_path : Option (List ℕ) → List ℕ → Bool
 is_path None path = false
 is_path (Some bytes) path = bytes_eq bytes path
@@ -24,7 +24,7 @@ is_path (Some bytes) path = bytes_eq bytes path
 abbrev pub is_route : Head → Bool
 is_route head = is_post head.method && is_path head.path message_path && length head.query == 0
 
--- the bytes begin with this head of a request and this body, which is as long as the head says
+-- bytes that begin with this head of a request and this body, which is as long as the head says
 pub record IsRequest (bytes : List ℕ) (head : Head) (body : List ℕ) : Type 0 where
   pub behind : List ℕ
   pub reads : heads.AnswersRequest bytes behind (Ok head)
@@ -32,27 +32,27 @@ pub record IsRequest (bytes : List ℕ) (head : Head) (body : List ℕ) : Type 0
   pub whole : behind ≡ body ++ rest
   pub long : length body ≡ head.length
 
--- the bytes begin with no head of a request
+-- bytes that begin with no head of a request
 pub record HasNoHead (bytes : List ℕ) : Type 0 where
   pub fault : HttpFault
   pub behind : List ℕ
   pub reads : heads.AnswersRequest bytes behind (Err fault)
   pub decided : IsDecided {A = Head} (Err fault)
 
--- the bytes begin with a head of a request, and after it come fewer bytes than its body has
+-- bytes that begin with a head of a request and have fewer bytes after it than its body has
 pub record IsCutOff (bytes : List ℕ) : Type 0 where
   pub head : Head
   pub behind : List ℕ
   pub reads : heads.AnswersRequest bytes behind (Ok head)
   pub short : length behind < head.length
 
--- a call gave the request that the bytes begin with, or said why there is none
+-- the request that the bytes begin with, or the cause that they begin with none
 abbrev pub IsRequestOrFault : List ℕ → Result (Head × Vec ℕ) HttpFault → Type 0
 IsRequestOrFault bytes (Ok request) = IsRequest bytes request.0 request.1.items
 IsRequestOrFault bytes (Err http.Memory) = ⊤
 IsRequestOrFault bytes (Err fault) = HasNoHead bytes ⊎ IsCutOff bytes
 
--- The bytes begin with a request on the route of messages, whose body is read so.
+-- bytes that begin with a request on the route of messages, whose body is read with this result
 pub record Brings (nodes : ℕ) (bytes : List ℕ) (read : Result Message WireFault) : Type 0 where
   pub head : Head
   pub body : List ℕ
@@ -60,7 +60,7 @@ pub record Brings (nodes : ℕ) (bytes : List ℕ) (read : Result Message WireFa
   pub route : is_route head ≡ true
   pub reads : decoded nodes body ≡ read
 
--- the bytes begin with a request on another route
+-- bytes that begin with a request on another route
 pub record IsElsewhere (bytes : List ℕ) : Type 0 where
   pub head : Head
   pub body : List ℕ
@@ -75,12 +75,12 @@ AnswersRequest nodes bytes (Err faults.Route) = IsElsewhere bytes
 AnswersRequest nodes bytes (Err (faults.Wire fault)) = Brings nodes bytes (Err fault)
 AnswersRequest nodes bytes (Err faults.Memory) = ⊤
 
--- the answer is not that memory ran out
+-- an answer other than that memory ran out
 abbrev pub HasMemory : Result Message HttpWireFault → Type 0
 HasMemory (Err faults.Memory) = ⊥
 HasMemory answer = ⊤
 
--- the answer is this message, unless memory ran out
+-- an answer that is this message, unless memory ran out
 abbrev pub IsGiven : Result Message HttpWireFault → Message → Type 0
 IsGiven (Err faults.Memory) message = ⊤
 IsGiven answer message = answer ≡ Ok message

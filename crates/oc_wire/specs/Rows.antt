@@ -6,7 +6,7 @@ use Rattle.oc_model.specs.Lawful.{IsBody}
 use Rattle.oc_model.specs.declared.message.Body.{Body}
 use Rattle.oc_wire.specs.Spelling.{code_of, fields_bytes, why_code, why_fields}
 
--- the least length of a row is that of its kind: no lawful body of the kind has shorter fields, and one has fields of that length
+-- a row with the least length of its kind: no lawful body of the kind has shorter fields, and one has fields of that length
 pub record HasLeast (row : CodeRow) : Type 0 where
   pub no_shorter : (nodes : ℕ) (b : Body) → IsBody nodes b → code_of b ≡ row.code → row.least ≤ length (fields_bytes b)
   pub shortest : Body
@@ -14,7 +14,7 @@ pub record HasLeast (row : CodeRow) : Type 0 where
   pub kind : code_of shortest ≡ row.code
   pub exact : length (fields_bytes shortest) ≡ row.least
 
--- the least length of a row is that of what follows the refusal's code, and there is such a refusal
+-- a row with the length of the bytes after its refusal's code, where there is such a refusal
 pub record HasLength (row : CodeRow) : Type 0 where
   pub exact : (why : Refusal) → why_code why ≡ row.code → length (why_fields why) ≡ row.least
   pub some : Refusal

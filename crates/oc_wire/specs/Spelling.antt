@@ -95,7 +95,7 @@ code_of (Rejoin seq) = 8
 code_of (Fetch have) = 12
 code_of (Chunk group start bytes last) = chunk_code (is_large bytes)
 
--- its fields, one after the other
+-- the fields of a body, one after the other
 abbrev pub fields_bytes : Body → List ℕ
 fields_bytes Look = []
 fields_bytes (LookIs in_tree parent rate children) = flag in_tree ++ parent_bytes parent ++ eight rate ++ children_bytes children
@@ -117,7 +117,7 @@ abbrev pub brings_chunk : Body → Bool
 brings_chunk (Chunk group start bytes last) = true
 brings_chunk body = false
 
--- each count fits in the bytes that it has
+-- a body whose counts fit in their bytes
 abbrev pub HasSpelling : Body → Type 0
 HasSpelling (LookIs in_tree parent rate children) = length children < 2 ^ 16
 HasSpelling (Yes seq rank ancestors) = length ancestors < 2 ^ 16

@@ -10,11 +10,11 @@ use std::alloc::Global;
 
 /// The message between `nodes` nodes that the bytes spell: all of the bytes, or the first fault.
 pub fn decode(alloc: Global, bytes: &[u8], nodes: u32) -> Result<Message, WireFault>
-    // Exactly the one spelling of a lawful message is read.
+    // Only the one spelling of a lawful message is read.
     ensures found { IfOk result (λ message. Spells nodes bytes.now message) }
     ensures only { (message : Message) → Spells nodes bytes.now message → Gives result (Ok message) }
 
-    // Which fault it is.
+    // The fault is exactly the first.
     ensures exact { Gives result (decoded nodes bytes.now) }
 {
     read_message(alloc, nodes, bytes)

@@ -11,7 +11,7 @@ use oc_base::{
 use oc_model::{Body, Message};
 use std::alloc::{AllocError, Global};
 
-/// Most messages have no more bytes, so the memory for one is taken at once.
+/// The memory for one message is taken at once: most messages have no more bytes.
 const ROOM: usize = 256;
 
 /// The one spelling of the message.
@@ -35,7 +35,7 @@ pub fn put_message(out: &mut Vec<u8>, message: &Message) -> Result<(), Memory>
     Ok(())
 }
 
-/// How many bytes the spelling of a message has that brings a chunk; of another message that is not told.
+/// The length of a message that brings a chunk, in bytes of its spelling; `None` for any other message.
 pub fn length_with_chunk(message: &Message) -> Option<u64>
     requires { HasSpelling message.now.body }
     ensures told { is_some result ≡ brings_chunk message.now.body }
@@ -47,8 +47,8 @@ pub fn length_with_chunk(message: &Message) -> Option<u64>
     }
 }
 
-/// How many bytes the spelling of a message has that brings these bytes of this group: its two ids, its code, the name
-/// with its length, the start, the flag, and the bytes with their length.
+/// The length of a message that brings these bytes of this group, in bytes of its spelling: the two ids, the code, the
+/// name with its length, the start, the flag, and the bytes with their length.
 fn chunk_length(group: GroupName, bytes: &Bytes) -> u64
     requires { length bytes.now < 2 ^ 32 }
     ensures { result ≡ 19 + length group + length (length_bytes (is_large bytes.now) (length bytes.now)) + length bytes.now }

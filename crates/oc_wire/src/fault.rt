@@ -5,7 +5,7 @@ ghost use Rattle.oc_wire.specs.MessageFaults.{fault_of};
 use oc_base::{FieldFault, Memory, Short};
 use std::alloc::{AllocError, AllocFailed};
 
-/// Why bytes are no message: the first fault, in the order of these.
+/// The first fault of bytes that are no message, in the order of these.
 #[derive(Clone, Copy)]
 pub enum WireFault {
     /// The sender or the receiver is none of the nodes.

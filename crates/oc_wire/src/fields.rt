@@ -235,7 +235,7 @@ pub(crate) fn chunk_bytes_at(
     Ok((Bytes::of(items), next))
 }
 
-/// How many bytes a chunk has: more than two bytes can count, or no more.
+/// The length of a chunk in bytes: more than two bytes can count, or no more.
 fn chunk_length_at(large: bool, bytes: &[u8], at: usize) -> Result<(u32, usize), FieldFault>
     ensures { result ≡ chunk_length_at large bytes.now at }
 {

@@ -45,12 +45,12 @@ pub fn to_http(
     }
 }
 
-/// The message between `nodes` nodes that a request brings. What follows the request's body is not
+/// The message between `nodes` nodes that a request brings. Bytes after the request's body are not
 /// looked at.
 pub fn from_http(alloc: Global, bytes: &[u8], nodes: u32) -> Result<Message, HttpWireFault>
     ensures exact { AnswersRequest nodes bytes.now result }
 
-    // What `to_http` wrote is read as the same message.
+    // The request that `to_http` wrote is read as the same message.
     ensures again { (key : Option (List ℕ)) (host : List ℕ) (message : Message) → nodes ≤ MAX_NODES → IsHost host
         → IsMessage nodes message → bytes.now ≡ request_of key host message → IsGiven result message }
 {
@@ -104,7 +104,7 @@ fn is_route(head: &Head) -> bool
         && head.query.items().is_empty()
 }
 
-/// Whether the path of a request stands for this one.
+/// Whether the path of a request decodes to this one.
 fn is_path(path: &Option<Text>, wanted: &str) -> bool
     ensures { result ≡ is_path path.now wanted.now }
 {

@@ -4,7 +4,7 @@ ghost use Rattle.oc_wire.specs.Faults.{fault_of_http, fault_of_wire};
 use crate::WireFault;
 use oc_http::HttpFault;
 
-/// Why a request brings no message: the first fault, in the order of these.
+/// The first fault of a request that brings no message, in the order of these.
 #[derive(Clone, Copy)]
 pub enum HttpWireFault {
     /// The bytes are no request with its whole body.

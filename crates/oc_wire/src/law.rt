@@ -28,7 +28,7 @@ pub fn codes_are_distinct()
     let _refusals = distinct(&REFUSALS);
 }
 
-/// Each row has the least length of what follows its code. It is computed.
+/// Each row has the least length of the bytes after its code. It is computed.
 pub fn least_lengths_are_exact()
     ensures kinds { AllByRecursion HasLeast CODES }
     ensures refusals { AllByRecursion HasLength REFUSALS }
@@ -56,8 +56,8 @@ pub fn requests_have_one_answer()
     a_request_has_one_answer();
 }
 
-/// Where the nodes have keys, what is taken for a message of theirs has its MAC under one of these; and what has it under
-/// one of these, as each message has that goes out under it, is taken for theirs.
+/// Where the nodes have keys, a message that is taken for theirs has its MAC under one of these; and a message that goes
+/// out with its MAC under one of these is taken for theirs.
 pub fn messages_have_macs_under_a_key()
     ensures believed { (ring : Keyring) (said : Option (List ℕ)) (body : List ℕ) → is_authentic (Some ring) said body ≡ true
         → HasMac ring said body }

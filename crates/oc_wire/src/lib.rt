@@ -3,16 +3,16 @@
 //!
 //! A message is spelled by its sender, its receiver, the code of its kind and the fields of that kind,
 //! numbers big-endian, and nothing after them. `specs/Spelling` has the one spelling of each message,
-//! `specs/FieldReading` and `specs/MessageReading` say what bytes stand for, or their first fault, and
-//! `specs/Requests` what the bytes of a request bring.
+//! `specs/FieldReading` and `specs/MessageReading` the fields and the message that bytes spell, or their first
+//! fault, and `specs/Requests` the message that the bytes of a request bring.
 //!
 //! The contracts used above: [`decode`] gives a message exactly where the bytes are its spelling, and else
-//! the first fault; what [`encode`] writes is that spelling; no two messages have one spelling, which rests
+//! the first fault; [`encode`] writes that spelling; no two messages have one spelling, which rests
 //! on no two kinds, and no two refusals, having one code. [`from_http`] gives the message that a POST to
-//! `/!overcast` brings, or the first fault; it reads what [`to_http`] wrote as the same message, and there
-//! is one answer to the bytes of a request. Where the nodes have keys, [`mac_for`] is what the head of a message says
-//! of its body, under the first of them, and [`is_authentic`] whether a head said that of any: so what is under none of
-//! them is believed by nobody ([`messages_have_macs_under_a_key`]).
+//! `/!overcast` brings, or the first fault; it reads the request that [`to_http`] wrote as the same message, and
+//! there is one answer to the bytes of a request. Where the nodes have keys, [`mac_for`] is the MAC in the head of a
+//! message under the first of them, and [`is_authentic`] tells whether a head has the MAC under any: a message
+//! under none of them is believed by nobody ([`messages_have_macs_under_a_key`]).
 #![tactic(auto)]
 
 mod children;

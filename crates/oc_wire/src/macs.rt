@@ -7,8 +7,8 @@ use oc_base::{Memory, Text};
 use oc_policy::{Key, Keyring, is_mac_in, mac_of};
 use std::alloc::Global;
 
-/// What the head of a message with this body has to say, as [`Reply`](oc_http::Reply) takes it: the MAC of the body under
-/// the key of the nodes, and nothing where they have none.
+/// The MAC for the head of a message with this body, as [`Reply`](oc_http::Reply) takes it: that of the body under
+/// the key of the nodes, and none where they have no key.
 pub fn mac_for(alloc: Global, key: Option<&Key>, body: &[u8]) -> Result<Option<Text>, Memory>
     ensures { IfOk result (λ mac. mac ≡ mac_for (option_map (λ k. k.now) key.entry) body.now) }
 {
@@ -18,8 +18,8 @@ pub fn mac_for(alloc: Global, key: Option<&Key>, body: &[u8]) -> Result<Option<T
     }
 }
 
-/// Whether a message is from a node of the network: its head says the MAC of its body under one of the keys, byte for
-/// byte. Without keys each is. The time that it takes does not tell how much of a MAC was right.
+/// Whether a message is from a node of the network: its head has the MAC of its body under one of the keys, byte for
+/// byte. Without keys each is. The time that the test takes does not tell how much of a MAC was right.
 pub fn is_authentic(keys: Option<&Keyring>, said: Option<&Text>, body: &[u8]) -> bool
     ensures { result ≡ is_authentic (option_map (λ k. k.now) keys.entry) (option_map (λ t. t.now) said.entry) body.now }
 {

@@ -24,7 +24,7 @@ pub(crate) fn read_message(alloc: Global, nodes: u32, bytes: &[u8]) -> Result<Me
     message_at(alloc, nodes, envelope, bytes, next)
 }
 
-/// What comes before the fields of a message.
+/// The numbers before the fields of a message.
 #[derive(Clone, Copy)]
 struct Envelope {
     /// The id of the sender.

@@ -1,6 +1,6 @@
 use oc_base::CodeRow;
 
-/// The code of each refusal of a `No` and the length in bytes of what follows it, in the order in
+/// The code of each refusal of a `No` and the length in bytes of the fields after it, in the order in
 /// which [`Refusal`](oc_base::Refusal) has them.
 pub const REFUSALS: [CodeRow; 6] = [
     CodeRow { code: 1, least: 0 },

@@ -33,7 +33,7 @@ use Rattle.oc_words.specs.declared.request.Service.{Service}
 use Rattle.oc_words.specs.declared.request.TheConstants.{ENDLESS, MAX_EVENTS, MAX_FOLLOWED}
 use Rattle.oc_words.proofs.Tokens.{Token, free, fixed, texts, AreFree, rows_of_tokens, fault_of_tokens, level_is, rows_are}
 
--- ---- the words of a row
+-- The words of a row
 
 -- a subcommand, built
 abbrev built_of : Shape → Shape
@@ -116,7 +116,7 @@ pub asked_by_put : (url : Text) → IsNoFlag url → asked (codes "put" ∷ url 
 unfolding command clap_on_literals
 asked_by_put url u = row_asks (codes "put") (built_of put_shape) (free url ∷ []) (u, tt) refl refl refl
 
--- with one flag, and with two
+-- requests with one flag, and with two
 pub asked_by_append : (url : Text) → IsNoFlag url → asked (codes "put" ∷ url ∷ codes "--append" ∷ []) ≡ Some (put_at url Append false false None false)
 unfolding command clap_on_literals
 asked_by_append url u = row_asks (codes "put") (built_of put_shape) (free url ∷ fixed (codes "--append") ∷ []) (u, (tt, tt)) refl refl refl
@@ -187,7 +187,7 @@ bytes_differ one other apart = by_test (bytes_eq one other) refl where
   by_test true is = absurd (apart ((bytes_eq-Decides one other).0 is))
   by_test false is = is
 
--- an unknown word of it leaves nothing to ask for
+-- an unknown word for the log leaves nothing to ask for
 no_service : (id : Result ℕ Why) (log : Text) → log_by log ≡ Err Word
     → result_ok (asking (node_at None None) (id >>= λ x. Ok ENDLESS >>= λ turns. log_by log >>= λ word. Ok (record { id = x; turns = turns; probes = false; log = word }))) ≡ None
 no_service (Err why) log is = refl
@@ -287,7 +287,7 @@ pub asked_by_rules : asked (codes "rules" ∷ []) ≡ Some (Rules None)
 unfolding asked verdict_of command clap_on_literals
 asked_by_rules = refl
 
--- ---- plain words ask for something
+-- Plain words ask for something
 
 and_false : (b : Bool) → (b && false) ≡ false
 and_false true = refl
@@ -302,12 +302,12 @@ no_flag least most (x ∷ xs) n is = λ e.
     let refused : number_in least most (45 ∷ xs) ≡ Err Number = ap (λ b. cond (not b) (Err Number) (cond (nat_le least (digits_value 10 (45 ∷ xs)) && nat_le (digits_value 10 (45 ∷ xs)) most) (Ok (digits_value 10 (45 ∷ xs))) (Err Range))) misspelled in
     cc
 
--- both steps of two that gave a value gave one
+-- two steps that gave a value gave one each
 both_gave : {A B E : Type 0} (r : Result A E) (f : A → Result B E) (b : B) → (r >>= f) ≡ Ok b → (a : A) × (r ≡ Ok a) × (f a ≡ Ok b)
 both_gave (Ok a) f b is = (a, refl, is)
 both_gave (Err e) f b is = cc
 
--- of the words that say a sample, a run, a node or a download none is a flag
+-- no word of a sample, a run, a node or a download is a flag
 sample_words : (seed nodes events : Text) (sample : Sample) → sample_in seed nodes events ≡ Ok sample
     → IsNoFlag seed × IsNoFlag nodes × IsNoFlag events
 sample_words seed nodes events sample is =

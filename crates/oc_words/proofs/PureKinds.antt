@@ -50,7 +50,7 @@ pure_option : {X : Type 0} (f : X → Kinds) → ((x : X) → IsPure (f x)) → 
 pure_option f each None = pure_none
 pure_option f each (Some x) = each x
 
--- ---- one use of an argument
+-- One use of an argument
 
 -- a value that its parser refuses
 pure_value : (i : Bool) (p : ValueParser) (t : Text) → IsPure (value_kinds i p t)
@@ -109,14 +109,14 @@ pure_use again a values rows =
     pure_or_else _ _ (pure_range (unwrap_or_range a.range).start_inclusive (most_values a) (length values))
     (pure_action (action_of a) again a (values_or_missing a values) rows)
 
--- ---- a word
+-- A word
 
 module _ (c : List Rule) (again : Bool) where
   -- the use that was begun before
   pure_settle : (h : Held) → IsPure (settle_fault c again h)
   pure_settle h = pure_option _ (λ p. pure_option _ (λ a. pure_use again a p.1 h.rows) (arg_by_id c p.0)) h.pending
 
-  -- that use, and then this one
+  -- the use that was begun before, and then the use of this rule
   pure_react : (a : Rule) (values : List Text) (h : Held) → IsPure (react_fault c again a values h)
   pure_react a values h = pure_or_else _ _ (pure_settle h) (pure_use again a values (settled c h).rows)
 
@@ -147,7 +147,7 @@ module _ (c : List Rule) (again : Bool) where
   pure_step_of (Some x) flags zero h after each = pure_short (arg_by_short c x) _ h _ (each _ 0)
   pure_step_of (Some x) flags (suc skip) h after each = each _ skip h
 
-  -- all of them
+  -- all flags of this word
   pure_flags : (k : ℕ) (flags : Text) (skip : ℕ) (h : Held) → IsPure (flags_fault c again k flags skip h)
   unfolding flags_fault
   pure_flags zero flags skip h = pure_none
@@ -177,7 +177,7 @@ pure_other s (Some name) word h (inr none) = cc
 pure_other s (Some name) word h (inl off) =
     pure_help (bytes_eq name (codes "help")) s.disable_help_subcommand off
 
--- ---- the walk
+-- The walk
 
 -- no word is met as the subcommand `help`
 abbrev HasNoHelp : Shape → Names → Type 0
@@ -231,7 +231,7 @@ module _ (s : Shape) (names : Names) (quiet : HasNoHelp s names) where
   pure_walk w (word ∷ rest) =
       pure_or_else _ _ (pure_turn w word) (pure_walk (walked s.rules names w word) rest)
 
--- ---- after the walk
+-- The end of the walk
 
 -- the default of an argument
 pure_default : (rows : List Row) (a : Rule) → IsPure (default_fault rows a)
@@ -282,7 +282,7 @@ pure_entered a stop = pure_option _ (λ p.
     pure_option _ (λ s. pure_level s [] nothing_held p.1 false [] (none_met s) pure_none)
     (find (λ s. answers_to p.0 (label_of s)) a.subs)) stop
 
--- where `help` is no subcommand, all kinds of error at the words have one verdict
+-- all kinds of error at the words have one verdict, where `help` is no subcommand
 pub pure_faults : (a : App) (words : List Text) → (built a).top.disable_help_subcommand ≡ true → IsPure (fault_of a words)
 pure_faults a words off =
     let app = built a in

@@ -12,7 +12,7 @@ use Rattle.clap.specs.Simple.{Shape}
 use Rattle.clap.specs.Walk.{Held, Rule, Step, Waiting, Walk, after_step, finished, idle, long_or_other, nothing_held, option, plain_word, positional, rows_after, settled, short_or_plain, subcommand_met, subcommand_or_other, trailing, value, walk_from, walked, walked_from, word_met}
 use Rattle.oc_words.specs.Arguments.{IsNoFlag}
 
--- ---- a word that is no flag
+-- A word that is no flag
 
 -- `clap` takes it for no flag with a long name, no flag with a short one, and not for `--`
 record IsPlainWord (word : Text) : Type 0 where
@@ -70,7 +70,7 @@ from_is : (c : List Rule) (stop : Option (Text × List Text)) (w : Walk) (word :
 from_is c (Some p) w word is = refl
 from_is c None w word is = ap (λ met. after_step c word w met.0 met.1) (met_is c w.is_trailing w.waiting w.position word w.held is)
 
--- and its faults
+-- the faults of the walk at a plain word
 abbrev plain_fault : Shape → Bool → Walk → Text → Kinds
 plain_fault s true w word = []
 plain_fault s false w word =
@@ -88,7 +88,7 @@ turn_by_is s false w word is =
     ap₂ (λ fault met. or_else fault (step_fault s w.position met.0 met.1)) (no_word_fault s w.is_trailing w.waiting word w.held is)
     (met_is s.rules w.is_trailing w.waiting w.position word w.held is)
 
--- ---- the words of a row
+-- The words of a row
 
 -- a word that is no flag, or one that is fixed
 pub data Token : Type 0 where
@@ -121,7 +121,7 @@ abbrev token_fault : Shape → Walk → Token → Kinds
 token_fault s w (free word) = plain_fault s (is_some w.stopped) w word
 token_fault s w (fixed word) = turn_fault s [] w word
 
--- the walk after all of them, and their faults
+-- the walk after all tokens, and their faults
 abbrev pub walk_tokens : List Rule → Walk → List Token → Walk
 walk_tokens c w [] = w
 walk_tokens c w (t ∷ ts) = walk_tokens c (step_token c w t) ts
@@ -150,13 +150,13 @@ faults_are s w (t ∷ ts) is =
     ap₂ (λ fault v. or_else fault (walk_fault s [] v (texts ts))) (turn_is s w t is.0) (step_is s.rules w t is.0)
     ∙ ap (λ rest. or_else (token_fault s w t) rest) (faults_are s (step_token s.rules w t) ts is.1)
 
--- ---- a whole subcommand
+-- A whole subcommand
 
 -- the rows that the subcommand finds in these words
 abbrev pub rows_of_tokens : Shape → List Token → List Row
 rows_of_tokens s ts = finished s.rules (walk_tokens s.rules (walk_from nothing_held) ts).held
 
--- its faults
+-- the faults of the tokens
 abbrev pub fault_of_tokens : Shape → List Token → Kinds
 fault_of_tokens s ts =
     let end = (walk_tokens s.rules (walk_from nothing_held) ts).held in

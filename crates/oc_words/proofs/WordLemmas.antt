@@ -48,12 +48,12 @@ is_exact : is_simple_and_free command ≡ true
 unfolding command
 is_exact = refl
 
--- and of its matches
+-- all that `clap` says of the matches of a command holds of those of this one
 has_exact_matches : is_simple command ≡ true
 unfolding command
 has_exact_matches = refl
 
--- it has no subcommand `help`
+-- the command has no subcommand `help`
 has_no_help : (built command).top.disable_help_subcommand ≡ true
 unfolding command
 has_no_help = refl

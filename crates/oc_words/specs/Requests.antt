@@ -19,13 +19,13 @@ use Rattle.oc_words.specs.declared.request.Sample.{Sample}
 use Rattle.oc_words.specs.declared.request.Service.{Service}
 use Rattle.oc_words.specs.declared.request.TheConstants.{ENDLESS, MAX_EVENTS, MAX_FOLLOWED, MAX_TURNS}
 
--- ---- `replay`
+-- Requests of `replay`
 
 -- a large schedule is summed up
 abbrev pub replay_in : Bool → Bool → Option (List ℕ) → Result Invocation Why
 replay_in large summary file = if large && not summary then Err Count else Ok (Replay large summary file)
 
--- ---- `gen SEED NODES EVENTS`
+-- Requests of `gen SEED NODES EVENTS`
 
 -- a seed within 64 bits, a number of nodes, and a number of events from that of the nodes on
 abbrev pub sample_in : List ℕ → List ℕ → List ℕ → Result Sample Why
@@ -42,7 +42,7 @@ pub record IsSample (s : Sample) : Type 0 where
   pub all_start : s.nodes ≤ s.events
   pub not_more : s.events ≤ MAX_EVENTS
 
--- ---- `node ID`, with `--turns N` and `--log WORD`
+-- Requests of `node ID`, with `--turns N` and `--log WORD`
 
 -- the number of turns, or that of a node that serves until it is stopped
 abbrev pub turns_in : Option (List ℕ) → Result ℕ Why
@@ -77,7 +77,7 @@ service_in id_word turns_word probes log_word = do
 abbrev pub IsService : Service → Type 0
 IsService s = (s.turns ≤ MAX_TURNS) ⊎ (s.turns ≡ ENDLESS)
 
--- ---- `check ID`, `check ID NODES CHAIN`
+-- Requests of `check ID` and `check ID NODES CHAIN`
 
 -- a number of nodes, a chain of some of them, and the id of one
 abbrev pub checked_node_in : List ℕ → List ℕ → List ℕ → Result CheckedNode Why
@@ -102,7 +102,7 @@ pub record IsCheckedNode (m : CheckedNode) : Type 0 where
   pub short : m.chain ≤ MAX_CHAIN
   pub fits : m.chain ≤ m.nodes
 
--- ---- `get URL`
+-- Requests of `get URL`
 
 -- the number of replies to follow, if the option was given
 abbrev pub times_in : Option (List ℕ) → Result (Option ℕ) Why
@@ -136,7 +136,7 @@ IsStart start = ForSome start (λ n. n ≤ MAX_START)
 abbrev pub IsDownload : Download → Type 0
 IsDownload d = IsTimes d.times × IsStart d.start
 
--- ---- `put URL`
+-- Requests of `put URL`
 
 -- the place of the input, from the flags `--append` and `--resume`, of which at most one is given
 abbrev pub onto_in : Bool → Bool → Result Onto Why

@@ -22,7 +22,7 @@ use Rattle.oc_words.specs.declared.request.Service.{Service}
 use Rattle.oc_words.specs.declared.words.WordsFault.{WordsFault}
 use Rattle.oc_words.specs.declared.words.WordsFault.TheVariants.{Usage, Memory}
 
--- ---- what `clap` makes of the words
+-- The outcome of the words, as `clap` parses them
 
 -- the words are accepted, answered by help or by the version, or refused
 pub data ParseOutcome : Type 0 where
@@ -47,7 +47,7 @@ verdict_among (kind ∷ _) = verdict_by kind
 unfoldable pub verdict_of : List Text → ParseOutcome
 verdict_of words = verdict_among (fault_of command words)
 
--- ---- what they ask for
+-- The requests of the words
 
 -- a request of these arguments, if they are valid
 abbrev pub asking : {A : Type 0} → (A → Invocation) → Result A Why → Result Invocation Why
@@ -197,7 +197,7 @@ module _ {Z : Type 0} where
   abbrev pub texts_of : List (String Z) → List Text
   texts_of = map string_bytes
 
--- ---- what the program answers
+-- The answers of the program
 
 -- the answer is the request of the words, or that there is none; or memory ran out
 abbrev pub Answers : {A : Type 0} → Option A → Result A WordsFault → Type 0

@@ -26,7 +26,7 @@ mod words;
 pub use command::VERSION;
 pub use name::Name;
 pub use request::{
-    Download, ENDLESS, Invocation, LogWord, MAX_EVENTS, MAX_FOLLOWED, MAX_TURNS, CheckedNode, Onto,
+    CheckedNode, Download, ENDLESS, Invocation, LogWord, MAX_EVENTS, MAX_FOLLOWED, MAX_TURNS, Onto,
     Paths, Sample, Service, Upload, text_of,
 };
 pub use status::Status;

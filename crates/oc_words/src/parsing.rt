@@ -4,7 +4,7 @@ ghost use Rattle.oc_words.specs.Requests.{IsCheckedNode, IsSample, IsService, Is
 ghost use Rattle.oc_words.specs.Requests.{onto_in, sample_in, service_in, start_in, times_in, turns_in};
 
 use crate::request::{
-    ENDLESS, LogWord, MAX_EVENTS, MAX_FOLLOWED, MAX_TURNS, CheckedNode, Onto, Sample, Service,
+    CheckedNode, ENDLESS, LogWord, MAX_EVENTS, MAX_FOLLOWED, MAX_TURNS, Onto, Sample, Service,
 };
 use oc_base::words::number;
 use oc_base::{MAX_CHAIN, MAX_NODES, MAX_START, Why};

@@ -9,7 +9,7 @@ ghost use Rattle.oc_words.specs.Words.{Answers, IsRequest};
 use crate::arguments::{copied, given, is_flagged, word};
 use crate::parsing::{checked_node_without, onto_in, sample_in, service_in, start_in, times_in};
 use crate::words::WordsFault;
-use crate::{Download, Invocation, CheckedNode, Name, Paths, Sample, Service, Upload};
+use crate::{CheckedNode, Download, Invocation, Name, Paths, Sample, Service, Upload};
 use clap::ArgMatches;
 use oc_base::Why;
 use std::alloc::{AllocError, Global};
@@ -64,7 +64,11 @@ pub(crate) fn replay_of(alloc: Global, matches: &ArgMatches<'_>) -> Result<Invoc
 }
 
 /// The node given by the arguments of `check`, with its id and the number of nodes.
-pub(crate) fn checked_node_of(matches: &ArgMatches<'_>, id: &str, nodes: &str) -> Result<CheckedNode, Why>
+pub(crate) fn checked_node_of(
+    matches: &ArgMatches<'_>,
+    id: &str,
+    nodes: &str,
+) -> Result<CheckedNode, Why>
     ensures said { result ≡ checked_node_of id.now nodes.now (rows_of (found_of matches.now)) }
     ensures range { IfOk result IsCheckedNode }
 {

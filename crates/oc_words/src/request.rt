@@ -231,7 +231,7 @@ pub struct Upload {
 pub enum Onto {
     /// A group that has no bytes yet.
     New,
-    /// After the present end of the group.
+    /// The present end of the group.
     Append,
     /// A group that has the first bytes of this very input already; only the rest is sent.
     Resume,

@@ -13,7 +13,7 @@ use crate::arguments::{copied, given, word};
 use crate::command::command;
 use crate::parsing::id_in;
 use crate::reading::{
-    download_of, checked_node_of, paths_of, replay_of, sample_of, service_of, upload_of,
+    checked_node_of, download_of, paths_of, replay_of, sample_of, service_of, upload_of,
 };
 use clap::ArgMatches;
 use clap::error::ErrorKind;

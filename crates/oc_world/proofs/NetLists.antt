@@ -43,7 +43,7 @@ pub kept_letters : (nodes : ℕ) (old new : List (List ℕ)) → KeepsPlaces old
 kept_letters nodes old new keeps [] all = tt
 kept_letters nodes old new keeps (l ∷ ls) all = (kept_letter nodes old new keeps l all.0, kept_letters nodes old new keeps ls all.1)
 
--- and bring the same messages
+-- letters whose bytes keep their places bring the same messages
 pub kept_messages : (nodes : ℕ) (old new : List (List ℕ)) → KeepsPlaces old new → (ls : List Letter) → AllByRecursion (IsLetter nodes old) ls → map (brought nodes new) ls ≡ map (brought nodes old) ls
 kept_messages nodes old new keeps [] all = refl
 kept_messages nodes old new keeps (l ∷ ls) all =
@@ -76,7 +76,7 @@ letter_at nodes pools [] i l all within is = absurd (omega (arith, within))
 letter_at nodes pools (x ∷ ls) zero l all within is = subst (IsLetter nodes pools) (sym is) all.0
 letter_at nodes pools (x ∷ ls) (suc i) l all within is = letter_at nodes pools ls i l all.1 (omega (arith, within)) is
 
--- it brings the message of that place
+-- the letter brings the message of that place
 pub message_here : (nodes : ℕ) (pools : List (List ℕ)) (ls : List Letter) (i : ℕ) (l : Letter) (m : Message) → i < length ls → l ≡ get_or ls i l → slice_get (map (brought nodes pools) ls) i ≡ Some m → brought nodes pools l ≡ m
 message_here nodes pools ls i l m within is there =
     let read : slice_get (map (brought nodes pools) ls) i ≡ Some (brought nodes pools l) = slice_get-map (brought nodes pools) ls i ∙ ap (λ (o : Option Letter). option_map (brought nodes pools) o) (slice_get_read ls (length ls) i l refl within is) in

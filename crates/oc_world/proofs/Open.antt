@@ -14,7 +14,7 @@ reliable_on view d e on reliable = record {
   content = subst (λ b. IsTrue b) (sym on.content.reliable) reliable.content;
 }
 
--- so a node runs on
+-- a node whose disks go on runs on
 pub open_on : {D : Type 0} (view : D → DiskView) (k l : KeptView D) → IsOpen view k → l.closed ≡ k.closed → AllGoOn view (disks_of k) (disks_of l)
     → (l.closed ≡ false → IsHonest view l → NodeSurvives view l (node_of l)) → IsOpen view l
 open_on view k l was same on survives =

@@ -38,7 +38,7 @@ spelling_read nodes m few lawful = is_read nodes (spelling m) m (omega (arith, f
 pub read_back : (nodes : ℕ) (m : Message) → nodes ≤ MAX_NODES → IsMessage nodes m → message_in nodes (spelling m) ≡ m
 read_back nodes m few lawful = ap message_or_look (spelling_read nodes m few lawful)
 
--- and they are bytes of the net
+-- the bytes of a lawful message are bytes of the net
 pub spelled : (nodes : ℕ) (m : Message) → nodes ≤ MAX_NODES → IsMessage nodes m → IsSpelled nodes (spelling m)
 spelled nodes m few lawful = record {
   lawful = subst (IsMessage nodes) (sym (read_back nodes m few lawful)) lawful;
@@ -60,6 +60,6 @@ given_err faults.Short m given = absurd cc
 given_err faults.Value m given = absurd cc
 given_err faults.Trailing m given = absurd cc
 
--- and a message is that message
+-- a message that was given is that message
 pub given_ok : (n m : Message) → Gives (Ok n) (Ok m) → n ≡ m
 given_ok n m given = cc

@@ -16,7 +16,7 @@ got [] i p is = refl
 got (q ∷ ps) zero p is = ap (λ (r : ProcessView). r.process) is
 got (q ∷ ps) (suc i) p is = got ps i p is
 
--- and one that is written there
+-- the model's processes after one was written at a place
 pub put : (ps : List ProcessView) (i : ℕ) (q : ProcessView) → processes_of (slice_set ps i q) ≡ slice_set (processes_of ps) i q.process
 put [] i q = refl
 put (p ∷ ps) zero q = refl
@@ -31,7 +31,7 @@ pub on_err : {A E : Type 0} (r : Result A E) (P : Type 0) → P → OnErr r P
 on_err (Ok a) P said = tt
 on_err (Err e) P said = said
 
--- and one more after them
+-- the model's processes with one more at the end
 pub one_behind : (ps : List ProcessView) (q : ProcessView) → processes_of (ps ++ q ∷ []) ≡ processes_of ps ++ q.process ∷ []
 one_behind [] q = refl
 one_behind (p ∷ ps) q = ap (λ (l : List Process). p.process ∷ l) (one_behind ps q)
@@ -45,7 +45,7 @@ kept_got [] i p within is = absurd (omega (arith, within))
 kept_got (q ∷ ps) zero p within is = ap (λ (r : ProcessView). r.kept) (sym is)
 kept_got (q ∷ ps) (suc i) p within is = kept_got ps i p (omega (arith, within)) is
 
--- and one that is written there
+-- the nodes on their files after one was written at a place
 kept_put : (ps : List ProcessView) (i : ℕ) (q : ProcessView) → i < length ps → get_or (kept_of (slice_set ps i q)) i None ≡ q.kept
 kept_put [] i q within = absurd (omega (arith, within))
 kept_put (p ∷ ps) zero q within = refl
@@ -67,7 +67,7 @@ not_ripe : (k : Option (KeptView MemDiskView)) → is_some k ≡ false → AreRi
 not_ripe None down ripe = ripe
 not_ripe (Some k) down ripe = absurd cc
 
--- so an input to it turns none over
+-- an input to a node that is down turns no files over
 pub idle : (ps : List ProcessView) (net : List Message) (x i : ℕ) (p : ProcessView) (input : Input) → i + 1 ≡ x → x ≤ length (processes_of ps) → p ≡ get_or ps i p → is_some p.kept ≡ false
     → RenewsAt (Some (record { at = x; input = input })) (seen_as ps net) (seen_as ps net)
 idle ps net x i p input at within here down =

@@ -36,7 +36,7 @@ runs_as h x s k is runs =
 pub left_as : (h : Header) (x : ℕ) (k : KeptView MemDiskView) (n : Node) (f : Files MemDiskView) → IsRunning view_of h x k → IsLeft k.node.control n f → IsStopped h x f
 left_as h x k n f was left = subst (λ (y : ℕ). IsStopped h y f) was.me (subst (λ (j : Header). IsStopped j k.node.control.me f) was.header left.stopped)
 
--- and the node recovered from its files
+-- the node recovered from the files left
 pub left_node : (h : Header) (x : ℕ) (k : KeptView MemDiskView) (n : Node) (f : Files MemDiskView) → IsRunning view_of h x k → IsLeft k.node.control n f → left_in h x f ≡ restarted n
 left_node h x k n f was left =
     ap (λ (j : Header). left_in j x f) (sym was.header) ∙ (ap (λ (y : ℕ). left_in (header_of k.node.control) y f) (sym was.me) ∙ left.node)
@@ -45,7 +45,7 @@ left_node h x k n f was left =
 pub running_is : (h : Header) (x : ℕ) (s : ProcessState MemDiskView) (k : KeptView MemDiskView) → s ≡ Running k → IsStateOf h x s → IsRunning view_of h x k
 running_is h x s k is is_state = subst (IsStateOf h x) is is_state
 
--- and one with the files of a node that is down
+-- a process with the files of a node that is down
 pub stopped_is : (h : Header) (x : ℕ) (s : ProcessState MemDiskView) (f : Files MemDiskView) → s ≡ Stopped f → IsStateOf h x s → IsStopped h x f
 stopped_is h x s f is is_state = subst (IsStateOf h x) is is_state
 
@@ -62,14 +62,14 @@ can_commit h x s k r is can = subst (λ (t : ProcessState MemDiskView). CanCommi
 abbrev pub ProcessSurvives : Disks MemDiskView → Process → Type 0
 ProcessSurvives d p = Survives view_of (header_of p.node.control) p.node.control.me d p.node
 
--- that of one that runs
+-- the durable part of a running node survives
 pub running_survives : (h : Header) (x : ℕ) (s : ProcessState MemDiskView) (k : KeptView MemDiskView) (d : Disks MemDiskView) → IsStateOf h x s → s ≡ Running k → d ≡ disks_of k → ProcessSurvives d (process_of h x s).process
 running_survives h x s k d is_state is same =
     let runs : IsRunning view_of h x k = subst (IsStateOf h x) is is_state in
     subst (λ (t : ProcessState MemDiskView). ProcessSurvives d (process_of h x t).process) (sym is)
     (subst (λ (e : Disks MemDiskView). Survives view_of (header_of k.node.control) k.node.control.me e (node_of k)) (sym same) runs.is_open.survives)
 
--- and that of one that is down
+-- the durable part of a node that is down survives
 pub stopped_survives : (h : Header) (x : ℕ) (s : ProcessState MemDiskView) (f : Files MemDiskView) → IsStateOf h x s → s ≡ Stopped f → ProcessSurvives (disks_in f) (process_of h x s).process
 stopped_survives h x s f is_state is =
     let stopped : IsStopped h x f = subst (IsStateOf h x) is is_state in

@@ -49,7 +49,7 @@ all_set P [] i q here all = all
 all_set P (p ∷ ps) zero q here all = (here, all.1)
 all_set P (p ∷ ps) (suc i) q here all = (all.0, all_set P ps i q here all.1)
 
--- and of the one at a place
+-- a property of all processes is one of the process at a place
 pub all_at : (P : Process → Type 0) (ps : List Process) (i : ℕ) (p : Process) → i < length ps → p ≡ get_or ps i p → AllByRecursion P ps → P p
 all_at P [] i p within is all = absurd (omega (arith, within))
 all_at P (q ∷ ps) zero p within is all = subst P (sym is) all.0
@@ -252,14 +252,14 @@ network_acted chain nodes ps x i p q input is at within here same groups =
     let was = among_at chain nodes ps x i p is at within here in
     network_set chain nodes ps x i p q is at within here same (subst AreWithinLimits (sym groups) ((step_leaves p.node input).limits was.limits))
 
--- and after a change that leaves the groups
+-- the network after a change that leaves the groups
 pub network_same : (chain nodes : ℕ) (ps : List Process) (x i : ℕ) (p q : Process) → IsNetwork chain ps nodes → i + 1 ≡ x → x ≤ length ps → p ≡ get_or ps i p → IsSameNode p.node.control q.node.control
     → q.node.groups ≡ p.node.groups → IsNetwork chain (slice_set ps i q) nodes
 network_same chain nodes ps x i p q is at within here same groups =
     let was = among_at chain nodes ps x i p is at within here in
     network_set chain nodes ps x i p q is at within here same (subst AreWithinLimits (sym groups) was.limits)
 
--- and after a stop
+-- the network after a stop
 pub network_stopped : (chain nodes : ℕ) (ps : List Process) (x i : ℕ) (p : Process) (input : Input) (b : Bool) → IsNetwork chain ps nodes → i + 1 ≡ x → x ≤ length ps → p ≡ get_or ps i p
     → IsSameNode p.node.control (stopped (if b then (step p.node input).node else p.node)).node.control → IsNetwork chain (slice_set ps i (stopped (if b then (step p.node input).node else p.node))) nodes
 network_stopped chain nodes ps x i p input true is at within here same = network_acted chain nodes ps x i p (stopped (step p.node input).node) input is at within here same refl

@@ -32,7 +32,7 @@ pub(crate) fn no_group(alloc: Global, manner: Manner) -> Result<Response, Memory
     whole_for(alloc, manner, &reply)
 }
 
-/// Tells a client that follows a group that the node which has more of it has no address.
+/// Tells a client that follows a group that the node which has more bytes of the group has no address.
 pub(crate) fn nowhere(alloc: Global, manner: Manner) -> Result<Response, Memory>
     ensures { IfOk result (λ response. response ≡ whole_for manner (telling 503 nowhere_line)) }
 {
@@ -96,7 +96,7 @@ fn is_chunked(manner: Manner, sealed: bool) -> bool
     manner == Manner::Follow && !sealed
 }
 
-/// Where a content ends.
+/// The end of a content.
 fn framing_for(chunked: bool, count: u64) -> Framing
     ensures { result ≡ framing_for chunked count }
 {

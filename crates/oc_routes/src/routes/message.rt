@@ -1,4 +1,4 @@
-//! A POST of `/!overcast`: its body is a message to this node, under a key with its MAC, and what goes back to the sender
+//! A POST of `/!overcast`: its body is a message to this node, under a key with its MAC, and the message back to the sender
 //! is its reply.
 
 ghost use Rattle.std.specs.Prelude.{◌≡◌, IfOk, IfSome, None, Some, length, option_map};
@@ -24,8 +24,8 @@ use oc_policy::{Key, Keyring};
 use oc_wire::{WireFault, decode, encode, is_authentic, length_with_chunk, mac_for, put_message};
 use std::alloc::Global;
 
-/// Whether it is asked to take a message whose body does not come with its MAC, where there are keys. `mac` is what the
-/// head says.
+/// Whether an operation is to take a message whose body does not come with its MAC, where there are keys. `mac` is the
+/// MAC in the head.
 pub(crate) fn is_forged(
     keys: Option<&Keyring>,
     operation: &Operation,
@@ -58,7 +58,7 @@ pub(super) fn delivered(
     }
 }
 
-/// To a message: the reply to its sender, with its MAC where there is a key, or nothing.
+/// The answer to a message: the reply to its sender, with its MAC where there is a key, or nothing.
 pub(super) fn to_message(
     alloc: Global,
     reply: Option<&Message>,

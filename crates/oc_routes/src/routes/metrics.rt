@@ -15,7 +15,7 @@ pub const METRICS_PATH: &str = "/!metrics";
 /// The same under a name that shells and collectors can spell.
 pub const METRICS_NAME: &str = "/-/metrics";
 
-/// What a node tells of itself at `/!metrics`, in the text format of Prometheus. `shelf` is what it holds of each
+/// The report of a node at `/!metrics`, in the text format of Prometheus. `shelf` is its holding of each
 /// group, and `messages` the number of messages in its outbox.
 pub fn metrics(
     alloc: Global,
@@ -56,7 +56,7 @@ fn put_place(out: &mut Vec<u8>, node: &Node) -> Result<(), Memory>
     )
 }
 
-/// Puts the metrics of what is counted of the node.
+/// Puts the metrics of the counts of a node.
 fn put_counts(out: &mut Vec<u8>, counts: &Counts) -> Result<(), Memory>
     ensures { OnOk result (out.new.items ≡ out.old.items ++ count_gauges counts.now) }
 {
@@ -102,7 +102,7 @@ fn put_groups(out: &mut Vec<u8>, shelf: &[Shelf]) -> Result<(), Memory>
     put_sealed(out, shelf)
 }
 
-/// Puts how many bytes of each group are held.
+/// Puts the number of bytes held of each group.
 fn put_held(out: &mut Vec<u8>, shelf: &[Shelf]) -> Result<(), Memory>
     ensures { OnOk result (out.new.items ≡ out.old.items ++ held_samples shelf.now) }
 {
@@ -145,7 +145,7 @@ fn put_gauge(out: &mut Vec<u8>, name: &str, says: &str, value: u64) -> Result<()
     put(out, b"\n")
 }
 
-/// Puts the two lines that name a metric and say what it is.
+/// Puts the two lines with the name of a metric and its meaning.
 #[tactic(auto, unfolding(crate::specs::Metrics::heading))]
 fn put_heading(out: &mut Vec<u8>, name: &str, says: &str) -> Result<(), Memory>
     ensures { OnOk result (out.new.items ≡ out.old.items ++ heading name.now says.now) }

@@ -19,7 +19,7 @@ pub const STATUS_PATH: &str = "/!status";
 /// The same under a name that shells and collectors can spell.
 pub const STATUS_NAME: &str = "/-/status";
 
-/// What a node tells of itself at `/!status`: one object of JSON, and a line's end. `shelf` is what it holds of each
+/// The report of a node at `/!status`: one object of JSON, and a line's end. `shelf` is its holding of each
 /// group.
 pub fn status(alloc: Global, node: &Node, shelf: &[Shelf]) -> Result<Vec<u8>, Memory>
     ensures { IfOk result (λ text. text.items ≡ status_text node.now.control shelf.now) }

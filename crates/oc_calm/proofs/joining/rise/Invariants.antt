@@ -1,4 +1,4 @@
--- The acts so far, and those that the leader may still do, are all acts.
+-- The acts so far, and those that the leader may still make, are all acts.
 use Rattle.std.proofs.Common.{◌-◌, ◌*◌}
 use Rattle.oc_calm.specs.Cluster.{IsUpNode}
 use Rattle.oc_calm.specs.CalmRuns.{rise_left, rise_run}

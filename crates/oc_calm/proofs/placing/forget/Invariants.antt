@@ -1,4 +1,4 @@
--- Nothing is known of those that were passed.
+-- No passed entry is known.
 use Rattle.std.proofs.Common.{◌≡◌, ℕ, ◌<◌, false, get_or}
 use Rattle.oc_calm.proofs.placing.forget.Given as goal
 

@@ -1,4 +1,4 @@
--- The node that the way has come to is placed exactly where the first one is.
+-- The node that the way has come to is placed exactly where the first node is.
 use Rattle.std.proofs.Common.{◌≡◌, Some}
 use Rattle.oc_calm.specs.Cluster.{IsNodeOf}
 use Rattle.oc_calm.specs.Played.{is_placed_under}

@@ -1,4 +1,4 @@
--- The nodes found so far, and those that are up among the rest, are all that are up.
+-- The nodes found so far, and those of the rest that are up, are all nodes that are up.
 use Rattle.std.proofs.Common.{◌≡◌, ◌-◌, ◌++◌, filter}
 use Rattle.std.specs.List.{range_with_len}
 use Rattle.oc_model.specs.World.{is_up, up_ids}

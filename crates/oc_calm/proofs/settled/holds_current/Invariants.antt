@@ -1,4 +1,4 @@
--- All leases are current if those of the nodes that are left are; once one was looked at, there is none of a stranger.
+-- All leases are current if those of the remaining nodes are; once a node was looked at, no lease is of a stranger.
 use Rattle.std.proofs.Common.{◌≡◌, ◌-◌, ◌<◌}
 use Rattle.std.specs.List.{list_all, range_with_len}
 use Rattle.oc_model.specs.World.{ids}

@@ -1,4 +1,4 @@
--- The greatest of those that were looked at, and of the rest, is that of all.
+-- The greatest of the lengths looked at and of the rest is the greatest of all.
 use Rattle.std.proofs.Common.{◌≡◌, max, drop}
 use Rattle.oc_calm.specs.Longest.{greatest_length}
 use Rattle.oc_calm.proofs.settling.greatest_of.Given as goal

@@ -1,4 +1,4 @@
--- How far the way up has come.
+-- The part of the way up that was climbed.
 use Rattle.std.proofs.Common.{◌≡◌, Some}
 use Rattle.oc_calm.specs.Cluster.{IsNodeOf}
 use Rattle.oc_calm.specs.Tree.{above}

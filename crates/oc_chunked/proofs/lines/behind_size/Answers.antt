@@ -1,4 +1,4 @@
--- At each byte of a size line.
+-- The step at each byte of a size line.
 use Rattle.std.proofs.Common.{ℕ, List, [], ◌∷◌, drop, subst}
 use Rattle.httparse.specs.Grammar.{ReadsChunkLine}
 use Rattle.oc_http.proofs.Heads.{IsUnfinished-more}

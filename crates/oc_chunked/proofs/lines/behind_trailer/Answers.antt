@@ -1,4 +1,4 @@
--- At each byte of the trailer fields.
+-- The step at each byte of the trailer fields.
 use Rattle.std.proofs.Common.{ℕ, [], ◌∷◌, length, ap, Result, Err}
 use Rattle.httparse.specs.declared.Error.{Error}
 use Rattle.httparse.specs.declared.Status.{Status}

@@ -63,7 +63,7 @@ pub returns-clause-stopped : goal.returns-clause-stopped
 returns-clause-stopped g c =
     passed_starved g.S.Source.gives g.S.Source.fails g.S.Source.ended g.K.Sink.takes g.K.Sink.fails c.args.source.now c.pieces.source c.args.sink.now c.pieces.sink c.pieces.unchunker c.pieces.passed c.pieces.content.items c.pieces.invariant.has
 
--- How the counts of faults go
+-- The counts of faults
 
 pub returns-in_err-last-clause-sink_count : goal.returns-in_err-last-clause-sink_count
 returns-in_err-last-clause-sink_count g c = still _ _ _ c.pieces.invariant.sink_count c.in_err-last.ensures.count

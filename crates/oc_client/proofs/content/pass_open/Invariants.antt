@@ -1,4 +1,4 @@
--- This number of bytes was moved.
+-- The bytes that were moved are this number.
 use Rattle.std.proofs.Common.{◌≤◌, ◌-◌}
 use Rattle.oc_client.proofs.content.pass_open.Given as goal
 use Rattle.oc_client.specs.Passing.{IsMoved}

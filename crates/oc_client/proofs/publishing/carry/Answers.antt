@@ -121,7 +121,7 @@ pieces-smaller g c =
     let least : least_piece c.args.job.now.plan.live ≤ length c.in_ok-piece.piece = omega (arith, c.if-count-least_piece.false, c.least_piece.ensures, ap (λ (x : List ℕ). length x) c.items-count.ensures) in
     omega (arith, c.in_ok-reached.ensures.length, c.in_ok-reached.ensures.sent.sends.0, least, least_some c.args.job.now.plan.live, c.in_ok-piece.ensures.piece.within)
 
--- What is told
+-- The progress lines
 
 pub returns-in_err-piece-clause-within : goal.returns-in_err-piece-clause-within
 returns-in_err-piece-clause-within g c =

@@ -46,7 +46,7 @@ returns-clause-input_cause g c = λ e.
     let stopped = rw e at c.close.ensures.stopped in
     absurd (refused_no_input (goal_of c.args.job.now) seal c.in_ok-reached.reached (g.L.Dialler.story c.carry.new.link) (g.L.Dialler.story c.close.new.link) ends.Input stopped.refused refl)
 
--- What is told
+-- The progress lines
 
 pub returns-in_err-room-clause-within : goal.returns-in_err-room-clause-within
 returns-in_err-room-clause-within g c =

@@ -4,7 +4,7 @@ use Rattle.oc_config.specs.Accepted.{keys_from}
 use Rattle.oc_config.specs.Values.{section_of}
 use Rattle.oc_config.proofs.keyring.spelled_keys.Given as goal
 
--- what is left of the values gives what all of them give
+-- the values that are left give the keys that all of them give
 abbrev pub invariant-loop-value : goal.invariant-loop-value
 invariant-loop-value l = record {
   rest : keys_from (section_of l.top) l.keys.items (items_view (drop l.value-index l.values)) ≡ keys_from (section_of l.top) [] (items_view l.values);

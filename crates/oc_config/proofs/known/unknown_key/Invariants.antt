@@ -3,7 +3,7 @@ use Rattle.oc_config.specs.Known.{keys_of, unknown_key}
 use Rattle.oc_config.specs.Values.{section_of}
 use Rattle.oc_config.proofs.known.unknown_key.Given as goal
 
--- the first that is none of the keys that are left is that of all of them
+-- the first unknown key of those that are left is that of all
 abbrev pub invariant-loop-key : goal.invariant-loop-key
 invariant-loop-key l =
     (goal.iterator-loop-key).can_next l.key-iterator

@@ -1,4 +1,4 @@
--- All of what came, or why there is no more.
+-- All bytes that came, or the cause that there are no more.
 use Rattle.std.proofs.Common.{[], ◌∙◌, sym, refl, arith}
 use Rattle.oc_io.specs.Tally.{counted}
 use Rattle.oc_link.specs.Failures.{has_failed}

@@ -1,4 +1,4 @@
--- What was dialled so far and what the others would be are the whole.
+-- The dials so far and those that would be made are the whole.
 use Rattle.std.proofs.Common.{◌-◌}
 use Rattle.oc_deeds.specs.Parts.{Part}
 use Rattle.oc_deeds.specs.declared.choosing.TheConstants.{MAX_DIALS}

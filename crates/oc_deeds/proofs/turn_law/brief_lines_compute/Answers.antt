@@ -22,7 +22,7 @@ same_mode (Asking p) = eq-eqb p p refl
 same_mode (Joined p) = eq-eqb p p refl
 same_mode Acting = refl
 
--- where the mode stays nothing is told of it
+-- no line tells of a mode that stays
 still : (m : Mode) (n : Control) → n.kept.mode ≡ m → moved_line m n ≡ []
 still m n is = ap (λ (b : Bool). if b then [] else place_line n) (ap (is_still m) is ∙ same_mode m)
 

@@ -6,7 +6,7 @@ use Rattle.oc_http.proofs.Faults.{Rose-later}
 use Rattle.oc_http.proofs.Filled.{filled}
 use Rattle.oc_http.proofs.body.take_body.Goals as goal
 
--- what came so far is shorter than the body
+-- the bytes that came so far are shorter than the body
 short : (done n count : ℕ) (xs : List ℕ) → done < n → n ≡ count → n ≡ length xs → length (take done xs) < count
 short done n count xs less wanted long =
     let within : done ≤ length xs = omega arith in
@@ -43,7 +43,7 @@ pieces-preserved g c =
       count = omega arith;
     }
 
--- what is told of calls that failed
+-- calls that failed
 pub returns-in_err-count-clause-count : goal.returns-in_err-count-clause-count
 returns-in_err-count-clause-count g c = omega (arith, c.pieces.invariant.count, c.read.ensures.count)
 

@@ -8,7 +8,7 @@ use Rattle.oc_http.specs.Lines.{HasNoLineEnd}
 use Rattle.oc_http.proofs.Faults.{Rose-later}
 use Rattle.oc_http.proofs.lines.take_line.Goals as goal
 
--- after the bytes before it a piece is as long as the bytes that are shorter than the most
+-- the bytes before a piece and the piece are fewer than the most
 short : (before piece after : List ℕ) (n : ℕ) → after ≡ before ++ piece → n ≡ length after → n < MAX_HEAD_BYTES → length before + length piece < MAX_HEAD_BYTES
 short before piece after n grown long less = omega (arith, length-append before piece, ap length grown)
 
@@ -74,7 +74,7 @@ returns-then-byte-eq10-clause-line g c =
       fits = omega (arith, c.push.new.self.ok.0, c.in_ok-push.ensures.len);
     }
 
--- nothing came yet
+-- no byte came yet
 pub bytes-init : goal.bytes-init
 bytes-init g c = record {
   piece = [];
@@ -102,7 +102,7 @@ returns-then-byte-eq10-clause-room g c = omega (arith, c.bytes.invariant.room)
 pub returns-clause-room : goal.returns-clause-room
 returns-clause-room g c = c.bytes.invariant.room
 
--- what is told of calls that failed
+-- calls that failed
 pub returns-in_err-byte-clause-count : goal.returns-in_err-byte-clause-count
 returns-in_err-byte-clause-count g c = omega (arith, c.bytes.invariant.count, c.take_byte.ensures.count)
 
@@ -121,7 +121,7 @@ returns-in_err-byte-clause-cause g c = λ is. Rose-later _ _ _ c.bytes.invariant
 pub returns-in_default-clause-cause : goal.returns-in_default-clause-cause
 returns-in_default-clause-cause g c = λ is. cc
 
--- as many bytes as a head may have, and no end of the line
+-- as many bytes as a head may have, without the end of the line
 pub returns-clause-cut : goal.returns-clause-cut
 returns-clause-cut g c =
     let before = c.bytes.invariant in

@@ -1,4 +1,4 @@
--- the piece of the line so far came from the source, and follows the bytes before it
+-- the piece of the line so far came from the source, after the bytes before it
 use Rattle.std.proofs.Common.{◌≡◌, ℕ, ◌≤◌, ◌-◌, List, ◌++◌, vec_len, vec_capacity}
 use Rattle.oc_base.specs.declared.limits.TheConstants.{MAX_HEAD_BYTES}
 use Rattle.oc_io.specs.Faults.{NoFall}

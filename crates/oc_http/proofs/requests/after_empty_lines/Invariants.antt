@@ -1,4 +1,4 @@
--- the rest without empty lines is what all is without them
+-- the rest and the whole are the same without empty lines
 use Rattle.std.proofs.Common.{◌≡◌, length}
 use Rattle.oc_http.specs.Requests.{after_empty_lines}
 use Rattle.oc_http.proofs.requests.after_empty_lines.Given as goal

@@ -16,7 +16,7 @@ returns-in_err-length c =
     let p = err_from_is_err_and c.from_residual.result c.from_residual.ensures.1 in
     rw (p.1, p.2) (Fails-same fault _ (subst (λ (v : Method). fault_or head (head_fault v c.args.minor c.args.fields.now) ≡ Err fault) c.method_of-method.ensures said))
 
--- where the length has no fault, the head has none
+-- a length without a fault means a head without one
 pub returns : goal.returns
 returns c =
     let head = head_of c.args.method.now c.args.target.now c.args.minor c.args.fields.now in

@@ -12,7 +12,7 @@ returns-in_err-length c =
     let p = err_from_is_err_and c.from_residual.result c.from_residual.ensures.1 in
     rw (p.1, p.2) (Fails-same fault _ said)
 
--- where the length has no fault, the head has none
+-- a length without a fault means a head without one
 pub returns : goal.returns
 returns c =
     let said = fault_or-ok _ (reply_head_of c.args.status c.args.fields.now) _ _ c.in_ok-length.ensures in

@@ -89,7 +89,7 @@ returns-in-Ok-Complete-clause-room g c = c.take_line.ensures.room
 pub returns-in-Err-clause-room : goal.returns-in-Err-clause-room
 returns-in-Err-clause-room g c = c.take_line.ensures.room
 
--- what is told of calls that failed
+-- calls that failed
 pub returns-in_err-take_line-clause-count : goal.returns-in_err-take_line-clause-count
 returns-in_err-take_line-clause-count g c = omega (arith, c.lines.invariant.count, c.take_line.ensures.count)
 

@@ -3,7 +3,7 @@ use Rattle.std.proofs.lemmas.List.{take_all}
 use Rattle.oc_http.specs.Targets.{from_place}
 use Rattle.oc_http.proofs.target.from_slash.Goals as goal
 
--- from the slash that was found
+-- the bytes from the slash that was found
 pub returns-in-Some : goal.returns-in-Some
 returns-in-Some c =
     let rest = c.args.rest.now in

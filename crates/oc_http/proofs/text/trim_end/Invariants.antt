@@ -1,4 +1,4 @@
--- the rest without spaces at the end is what all are without them
+-- the rest and the whole are the same without spaces at the end
 use Rattle.std.proofs.Common.{◌≡◌, length, reverse}
 use Rattle.httparse.specs.Grammar.{skip_ows}
 use Rattle.oc_http.proofs.text.trim_end.Given as goal

@@ -1,4 +1,4 @@
--- the rest without spaces at the start is what all are without them
+-- the rest and the whole are the same without spaces at the start
 use Rattle.std.proofs.Common.{◌≡◌, length}
 use Rattle.httparse.specs.Grammar.{skip_ows}
 use Rattle.oc_http.proofs.text.trim_start.Given as goal

@@ -5,7 +5,7 @@ use Rattle.oc_http.specs.Parts.{joined}
 use Rattle.oc_http.proofs.Parts.{joined_more}
 use Rattle.oc_http.proofs.texts.join.Goals as goal
 
--- what follows the last part
+-- a part after the last one
 abbrev no_part : Bor (List ℕ)
 no_part = record { ref_ptr = (0, 0); now = [] }
 
@@ -18,6 +18,6 @@ loop-part-preserved c =
 pub loop-part-init : goal.loop-part-init
 loop-part-init c = c.in_ok-text.ensures.items
 
--- after the last part the text has all of them
+-- the text has all parts after the last one
 pub returns : goal.returns
 returns c = c.loop-part.invariant ∙ ap joined (take_all c.loop-part.part-index c.args.parts.now c.loop-part-test.false)

@@ -1,4 +1,4 @@
--- The body follows the head.
+-- The body comes after the head.
 use Rattle.std.proofs.Common.{ℕ, List, ◌++◌, ◌∙◌, ap₂}
 use Rattle.oc_http.proofs.writing_replies.write_response.Goals as goal
 

@@ -131,7 +131,7 @@ returns-in-Err-fetch-clause-disk g c = λ failed.
     let made = rw c.groups.ensures.lines at c.in_ok-plan.ensures.made.control in
     (search rules, λ full. wanting_fits (kept_of c.args.node.now c.args.store.now c.args.content.now false) c.args.input.now c.in_ok-plan.plan made c.in-Err-fetch.ensures.wanting full)
 
--- There was no memory to hand it on
+-- No memory was left to hand the result on
 
 pub returns-in_err-of-in-Ok-fetch-clause-none_failed : goal.returns-in_err-of-in-Ok-fetch-clause-none_failed
 returns-in_err-of-in-Ok-fetch-clause-none_failed g c =

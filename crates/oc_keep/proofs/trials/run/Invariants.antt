@@ -2,7 +2,7 @@ use Rattle.std.proofs.Common.{reverse, vec_len}
 use Rattle.oc_keep.proofs.Runs.{IsSoFar}
 use Rattle.oc_keep.proofs.trials.run.Given as goal
 
--- these inputs were taken, and these are left, the last of them first
+-- the inputs taken so far, and those that are left, the last of them first
 abbrev pub invariant-loop-input : goal.invariant-loop-input
 invariant-loop-input g l = record {
   far : IsSoFar g.D.Disk.view l.fn.kept l.kept l.fn.inputs.items (reverse l.inputs.items) l.done;

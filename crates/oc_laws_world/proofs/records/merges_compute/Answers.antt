@@ -18,7 +18,7 @@ returns-clause-merge c = (node_2, tt, (node_2, (refl, tt), (node_1, tt, (node_1,
 pub returns-clause-entries : goal.returns-clause-entries
 returns-clause-entries c = refl
 
--- the events from the last line of the records on, from the one before it on, and so on
+-- the events of the records' last line, of the last two lines, and so on
 abbrev last_1 : List Event
 last_1 = Crash 2 ∷ Up 2 ∷ []
 

@@ -3,7 +3,7 @@ use Rattle.oc_policy.specs.Listing.{rule_text, shadow_text}
 use Rattle.oc_policy.proofs.Texts.{last_part, one_more}
 use Rattle.oc_policy.proofs.listing.put_line.Goals as goal
 
--- one part after the other
+-- the parts are put one after the other
 pub returns : goal.returns
 returns c =
     let out = c.args.out.now.items in

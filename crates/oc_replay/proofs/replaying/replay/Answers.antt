@@ -59,7 +59,7 @@ returns-clause-sink g c =
     on_sink c.in-Err-play.fault c.from.result c.from.ensures
     (λ is. let failed = c.in-Err-play.is ∙ ap (λ (fault : ReportFault). Err fault) is in (_, c.in-Ok.ensures.input, c.play.ensures.failed failed, c.play.ensures.stopped failed, c.play.ensures.cause failed))
 
--- and the same where memory ran out
+-- the state where memory ran out
 pub returns-clause-memory : goal.returns-clause-memory
 returns-clause-memory g c =
     on_memory c.in-Err-play.fault c.from.result c.from.ensures

@@ -120,7 +120,7 @@ returns-clause-told g c =
     let written = written-end takes c.args.sink.now c.loop-place.sink c.loop-place.out.items out text c.loop-place.place c.loop-place.sent (stage.world c.loop-place.stage) events (omega (arith, c.loop-place-test.false, c.len-place-end.ensures)) (omega arith) c.loop-place.invariant.sent (ap (λ n. c.loop-place.out.items ++ end_line n c.loop-place.sent) c.len.ensures) c.loop-place.invariant.written in
     on_ok_weaker c.write_last.result (ends takes g.met.K.Sink.takes_then c.args.sink.now c.loop-place.sink c.write_last.new.sink out text written) c.write_last.ensures.written
 
--- and the stage is at the last world
+-- the stage is at the last world
 pub returns-clause-played : goal.returns-clause-played
 returns-clause-played g c =
     let stage = g.T.Stage in

@@ -16,7 +16,7 @@ with-total-requires g c =
     subst (FitsWith c.loop-id.total) (sym c.in_ok-tally_at.ensures)
     (counted_fits (g.T.Stage.world c.args.stage.now) c.loop-id.id c.args.nodes c.loop-id.total c.requires.limits c.requires.few (omega arith) c.loop-id.invariant)
 
--- and is counted
+-- the node is counted
 pub loop-id-preserved : goal.loop-id-preserved
 loop-id-preserved g c =
     subst (IsCounted (g.T.Stage.world c.args.stage.now) (c.loop-id.id + 1) c.args.nodes) (sym c.with-total.ensures)

@@ -3,7 +3,7 @@ use Rattle.oc_http.specs.Queries.{parts}
 use Rattle.oc_routes.specs.Queries.{has_part}
 use Rattle.oc_routes.proofs.query.has_part.Given as goal
 
--- what the rest says is what the whole says
+-- the part is in the rest where it is in the whole
 abbrev pub invariant-parts : goal.invariant-parts
 invariant-parts l = has_part l.name (parts l.rest) ≡ has_part l.name (parts l.fn.query)
 

@@ -2,6 +2,6 @@ use Rattle.std.proofs.Common.{◌≡◌, drop}
 use Rattle.std.specs.Str.{bytes_eq}
 use Rattle.oc_schedule.proofs.fields.are_same.Given as goal
 
--- what is left of both decides
+-- the rest of both texts decides
 abbrev pub invariant-loop-i : goal.invariant-loop-i
 invariant-loop-i l = bytes_eq (drop l.i l.a) (drop l.i l.b) ≡ bytes_eq l.a l.b

@@ -1,4 +1,4 @@
--- What was put, and what the draws from here on make, are all events.
+-- The events that were put, and those of the draws from here on, are all events.
 use Rattle.std.proofs.Common.{◌≡◌, ◌+◌, ◌-◌, ◌++◌}
 use Rattle.oc_schedule.specs.Generator.{events_from}
 use Rattle.oc_schedule.proofs.generating.put_drawn.Given as goal

@@ -1,4 +1,4 @@
--- One start more.
+-- One more start.
 use Rattle.std.proofs.Common.{◌≡◌, suc, ◌+◌, ◌-◌, ◌++◌, map, ap, ◌∙◌, arith}
 use Rattle.std.specs.List.{range_with_len}
 use Rattle.oc_model.specs.declared.event.Event.TheVariants.{Up}

@@ -1,4 +1,4 @@
--- What was put, and the starts of the nodes that are left, are all starts.
+-- The starts that were put, and those of the nodes that are left, are all starts.
 use Rattle.std.proofs.Common.{◌≡◌, ◌+◌, ◌-◌, ◌++◌, map}
 use Rattle.std.specs.List.{range_with_len}
 use Rattle.oc_model.specs.declared.event.Event.TheVariants.{Up}

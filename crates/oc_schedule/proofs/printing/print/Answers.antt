@@ -1,4 +1,4 @@
--- What is printed is read as the same schedule.
+-- The printed text is read as the same schedule.
 use Rattle.std.proofs.Common.{◌≡◌, ◌++◌, ap, ◌∙◌}
 use Rattle.oc_schedule.specs.Printing.{script_text}
 use Rattle.oc_schedule.specs.Schedule.{schedule_of}

@@ -1,4 +1,4 @@
--- What was put, and the lines of what is left, are all lines.
+-- The lines that were put, and those of the rest, are all lines.
 use Rattle.std.proofs.Common.{◌≡◌, ◌+◌, ◌++◌, drop}
 use Rattle.oc_schedule.specs.Printing.{areas_text}
 use Rattle.oc_schedule.proofs.printing.put_areas.Given as goal

@@ -5,19 +5,19 @@ use Rattle.oc_schedule.specs.Lines.{header_with}
 use Rattle.oc_schedule.specs.Texts.{fields_text, spaced}
 use Rattle.oc_schedule.proofs.printing.put_long_header.Goals as goal
 
--- the fields of two lists of words, one after the other
+-- the fields of two lists of words in a row
 fields_behind : (xs ys : List (List ℕ)) → fields_text (xs ++ ys) ≡ fields_text xs ++ fields_text ys
 fields_behind [] ys = refl
 fields_behind (x ∷ xs) ys = ap (λ t. (codes " " ++ x) ++ t) (fields_behind xs ys) ∙ sym (append_assoc (codes " " ++ x) (fields_text xs) (fields_text ys))
 
--- words that go on
+-- a line of words with more words at its end
 spaced_on : (w : List ℕ) (xs ys : List (List ℕ)) → spaced (w ∷ xs ++ ys) ≡ spaced (w ∷ xs) ++ fields_text ys
 spaced_on w xs ys = ap (λ t. w ++ t) (fields_behind xs ys) ∙ sym (append_assoc w (fields_text xs) (fields_text ys))
 
 header_on : (nodes chain : ℕ) (ys : List (List ℕ)) → spaced (header_with nodes chain ys) ≡ spaced (header_with nodes chain []) ++ fields_text ys
 header_on nodes chain ys = spaced_on (codes "overcast") (codes "1" ∷ codes "nodes" ∷ decimal nodes ∷ codes "chain" ∷ decimal chain ∷ []) ys
 
--- two fields more
+-- two more fields
 two_fields : (a b : List ℕ) → fields_text (a ∷ b ∷ []) ≡ (codes " " ++ a) ++ (codes " " ++ b)
 two_fields a b = ap (λ t. (codes " " ++ a) ++ t) (append-nil (codes " " ++ b))
 

@@ -4,7 +4,7 @@ use Rattle.oc_schedule.specs.Builder.{script_of}
 use Rattle.oc_schedule.specs.Schedule.{read_lines}
 use Rattle.oc_schedule.proofs.schedule_text.read_lines.Given as goal
 
--- what is left of the text gives what the whole of it gives
+-- the rest of the text gives the result of the whole text
 abbrev pub invariant-lines : goal.invariant-lines
 invariant-lines l = read_lines l.scale l.number (script_of l.builder) (lines l.rest) ≡ read_lines l.scale 1 None (lines l.bytes)
 

@@ -6,7 +6,7 @@ use Rattle.oc_schedule.specs.Reading.{GivesBy, at_line}
 use Rattle.oc_schedule.specs.Schedule.{first_script, limited, read_statement}
 use Rattle.oc_schedule.proofs.schedule_text.read_statement.Goals as goal
 
--- the header stands on the line of these words
+-- the header is the line of these words
 pub returns-in-None : goal.returns-in-None
 returns-in-None c =
     let word = c.args.found.0.now in

@@ -4,7 +4,7 @@ use Rattle.oc_wire.specs.declared.fault.WireFault.{WireFault}
 use Rattle.oc_wire.specs.declared.fault.WireFault.TheVariants as faults
 use Rattle.oc_wire.proofs.message_decoding.message_at.Goals as goal
 
--- where one of both is no node
+-- a message where one of sender and receiver is no node
 stranger : (b : Bool) (read : Result Message WireFault) → b ≡ false → (if b then read else Err faults.Stranger) ≡ Err faults.Stranger
 stranger b read none = ap (λ (b : Bool). if b then read else Err faults.Stranger) none
 

@@ -22,11 +22,11 @@ more_taken taken count piece within =
     take-add taken count piece
     ∙ ap (λ (z : List ℕ). take taken piece ++ z) (sym (take-take count (length piece - taken) (drop taken piece) (omega arith)))
 
--- how long the rest is
+-- the length of the rest
 rest_long : (taken : ℕ) (piece : List ℕ) → length (take (length piece - taken) (drop taken piece)) ≡ length piece - taken
 rest_long taken piece = length-take-le (length piece - taken) (drop taken piece) (omega (arith, length-drop taken piece))
 
--- where more can be taken nothing is refused
+-- a stage that takes more is no refusal
 open_fine : (s : DecoderState) → true ≡ not (is_final s) → fault_in s ≡ None
 open_fine (in_size line) goes = refl
 open_fine (in_chunk left) goes = refl

@@ -1,4 +1,4 @@
--- What the map of a table finds is what its members have.
+-- The map of a table finds the value that its members have.
 use Rattle.std.proofs.Common.{List, ℕ, ap, ◌∙◌}
 use Rattle.toml.specs.Data.{get_member}
 use Rattle.toml.specs.View.{table_view}

@@ -1,4 +1,4 @@
--- What is found of Host decides.
+-- The result of the search for Host decides.
 use Rattle.std.proofs.Common.{◌≡◌, Bool, true, false, refl, sym, ap, ◌∙◌}
 use Rattle.std.specs.Prelude.{◌&&◌, not}
 use Rattle.oc_http.specs.Fields.{has_host_fault}

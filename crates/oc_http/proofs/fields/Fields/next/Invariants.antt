@@ -1,4 +1,4 @@
--- what the rest has is what all have, and it is no longer
+-- the rest has the values that all have, and it is no longer
 use Rattle.std.proofs.Common.{◌≡◌, ◌≤◌, map, length}
 use Rattle.std.specs.List.{AllByRecursion}
 use Rattle.httparse.specs.Spans.{header_bytes, IsHeaderWithin}

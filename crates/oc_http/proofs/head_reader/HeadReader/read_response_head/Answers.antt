@@ -1,4 +1,4 @@
--- What the whole head says is the answer.
+-- The contents of the whole head are the answer.
 use Rattle.std.proofs.Common.{◌∙◌, arith}
 use Rattle.std.proofs.lemmas.List.{with_items_is}
 use Rattle.std.proofs.lemmas.Result.{err_from_is_err_and}
@@ -8,7 +8,7 @@ use Rattle.oc_http.proofs.Faults.{same_cause}
 use Rattle.oc_http.proofs.Answered.{reply_head_fields, says, refuses, never_source, RefusesHead-stopped}
 use Rattle.oc_http.proofs.head_reader.HeadReader.read_response_head.Goals as goal
 
--- where no whole head came, it is refused for that
+-- an unfinished head is refused for that
 pub returns-in_err-parts-clause-refused : goal.returns-in_err-parts-clause-refused
 returns-in_err-parts-clause-refused g c =
     let p = err_from_is_err_and c.from_residual.result c.from_residual.ensures.1 in
@@ -36,7 +36,7 @@ returns-in_err-parts-clause-cause g c =
     let p = err_from_is_err_and c.from_residual.result c.from_residual.ensures.1 in
     rw (p.1, p.2) (same_cause _ _ c.in_err-parts.ensures.cause)
 
--- what is told of calls that failed
+-- calls that failed
 pub returns-in_err-parts-clause-count : goal.returns-in_err-parts-clause-count
 returns-in_err-parts-clause-count g c = c.take_response.ensures.count
 

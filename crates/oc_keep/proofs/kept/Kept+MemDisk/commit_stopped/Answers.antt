@@ -9,7 +9,7 @@ use Rattle.oc_keep.proofs.Leaving.{piece_files, records_files, unwritten_files}
 use Rattle.oc_keep.proofs.Stops.{other_stays, stopped_disks, stopped_nothing, stopped_piece, stopped_records}
 use Rattle.oc_keep.proofs.kept.Kept+MemDisk.commit_stopped.Goals as goal
 
--- the disks that a store and a content log hand back are those of the node that they were of
+-- the disks that a store and a content log hand back are the disks of their node
 same_disks : (k : KeptView MemDiskView) (s : StoreView MemDiskView) (l : ContentView MemDiskView) (x y z : MemDiskView) → s ≡ k.store → l ≡ k.content
     → x ≡ first_disk s → y ≡ second_disk s → z ≡ l.journal.disk → disks x y z ≡ disks_of k
 same_disks k s l x y z store content first second third =

@@ -107,7 +107,7 @@ returns-clause-works g c =
     let can = rw (← c.self.view_is, c.into_parts-plan.ensures) at c.requires.ready in
     rw (← c.self.view_is) (λ sure. c.in-Err-Disk.ensures.works (has_room g.D.Disk.view k c.into_parts-plan.result.plan c.into_parts-plan.result.write can.writes sure))
 
--- It was committed
+-- The input was committed
 
 pub returns-in-Ok-clause-committed : goal.returns-in-Ok-clause-committed
 returns-in-Ok-clause-committed g c =
@@ -143,7 +143,7 @@ returns-in-Ok-clause-same g c =
       generation = commit_generation g.D.Disk.view c.frames_add_their_records.ensures.read k c.self.invariant was_open k2 c.into_parts-plan.result.plan c.into_parts-plan.result.write can.applies.records can.plain can.writes c.in-Ok.ensures.writes c.put.ensures.safely;
     })
 
--- Its file is full
+-- The input's file is full
 
 pub returns-in-Err-Full-clause-committed : goal.returns-in-Err-Full-clause-committed
 returns-in-Err-Full-clause-committed g c = tt

@@ -13,7 +13,7 @@ use Rattle.oc_keep.proofs.kept.Kept.take.Goals as goal
 pub ready-made-requires : goal.ready-made-requires
 ready-made-requires g c = c.requires
 
--- It was not made ready
+-- The input was not made ready
 
 pub returns-in_err-ready-clause-took : goal.returns-in_err-ready-clause-took
 returns-in_err-ready-clause-took g c =
@@ -47,7 +47,7 @@ returns-in_err-ready-clause-works g c =
     let is = err_is _ (of_ready e) c.from_residual.ensures.1 in
     rw is (λ is_open sure. ap of_ready (c.in_err-ready.ensures.works is_open sure))
 
--- It was, and is committed
+-- The input was made ready, and is committed
 
 pub commit-requires-clause-open : goal.commit-requires-clause-open
 commit-requires-clause-open g c =
@@ -57,7 +57,7 @@ commit-requires-clause-open g c =
 pub commit-requires-clause-ready : goal.commit-requires-clause-ready
 commit-requires-clause-ready g c = c.in_ok-ready.ensures.made.commits
 
--- It was not committed
+-- The input was not committed
 
 pub returns-in_err-commit-clause-took : goal.returns-in_err-commit-clause-took
 returns-in_err-commit-clause-took g c =
@@ -93,7 +93,7 @@ returns-in_err-commit-clause-works g c =
     let is = err_is _ (of_commit e) c.from_residual-in_err-commit.ensures.1 in
     rw is (λ is_open sure. absurd (shut_open false (c.in_err-commit.ensures.works (all_reliable g.D.Disk.view (disks_of c.args.self.now) (disks_of c.ready-made.new.self) c.ready-made.ensures.same.goes_on sure)) refl))
 
--- It was taken
+-- The input was taken
 
 pub returns-clause-took : goal.returns-clause-took
 returns-clause-took g c =

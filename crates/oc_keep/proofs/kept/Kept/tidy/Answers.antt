@@ -103,7 +103,7 @@ returns-clause-keeps g c =
       any_moment = λ is_open. tidied_moments g.D.Disk.view (kept_of s.node s.store s.content s.closed) t.new.store b c.frames_add_their_records.ensures.read c.snapshots_stand_for_all.ensures c.self.invariant is_open (c.due.ensures.0 c.if-not-due.false).1 so (λ x h. g.met.D.Disk.consistent x h);
     })
 
--- It is closed
+-- The node is closed
 
 pub returns-then-self-clause-turned : goal.returns-then-self-clause-turned
 returns-then-self-clause-turned g c = tt
@@ -117,7 +117,7 @@ returns-then-self-clause-keeps g c =
     let k = kept_of s.node s.store s.content s.closed in
     rw (← c.self.view_is) (none_keeps g.D.Disk.view k (λ x h. g.met.D.Disk.consistent x h) c.self.invariant)
 
--- It is not due
+-- The control files are not due
 
 pub returns-then-not-due-clause-turned : goal.returns-then-not-due-clause-turned
 returns-then-not-due-clause-turned g c = refl

@@ -1,4 +1,4 @@
--- That many turns were done, and it is ready for another.
+-- This number of turns was done, and the node is ready for another.
 use Rattle.oc_server.specs.Lawful.{IsReady}
 use Rattle.oc_server.specs.Runs.{Serves}
 use Rattle.oc_server.proofs.turns.Turns.serve.Given as goal

@@ -1,5 +1,5 @@
 -- The effect of `node` at each of its ends.
-use Rattle.std.specs.Prelude.{◌≡◌, ℕ, ◌-◌, ◌<◌, ◌⊎◌, true, Option, Some, None, is_some, Result, Ok, Err, List, [], length, slice_index_or, ⊤}
+use Rattle.std.specs.Prelude.{◌≡◌, ℕ, ◌-◌, ◌<◌, ◌⊎◌, true, false, Option, Some, None, is_some, Result, Ok, Err, List, [], length, slice_index_or, ⊤}
 use Rattle.oc_base.specs.Lawful.{IsNode}
 use Rattle.oc_base.specs.declared.limits.TheConstants.{MAX_SCHEDULE_BYTES}
 use Rattle.oc_config.specs.Reading.{settings_of}
@@ -10,10 +10,12 @@ use Rattle.oc_keep.specs.Files.{Disks}
 use Rattle.oc_keep.specs.Promises.{HoldFiles}
 use Rattle.oc_deeds.specs.declared.log.Log.{Log}
 use Rattle.oc_deeds.specs.declared.log.Log.TheVariants as logs
+use Rattle.oc_routes.specs.Sights.{AboutView}
 use Rattle.oc_service.specs.OnSite.{NodeEnds, setting_of}
 use Rattle.oc_service.specs.declared.running.Task.{Task}
 use Rattle.oc_words.specs.declared.request.LogWord.{LogWord}
 use Rattle.oc_words.specs.declared.request.LogWord.TheVariants.{Brief, Inputs, Record}
+use Rattle.oc_words.specs.declared.command.TheConstants.{VERSION}
 use Rattle.oc_words.specs.declared.request.Service.{Service}
 use Rattle.oc_commands.specs.AtConfig.{ReadsConfig, ReadsConfigured}
 use Rattle.oc_commands.specs.AtRules.{status_of_settings}
@@ -36,15 +38,19 @@ log_of Inputs = logs.Inputs
 log_of Record = logs.Record
 log_of Brief = logs.Brief
 
--- the task of that node, whose configuration was read from these bytes
-abbrev pub task_of : Service → List ℕ → Task
-task_of v text = record { me = v.id; turns = v.turns; probes = v.probes; log = log_of v.log; text = text }
+-- what is told of the program, which started at this second since 1970
+abbrev pub about : ℕ → AboutView
+about started = record { version = VERSION.now; started = started; refused = false }
 
--- no node of the configuration has this id, or the node ran
+-- the task of that node, whose configuration was read from these bytes
+abbrev pub task_of : Service → List ℕ → ℕ → Task
+task_of v text started = record { me = v.id; turns = v.turns; probes = v.probes; log = log_of v.log; text = text; about = about started }
+
+-- no node of the configuration has this id, or the node ran; it was told when the program started
 abbrev pub RunsService : OnNode → Output → Configured → Service → ServiceEnd → Type 0
 RunsService node output c v Stranger = (HasNode c.config v → ⊥) × output.written []
 RunsService node output c v (Ran end) =
-    HasNode c.config v × NodeEnds (node.run c.config (task_of v c.text)) output.written output.cut_off (setting_of (task_of v c.text)) end
+    HasNode c.config v × (started : ℕ) × NodeEnds (node.run c.config (task_of v c.text started)) output.written output.cut_off (setting_of (task_of v c.text started)) end
 RunsService node output c v (Config end) = ⊥
 
 -- the effect of this end

@@ -4,7 +4,7 @@ ghost use Rattle.oc_base.specs.Lawful.{IsNode};
 ghost use Rattle.oc_config.specs.Reading.{IsConfig};
 ghost use Rattle.oc_keep.specs.Files.{disks_in};
 ghost use Rattle.oc_io.specs.Faults.{NoFall};
-ghost use Rattle.oc_commands.specs.AtNode.{HappenedAtNode, IsMemberOf, IsPlacedOf, RunsService, UnlessRan, log_of};
+ghost use Rattle.oc_commands.specs.AtNode.{HappenedAtNode, IsMemberOf, IsPlacedOf, RunsService, UnlessRan, about, log_of};
 ghost use Rattle.oc_commands.specs.Ends.{status_of_service};
 ghost use Rattle.oc_commands.specs.Outside.{at_node, at_sink, at_source};
 ghost use Rattle.oc_words.specs.Status.{number_of};
@@ -14,8 +14,8 @@ use oc_base::NodeId;
 use oc_config::Config;
 use oc_io::{Disk, Sink, Source};
 use oc_link::Link;
-use oc_service::{Log, NodeEnd, Ran, Site, Task, run_node};
-use oc_words::{LogWord, Service};
+use oc_service::{About, Log, NodeEnd, Ran, Site, Task, run_node};
+use oc_words::{LogWord, Service, VERSION};
 use std::alloc::Global;
 
 /// The end of `node`.
@@ -36,10 +36,12 @@ pub struct Served<D: Disk, L: Link, K: Sink> {
     pub site: Site<D, L, K>,
 }
 
-/// Runs a node of the configuration on the input for the given number of turns.
+/// Runs a node of the configuration on the input for the given number of turns. The program started
+/// at `started`, in seconds since 1970.
 pub fn run_service<S: Source, D: Disk, L: Link, K: Sink>(
     alloc: Global,
     service: Service,
+    started: u64,
     input: &mut S,
     site: Site<D, L, K>,
 ) -> Served<D, L, K>
@@ -53,7 +55,7 @@ pub fn run_service<S: Source, D: Disk, L: Link, K: Sink>(
     ensures done_count { number_of (status_of_service result.end) ≡ 0 → NoFall (K.faults site.sink) (K.faults result.site.sink) }
 {
     match read_configured(alloc, input) {
-        Ok(configured) => serve_config(alloc, service, configured, site),
+        Ok(configured) => serve_config(alloc, service, started, configured, site),
         Err(end) => Served {
             end: ServiceEnd::Config(end),
             site,
@@ -65,6 +67,7 @@ pub fn run_service<S: Source, D: Disk, L: Link, K: Sink>(
 fn serve_config<D: Disk, L: Link, K: Sink>(
     alloc: Global,
     service: Service,
+    started: u64,
     configured: Configured,
     site: Site<D, L, K>,
 ) -> Served<D, L, K>
@@ -85,6 +88,7 @@ fn serve_config<D: Disk, L: Link, K: Sink>(
                 probes: service.probes,
                 log: log_of(service.log),
                 text,
+                about: about(started),
             };
             let Ran { end, site } = run_node(alloc, config, task, site);
             Served {
@@ -96,6 +100,17 @@ fn serve_config<D: Disk, L: Link, K: Sink>(
             end: ServiceEnd::Stranger,
             site,
         },
+    }
+}
+
+/// What is told of the program, which started at this second since 1970.
+fn about(started: u64) -> About
+    ensures { result ≡ about started }
+{
+    About {
+        version: VERSION,
+        started,
+        refused: false,
     }
 }
 

@@ -15,10 +15,11 @@ use Rattle.oc_routes.specs.declared.verdict.Verdict.TheVariants as verdicts
 use Rattle.oc_routes.specs.declared.waiting.Prospect.{Prospect}
 use Rattle.oc_routes.specs.declared.waiting.Prospect.TheVariants as prospects
 use Rattle.oc_routes.specs.declared.verdict.Refusal.{Refusal}
+use Rattle.oc_routes.specs.declared.tally.MessageFault.{MessageFault}
 use Rattle.oc_deeds.specs.Answered.{AreAnswered, AreAnsweredBy, IsAnsweredBy, answer_of, back_of}
 use Rattle.oc_deeds.specs.Asks.{has_to_wait, obeys, refuses_or, responds, takes_on, takes_up, waiting}
 use Rattle.oc_deeds.specs.Choices.{due_index, next_to_dial, prospect_of, wait_for}
-use Rattle.oc_deeds.specs.Deeds.{Accepts, BreaksOff, Deed, Dials, Drops, Gives, Keeps, LaysAside, Looks, Notes, Permits, Probes, Reads, Refuses, Replies, Rereads, Running, Says, Sees, Setting, Takes, Tells, Waits, after, after_all}
+use Rattle.oc_deeds.specs.Deeds.{Accepts, BreaksOff, Deed, Dials, Drops, Gives, Keeps, LaysAside, Looks, Notes, Permits, Probes, Reads, Refuses, Rejects, Replies, Rereads, Running, Says, Sees, Setting, Takes, Tells, Waits, after, after_all}
 use Rattle.oc_config.specs.Settings.{Settings}
 use Rattle.oc_link.specs.declared.look.Look.{Look}
 use Rattle.oc_updown.specs.declared.measure_lines.Measure.{Measure}
@@ -33,7 +34,7 @@ use Rattle.oc_deeds.specs.Parts.{nothing, one, ◌>>◌}
 use Rattle.oc_deeds.specs.Rooms.{goes_on, moves, takes_room, room_for}
 use Rattle.oc_deeds.specs.Rooms as rooms
 use Rattle.oc_deeds.specs.Sends.{dials_at, dials_it, dials_next, sends}
-use Rattle.oc_deeds.specs.Turns.{Observation, takes_brought, deals, happens, measures, next_peer, probes_it, quickened, takes_at, takes_due, ticked, ticks, ticks_and_sends, ticks_if, turn}
+use Rattle.oc_deeds.specs.Turns.{Observation, takes_brought, takes_reply, deals, happens, measures, next_peer, probes_it, quickened, takes_at, takes_due, ticked, ticks, ticks_and_sends, ticks_if, turn}
 use Rattle.oc_deeds.specs.Turns as turns
 use Rattle.oc_deeds.specs.Works.{client_input, pending, work_on}
 use Rattle.oc_deeds.specs.declared.came.Came.{Came}
@@ -71,6 +72,7 @@ silent_one answer back s (Permits c) a silent = tt
 silent_one answer back s (Waits w) a silent = tt
 silent_one answer back s (Replies r response now) a silent = absurd silent
 silent_one answer back s (Refuses c count why) a silent = tt
+silent_one answer back s (Rejects fault) a silent = tt
 silent_one answer back s (BreaksOff c) a silent = tt
 silent_one answer back s (Gives p now) a silent = tt
 silent_one answer back s (LaysAside p) a silent = tt
@@ -169,11 +171,17 @@ obeyed c count verdicts.Permit now s a = (tt, tt)
 obeyed c count (verdicts.Refuse why) now s a = (tt, tt)
 obeyed c count (verdicts.Ask request) now s a = took_on c request now s a
 
+replied_to : (input : Option Input) (refused : Option MessageFault) (s : Setting) (a : Running) → AreAnswered s (takes_reply input refused s a) a
+replied_to input None s a = silent_all answers.Ok None s (takes_brought input s a) a (silent_brought input s a)
+replied_to input (Some fault) s a =
+    let b : Running = after (Rejects fault) a in
+    (tt, silent_all answers.Ok None s (takes_brought input s b) b (silent_brought input s b))
+
 happened : (probing : Option Probing) (came : Came) (now median started : ℕ) (s : Setting) (a : Running) → AreAnswered s (happens probing came now median started s a) a
 happened probing (comes.Request c count v) now median started s a = obeyed c count v now s a
 happened probing (comes.Room c) now median started s a = silent_all answers.Ok None s (takes_room c now s a) a (silent_room (work_on c a.works) now s a)
 happened probing (comes.Gone c loss) now median started s a = (tt, tt)
-happened probing (comes.Reply input taken) now median started s a = silent_all answers.Ok None s (takes_brought input s a) a (silent_brought input s a)
+happened probing (comes.Reply input taken refused) now median started s a = replied_to input refused s a
 happened probing (comes.Probed peer since fault) now median started s a = silent_all answers.Ok None s (measures probing peer fault median s a) a (silent_measures probing peer fault median s a)
 happened probing comes.Nothing now median started s a = silent_all answers.Ok None s (probes_it (next_peer probing a.dials) started s a) a (silent_probe (next_peer probing a.dials) started s a)
 

@@ -9,7 +9,7 @@ use Rattle.oc_model.proofs.Groups.{group_of-with_group, group_or_empty-name}
 use Rattle.oc_model.specs.Node.{Node}
 use Rattle.oc_model.specs.Step.{Piece, grown, kept_at, piece_of, plan, step}
 use Rattle.oc_model.specs.declared.input.Input.{Input}
-use Rattle.oc_deeds.specs.Deeds.{Accepts, BreaksOff, Deed, Dials, Drops, Gives, Keeps, LaysAside, Looks, Notes, Permits, Probes, Reads, Refuses, Replies, Rereads, Running, Says, Sees, Takes, Tells, Waits, after, after_all}
+use Rattle.oc_deeds.specs.Deeds.{Accepts, BreaksOff, Deed, Dials, Drops, Gives, Keeps, LaysAside, Looks, Notes, Permits, Probes, Reads, Refuses, Rejects, Replies, Rereads, Running, Says, Sees, Takes, Tells, Waits, after, after_all}
 
 -- the bytes of each group are a beginning of its bytes later
 abbrev pub Grows : List Group → List Group → Type 0
@@ -62,6 +62,7 @@ grows_after (Permits c) a = grows_none a.node.groups
 grows_after (Waits w) a = grows_none a.node.groups
 grows_after (Replies r response now) a = grows_none a.node.groups
 grows_after (Refuses c count why) a = grows_none a.node.groups
+grows_after (Rejects fault) a = grows_none a.node.groups
 grows_after (BreaksOff c) a = grows_none a.node.groups
 grows_after (Gives p now) a = grows_none a.node.groups
 grows_after (LaysAside p) a = grows_none a.node.groups

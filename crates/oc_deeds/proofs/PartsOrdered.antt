@@ -58,12 +58,13 @@ use Rattle.oc_routes.specs.declared.routes.Operation.{Operation}
 use Rattle.oc_routes.specs.declared.routes.Operation.TheVariants as asks
 use Rattle.oc_deeds.proofs.ChunksThere.{here_there, step_there}
 use Rattle.oc_deeds.proofs.Settled.{AllQuiet, IsLeft, IsOrderly, all_quiet, breaks, drops, fits_if, gives, lays, one_at_most, orderly_behind, orderly_none, orderly_then, permits, quiet_behind, refuses_request, replies_request, settled_by, waits}
+use Rattle.oc_routes.specs.declared.tally.MessageFault.{MessageFault}
 use Rattle.oc_deeds.specs.Asks.{has_to_wait, holding_for, obeys, refuses_or, replies, report_for, responds, response_now, takes_on, takes_up, waiting}
 use Rattle.oc_deeds.specs.Brief.{told_of}
 use Rattle.oc_deeds.specs.Records.{told_ahead}
 use Rattle.oc_deeds.specs.Brought.{comes_back}
 use Rattle.oc_deeds.specs.Choices.{due_index, next_to_dial, prospect_of, wait_for}
-use Rattle.oc_deeds.specs.Deeds.{Deed, Sees, Reads, Tells, Accepts, Says, Waits, Running, Setting, after, after_all, back_to, calls_of, content_in, sender_of, key_in}
+use Rattle.oc_deeds.specs.Deeds.{Deed, Sees, Reads, Rejects, Tells, Accepts, Says, Waits, Running, Setting, after, after_all, back_to, calls_of, content_in, sender_of, key_in}
 use Rattle.oc_deeds.specs.Rereading.{looks_again}
 use Rattle.oc_deeds.specs.Hurries.{came_hurries}
 use Rattle.oc_deeds.specs.Pace.{has_passed, wait_until}
@@ -74,7 +75,7 @@ use Rattle.oc_deeds.specs.Rooms as rooms
 use Rattle.oc_deeds.specs.Telling.{takes_in}
 use Rattle.oc_deeds.specs.Sends.{dials_at, dials_it, dials_next, sends}
 use Rattle.oc_deeds.specs.Settled.{Fits, IsSettled}
-use Rattle.oc_deeds.specs.Turns.{Means, MeansBack, Observation, takes_brought, deals, happens, measures, next_peer, probes_it, quickened, takes_at, takes_due, takes_next, takes_one, ticked, ticks, ticks_and_sends, ticks_if, turn, dealt}
+use Rattle.oc_deeds.specs.Turns.{Means, MeansBack, Observation, takes_brought, takes_reply, deals, happens, measures, next_peer, probes_it, quickened, takes_at, takes_due, takes_next, takes_one, ticked, ticks, ticks_and_sends, ticks_if, turn, dealt}
 use Rattle.oc_deeds.specs.Works.{client_input, connection_of, pending, index_on, work_on}
 use Rattle.oc_deeds.specs.declared.came.Came.{Came}
 use Rattle.oc_deeds.specs.declared.came.Came.TheVariants as comes
@@ -211,7 +212,7 @@ pub responding : (s : Setting) (made : List Call) (r : Pending) (input : Option 
     → IsInputOf r.asked.operation r.asked.hint input → IsSettled made a.works → IsOrderly s made (responds r input now s a) a
 responding s made r None now a may is settled =
     replies_request s made r (response_now r answers.Ok None s a) now a may
-    (at_once r.asked.operation r.asked.hint r.last None a.node.groups a.config.addresses (key_in a) (report_for r.asked.operation a) is) settled
+    (at_once r.asked.operation r.asked.hint r.last None a.node.groups a.config.addresses (key_in a) (report_for r.asked.operation s a) is) settled
 responding s made r (Some i) now a may is settled =
     let ds : List Deed = replies r now (step a.node i).answer (back_to (sender_of i) (step a.node i).sends) s (after (Accepts i) a) in
     quiet_behind s made (Says (told_ahead s.log s.me i)) (Accepts i ∷ Says (told_of s.log a.node i) ∷ ds) a tt settled
@@ -220,7 +221,7 @@ responding s made r (Some i) now a may is settled =
     (λ behind. replies_request s (((made ++ []) ++ []) ++ []) r
     (response_now r (step a.node i).answer (back_to (sender_of i) (step a.node i).sends) s (after (Accepts i) a)) now (after (Accepts i) a)
     (subst (λ (cs : List Call). MayAnswer r.waited r.connection cs a.works) (sym (append-nil ((made ++ []) ++ []) ∙ append-nil (made ++ []) ∙ append-nil made)) may)
-    (by_step r.asked.operation r.asked.hint r.last i (back_to (sender_of i) (step a.node i).sends) a.node a.config.addresses (key_in a) (report_for r.asked.operation (after (Accepts i) a)) is) behind)))
+    (by_step r.asked.operation r.asked.hint r.last i (back_to (sender_of i) (step a.node i).sends) a.node a.config.addresses (key_in a) (report_for r.asked.operation s (after (Accepts i) a)) is) behind)))
 
 taking_on : (s : Setting) (made : List Call) (c : ℕ) (request : Request) (now : ℕ) (a : Running) → phase_on c made ≡ Awaiting → IsInputOf request.asked.operation request.asked.hint request.input → IsSettled made a.works
     → IsOrderly s made (takes_on c request now s a) a
@@ -325,6 +326,10 @@ bringing : (s : Setting) (made : List Call) (input : Option Input) (a : Running)
 bringing s made None a settled = orderly_none s made a settled
 bringing s made (Some i) a settled = all_quiet s made (takes_in i s a) a (tt, (tt, (tt, tt))) settled
 
+replying_to : (s : Setting) (made : List Call) (input : Option Input) (refused : Option MessageFault) (a : Running) → IsSettled made a.works → IsOrderly s made (takes_reply input refused s a) a
+replying_to s made input None a settled = bringing s made input a settled
+replying_to s made input (Some fault) a settled = quiet_behind s made (Rejects fault) (takes_brought input s (after (Rejects fault) a)) a tt settled (λ onward. bringing s (made ++ []) input (after (Rejects fault) a) onward)
+
 probing_it : (s : Setting) (made : List Call) (peer : Option ℕ) (started : ℕ) (a : Running) → IsSettled made a.works → IsOrderly s made (probes_it peer started s a) a
 probing_it s made None started a settled = orderly_none s made a settled
 probing_it s made (Some peer) started a settled = all_quiet s made (probes_it (Some peer) started s a) a (tt, (tt, tt)) settled
@@ -333,7 +338,7 @@ pub happening : (s : Setting) (made : List Call) (probing : Option Probing) (cam
 happening s made probing (comes.Request c count v) now median started a ready = obeying s made c count v now a (ready.1) (ready.2) (ready.0)
 happening s made probing (comes.Room c) now median started a ready = has_room s made c now a ready
 happening s made probing (comes.Gone c loss) now median started a ready = drops s made c (is_failure loss && is_told (work_on c a.works)) a ready
-happening s made probing (comes.Reply input taken) now median started a ready = bringing s made input a ready
+happening s made probing (comes.Reply input taken refused) now median started a ready = replying_to s made input refused a ready
 happening s made probing (comes.Probed peer since fault) now median started a ready = no_fault s made peer probing fault median a ready
 happening s made probing comes.Nothing now median started a ready = probing_it s made (next_peer probing a.dials) started a ready
 

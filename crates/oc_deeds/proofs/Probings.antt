@@ -44,7 +44,7 @@ module _ (nodes : ℕ) where
   made_probed (comes.Request c count verdict) now ds o made = made
   made_probed (comes.Room c) now ds o made = made
   made_probed (comes.Gone c loss) now ds o made = made
-  made_probed (comes.Reply input taken) now ds o made = made
+  made_probed (comes.Reply input taken refused) now ds o made = made
   made_probed (comes.Probed peer since fault) now ds o made = made_gauged fault peer _ o made
   made_probed comes.Nothing now ds o made = made_mapped (rotated ds) (made_rotated ds) o made
 

@@ -20,10 +20,11 @@ use Rattle.oc_routes.specs.declared.waiting.Prospect.{Prospect}
 use Rattle.oc_routes.specs.declared.waiting.Prospect.TheVariants as prospects
 use Rattle.oc_routes.specs.Inputs.{input_line}
 use Rattle.oc_routes.specs.declared.verdict.Refusal.{Refusal}
+use Rattle.oc_routes.specs.declared.tally.MessageFault.{MessageFault}
 use Rattle.oc_deeds.specs.Asks.{has_to_wait, obeys, refuses_or, replies, responds, takes_on, takes_up, waiting}
 use Rattle.oc_deeds.specs.Brief.{told_of}
 use Rattle.oc_deeds.specs.Choices.{due_index, has_room, next_to_dial, prospect_of, wait_for}
-use Rattle.oc_deeds.specs.Deeds.{Accepts, BreaksOff, Deed, Dials, Drops, Gives, Keeps, LaysAside, Looks, Notes, Permits, Probes, Reads, Refuses, Replies, Rereads, Running, Says, Sees, Setting, Takes, Tells, Waits, after, after_all, back_to, inputs_of, line, lines, sender_of, taken_line, with_input}
+use Rattle.oc_deeds.specs.Deeds.{Accepts, BreaksOff, Deed, Dials, Drops, Gives, Keeps, LaysAside, Looks, Notes, Permits, Probes, Reads, Refuses, Rejects, Replies, Rereads, Running, Says, Sees, Setting, Takes, Tells, Waits, after, after_all, back_to, inputs_of, line, lines, sender_of, taken_line, with_input}
 use Rattle.oc_config.specs.Settings.{Settings}
 use Rattle.oc_link.specs.declared.look.Look.{Look}
 use Rattle.oc_updown.specs.declared.measure_lines.Measure.{Measure}
@@ -39,7 +40,7 @@ use Rattle.oc_deeds.specs.Records.{told_ahead}
 use Rattle.oc_deeds.specs.Rooms.{transfer_of, goes_on, moves, takes_room, room_for}
 use Rattle.oc_deeds.specs.Sends.{dials_at, dials_it, dials_next, sends}
 use Rattle.oc_deeds.specs.Telling.{takes_in, takes_ahead}
-use Rattle.oc_deeds.specs.Turns.{Observation, takes_brought, deals, happens, measures, next_peer, probes_it, quickened, takes_at, takes_due, ticked, ticks, ticks_and_sends, ticks_if, turn, dealt}
+use Rattle.oc_deeds.specs.Turns.{Observation, takes_brought, takes_reply, deals, happens, measures, next_peer, probes_it, quickened, takes_at, takes_due, ticked, ticks, ticks_and_sends, ticks_if, turn, dealt}
 use Rattle.oc_deeds.specs.Works.{client_input, pending, work_on}
 use Rattle.oc_deeds.specs.declared.came.Came.{Came}
 use Rattle.oc_deeds.specs.declared.came.Came.TheVariants as comes
@@ -101,6 +102,7 @@ next_of s (Some i) (Permits c ∷ ds) (next, moves, rest) = absurd moves
 next_of s (Some i) (Waits w ∷ ds) (next, moves, rest) = absurd moves
 next_of s (Some i) (Replies r response now ∷ ds) (next, moves, rest) = absurd moves
 next_of s (Some i) (Refuses c count why ∷ ds) (next, moves, rest) = absurd moves
+next_of s (Some i) (Rejects fault ∷ ds) (next, moves, rest) = absurd moves
 next_of s (Some i) (BreaksOff c ∷ ds) (next, moves, rest) = absurd moves
 next_of s (Some i) (Gives q now ∷ ds) (next, moves, rest) = absurd moves
 next_of s (Some i) (LaysAside q ∷ ds) (next, moves, rest) = absurd moves
@@ -163,6 +165,7 @@ leads_text s is None q (Permits c ∷ ds) (next, moves, rest) = text_cons s (Per
 leads_text s is None q (Waits w ∷ ds) (next, moves, rest) = text_cons s (Waits w) ds q refl (leads_text s is None q ds (subst (λ (o : Option Input). Leads s o ds q) moves rest))
 leads_text s is None q (Replies r response now ∷ ds) (next, moves, rest) = text_cons s (Replies r response now) ds q refl (leads_text s is None q ds (subst (λ (o : Option Input). Leads s o ds q) moves rest))
 leads_text s is None q (Refuses c count why ∷ ds) (next, moves, rest) = text_cons s (Refuses c count why) ds q (sym (append-nil _)) (leads_text s is None q ds (subst (λ (o : Option Input). Leads s o ds q) moves rest))
+leads_text s is None q (Rejects fault ∷ ds) (next, moves, rest) = text_cons s (Rejects fault) ds q refl (leads_text s is None q ds (subst (λ (o : Option Input). Leads s o ds q) moves rest))
 leads_text s is None q (BreaksOff c ∷ ds) (next, moves, rest) = text_cons s (BreaksOff c) ds q refl (leads_text s is None q ds (subst (λ (o : Option Input). Leads s o ds q) moves rest))
 leads_text s is None q (Gives p now ∷ ds) (next, moves, rest) = text_cons s (Gives p now) ds q refl (leads_text s is None q ds (subst (λ (o : Option Input). Leads s o ds q) moves rest))
 leads_text s is None q (LaysAside p ∷ ds) (next, moves, rest) = text_cons s (LaysAside p) ds q refl (leads_text s is None q ds (subst (λ (o : Option Input). Leads s o ds q) moves rest))
@@ -181,6 +184,7 @@ leads_text s is (Some i) q (Permits c ∷ ds) (next, moves, rest) = absurd moves
 leads_text s is (Some i) q (Waits w ∷ ds) (next, moves, rest) = absurd moves
 leads_text s is (Some i) q (Replies r response now ∷ ds) (next, moves, rest) = absurd moves
 leads_text s is (Some i) q (Refuses c count why ∷ ds) (next, moves, rest) = absurd moves
+leads_text s is (Some i) q (Rejects fault ∷ ds) (next, moves, rest) = absurd moves
 leads_text s is (Some i) q (BreaksOff c ∷ ds) (next, moves, rest) = absurd moves
 leads_text s is (Some i) q (Gives p now ∷ ds) (next, moves, rest) = absurd moves
 leads_text s is (Some i) q (LaysAside p ∷ ds) (next, moves, rest) = absurd moves
@@ -325,7 +329,7 @@ module _ (s : Setting) (recorded : s.log ≡ logs.Record) where
   leads_happens probing (comes.Request c count v) now median started a = leads_obeys c count v now a
   leads_happens probing (comes.Room c) now median started a = leads_room (work_on c a.works) now a
   leads_happens probing (comes.Gone c loss) now median started a = (None, refl, refl)
-  leads_happens probing (comes.Reply input taken) now median started a = leads_brought input a
+  leads_happens probing (comes.Reply input taken refused) now median started a = leads_reply input refused a
   leads_happens probing (comes.Probed peer since fault) now median started a = leads_measures probing peer fault median a
   leads_happens probing comes.Nothing now median started a = leads_probe (next_peer probing a.dials) started a
 
@@ -334,6 +338,10 @@ module _ (s : Setting) (recorded : s.log ≡ logs.Record) where
       let ds : List Deed = happens probing came now median started s a in
       let soon : Pace = quickened (came_hurries came a.node) pace in
       whole_then ds (ticks_and_sends soon now seconds s (after_all ds a)) (leads_happens probing came now median started a) (leads_end soon now seconds (after_all ds a))
+
+  leads_reply : (input : Option Input) (refused : Option MessageFault) (a : Running) → Whole (takes_reply input refused s a)
+  leads_reply input None a = leads_brought input a
+  leads_reply input (Some fault) a = (None, refl, leads_brought input (after (Rejects fault) a))
 
   -- Turns in which some work was due
 

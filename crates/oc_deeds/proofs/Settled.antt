@@ -17,7 +17,7 @@ use Rattle.oc_routes.specs.declared.response.Response.{Response}
 use Rattle.oc_deeds.proofs.Givings.{works_left}
 use Rattle.oc_deeds.proofs.Replying.{first_at, left_on, other_left, phase_here, rest_at, taken_other, taken_out}
 use Rattle.oc_deeds.proofs.WorksOn.{other_pushed, other_without, own_pushed}
-use Rattle.oc_deeds.specs.Deeds.{Accepts, BreaksOff, Deed, Dials, Drops, Gives, Keeps, LaysAside, Looks, Notes, Permits, Probes, Reads, Refuses, Replies, Rereads, Running, Says, Sees, Setting, Takes, Tells, Waits, after, after_all, calls, calls_of, content_in, finish, first_piece, first_rest, keeps, piece, transfer_for, refuses, rest, takes_request, with_content}
+use Rattle.oc_deeds.specs.Deeds.{Accepts, BreaksOff, Deed, Dials, Drops, Gives, Keeps, LaysAside, Looks, Notes, Permits, Probes, Reads, Refuses, Rejects, Replies, Rereads, Running, Says, Sees, Setting, Takes, Tells, Waits, after, after_all, calls, calls_of, content_in, finish, first_piece, first_rest, keeps, piece, transfer_for, refuses, rest, takes_request, with_content}
 use Rattle.oc_config.specs.Settings.{Settings}
 use Rattle.oc_link.specs.declared.look.Look.{Look}
 use Rattle.oc_updown.specs.declared.measure_lines.Measure.{Measure}
@@ -115,6 +115,7 @@ IsQuiet (Takes i) = Unit {0}
 IsQuiet (Accepts i) = Unit {0}
 IsQuiet (Says text) = Unit {0}
 IsQuiet (Notes why) = Unit {0}
+IsQuiet (Rejects fault) = Unit {0}
 IsQuiet (Dials place m d) = Unit {0}
 IsQuiet (Probes peer d t) = Unit {0}
 IsQuiet (Looks look) = Unit {0}
@@ -134,6 +135,7 @@ quiet_behind s made (Takes i) ds a quiet settled onward = orderly_behind s made 
 quiet_behind s made (Accepts i) ds a quiet settled onward = orderly_behind s made (Accepts i) ds a tt (onward (settled_by made [] a.works (λ c. settled c)))
 quiet_behind s made (Says text) ds a quiet settled onward = orderly_behind s made (Says text) ds a tt (onward (settled_by made [] a.works (λ c. settled c)))
 quiet_behind s made (Notes why) ds a quiet settled onward = orderly_behind s made (Notes why) ds a tt (onward (settled_by made [] a.works (λ c. settled c)))
+quiet_behind s made (Rejects fault) ds a quiet settled onward = orderly_behind s made (Rejects fault) ds a tt (onward (settled_by made [] a.works (λ c. settled c)))
 quiet_behind s made (Dials place m d) ds a quiet settled onward = orderly_behind s made (Dials place m d) ds a tt (onward (settled_by made (calls s (Dials place m d) a) a.works (λ c. settled c)))
 quiet_behind s made (Probes peer d t) ds a quiet settled onward = orderly_behind s made (Probes peer d t) ds a tt (onward (settled_by made (calls s (Probes peer d t) a) a.works (λ c. settled c)))
 quiet_behind s made (Looks look) ds a quiet settled onward = orderly_behind s made (Looks look) ds a tt (onward (settled_by made (calls s (Looks look) a) a.works (λ c. settled c)))

@@ -12,6 +12,7 @@ use Rattle.oc_model.specs.Step.{step}
 use Rattle.oc_routes.specs.Conditions.{unmet}
 use Rattle.oc_routes.specs.Reports.{report_of}
 use Rattle.oc_routes.specs.Routes.{response_for}
+use Rattle.oc_routes.specs.Sights.{Sight}
 use Rattle.oc_routes.specs.Waits.{holding, is_to_wait}
 use Rattle.oc_routes.specs.declared.holding.Holding.{Holding}
 use Rattle.oc_routes.specs.declared.verdict.Request.{Request}
@@ -44,12 +45,24 @@ abbrev pub holding_for : Operation → List Group → Holding
 holding_for asked groups = holding_in asked (shelf groups)
 
 -- the report of a node that is asked for
-abbrev pub report_for : Operation → Running → List ℕ
-report_for asked a = report_of asked a.node.control (shelf a.node.groups) (length a.outbox)
+abbrev pub sight_in : Setting → Running → Sight
+sight_in s a = record {
+  node = a.node.control;
+  shelf = shelf a.node.groups;
+  messages = length a.outbox;
+  addresses = a.config.addresses;
+  names = a.config.names;
+  retired = a.config.retired;
+  tally = a.tally;
+  about = s.about;
+}
+
+abbrev pub report_for : Operation → Setting → Running → List ℕ
+report_for asked s a = report_of asked (sight_in s a)
 
 -- the answer to a request by the node as it is now
 abbrev pub response_now : Pending → Answer → Option Message → Setting → Running → Response
-response_now r answer back s a = response_for r.asked r.last answer back (holding_for r.asked.operation a.node.groups) a.config.addresses (key_in a) (report_for r.asked.operation a)
+response_now r answer back s a = response_for r.asked r.last answer back (holding_for r.asked.operation a.node.groups) a.config.addresses (key_in a) (report_for r.asked.operation s a)
 
 abbrev pub replies : Pending → ℕ → Answer → Option Message → Part
 replies r now answer back s a = Replies r (response_now r answer back s a) now ∷ []

@@ -1,5 +1,5 @@
 -- The response that came back on a dial, as it is read.
-use Rattle.std.specs.Prelude.{ℕ, Bool, false, ◌==◌, ◌&&◌, if◌then◌else◌, Option, Some, None, Result, Ok, Err, List, ◌++◌, length}
+use Rattle.std.specs.Prelude.{ℕ, Bool, true, false, ◌==◌, ◌&&◌, if◌then◌else◌, Option, Some, None, Result, Ok, Err, List, ◌++◌, length}
 use Rattle.oc_link.specs.ArrivedView.{ArrivedView, FailsBehind, GivesFront, IsAtEnd, arrived}
 use Rattle.oc_link.specs.declared.event.Coming.{Coming}
 use Rattle.oc_http.specs.Responses.{reply_of}
@@ -15,6 +15,8 @@ use Rattle.oc_probe.specs.Faults.{fault_of_http}
 use Rattle.oc_probe.specs.declared.fault.ProbeFault.{ProbeFault}
 use Rattle.oc_probe.specs.declared.fault.ProbeFault.TheVariants as faults
 use Rattle.oc_probe.specs.declared.rate.TheConstants.{PROBE_BYTES}
+use Rattle.oc_routes.specs.declared.tally.MessageFault.{MessageFault}
+use Rattle.oc_routes.specs.declared.tally.MessageFault.TheVariants.{Mac, Message as NoMessage}
 use Rattle.oc_wire.specs.Macs.{is_authentic}
 use Rattle.oc_wire.specs.MessageReading.{decoded}
 use Rattle.oc_wire.specs.declared.fault.WireFault.{WireFault}
@@ -77,6 +79,22 @@ abbrev pub is_taken : Option Keyring → Result Reply HttpFault → Bool
 is_taken keys (Ok reply) = brings_message keys reply
 is_taken keys (Err fault) = false
 
+-- why a response of 200 was refused, by whether it has its MAC and by the input that results from it: a message was not
+abbrev pub fault_by : Bool → Option Input → Option MessageFault
+fault_by false input = Some Mac
+fault_by true (Some (Delivered m)) = None
+fault_by true input = Some NoMessage
+
+abbrev pub fault_in : Bool → Bool → Option Input → Option MessageFault
+fault_in is_ok taken input = if is_ok then fault_by taken input else None
+
+abbrev pub has_ok : Result Reply HttpFault → Bool
+has_ok (Ok reply) = reply.status == 200
+has_ok (Err fault) = false
+
+abbrev pub refused_of : ℕ → ℕ → Option Keyring → ℕ → Result Reply HttpFault → Option MessageFault
+refused_of me nodes keys peer reading = fault_in (has_ok reading) (is_taken keys reading) (input_of me nodes keys peer reading)
+
 -- The rate that results from a probe's reply
 
 abbrev pub is_answer : Reply → Bool
@@ -89,5 +107,5 @@ fault_of (Err fault) = Some (fault_of_http fault)
 
 -- The news of a dial that was made for this, of which this was read.
 abbrev pub comes_back : ℕ → ℕ → Option Keyring → Errand → Result Reply HttpFault → Came
-comes_back me nodes keys (errands.Message to fetch) reading = comes.Reply (input_of me nodes keys to reading) (is_taken keys reading)
+comes_back me nodes keys (errands.Message to fetch) reading = comes.Reply (input_of me nodes keys to reading) (is_taken keys reading) (refused_of me nodes keys to reading)
 comes_back me nodes keys (errands.Probe peer since) reading = comes.Probed peer since (fault_of reading)

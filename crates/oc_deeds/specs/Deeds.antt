@@ -28,7 +28,11 @@ use Rattle.oc_routes.specs.declared.response.Response.{Response}
 use Rattle.oc_routes.specs.declared.routes.Operation.{Operation}
 use Rattle.oc_routes.specs.declared.routes.Operation.TheVariants as asks
 use Rattle.oc_config.specs.Settings.{Settings, key_of}
+use Rattle.oc_routes.specs.Tallies.{TallyView, known_before, with_refused, with_sent}
+use Rattle.oc_routes.specs.Sights.{AboutView}
+use Rattle.oc_routes.specs.declared.tally.MessageFault.{MessageFault}
 use Rattle.oc_wire.specs.Macs.{request_of}
+use Rattle.oc_deeds.specs.Counted.{noted, with_refused_request, with_reply_to}
 use Rattle.oc_deeds.specs.Dials.{brings, dialling}
 use Rattle.oc_deeds.specs.Dials as dials
 use Rattle.oc_deeds.specs.Outboxes.{with_messages}
@@ -46,23 +50,25 @@ use Rattle.oc_deeds.specs.declared.work.Waiting.{Waiting}
 use Rattle.oc_deeds.specs.declared.work.Work.{Work}
 use Rattle.oc_deeds.specs.declared.work.Work.TheVariants as works
 
--- the id of the node, the addresses of all by their ids, where they have one, the key for messages that go out, where the network has one, and the
--- form of the log of inputs
+-- which node it is, the form of the log of inputs, and what is told of the program
 pub record Setting : Type 0 where
   pub me : ℕ
   pub log : Log
+  pub about : AboutView
 
 -- the text of a dial: the request that brings the message, and nothing to a node without an address, to which a dial has failed when it begins
 abbrev pub dial_text : Option (List ℕ) → List ℕ → Message → List ℕ
 dial_text key [] m = []
 dial_text key (b ∷ host) m = request_of key (b ∷ host) m
 
--- a running node: its state, the messages that it has still to send, the works on its connections, and its dials
+-- a running node: its state, the messages that it has still to send, the works on its connections, its dials, what it counted,
+-- and the configuration that it goes by
 pub record Running : Type 0 where
   pub node : Node
   pub outbox : List Message
   pub works : List Work
   pub dials : List Dialling
+  pub tally : TallyView
   pub config : Settings
 
 -- the address of a node, and the key of what goes out, where the network has one
@@ -95,6 +101,8 @@ pub data Deed : Type 0 where
   Replies : Pending → Response → ℕ → Deed
   -- a request of this many bytes was refused
   Refuses : ℕ → ℕ → Refusal → Deed
+  -- the reply to a message was refused
+  Rejects : MessageFault → Deed
   -- a connection was broken off
   BreaksOff : ℕ → Deed
   -- the next piece of a content was given at this time
@@ -188,19 +196,31 @@ abbrev pub first_piece : Option Transfer → List Group → List ℕ
 first_piece None groups = []
 first_piece (Some p) groups = piece p groups
 
+-- what is given of a reply at once: its text, and the first piece of its content
+abbrev pub given_first : Pending → Response → ℕ → List Group → List ℕ
+given_first r response now groups = response.text ++ first_piece (transfer_for r response now) groups
+
 abbrev pub first_rest : Option Transfer → ℕ → List Group → Option Transfer
 first_rest None now groups = None
 first_rest (Some p) now groups = rest p now groups
 
 -- The node after a deed
 
-abbrev pub took : Input → (List Message → List Message) → Running → Running
-took i kept a = record a { node = (step a.node i).node; outbox = with_messages a.outbox (kept (step a.node i).sends) }
-
--- the sender of the message that an input is
+-- who sent the message that an input is
 abbrev pub sender_of : Input → Option ℕ
 sender_of (Delivered m) = Some m.from
 sender_of i = None
+
+-- what was counted, with an input that this node took
+abbrev pub counted_input : Input → Node → TallyView → TallyView
+counted_input i n t = noted (sender_of i) (known_before i n.control.kept.table) (step n i).answer (step n i).node.control t
+
+abbrev pub took : Input → (List Message → List Message) → Running → Running
+took i kept a = record a {
+  node = (step a.node i).node;
+  outbox = with_messages a.outbox (kept (step a.node i).sends);
+  tally = counted_input i a.node a.tally;
+}
 
 -- the message that goes back to this sender
 abbrev pub back_to : Option ℕ → List Message → Option Message
@@ -235,10 +255,17 @@ after (Sees e wait bytes) a = record a { dials = dials_after e a.dials }
 after (Takes i) a = took i (λ sends. sends) a
 after (Accepts i) a = took i (for_outbox i) a
 after (Waits w) a = record a { works = a.works ++ works.Waits w ∷ [] }
-after (Replies r response now) a =
-    record a { works = with_content (first_rest (transfer_for r response now) now a.node.groups) (without_work r.connection a.works) }
+after (Replies r response now) a = record a {
+  works = with_content (first_rest (transfer_for r response now) now a.node.groups) (without_work r.connection a.works);
+  tally = with_reply_to r.asked.operation (given_first r response now a.node.groups) a.tally;
+}
+after (Refuses c count refusal) a = record a { tally = with_refused_request refusal a.tally }
+after (Rejects fault) a = record a { tally = with_refused fault a.tally }
 after (BreaksOff c) a = record a { works = without_work c a.works }
-after (Gives p now) a = record a { works = with_content (rest p now a.node.groups) (without_work p.connection a.works) }
+after (Gives p now) a = record a {
+  works = with_content (rest p now a.node.groups) (without_work p.connection a.works);
+  tally = with_sent (length (piece p a.node.groups)) a.tally;
+}
 after (LaysAside p) a = record a { works = without_work p.connection a.works ++ works.Aside p ∷ [] }
 after (Drops c told) a = record a { works = without_work c a.works }
 after (Dials place m d) a = record a { outbox = remove a.outbox place; dials = a.dials ++ dialling d (brings m) ∷ [] }
@@ -270,7 +297,7 @@ calls s (Permits c) a = acts.Give c CONTINUE.now ∷ []
 calls s (Waits w) a = acts.Take w.connection w.request.count ∷ []
 calls s (Replies r response now) a =
     takes_request r
-    ++ acts.Give r.connection (response.text ++ first_piece (transfer_for r response now) a.node.groups)
+    ++ acts.Give r.connection (given_first r response now a.node.groups)
     ∷ finish r.connection (keeps response.connection) r.told (first_rest (transfer_for r response now) now a.node.groups)
 calls s (Refuses c count refusal) a = refuses c count (refusal_text refusal)
 calls s (BreaksOff c) a = acts.BreakOff c ∷ []

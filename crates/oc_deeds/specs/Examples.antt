@@ -11,6 +11,7 @@ use Rattle.oc_model.specs.Node.{new_node}
 use Rattle.oc_model.specs.declared.input.Input.TheVariants as inputs
 use Rattle.oc_model.specs.declared.message.Body.TheVariants as bodies
 use Rattle.oc_model.specs.declared.message.Message.{Message}
+use Rattle.oc_routes.specs.Tallies.{first_tally}
 use Rattle.oc_routes.specs.declared.hint.Hint.TheVariants.{Plain}
 use Rattle.oc_routes.specs.Inputs.{input_line}
 use Rattle.oc_routes.specs.declared.manner.Manner.TheVariants.{Once}
@@ -45,11 +46,15 @@ two_nodes = record {
 
 -- node 1 of them
 abbrev example : Setting
-example = record { me = 1; log = Inputs }
+example = record {
+  me = 1;
+  log = Inputs;
+  about = record { version = codes "1.0.0"; started = 1796102400; refused = false };
+}
 
 -- node 1, new, with these messages to send
 abbrev started : List Message → Running
-started outbox = record { node = new_node (record { nodes = 2; chain = 1; chunk = 4096; areas = 0 ∷ 0 ∷ [] }) 1; outbox = outbox; works = []; dials = []; config = two_nodes }
+started outbox = record { node = new_node (record { nodes = 2; chain = 1; chunk = 4096; areas = 0 ∷ 0 ∷ [] }) 1; outbox = outbox; works = []; dials = []; config = two_nodes; tally = first_tally 2 }
 
 -- a request of a connection has come
 abbrev came : ℕ → LinkEvent

@@ -40,5 +40,5 @@ verdict_hurries verdict n = false
 -- whether news hurries the tick: a verdict on a request, or a message that was answered by 200
 abbrev pub came_hurries : Came → Node → Bool
 came_hurries (comes.Request c count verdict) n = verdict_hurries verdict n
-came_hurries (comes.Reply input taken) n = taken
+came_hurries (comes.Reply input taken refused) n = taken
 came_hurries came n = false

@@ -44,7 +44,7 @@ IsLawfulDial nodes d = IsLawfulErrand nodes d.errand
 -- news of an operation that can be asked of the node `me` of `nodes` nodes
 abbrev pub IsLawfulCame : ℕ → ℕ → Came → Type 0
 IsLawfulCame nodes me (comes.Request c count verdict) = IsLawfulVerdict nodes me verdict
-IsLawfulCame nodes me (comes.Reply input taken) = IfSome input (IsInput nodes me)
+IsLawfulCame nodes me (comes.Reply input taken refused) = IfSome input (IsInput nodes me)
 IsLawfulCame nodes me (comes.Probed peer since fault) = IsNode nodes peer
 IsLawfulCame nodes me came = Unit {0}
 

@@ -7,6 +7,7 @@ pub mod Within
 pub mod Records
 pub mod Brief
 pub mod Unfit
+pub mod Counted
 pub mod Deeds
 pub mod Done
 pub mod Under

@@ -4,6 +4,7 @@ use Rattle.oc_link.specs.Traffic.{given}
 use Rattle.oc_http.specs.declared.framing.Persistence.TheVariants.{Keep}
 use Rattle.oc_model.specs.Node.{new_node}
 use Rattle.oc_model.specs.declared.input.Input.TheVariants as inputs
+use Rattle.oc_routes.specs.Tallies.{first_tally}
 use Rattle.oc_routes.specs.declared.hint.Hint.TheVariants.{Of}
 use Rattle.oc_routes.specs.declared.manner.Manner.TheVariants.{Follow}
 use Rattle.oc_routes.specs.declared.routes.Operation.TheVariants as asks
@@ -15,7 +16,11 @@ use Rattle.oc_deeds.specs.declared.work.Transfer.{Transfer}
 
 -- node 1 of 2, which holds three bytes of a group
 abbrev node_one : Setting
-node_one = record { me = 1; log = Inputs }
+node_one = record {
+  me = 1;
+  log = Inputs;
+  about = record { version = codes "1.0.0"; started = 1796102400; refused = false };
+}
 
 abbrev holds_three : Running
 holds_three = record {
@@ -24,6 +29,7 @@ holds_three = record {
   works = [];
   dials = [];
   config = two_nodes;
+  tally = first_tally 2;
 }
 
 -- a deed that promises a client six bytes of a group on connection 8

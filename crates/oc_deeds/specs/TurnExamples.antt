@@ -10,6 +10,7 @@ use Rattle.oc_model.specs.Node.{new_node}
 use Rattle.oc_model.specs.declared.input.Input.TheVariants as inputs
 use Rattle.oc_model.specs.declared.message.Body.TheVariants as bodies
 use Rattle.oc_model.specs.declared.message.Message.{Message}
+use Rattle.oc_routes.specs.Tallies.{first_tally}
 use Rattle.oc_routes.specs.declared.hint.Hint.TheVariants.{Plain}
 use Rattle.oc_routes.specs.declared.verdict.Request.{Request}
 use Rattle.oc_routes.specs.declared.verdict.Verdict.TheVariants as verdicts
@@ -36,11 +37,15 @@ use Rattle.oc_deeds.specs.declared.work.Work.TheVariants as works
 
 -- node 1 of 2
 abbrev example : Setting
-example = record { me = 1; log = Inputs }
+example = record {
+  me = 1;
+  log = Inputs;
+  about = record { version = codes "1.0.0"; started = 1796102400; refused = false };
+}
 
 -- node 1, new, with this under way
 abbrev started : List Work → Running
-started ws = record { node = new_node (record { nodes = 2; chain = 1; chunk = 4096; areas = 0 ∷ 0 ∷ [] }) 1; outbox = []; works = ws; dials = []; config = two_nodes }
+started ws = record { node = new_node (record { nodes = 2; chain = 1; chunk = 4096; areas = 0 ∷ 0 ∷ [] }) 1; outbox = []; works = ws; dials = []; config = two_nodes; tally = first_tally 2 }
 
 -- the same with a group of three bytes
 abbrev held : List Work → Running

@@ -18,12 +18,13 @@ use Rattle.oc_probe.specs.Turns.{turned}
 use Rattle.oc_probe.specs.declared.fault.ProbeFault.{ProbeFault}
 use Rattle.oc_probe.specs.declared.fault.ProbeFault.TheVariants as faults
 use Rattle.oc_probe.specs.declared.probing.Probing.{Probing}
+use Rattle.oc_routes.specs.declared.tally.MessageFault.{MessageFault}
 use Rattle.oc_routes.specs.Verdicts.{IsVerdict, NodeTerms, terms_of}
 use Rattle.oc_routes.specs.declared.verdict.Verdict.{Verdict}
 use Rattle.oc_deeds.specs.Asks.{obeys, takes_up}
 use Rattle.oc_deeds.specs.Brought.{HadMemory, IsReading, comes_back}
 use Rattle.oc_deeds.specs.Choices.{due_index, free_number, wait_for}
-use Rattle.oc_deeds.specs.Deeds.{Notes, Probes, Reads, Running, Sees, Setting, Tells, dials_after}
+use Rattle.oc_deeds.specs.Deeds.{Notes, Probes, Reads, Running, Rejects, Sees, Setting, Tells, dials_after}
 use Rattle.oc_deeds.specs.Hurries.{came_hurries}
 use Rattle.oc_deeds.specs.Pace.{has_passed, hurried, looked, wait_until}
 use Rattle.oc_deeds.specs.Parts.{Part, nothing, one, ◌>>◌}
@@ -122,17 +123,26 @@ probes_next probing started s a = probes_it (next_peer probing a.dials) started 
 
 -- The deeds of a turn
 
+-- the reply to a message was refused, if it was
+abbrev pub rejects : Option MessageFault → Part
+rejects None s a = []
+rejects (Some fault) s a = Rejects fault ∷ []
+
 -- the input that results from a message's reply is taken
 abbrev pub takes_brought : Option Input → Part
 takes_brought None s a = []
 takes_brought (Some i) s a = takes_in i s a
+
+-- the reply to a message is counted where it was refused, and the input that results from it is taken
+abbrev pub takes_reply : Option Input → Option MessageFault → Part
+takes_reply input refused = rejects refused >> takes_brought input
 
 -- the part for this news: at this time, with the median of the rates of a peer that was probed, and the time when a probe begins
 abbrev pub happens : Option Probing → Came → ℕ → ℕ → ℕ → Part
 happens probing (comes.Request c count verdict) now median started = obeys c count verdict now
 happens probing (comes.Room c) now median started = takes_room c now
 happens probing (comes.Gone c loss) now median started = takes_loss c loss
-happens probing (comes.Reply input taken) now median started = takes_brought input
+happens probing (comes.Reply input taken refused) now median started = takes_reply input refused
 happens probing (comes.Probed peer since fault) now median started = measures probing peer fault median
 happens probing comes.Nothing now median started = probes_next probing started
 

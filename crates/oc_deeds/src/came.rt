@@ -4,7 +4,7 @@ use oc_base::NodeId;
 use oc_link::{ConnectionId, Loss};
 use oc_model::Input;
 use oc_probe::ProbeFault;
-use oc_routes::Verdict;
+use oc_routes::{MessageFault, Verdict};
 
 /// The news of an event, once its bytes were read.
 #[derive(Debug, Drop)]
@@ -19,10 +19,12 @@ pub enum Came {
     Room(ConnectionId),
     /// A connection is over before its reply was sent whole.
     Gone(ConnectionId, Loss),
-    /// The reply to a message, with the input that results from it. `taken` where its status is 200.
+    /// The reply to a message, with the input that results from it. `taken` where its status is 200 and it has its MAC;
+    /// `refused` says why it brings no message where its status is 200.
     Reply {
         input: Option<Input>,
         taken: bool,
+        refused: Option<MessageFault>,
     },
     /// The reply to a probe of a peer that began at this time, in milliseconds; `fault` where it is no answer.
     Probed {

@@ -11,7 +11,7 @@ ghost use Rattle.oc_routes.specs.Lawful.{IsAsked};
 ghost use Rattle.oc_wire.specs.Spelling.{HasSpelling};
 ghost use Rattle.oc_deeds.specs.Asks.{has_to_wait, replies};
 ghost use Rattle.oc_config.specs.Reading.{IsConfig};
-ghost use Rattle.oc_deeds.specs.Deeds.{Accepts, BreaksOff, Drops, Gives, Keeps, LaysAside, Looks, Notes, Permits, Probes, Reads, Refuses, Rereads, Running, Setting, Takes, Tells, Waits, after_all, back_to, sender_of};
+ghost use Rattle.oc_deeds.specs.Deeds.{Accepts, BreaksOff, Drops, Gives, Keeps, LaysAside, Looks, Notes, Permits, Probes, Reads, Refuses, Rereads, Rejects, Running, Setting, Takes, Tells, Waits, after_all, back_to, sender_of};
 ghost use Rattle.oc_deeds.specs.Lawful.{IsLawfulWaiting, IsLawfulWork};
 ghost use Rattle.oc_deeds.specs.Parts.{Part, in_turn, nothing, one};
 ghost use Rattle.oc_deeds.specs.Sends.{dials_as};
@@ -32,7 +32,7 @@ use oc_config::Config;
 use oc_link::{ConnectionId, DialId, Look};
 use oc_model::{Answer, Input};
 use oc_node::Node;
-use oc_routes::{Refusal, Request};
+use oc_routes::{MessageFault, Refusal, Request};
 use std::alloc::Global;
 
 /// A doer of deeds, one after another. The code that decides asks it for the state of the node, and then for a deed.
@@ -167,6 +167,11 @@ pub trait Doer {
         requires { serving self.old }
         ensures did { OnOk result (does (one (Refuses connection count refusal)) self.old self.new) }
         ensures breaks { IfErr result (λ end. stops end (one (Refuses connection count refusal)) self.old self.new) };
+
+    /// Counts the reply to a message that was refused.
+    fn rejects(&mut self, fault: MessageFault)
+        requires { serving self.old }
+        ensures { does (one (Rejects fault)) self.old self.new };
 
     /// Breaks a connection off.
     fn breaks_off(&mut self, connection: ConnectionId)

@@ -25,6 +25,7 @@ pub mod brief;
 mod came;
 pub mod choosing;
 pub mod contents;
+pub mod counting;
 mod dials;
 mod doer;
 mod due;

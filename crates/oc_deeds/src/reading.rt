@@ -5,7 +5,7 @@ ghost use Rattle.oc_base.specs.Lawful.{IsNode};
 ghost use Rattle.oc_http.specs.declared.fault.HttpFault.{HttpFault};
 ghost use Rattle.oc_http.specs.declared.reply.Reply.{Reply};
 ghost use Rattle.oc_model.specs.Lawful.{IsInput};
-ghost use Rattle.oc_deeds.specs.Brought.{HadMemory, IsReading, brings_message, comes_back, delivered_or, fault_of, input_of, input_of_reply, is_answer, is_taken, message_in, message_to, reading, reply_in};
+ghost use Rattle.oc_deeds.specs.Brought.{HadMemory, IsReading, brings_message, comes_back, delivered_or, fault_in, fault_of, has_ok, input_of, input_of_reply, is_answer, is_taken, message_in, message_to, reading, reply_in};
 ghost use Rattle.oc_deeds.specs.Lawful.{IsLawfulCame};
 ghost use Rattle.oc_deeds.specs.Lawful.{IsLawfulErrand};
 ghost use Rattle.oc_wire.specs.MessageReading.{decoded};
@@ -19,6 +19,7 @@ use oc_link::Coming;
 use oc_model::{Input, Message};
 use oc_policy::Keyring;
 use oc_probe::{PROBE_BYTES, ProbeFault};
+use oc_routes::MessageFault;
 use oc_wire::{WireFault, decode, is_authentic};
 use std::alloc::Global;
 
@@ -48,8 +49,14 @@ pub fn comes_back(
     match errand {
         Errand::Message { to, .. } => {
             let taken = is_taken(hearer.keys, &reply);
+            let is_ok = has_ok(&reply);
             let input = input_of(alloc, hearer, to, reply, taken)?;
-            Ok(Came::Reply { input, taken })
+            let refused = fault_in(is_ok, taken, &input);
+            Ok(Came::Reply {
+                input,
+                taken,
+                refused,
+            })
         }
         Errand::Probe { peer, since } => match fault_of(reply) {
             Some(ProbeFault::Memory) => Err(Memory),
@@ -58,7 +65,33 @@ pub fn comes_back(
     }
 }
 
-/// Whether a reading is a response of 200 that has its MAC.
+/// Whether a reading is a response of 200.
+fn has_ok(reply: &Result<ReplyInPlace, HttpFault>) -> bool
+    ensures { result ≡ has_ok (reading reply.now) }
+{
+    match reply {
+        Ok(reply) => reply.head.status == 200,
+        Err(_) => false,
+    }
+}
+
+/// Why a response brings no message, by whether it has the status 200 and its MAC, and by the input that results from it.
+fn fault_in(is_ok: bool, taken: bool, input: &Option<Input>) -> Option<MessageFault>
+    ensures { result ≡ fault_in is_ok taken input.now }
+{
+    if !is_ok {
+        return None;
+    }
+    if !taken {
+        return Some(MessageFault::Mac);
+    }
+    match input {
+        Some(Input::Delivered(_)) => None,
+        _ => Some(MessageFault::Message),
+    }
+}
+
+/// Whether what was read is a response of 200 that has its MAC.
 fn is_taken(keys: Option<&Keyring>, reply: &Result<ReplyInPlace, HttpFault>) -> bool
     ensures { result ≡ is_taken (option_map (λ k. k.now) keys.entry) (reading reply.now) }
 {

@@ -2,10 +2,11 @@
 
 ghost use Rattle.std.specs.Prelude.{◌≡◌, ℕ, IfErr, IfOk, IfSome, OnOk, option_map, slice_get};
 ghost use Rattle.oc_base.specs.Lawful.{IsNode};
+ghost use Rattle.oc_model.specs.Lawful.{IsInput};
 ghost use Rattle.oc_deeds.specs.Hurries.{came_hurries};
 ghost use Rattle.oc_deeds.specs.Lawful.{IsLawfulCame, IsMadeFor};
 ghost use Rattle.oc_deeds.specs.Measured.{IsMeasured, IsMedianOf};
-ghost use Rattle.oc_deeds.specs.Turns.{deals, happens, measures, paced, probed, probes_next, quickened, rotated, takes_due, takes_median, ticks, ticks_and_sends, with_measure};
+ghost use Rattle.oc_deeds.specs.Turns.{deals, happens, measures, paced, probed, probes_next, quickened, rejects, rotated, takes_due, takes_median, takes_reply, ticks, ticks_and_sends, with_measure};
 ghost use Rattle.oc_deeds.specs.declared.came.Came.TheVariants as comes;
 
 use crate::came::Came;
@@ -18,7 +19,9 @@ use crate::probing::{measured, next_peer};
 use crate::sending::sends;
 use crate::taking_up::{notes_fault, probes_it, takes_brought, takes_measure, takes_up, ticked};
 use oc_base::{MAX_RATE, NodeId};
+use oc_model::Input;
 use oc_probe::{ProbeFault, Probing, rate_of};
+use oc_routes::MessageFault;
 
 /// Takes up the work at an index, which is due by itself. Then it takes a tick, where one is due, and dials messages.
 pub fn takes_due<W: Doer>(
@@ -96,8 +99,12 @@ fn happens<W: Doer>(
             takes_loss(doer, connection, loss)?;
             Ok(false)
         }
-        Came::Reply { input, taken } => {
-            takes_brought(doer, input)?;
+        Came::Reply {
+            input,
+            taken,
+            refused,
+        } => {
+            takes_reply(doer, input, refused)?;
             Ok(taken)
         }
         Came::Probed { peer, since, fault } => {
@@ -108,6 +115,35 @@ fn happens<W: Doer>(
             probes_next(doer, probing)?;
             Ok(false)
         }
+    }
+}
+
+/// Counts the reply to a message where it was refused, and takes the input that results from it.
+fn takes_reply<W: Doer>(
+    doer: &mut W,
+    input: Option<Input>,
+    refused: Option<MessageFault>,
+) -> Result<(), TurnEnd>
+    requires serving { W.serving doer.old }
+    requires input { IfSome input (IsInput (W.running doer.old).node.control.nodes (W.running doer.old).node.control.me) }
+    ensures did { OnOk result (W.does (takes_reply input refused) doer.old doer.new) }
+    ensures breaks { IfErr result (λ end. W.stops end (takes_reply input refused) doer.old doer.new) }
+{
+    W::parts_go_on();
+    W::parts_stop();
+    rejects(doer, refused);
+    takes_brought(doer, input)
+}
+
+/// Counts the reply to a message that was refused, if it was.
+fn rejects<W: Doer>(doer: &mut W, refused: Option<MessageFault>)
+    requires { W.serving doer.old }
+    ensures { W.does (rejects refused) doer.old doer.new }
+{
+    W::parts_go_on();
+    match refused {
+        Some(fault) => doer.rejects(fault),
+        None => {}
     }
 }
 

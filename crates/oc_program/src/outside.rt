@@ -26,6 +26,8 @@ pub struct Outside<S: Source, K: Sink, E: Sink, T: Stage, D: Disk, L: Dialler, N
     pub pause: P,
     /// The link of a running node, for both incoming connections and dials.
     pub link: N,
+    /// When the run started, in seconds since 1970.
+    pub started: u64,
 }
 
 /// The end of a run, and its outside.

@@ -213,7 +213,8 @@ fn serve<S: Source, K: Sink, E: Sink, T: Stage, D: Disk, L: Dialler, N: Link, P:
         link: outside.link,
         sink: outside.output,
     };
-    let Served { end, site } = run_service(alloc, service, &mut outside.input, site);
+    let started = outside.started;
+    let Served { end, site } = run_service(alloc, service, started, &mut outside.input, site);
     outside.files = site.files;
     outside.link = site.link;
     outside.output = site.sink;

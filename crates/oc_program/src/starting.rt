@@ -7,7 +7,7 @@ ghost use Rattle.oc_words.specs.Status.{number_of};
 ghost use Rattle.oc_words.specs.Words.{asked, texts_of};
 
 use crate::places::Places;
-use crate::second::Second;
+use crate::second::{Second, since_1970};
 use crate::{End, Status, Streams, StreamsRun, Things, Traffic, WriterSink, run_on_streams, tell};
 use oc_keep::Files;
 use oc_system::{ClosedStreams, FileDisk, Input, NamedFile, SocketDialler, SocketLink, Trouble};
@@ -113,6 +113,7 @@ fn start_at(rt: &HostRuntime, words: &[String], places: &Places) -> Started
         dialler,
         link,
         pause,
+        started: since_1970(rt),
     };
     let ran = run_on_streams(alloc, words, streams, things);
     let StreamsRun {

@@ -33,6 +33,8 @@ pub struct Things<T: Stage, D: Disk, L: Dialler, N: Link, P: Pause> {
     pub dialler: L,
     pub link: N,
     pub pause: P,
+    /// When the run started, in seconds since 1970.
+    pub started: u64,
 }
 
 /// The streams of a run: an input, which is the standard one or a file, the file of a token, and the standard outputs.
@@ -104,6 +106,7 @@ pub fn run_in_memory<T: Stage, D: Disk, L: Dialler, N: Link, P: Pause>(
         dialler: things.dialler,
         link: things.link,
         pause: things.pause,
+        started: things.started,
     };
     let Ended { status, outside } = run(alloc, words, outside);
     MemoryRun {
@@ -118,6 +121,7 @@ pub fn run_in_memory<T: Stage, D: Disk, L: Dialler, N: Link, P: Pause>(
             dialler: outside.dialler,
             link: outside.link,
             pause: outside.pause,
+            started: outside.started,
         },
     }
 }
@@ -178,6 +182,7 @@ pub fn run_on_streams<R: Read + Drop, T: Stage, D: Disk, L: Dialler, N: Link, P:
         dialler: things.dialler,
         link: things.link,
         pause: things.pause,
+        started: things.started,
     };
     let Ended { status, outside } = run(alloc, words, outside);
     StreamsRun {
@@ -192,6 +197,7 @@ pub fn run_on_streams<R: Read + Drop, T: Stage, D: Disk, L: Dialler, N: Link, P:
             dialler: outside.dialler,
             link: outside.link,
             pause: outside.pause,
+            started: outside.started,
         },
     }
 }

@@ -24,6 +24,8 @@ pub mod Hints
 pub mod Macs
 pub mod Json
 pub mod Rows
+pub mod Tallies
+pub mod Sights
 pub mod Status
 pub mod Metrics
 pub mod PlainNames

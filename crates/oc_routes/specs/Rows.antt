@@ -1,17 +1,22 @@
 -- The rows of a table and the children of a node, with all that is told of each.
-use Rattle.std.specs.Prelude.{ℕ, Bool, true, false, ◌==◌, Option, Some, None, List, [], ◌∷◌, ◌++◌, map, drop}
+use Rattle.std.specs.Prelude.{ℕ, Bool, true, false, not, ◌==◌, Option, Some, None, List, [], ◌∷◌, ◌++◌, map, filter, drop}
 use Rattle.oc_base.specs.declared.cert.Cert.{Cert}
 use Rattle.oc_base.specs.declared.cert.Child.{Child}
 use Rattle.oc_model.specs.Node.{Control}
 use Rattle.oc_model.specs.Numbers.{at}
 use Rattle.oc_model.specs.Table.{is_listed}
 use Rattle.oc_state.specs.Children.{told_children}
+use Rattle.oc_routes.specs.Sights.{Sight, is_left_out}
 use Rattle.oc_routes.specs.declared.leased.Leased.{Leased}
 use Rattle.oc_routes.specs.declared.rows.Row.{Row}
 
 -- each row of a table, and whether its node is listed beneath r
 abbrev pub rows_of : List Cert → ℕ → List Row
 rows_of t r = map (λ k. record { cert = k; listed = is_listed t r k.subject }) t
+
+-- those of whose nodes something is told: a retired one is left out while it is not listed
+abbrev pub rows_told : Sight → List Row
+rows_told s = filter (λ row. not (is_left_out s row.cert.subject row.listed)) (rows_of s.node.kept.table s.node.me)
 
 -- each of these children, with the end of its lease by these ends
 abbrev pub leased_among : List (Option ℕ) → List Child → List Leased

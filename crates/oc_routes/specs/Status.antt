@@ -1,13 +1,16 @@
 -- The report of a node at `/!status`: one object of JSON, and a line's end.
-use Rattle.std.specs.Prelude.{ℕ, not, Option, Some, None, List, ◌++◌, codes, decimal}
+use Rattle.std.specs.Prelude.{ℕ, Bool, true, false, not, Option, Some, None, List, ◌++◌, codes, decimal}
 use Rattle.oc_base.specs.declared.cert.Cert.{Cert}
 use Rattle.oc_base.specs.declared.rank.Rank.{Rank}
 use Rattle.oc_base.specs.declared.shelf.Shelf.{Shelf}
 use Rattle.oc_model.specs.declared.mode.Mode.{Mode}
 use Rattle.oc_model.specs.declared.mode.Mode.TheVariants.{Idle, Asking, Joined, Acting}
 use Rattle.oc_model.specs.Node.{Control}
+use Rattle.oc_base.specs.declared.limits.TheConstants.{MAX_GROUPS}
 use Rattle.oc_routes.specs.Json.{array_text, flag_text, number_text, or_null, quoted}
-use Rattle.oc_routes.specs.Rows.{leased_of, rows_of}
+use Rattle.oc_routes.specs.Rows.{leased_of, rows_told}
+use Rattle.oc_routes.specs.Sights.{AboutView, Sight, missing, name_of, silence_of}
+use Rattle.oc_routes.specs.Tallies.{TallyView}
 use Rattle.oc_routes.specs.declared.leased.Leased.{Leased}
 use Rattle.oc_routes.specs.declared.rows.Row.{Row}
 
@@ -73,9 +76,13 @@ own_text cert =
     codes ",\"number\":" ++ number_text cert.number
     ++ codes ",\"clients\":" ++ number_text cert.clients
 
+-- what is told of a node besides: its name, and the seconds since it was heard of
+abbrev pub known_text : Sight → ℕ → List ℕ
+known_text s x = codes ",\"name\":" ++ or_null quoted (name_of s x) ++ codes ",\"heard\":" ++ or_null number_text (silence_of s x)
+
 -- a row of its table
-abbrev pub row_text : Row → List ℕ
-row_text row = cert_text row.cert ++ own_text row.cert ++ codes ",\"listed\":" ++ flag_text row.listed ++ codes "}"
+abbrev pub row_text : Sight → Row → List ℕ
+row_text s row = cert_text row.cert ++ own_text row.cert ++ known_text s row.cert.subject ++ codes ",\"listed\":" ++ flag_text row.listed ++ codes "}"
 
 -- a leased child: the second at which its lease ends, where one is set, and the rate that it told last
 abbrev pub child_text : Leased → List ℕ
@@ -83,6 +90,10 @@ child_text leased =
     codes "{\"node\":" ++ number_text leased.child.id
     ++ codes ",\"lease\":" ++ or_null number_text leased.lease
     ++ codes ",\"rate\":" ++ number_text leased.child.rate ++ codes "}"
+
+-- a node that is missing
+abbrev pub missing_text : Sight → ℕ → List ℕ
+missing_text s x = codes "{\"node\":" ++ number_text x ++ codes ",\"name\":" ++ or_null quoted (name_of s x) ++ codes "}"
 
 -- `,"NAME":[..]`, a list of items with these texts
 unfoldable pub list_text : {A : Type 0} → List ℕ → (A → List ℕ) → List A → List ℕ
@@ -92,16 +103,44 @@ list_text name text xs = codes ",\"" ++ name ++ codes "\":" ++ array_text text x
 unfoldable pub state_text : Control → List ℕ
 state_text n = network_text n ++ place_text n ++ counts_text n
 
--- the whole, with these rows of the node's table and these leased children: its state, the nodes above it, its groups, these
-abbrev pub object_text : Control → List Shelf → List Row → List Leased → List ℕ
-object_text n shelf rows leased =
-    codes "{" ++ state_text n
-    ++ list_text (codes "ancestors") number_text n.kept.ancestors
-    ++ list_text (codes "groups") group_text shelf
-    ++ list_text (codes "table") row_text rows
-    ++ list_text (codes "children") child_text leased
-    ++ codes "}\n"
+-- the program, and its limit of groups
+abbrev pub program_text : AboutView → List ℕ
+program_text about =
+    codes ",\"version\":" ++ quoted about.version
+    ++ codes ",\"started\":" ++ number_text about.started
+    ++ codes ",\"groups_limit\":" ++ number_text MAX_GROUPS
 
--- the whole, of a node with this shelf
-abbrev pub status_text : Control → List Shelf → List ℕ
-status_text n shelf = object_text n shelf (rows_of n.kept.table n.me) (leased_of n)
+-- what the run counted
+abbrev pub tally_text : TallyView → List ℕ
+tally_text t =
+    codes ",\"served\":" ++ number_text t.served
+    ++ codes ",\"sent\":" ++ number_text t.sent
+    ++ codes ",\"refused\":{\"mac\":" ++ number_text t.macs
+    ++ codes ",\"message\":" ++ number_text t.messages ++ codes "}"
+
+-- whether the configuration is the one that its file has
+abbrev pub configuration_word : Bool → List ℕ
+configuration_word true = codes "refused"
+configuration_word false = codes "good"
+
+-- what is told last: the node's own name, who is missing, the program, what the run counted, and the configuration
+unfoldable pub end_text : Sight → List ℕ → List ℕ
+end_text s xs =
+    codes ",\"name\":" ++ or_null quoted (name_of s s.node.me)
+    ++ list_text (codes "missing") (missing_text s) xs
+    ++ program_text s.about
+    ++ tally_text s.tally
+    ++ codes ",\"configuration\":" ++ quoted (configuration_word s.about.refused) ++ codes "}\n"
+
+-- what is told before that, with these rows of the node's table and these leased children: its state, the nodes above it, its groups, these
+abbrev pub object_text : Sight → List Row → List Leased → List ℕ
+object_text s rows leased =
+    codes "{" ++ state_text s.node
+    ++ list_text (codes "ancestors") number_text s.node.kept.ancestors
+    ++ list_text (codes "groups") group_text s.shelf
+    ++ list_text (codes "table") (row_text s) rows
+    ++ list_text (codes "children") child_text leased
+
+-- the whole, of a node that is looked at so
+abbrev pub status_text : Sight → List ℕ
+status_text s = object_text s (rows_told s) (leased_of s.node) ++ end_text s (missing s)

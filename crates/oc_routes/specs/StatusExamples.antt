@@ -2,11 +2,16 @@
 use Rattle.std.specs.Prelude.{◌≡◌, ℕ, true, false, Some, None, List, [], ◌∷◌, ◌++◌, codes}
 use Rattle.oc_base.specs.declared.cert.Cert.{Cert}
 use Rattle.oc_base.specs.declared.shelf.Shelf.{Shelf}
+use Rattle.oc_model.specs.declared.answer.Answer.TheVariants.{Redirect, Serve}
+use Rattle.oc_model.specs.declared.input.Input.TheVariants.{CheckNow, Tick}
 use Rattle.oc_model.specs.declared.mode.Mode.TheVariants.{Acting, Joined}
 use Rattle.oc_model.specs.Node.{Control, new_control}
 use Rattle.oc_routes.specs.Json.{number_text}
 use Rattle.oc_routes.specs.Metrics.{metrics_text}
+use Rattle.oc_routes.specs.Sights.{AboutView, Sight}
 use Rattle.oc_routes.specs.Status.{status_text}
+use Rattle.oc_routes.specs.Tallies.{TallyView, first_tally, known_before, with_answer, with_news, with_refused, with_reply, with_sender, with_sent}
+use Rattle.oc_routes.specs.declared.tally.MessageFault.TheVariants.{Mac, Message}
 
 -- node 1 of five, new
 abbrev new_one : Control
@@ -40,28 +45,75 @@ joined = record new_one {
 abbrev shelf : List Shelf
 shelf = record { group = codes "/a"; held = 5; sealed = true } ∷ record { group = codes "/b"; held = 0; sealed = false } ∷ []
 
+-- version 1.0.0, started at 2026-12-01T00:00:00Z
+abbrev about : AboutView
+about = record { version = codes "1.0.0"; started = 1796083200; refused = false }
+
+-- a node of five that has counted nothing yet, of which no node has a name or an address
+abbrev seen : Control → Sight
+seen n = record {
+  node = n;
+  shelf = [];
+  messages = 0;
+  addresses = None ∷ None ∷ None ∷ None ∷ None ∷ [];
+  names = None ∷ None ∷ None ∷ None ∷ None ∷ [];
+  retired = false ∷ false ∷ false ∷ false ∷ false ∷ [];
+  tally = first_tally 5;
+  about = about;
+}
+
+-- what the root counted: a client was served the head of a reply and three bytes more, and another one was refused; messages were refused; 2 was
+-- heard of at second 9, and 3 at second 11, when it was told to be dead
+abbrev counted : TallyView
+counted =
+    with_news (Some (born 2 1 ∷ born 3 2 ∷ born 4 3 ∷ [])) (born 2 1 ∷ record (born 3 2) { dead = true } ∷ born 4 3 ∷ []) 11
+    (with_sender (Some 2) 9 (with_refused Message (with_refused Mac (with_refused Mac
+    (with_reply (codes "HTTP/1.1 404 Not Found\r\n\r\n") (with_sent 3 (with_reply (codes "HTTP/1.1 200 OK\r\n\r\n") (with_answer (Serve 3) (first_tally 5)))))))))
+
+-- the root with its groups, with names of 1 and 2, while 4 is retired and 5 has an address and no row; its configuration's file was refused
+abbrev looked_at : Sight
+looked_at = record (seen acting) {
+  shelf = shelf;
+  messages = 3;
+  addresses = Some (codes "a:1") ∷ Some (codes "b:2") ∷ Some (codes "c:3") ∷ None ∷ Some (codes "e:5") ∷ [];
+  names = Some (codes "Berlin") ∷ Some (codes "Oslo, 2") ∷ None ∷ Some (codes "old") ∷ Some (codes "new") ∷ [];
+  retired = false ∷ false ∷ false ∷ true ∷ false ∷ [];
+  tally = counted;
+  about = record about { refused = true };
+}
+
 pub record AreTold : Type 0 where
   pub new_node :
-      status_text new_one []
+      status_text (seen new_one)
       ≡ codes "{\"node\":1,\"nodes\":5,\"chain\":1,\"chunk\":4096,\"mode\":\"idle\",\"parent\":null,\"seq\":0,\"rank\":null,\"clock\":0,"
-      ++ codes "\"log\":{\"length\":0,\"acked\":0},\"number\":0,\"clients\":0,\"ancestors\":[],\"groups\":[],\"table\":[],\"children\":[]}\n"
+      ++ codes "\"log\":{\"length\":0,\"acked\":0},\"number\":0,\"clients\":0,\"ancestors\":[],\"groups\":[],\"table\":[],\"children\":[],"
+      ++ codes "\"name\":null,\"missing\":[],\"version\":\"1.0.0\",\"started\":1796083200,\"groups_limit\":64,\"served\":0,\"sent\":0,"
+      ++ codes "\"refused\":{\"mac\":0,\"message\":0},\"configuration\":\"good\"}\n"
+  -- a retired node that is not listed is left out
   pub root :
-      status_text acting shelf
+      status_text looked_at
       ≡ codes "{\"node\":1,\"nodes\":5,\"chain\":1,\"chunk\":4096,\"mode\":\"acting\",\"parent\":null,\"seq\":0,\"rank\":\"3.0\",\"clock\":12,"
       ++ codes "\"log\":{\"length\":0,\"acked\":0},\"number\":2,\"clients\":7,\"ancestors\":[],"
       ++ codes "\"groups\":[{\"name\":\"/a\",\"bytes\":5,\"sealed\":true},{\"name\":\"/b\",\"bytes\":0,\"sealed\":false}],"
-      ++ codes "\"table\":[{\"node\":2,\"parent\":1,\"seq\":1,\"up\":true,\"number\":1,\"clients\":\"9007199254740993\",\"listed\":true},"
-      ++ codes "{\"node\":3,\"parent\":2,\"seq\":2,\"up\":false,\"number\":0,\"clients\":0,\"listed\":false},"
-      ++ codes "{\"node\":4,\"parent\":3,\"seq\":1,\"up\":true,\"number\":0,\"clients\":0,\"listed\":false}],"
-      ++ codes "\"children\":[{\"node\":2,\"lease\":40,\"rate\":1200}]}\n"
+      ++ codes "\"table\":[{\"node\":2,\"parent\":1,\"seq\":1,\"up\":true,\"number\":1,\"clients\":\"9007199254740993\",\"name\":\"Oslo, 2\",\"heard\":3,\"listed\":true},"
+      ++ codes "{\"node\":3,\"parent\":2,\"seq\":2,\"up\":false,\"number\":0,\"clients\":0,\"name\":null,\"heard\":1,\"listed\":false}],"
+      ++ codes "\"children\":[{\"node\":2,\"lease\":40,\"rate\":1200}],"
+      ++ codes "\"name\":\"Berlin\",\"missing\":[{\"node\":5,\"name\":\"new\"}],\"version\":\"1.0.0\",\"started\":1796083200,\"groups_limit\":64,"
+      ++ codes "\"served\":1,\"sent\":48,\"refused\":{\"mac\":2,\"message\":1},\"configuration\":\"refused\"}\n"
   pub joined_node :
-      status_text joined []
+      status_text (seen joined)
       ≡ codes "{\"node\":1,\"nodes\":5,\"chain\":1,\"chunk\":4096,\"mode\":\"joined\",\"parent\":5,\"seq\":2,\"rank\":\"3.2\",\"clock\":0,"
-      ++ codes "\"log\":{\"length\":3,\"acked\":1},\"number\":0,\"clients\":0,\"ancestors\":[5,2],\"groups\":[],\"table\":[],\"children\":[]}\n"
+      ++ codes "\"log\":{\"length\":3,\"acked\":1},\"number\":0,\"clients\":0,\"ancestors\":[5,2],\"groups\":[],\"table\":[],\"children\":[],"
+      ++ codes "\"name\":null,\"missing\":[],\"version\":\"1.0.0\",\"started\":1796083200,\"groups_limit\":64,\"served\":0,\"sent\":0,"
+      ++ codes "\"refused\":{\"mac\":0,\"message\":0},\"configuration\":\"good\"}\n"
   pub last_exact : number_text 9007199254740992 ≡ codes "9007199254740992"
   pub past_it : number_text 9007199254740993 ≡ codes "\"9007199254740993\""
+  -- a redirection serves nobody; neither does a tick that changes no row make a node heard of, nor an input that can change none
+  pub redirected : with_answer (Redirect 2) (first_tally 5) ≡ first_tally 5
+  pub nothing_new : with_news (known_before (Tick 7) (born 2 1 ∷ [])) (born 2 1 ∷ []) 7 (first_tally 5) ≡ first_tally 5
+  pub no_row_to_change : known_before CheckNow (born 2 1 ∷ []) ≡ None
   pub metrics :
-      metrics_text acting shelf 3
+      metrics_text looked_at
       ≡ codes "# HELP overcast_up The node answers.\n# TYPE overcast_up gauge\novercast_up 1\n"
       ++ codes "# HELP overcast_acting The node acts as root.\n# TYPE overcast_acting gauge\novercast_acting 1\n"
       ++ codes "# HELP overcast_joined The node is joined to a parent.\n# TYPE overcast_joined gauge\novercast_joined 0\n"
@@ -73,3 +125,23 @@ pub record AreTold : Type 0 where
       ++ codes "# HELP overcast_group_bytes Bytes held of a group.\n# TYPE overcast_group_bytes gauge\novercast_group_bytes{group=\"/a\"} 5\novercast_group_bytes{group=\"/b\"} 0\n"
       ++ codes "# HELP overcast_group_sealed Whether a group is sealed.\n# TYPE overcast_group_sealed gauge\novercast_group_sealed{group=\"/a\"} 1\novercast_group_sealed{group=\"/b\"} 0\n"
       ++ codes "# HELP overcast_outbox_messages Messages waiting to be sent.\n# TYPE overcast_outbox_messages gauge\novercast_outbox_messages 3\n"
+      ++ codes "# HELP overcast_node_up Whether a node is listed; told by an acting node.\n# TYPE overcast_node_up gauge\n"
+      ++ codes "overcast_node_up{node=\"1\",name=\"Berlin\"} 1\novercast_node_up{node=\"2\",name=\"Oslo, 2\"} 1\n"
+      ++ codes "overcast_node_up{node=\"3\"} 0\novercast_node_up{node=\"5\",name=\"new\"} 0\n"
+      ++ codes "# HELP overcast_node_last_heard_seconds Seconds since a node was heard of.\n# TYPE overcast_node_last_heard_seconds gauge\n"
+      ++ codes "overcast_node_last_heard_seconds{node=\"2\",name=\"Oslo, 2\"} 3\novercast_node_last_heard_seconds{node=\"3\"} 1\n"
+      ++ codes "# HELP overcast_sent_bytes_total Bytes of replies to clients.\n# TYPE overcast_sent_bytes_total counter\novercast_sent_bytes_total 48\n"
+      ++ codes "# HELP overcast_requests_total Replies to clients.\n# TYPE overcast_requests_total counter\n"
+      ++ codes "overcast_requests_total{status=\"200\"} 1\novercast_requests_total{status=\"206\"} 0\novercast_requests_total{status=\"301\"} 0\n"
+      ++ codes "overcast_requests_total{status=\"302\"} 0\novercast_requests_total{status=\"304\"} 0\novercast_requests_total{status=\"400\"} 0\n"
+      ++ codes "overcast_requests_total{status=\"401\"} 0\novercast_requests_total{status=\"403\"} 0\novercast_requests_total{status=\"404\"} 1\n"
+      ++ codes "overcast_requests_total{status=\"405\"} 0\novercast_requests_total{status=\"409\"} 0\novercast_requests_total{status=\"411\"} 0\n"
+      ++ codes "overcast_requests_total{status=\"412\"} 0\novercast_requests_total{status=\"413\"} 0\novercast_requests_total{status=\"416\"} 0\n"
+      ++ codes "overcast_requests_total{status=\"431\"} 0\novercast_requests_total{status=\"501\"} 0\novercast_requests_total{status=\"503\"} 0\n"
+      ++ codes "# HELP overcast_refused_messages_total Messages of nodes that were refused.\n# TYPE overcast_refused_messages_total counter\n"
+      ++ codes "overcast_refused_messages_total{cause=\"mac\"} 2\novercast_refused_messages_total{cause=\"message\"} 1\n"
+      ++ codes "# HELP overcast_clients_total Clients served since the start.\n# TYPE overcast_clients_total counter\novercast_clients_total 1\n"
+      ++ codes "# HELP overcast_groups_limit The most groups that a node holds.\n# TYPE overcast_groups_limit gauge\novercast_groups_limit 64\n"
+      ++ codes "# HELP overcast_start_time_seconds When the node started, in seconds since 1970.\n# TYPE overcast_start_time_seconds gauge\novercast_start_time_seconds 1796083200\n"
+      ++ codes "# HELP overcast_build_info The version of the program.\n# TYPE overcast_build_info gauge\novercast_build_info{version=\"1.0.0\"} 1\n"
+      ++ codes "# HELP overcast_configuration_refused Whether the configuration's file was refused when it was read last.\n# TYPE overcast_configuration_refused gauge\novercast_configuration_refused 1\n"

@@ -48,6 +48,7 @@
 //! In a network with a key a message is read only from a body whose MAC came with it ([`a_message_has_its_mac`]).
 #![tactic(auto)]
 
+mod about;
 mod addresses;
 mod answered;
 mod arrays;
@@ -61,6 +62,7 @@ mod hint;
 mod holding;
 mod json;
 mod judging;
+mod known_rows;
 mod law;
 mod leased;
 mod lines;
@@ -80,11 +82,14 @@ mod routes;
 mod rows;
 mod seen;
 mod showing;
+mod sights;
 mod status_law;
+mod tally;
 mod terms;
 mod verdict;
 mod waiting;
 
+pub use about::About;
 pub use addresses::address_of;
 pub use answered::Answered;
 pub use condition::unmet;
@@ -95,6 +100,7 @@ pub use fault::RouteFault;
 pub use hint::{Asked, Hint, route_with_hint};
 pub use holding::Holding;
 pub use judging::judge;
+pub use known_rows::KnownRows;
 pub use law::{
     a_location_names_its_group, a_refusal_is_one_line, a_token_tells_nothing, examples_compute,
     steps_answer_by_the_table,
@@ -119,6 +125,7 @@ pub use routes::status::{STATUS_NAME, STATUS_PATH, status};
 pub use routes::{Operation, input_of, respond, route};
 pub use seen::Seen;
 pub use status_law::{examples_are_told, names_are_plain};
+pub use tally::{MessageFault, STATUSES, StatusCount, Tally};
 pub use terms::Terms;
 pub use verdict::{Refusal, Request, Verdict};
 pub use waiting::{FOLLOW_MILLIS, Follower, IDLE_MILLIS, Prospect, is_to_wait, millis_left};

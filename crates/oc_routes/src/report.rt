@@ -2,6 +2,7 @@
 
 ghost use Rattle.std.specs.Prelude.{◌≡◌, IfOk};
 ghost use Rattle.oc_routes.specs.Reports.{content_type_of, report_of, report_response, report_text};
+ghost use Rattle.oc_routes.specs.Sights.{sight_of};
 
 use crate::manner::{Manner, body_for, connection_for};
 use crate::response::Response;
@@ -41,7 +42,7 @@ impl Report {
 
 /// The report of a node that is asked for; without one no text.
 pub fn report_of(alloc: Global, operation: &Operation, seen: &Seen<'_>) -> Result<Vec<u8>, Memory>
-    ensures { IfOk result (λ text. text.items ≡ report_of operation.now seen.now.node.now.control seen.now.shelf.now seen.now.messages) }
+    ensures { IfOk result (λ text. text.items ≡ report_of operation.now (sight_of seen.now)) }
 {
     match operation {
         Operation::Report { report, .. } => report_text(alloc, *report, seen),
@@ -51,11 +52,11 @@ pub fn report_of(alloc: Global, operation: &Operation, seen: &Seen<'_>) -> Resul
 
 /// The text of a report.
 fn report_text(alloc: Global, report: Report, seen: &Seen<'_>) -> Result<Vec<u8>, Memory>
-    ensures { IfOk result (λ text. text.items ≡ report_text report seen.now.node.now.control seen.now.shelf.now seen.now.messages) }
+    ensures { IfOk result (λ text. text.items ≡ report_text report (sight_of seen.now)) }
 {
     match report {
-        Report::Status => status(alloc, seen.node, seen.shelf),
-        Report::Metrics => metrics(alloc, seen.node, seen.shelf, seen.messages),
+        Report::Status => status(alloc, seen),
+        Report::Metrics => metrics(alloc, seen),
         Report::Page => page_copy(alloc),
     }
 }

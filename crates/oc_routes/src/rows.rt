@@ -1,9 +1,12 @@
 //! The rows of a table, and those that are listed.
 
 ghost use Rattle.std.specs.Prelude.{◌≡◌, ◌++◌, map, IfOk, OnOk};
-ghost use Rattle.oc_routes.specs.Rows.{after_row, is_first, marked, row_of, rows_of};
+ghost use Rattle.oc_routes.specs.Rows.{after_row, is_first, marked, row_of, rows_of, rows_told};
+ghost use Rattle.oc_routes.specs.Sights.{sight_of};
 ghost use Rattle.oc_updown.specs.TableView.{AreTableRows};
 
+use crate::seen::Seen;
+use crate::sights::is_left_out;
 use oc_base::{Cert, Line, Memory, NodeId, Slots};
 use oc_updown::Table;
 use std::alloc::Global;
@@ -24,6 +27,20 @@ pub(crate) fn rows_of(alloc: Global, table: &Table, me: NodeId) -> Result<Vec<Ro
     let mut made = Vec::new(alloc);
     push_rows(&mut made, table.rows(), &lines)?;
     Ok(made)
+}
+
+/// The rows of those nodes of whom something is told: a retired one is left out while it is not listed.
+pub(crate) fn rows_told(alloc: Global, seen: &Seen<'_>) -> Result<Vec<Row>, Memory>
+    ensures { IfOk result (λ told. told.items ≡ rows_told (sight_of seen.now)) }
+{
+    let rows = rows_of(alloc, seen.node.table(), seen.node.id())?;
+    let mut told = Vec::with_capacity(alloc, rows.len())?;
+    for row in &rows {
+        if !is_left_out(seen, row.cert.subject, row.listed) {
+            told.push(*row)?;
+        }
+    }
+    Ok(told)
 }
 
 /// Puts each row at the end; the lines are those of the listed nodes, ascending as the rows are.

@@ -1,3 +1,6 @@
+use crate::about::About;
+use crate::directory::Directory;
+use crate::tally::Tally;
 use oc_base::Shelf;
 use oc_node::Node;
 
@@ -9,4 +12,9 @@ pub struct Seen<'a> {
     pub shelf: &'a [Shelf],
     /// The number of messages in its outbox.
     pub messages: usize,
+    /// What its configuration says of the nodes.
+    pub directory: Directory<'a>,
+    /// What its run counted.
+    pub tally: &'a Tally,
+    pub about: About,
 }

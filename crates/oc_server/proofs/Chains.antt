@@ -26,6 +26,7 @@ node_behind (deeds.Permits c) a = refl
 node_behind (deeds.Waits w) a = refl
 node_behind (deeds.Replies r response now) a = refl
 node_behind (deeds.Refuses c count why) a = refl
+node_behind (deeds.Rejects fault) a = refl
 node_behind (deeds.BreaksOff c) a = refl
 node_behind (deeds.Gives p now) a = refl
 node_behind (deeds.LaysAside p) a = refl

@@ -17,7 +17,7 @@ module _ {D L K : Type 0} (view : D → DiskView) (takes fails : K → List ℕ 
       → Does view takes faults story counts nothing old (record old { kept = kept })
   looked_on takes_nothing old kept looks = record {
     deeds = [];
-    did = did_look view takes fails faults story counts takes_nothing old (record old { kept = kept }) refl refl refl refl refl refl refl
+    did = did_look view takes fails faults story counts takes_nothing old (record old { kept = kept }) refl refl refl refl refl refl refl refl refl
         (lawful_of old (record old { kept = kept }) looks.same (λ all. all) (λ all. all) (λ all. all)) looks;
     are = λ honest. refl;
   }

@@ -30,6 +30,7 @@ use Rattle.oc_deeds.specs.Under.{Idle}
 use Rattle.oc_deeds.specs.declared.dials.Dialling.{Dialling}
 use Rattle.oc_deeds.specs.declared.ends.TurnEnd.{TurnEnd}
 use Rattle.oc_deeds.specs.declared.ends.TurnEnd.TheVariants as ends
+use Rattle.oc_routes.specs.Tallies.{TallyView}
 use Rattle.oc_server.specs.declared.server.Server.{Server}
 use Rattle.oc_deeds.specs.declared.work.Transfer.{Transfer}
 use Rattle.oc_deeds.specs.declared.work.Work.{Work}
@@ -41,18 +42,19 @@ use Rattle.oc_server.proofs.Scenes.{done_none}
 module _ {D L K : Type 0} (view : D → DiskView) (takes fails : K → List ℕ → K → Type 0) (faults : K → ℕ) (story : L → Option (List Call)) (counts : L → LinkCounts) where
   -- One deed that takes no input
 
-  pub did_step : (d : Deed) (old new : Server D L K) → deed_input d ≡ None → reread_of d ≡ None → new.config ≡ old.config → new.log ≡ old.log
+  pub did_step : (d : Deed) (old new : Server D L K) → deed_input d ≡ None → reread_of d ≡ None → new.config ≡ old.config → new.log ≡ old.log → new.about ≡ old.about
       → takes old.sink (line (setting old) d) new.sink → NoFall (faults old.sink) (faults new.sink)
       → CountsAll (d ∷ []) (counts old.link) (counts new.link) → LooksOnly view old.kept new.kept → (IsLawful old → IsLawful new)
       → (IsHonest view old.kept → running new ≡ after d (running old))
       → (IsHonest view old.kept → AddsAll (calls (setting old) d (running old)) (story old.link) (story new.link))
       → Did view takes faults story counts (d ∷ []) old new
-  did_step d old new none unread config log text few counted looks lawful is made = record {
+  did_step d old new none unread config log about text few counted looks lawful is made = record {
     is_open = looks.is_open;
     same = looks.same;
     config = config ∙ ap (λ (o : Option Settings). unwrap_or o old.config) (sym unread);
     set = set_of old new looks.same config;
     log = log;
+    about = about;
     goes_on = looks.goes_on;
     no_fall = few;
     counted = counted;
@@ -77,32 +79,33 @@ module _ {D L K : Type 0} (view : D → DiskView) (takes fails : K → List ℕ 
       → record (running old) { works = ws } ≡ after d (running old) → AddsAll (calls (setting old) d (running old)) (story old.link) (story link)
       → Did view takes faults story counts (d ∷ []) old (record old { works = ws; link = link })
   did_works takes_nothing d old ws link none unread silent is_open counted lawful is made =
-      did_step d old (record old { works = ws; link = link }) none unread refl refl (subst (λ (t : List ℕ). takes old.sink t old.sink) (sym silent) (takes_nothing old.sink)) (omega arith)
+      did_step d old (record old { works = ws; link = link }) none unread refl refl refl (subst (λ (t : List ℕ). takes old.sink t old.sink) (sym silent) (takes_nothing old.sink)) (omega arith)
       counted (looks_none view old.kept is_open) (lawful_of old (record old { works = ws; link = link }) (record { me = refl; header = refl }) (λ all. all) lawful (λ all. all)) (λ honest. is) (λ honest. made)
 
-  -- a deed that writes a line, and changes the works and the link
-  pub did_line : (d : Deed) (old : Server D L K) (sink : K) (ws : List Work) (link : L) → deed_input d ≡ None → reread_of d ≡ None
+  -- a deed that writes a line, and changes the works, the link and the counts
+  pub did_line : (d : Deed) (old : Server D L K) (sink : K) (ws : List Work) (link : L) (tally : TallyView) → deed_input d ≡ None → reread_of d ≡ None
       → old.kept.closed ≡ false → CountsAll (d ∷ []) (counts old.link) (counts link) → takes old.sink (line (setting old) d) sink → NoFall (faults old.sink) (faults sink)
       → (AllByRecursion (IsLawfulWork old.kept.node.control.nodes old.kept.node.control.me) old.works → AllByRecursion (IsLawfulWork old.kept.node.control.nodes old.kept.node.control.me) ws)
-      → record (running old) { works = ws } ≡ after d (running old) → AddsAll (calls (setting old) d (running old)) (story old.link) (story link)
-      → Did view takes faults story counts (d ∷ []) old (record old { sink = sink; works = ws; link = link })
-  did_line d old sink ws link none unread is_open counted text few lawful is made =
-      did_step d old (record old { sink = sink; works = ws; link = link }) none unread refl refl text few counted (looks_none view old.kept is_open)
-      (lawful_of old (record old { sink = sink; works = ws; link = link }) (record { me = refl; header = refl }) (λ all. all) lawful (λ all. all)) (λ honest. is) (λ honest. made)
+      → record (running old) { works = ws; tally = tally } ≡ after d (running old) → AddsAll (calls (setting old) d (running old)) (story old.link) (story link)
+      → Did view takes faults story counts (d ∷ []) old (record old { sink = sink; works = ws; link = link; tally = tally })
+  did_line d old sink ws link tally none unread is_open counted text few lawful is made =
+      did_step d old (record old { sink = sink; works = ws; link = link; tally = tally }) none unread refl refl refl text few counted (looks_none view old.kept is_open)
+      (lawful_of old (record old { sink = sink; works = ws; link = link; tally = tally }) (record { me = refl; header = refl }) (λ all. all) lawful (λ all. all)) (λ honest. is) (λ honest. made)
 
-  -- a deed after a look that changes the works and the link
-  pub did_given : (takes_nothing : (k : K) → takes k [] k) (d : Deed) (old : Server D L K) (kept : KeptView D) (ws left : List Work) (link : L) → deed_input d ≡ None → reread_of d ≡ None → line (setting old) d ≡ []
+  -- a deed after a look that changes the works, the link and the counts
+  pub did_given : (takes_nothing : (k : K) → takes k [] k) (d : Deed) (old : Server D L K) (kept : KeptView D) (ws left : List Work) (link : L) (tally counts_to : TallyView) → deed_input d ≡ None → reread_of d ≡ None → line (setting old) d ≡ []
       → LooksOnly view old.kept kept → CountsAll (d ∷ []) (counts old.link) (counts link)
       → (AllByRecursion (IsLawfulWork old.kept.node.control.nodes old.kept.node.control.me) old.works → AllByRecursion (IsLawfulWork old.kept.node.control.nodes old.kept.node.control.me) ws)
-      → after d (running old) ≡ record (running old) { works = left } → (IsHonest view old.kept → ws ≡ left)
+      → after d (running old) ≡ record (running old) { works = left; tally = counts_to } → (IsHonest view old.kept → ws ≡ left) → (IsHonest view old.kept → tally ≡ counts_to)
       → (IsHonest view old.kept → AddsAll (calls (setting old) d (running old)) (story old.link) (story link))
-      → Did view takes faults story counts (d ∷ []) old (record old { kept = kept; works = ws; link = link })
-  did_given takes_nothing d old kept ws left link none unread silent looks counted lawful behind is made =
-      did_step d old (record old { kept = kept; works = ws; link = link }) none unread refl refl (subst (λ (t : List ℕ). takes old.sink t old.sink) (sym silent) (takes_nothing old.sink)) (omega arith)
-      counted looks (lawful_of old (record old { kept = kept; works = ws; link = link }) looks.same (λ all. all) lawful (λ all. all))
+      → Did view takes faults story counts (d ∷ []) old (record old { kept = kept; works = ws; link = link; tally = tally })
+  did_given takes_nothing d old kept ws left link tally counts_to none unread silent looks counted lawful behind is tallied made =
+      did_step d old (record old { kept = kept; works = ws; link = link; tally = tally }) none unread refl refl refl (subst (λ (t : List ℕ). takes old.sink t old.sink) (sym silent) (takes_nothing old.sink)) (omega arith)
+      counted looks (lawful_of old (record old { kept = kept; works = ws; link = link; tally = tally }) looks.same (λ all. all) lawful (λ all. all))
       (λ honest.
-      ap (λ (n : Node). record { node = n; outbox = old.outbox; works = ws; dials = old.dials; config = old.config }) (looks.node honest)
-      ∙ ap (λ (x : List Work). record { node = node_of old.kept; outbox = old.outbox; works = x; dials = old.dials; config = old.config }) (is honest)
+      ap (λ (n : Node). record { node = n; outbox = old.outbox; works = ws; dials = old.dials; config = old.config; tally = tally }) (looks.node honest)
+      ∙ ap (λ (x : List Work). record { node = node_of old.kept; outbox = old.outbox; works = x; dials = old.dials; config = old.config; tally = tally }) (is honest)
+      ∙ ap (λ (t : TallyView). record { node = node_of old.kept; outbox = old.outbox; works = left; dials = old.dials; config = old.config; tally = t }) (tallied honest)
       ∙ sym behind) made
 
   -- one that goes by another configuration
@@ -129,15 +132,16 @@ module _ {D L K : Type 0} (view : D → DiskView) (takes fails : K → List ℕ 
   }
 
   -- none, and the files were looked at
-  pub did_look : (takes_nothing : (k : K) → takes k [] k) (old new : Server D L K) → new.config ≡ old.config → new.log ≡ old.log → new.sink ≡ old.sink → new.link ≡ old.link
-      → new.outbox ≡ old.outbox → new.works ≡ old.works → new.dials ≡ old.dials → (IsLawful old → IsLawful new)
+  pub did_look : (takes_nothing : (k : K) → takes k [] k) (old new : Server D L K) → new.config ≡ old.config → new.log ≡ old.log → new.about ≡ old.about → new.sink ≡ old.sink → new.link ≡ old.link
+      → new.outbox ≡ old.outbox → new.works ≡ old.works → new.dials ≡ old.dials → new.tally ≡ old.tally → (IsLawful old → IsLawful new)
       → LooksOnly view old.kept new.kept → Did view takes faults story counts [] old new
-  did_look takes_nothing old new config log sink link outbox works dials lawful looks = record {
+  did_look takes_nothing old new config log about sink link outbox works dials tally lawful looks = record {
     is_open = looks.is_open;
     same = looks.same;
     config = config;
     set = set_of old new looks.same config;
     log = log;
+    about = about;
     goes_on = looks.goes_on;
     no_fall = subst (λ (k : K). NoFall (faults old.sink) (faults k)) (sym sink) (omega arith);
     counted = ap counts link;
@@ -155,11 +159,12 @@ module _ {D L K : Type 0} (view : D → DiskView) (takes fails : K → List ℕ 
     where
       is_same : IsHonest view old.kept → running new ≡ running old
       is_same honest =
-          ap (λ (n : Node). record { node = n; outbox = new.outbox; works = new.works; dials = new.dials; config = new.config }) (looks.node honest)
-          ∙ ap (λ (ms : List Message). record { node = node_of old.kept; outbox = ms; works = new.works; dials = new.dials; config = new.config }) outbox
-          ∙ ap (λ (ws : List Work). record { node = node_of old.kept; outbox = old.outbox; works = ws; dials = new.dials; config = new.config }) works
-          ∙ ap (λ (ds : List Dialling). record { node = node_of old.kept; outbox = old.outbox; works = old.works; dials = ds; config = new.config }) dials
-          ∙ ap (λ (c : Settings). record { node = node_of old.kept; outbox = old.outbox; works = old.works; dials = old.dials; config = c }) config
+          ap (λ (n : Node). record { node = n; outbox = new.outbox; works = new.works; dials = new.dials; config = new.config; tally = new.tally }) (looks.node honest)
+          ∙ ap (λ (ms : List Message). record { node = node_of old.kept; outbox = ms; works = new.works; dials = new.dials; config = new.config; tally = new.tally }) outbox
+          ∙ ap (λ (ws : List Work). record { node = node_of old.kept; outbox = old.outbox; works = ws; dials = new.dials; config = new.config; tally = new.tally }) works
+          ∙ ap (λ (ds : List Dialling). record { node = node_of old.kept; outbox = old.outbox; works = old.works; dials = ds; config = new.config; tally = new.tally }) dials
+          ∙ ap (λ (c : Settings). record { node = node_of old.kept; outbox = old.outbox; works = old.works; dials = old.dials; config = c; tally = new.tally }) config
+          ∙ ap (λ (t : TallyView). record { node = node_of old.kept; outbox = old.outbox; works = old.works; dials = old.dials; config = old.config; tally = t }) tally
 
   -- A break at once
 

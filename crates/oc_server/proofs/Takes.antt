@@ -29,7 +29,7 @@ use Rattle.oc_routes.specs.Inputs.{HasLine}
 use Rattle.oc_wire.specs.Spelling.{HasSpelling}
 use Rattle.std.specs.Prelude.{unwrap_or}
 use Rattle.oc_config.specs.Settings.{Settings}
-use Rattle.oc_deeds.specs.Deeds.{Accepts, Deed, Running, Takes, after, calls, for_outbox, deed_input, line, reread_of, sender_of, taken_line, with_input}
+use Rattle.oc_deeds.specs.Deeds.{Accepts, counted_input, Deed, Running, Takes, after, calls, for_outbox, deed_input, line, reread_of, sender_of, taken_line, with_input}
 use Rattle.oc_server.specs.Noting.{LineStops}
 use Rattle.oc_server.specs.Moments.{TakesOne}
 use Rattle.oc_deeds.specs.Outboxes.{with_messages}
@@ -41,6 +41,8 @@ use Rattle.oc_deeds.specs.Sending.{AreSendable}
 use Rattle.oc_deeds.specs.declared.dials.Dialling.{Dialling}
 use Rattle.oc_deeds.specs.declared.ends.TurnEnd.{TurnEnd}
 use Rattle.oc_deeds.specs.declared.ends.TurnEnd.TheVariants as ends
+use Rattle.oc_routes.specs.Tallies.{TallyView, known_before}
+use Rattle.oc_deeds.specs.Counted.{noted}
 use Rattle.oc_server.specs.declared.server.Server.{Server}
 use Rattle.oc_deeds.specs.declared.work.Work.{Work}
 use Rattle.oc_server.proofs.Looking.{go_on_none, keeps_one, named}
@@ -100,22 +102,28 @@ module _ {D : Type 0} (view : D → DiskView) (law : Law view) (old new : KeptVi
 
 -- A server that takes an input
 
+-- what it counted, with an input of this outcome that led from one server to another
+abbrev noted_by : {D L K : Type 0} → Input → OutcomeView → Server D L K → Server D L K → TallyView
+noted_by i outcome old new = noted (sender_of i) (known_before i old.kept.node.control.kept.table) outcome.answer new.kept.node.control old.tally
+
 module _ {D L K : Type 0} (view : D → DiskView) (takes fails : K → List ℕ → K → Type 0) (faults : K → ℕ) (story : L → Option (List Call)) (counts : L → LinkCounts) where
   -- an input was taken with its line, and these of its messages went to the outbox
   did_input : (d : Deed) (i : Input) (outcome : OutcomeView) (kept : List Message → List Message) (old new : Server D L K)
       → deed_input d ≡ Some i → reread_of d ≡ None → line (setting old) d ≡ taken_line old.log old.kept.node.control.me i
-      → ((a : Running) → after d a ≡ record a { node = (step a.node i).node; outbox = with_messages a.outbox (kept (step a.node i).sends) }) → ((a : Running) → calls (setting old) d a ≡ [])
+      → ((a : Running) → after d a ≡ record a { node = (step a.node i).node; outbox = with_messages a.outbox (kept (step a.node i).sends); tally = counted_input i a.node a.tally }) → ((a : Running) → calls (setting old) d a ≡ [])
       → CountsAll (d ∷ []) (counts old.link) (counts old.link)
       → ((ms : List Message) → AreSendable old.kept.node.control.nodes ms → AreSendable old.kept.node.control.nodes (kept ms))
       → old.kept.closed ≡ false → KeepsOne view i outcome old.kept new.kept → takes old.sink (taken_line old.log old.kept.node.control.me i) new.sink → NoFall (faults old.sink) (faults new.sink)
-      → new.config ≡ old.config → new.log ≡ old.log → new.link ≡ old.link → new.works ≡ old.works → new.dials ≡ old.dials → new.outbox ≡ with_messages old.outbox (kept outcome.sends)
+      → new.config ≡ old.config → new.log ≡ old.log → new.about ≡ old.about → new.link ≡ old.link → new.works ≡ old.works → new.dials ≡ old.dials → new.outbox ≡ with_messages old.outbox (kept outcome.sends)
+      → new.tally ≡ noted_by i outcome old new
       → Did view takes faults story counts (d ∷ []) old new
-  did_input d i outcome kept old new own unread lined behind silent counted can is_open keeps text few config log link works dials outbox = record {
+  did_input d i outcome kept old new own unread lined behind silent counted can is_open keeps text few config log about link works dials outbox tally = record {
     is_open = keeps.is_open;
     same = keeps.same;
     config = config ∙ ap (λ (o : Option Settings). unwrap_or o old.config) (sym unread);
     set = set_of old new keeps.same config;
     log = log;
+    about = about;
     goes_on = keeps.goes_on;
     no_fall = few;
     counted = subst (λ (l : L). CountsAll (d ∷ []) (counts old.link) (counts l)) (sym link) counted;
@@ -138,26 +146,36 @@ module _ {D L K : Type 0} (view : D → DiskView) (takes fails : K → List ℕ 
   }
     where
       is : IsHonest view old.kept
-          → running new ≡ record (running old) { node = (step (node_of old.kept) i).node; outbox = with_messages old.outbox (kept (step (node_of old.kept) i).sends) }
+          → running new ≡ record (running old) { node = (step (node_of old.kept) i).node; outbox = with_messages old.outbox (kept (step (node_of old.kept) i).sends); tally = counted_input i (node_of old.kept) old.tally }
       is honest =
-          ap (λ (n : Node). record { node = n; outbox = new.outbox; works = new.works; dials = new.dials; config = new.config }) (keeps.node honest)
-          ∙ ap (λ (ms : List Message). record { node = (step (node_of old.kept) i).node; outbox = ms; works = new.works; dials = new.dials; config = new.config }) outbox
-          ∙ ap (λ (o : OutcomeView). record { node = (step (node_of old.kept) i).node; outbox = with_messages old.outbox (kept o.sends); works = new.works; dials = new.dials; config = new.config }) (keeps.outcome_is honest)
-          ∙ ap (λ (ws : List Work). record { node = (step (node_of old.kept) i).node; outbox = with_messages old.outbox (kept (step (node_of old.kept) i).sends); works = ws; dials = new.dials; config = new.config }) works
-          ∙ ap (λ (ds : List Dialling). record { node = (step (node_of old.kept) i).node; outbox = with_messages old.outbox (kept (step (node_of old.kept) i).sends); works = old.works; dials = ds; config = new.config }) dials
-          ∙ ap (λ (c : Settings). record { node = (step (node_of old.kept) i).node; outbox = with_messages old.outbox (kept (step (node_of old.kept) i).sends); works = old.works; dials = old.dials; config = c }) config
+          ap (λ (n : Node). record { node = n; outbox = new.outbox; works = new.works; dials = new.dials; config = new.config; tally = new.tally }) (keeps.node honest)
+          ∙ ap (λ (ms : List Message). record { node = (step (node_of old.kept) i).node; outbox = ms; works = new.works; dials = new.dials; config = new.config; tally = new.tally }) outbox
+          ∙ ap (λ (o : OutcomeView). record { node = (step (node_of old.kept) i).node; outbox = with_messages old.outbox (kept o.sends); works = new.works; dials = new.dials; config = new.config; tally = new.tally }) (keeps.outcome_is honest)
+          ∙ ap (λ (ws : List Work). record { node = (step (node_of old.kept) i).node; outbox = with_messages old.outbox (kept (step (node_of old.kept) i).sends); works = ws; dials = new.dials; config = new.config; tally = new.tally }) works
+          ∙ ap (λ (ds : List Dialling). record { node = (step (node_of old.kept) i).node; outbox = with_messages old.outbox (kept (step (node_of old.kept) i).sends); works = old.works; dials = ds; config = new.config; tally = new.tally }) dials
+          ∙ ap (λ (c : Settings). record { node = (step (node_of old.kept) i).node; outbox = with_messages old.outbox (kept (step (node_of old.kept) i).sends); works = old.works; dials = old.dials; config = c; tally = new.tally }) config
+          ∙ ap (λ (t : TallyView). record { node = (step (node_of old.kept) i).node; outbox = with_messages old.outbox (kept (step (node_of old.kept) i).sends); works = old.works; dials = old.dials; config = old.config; tally = t }) (counts honest)
+
+      -- it was counted by the step of the input
+      counts : IsHonest view old.kept → new.tally ≡ counted_input i (node_of old.kept) old.tally
+      counts honest =
+          tally
+          ∙ ap (λ (o : OutcomeView). noted (sender_of i) (known_before i old.kept.node.control.kept.table) o.answer new.kept.node.control old.tally) (keeps.outcome_is honest)
+          ∙ ap (λ (n : Node). noted (sender_of i) (known_before i old.kept.node.control.kept.table) (step (node_of old.kept) i).answer n.control old.tally) (keeps.node honest)
 
   -- all messages went to the outbox
   pub did_take : (i : Input) (outcome : OutcomeView) (old new : Server D L K) → old.kept.closed ≡ false → KeepsOne view i outcome old.kept new.kept
       → takes old.sink (taken_line old.log old.kept.node.control.me i) new.sink → NoFall (faults old.sink) (faults new.sink)
-      → new.config ≡ old.config → new.log ≡ old.log → new.link ≡ old.link → new.works ≡ old.works → new.dials ≡ old.dials → new.outbox ≡ with_messages old.outbox outcome.sends
+      → new.config ≡ old.config → new.log ≡ old.log → new.about ≡ old.about → new.link ≡ old.link → new.works ≡ old.works → new.dials ≡ old.dials → new.outbox ≡ with_messages old.outbox outcome.sends
+      → new.tally ≡ noted_by i outcome old new
       → Did view takes faults story counts (Takes i ∷ []) old new
   did_take i outcome old new = did_input (Takes i) i outcome (λ ms. ms) old new refl refl refl (λ a. refl) (λ a. refl) refl (λ ms all. all)
 
   -- the outbox gets all messages but the one back to the sender
   pub did_accept : (i : Input) (outcome : OutcomeView) (old new : Server D L K) → old.kept.closed ≡ false → KeepsOne view i outcome old.kept new.kept
       → takes old.sink (taken_line old.log old.kept.node.control.me i) new.sink → NoFall (faults old.sink) (faults new.sink)
-      → new.config ≡ old.config → new.log ≡ old.log → new.link ≡ old.link → new.works ≡ old.works → new.dials ≡ old.dials → new.outbox ≡ with_messages old.outbox (for_outbox i outcome.sends)
+      → new.config ≡ old.config → new.log ≡ old.log → new.about ≡ old.about → new.link ≡ old.link → new.works ≡ old.works → new.dials ≡ old.dials → new.outbox ≡ with_messages old.outbox (for_outbox i outcome.sends)
+      → new.tally ≡ noted_by i outcome old new
       → Did view takes faults story counts (Accepts i ∷ []) old new
   did_accept i outcome old new = did_input (Accepts i) i outcome (for_outbox i) old new refl refl refl (λ a. refl) (λ a. refl) refl (λ ms all. kept_sendable old.kept.node.control.nodes ms (sender_of i) all)
 

@@ -20,6 +20,7 @@ use Rattle.oc_model.specs.Node.{Header, Node}
 use Rattle.oc_model.specs.Step.{step}
 use Rattle.oc_node.specs.OutcomeView.{OutcomeView}
 use Rattle.oc_policy.specs.declared.deciding.TheConstants.{MAX_RULES}
+use Rattle.oc_routes.specs.Sights.{about_of}
 use Rattle.oc_deeds.specs.Done.{AreDone, CountsAll}
 use Rattle.oc_deeds.specs.Lawful.{IsLawfulDial, IsLawfulWork, IsPlaced}
 use Rattle.oc_deeds.specs.Under.{Idle, Taking, Under, under_line}
@@ -35,10 +36,14 @@ use Rattle.oc_server.specs.declared.server.Server.{Server}
 -- The view of a server
 
 abbrev pub running : {D L K : Type 0} → Server D L K → Running
-running s = record { node = node_of s.kept; outbox = s.outbox; works = s.works; dials = s.dials; config = s.config }
+running s = record { node = node_of s.kept; outbox = s.outbox; works = s.works; dials = s.dials; config = s.config; tally = s.tally }
 
 abbrev pub setting : {D L K : Type 0} → Server D L K → Setting
-setting s = record { me = s.kept.node.control.me; log = s.log }
+setting s = record {
+  me = s.kept.node.control.me;
+  log = s.log;
+  about = about_of s.about;
+}
 
 -- The facts between any two calls
 
@@ -90,6 +95,7 @@ pub record Did {D L K : Type 0} (view : D → DiskView) (takes : K → List ℕ 
   pub config : new.config ≡ config_behind deeds old.config
   pub set : IsSet old → IsSet new
   pub log : new.log ≡ old.log
+  pub about : new.about ≡ old.about
   pub goes_on : AllGoOn view (disks_of old.kept) (disks_of new.kept)
   pub no_fall : NoFall (faults old.sink) (faults new.sink)
   pub counted : CountsAll deeds (counts old.link) (counts new.link)

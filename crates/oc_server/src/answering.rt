@@ -1,6 +1,6 @@
 //! The answers to requests, and the requests that wait.
 
-ghost use Rattle.std.specs.Prelude.{◌≡◌, false, IfErr, IfOk, IfSome, OnOk};
+ghost use Rattle.std.specs.Prelude.{◌≡◌, false, map, option_map, string_bytes, IfErr, IfOk, IfSome, OnOk};
 ghost use Rattle.oc_base.specs.Groups.{shelf};
 ghost use Rattle.oc_keep.specs.KeptView.{IsHonest, node_of};
 ghost use Rattle.oc_model.specs.Lawful.{IsInput};
@@ -8,6 +8,7 @@ ghost use Rattle.oc_model.specs.Step.{step};
 ghost use Rattle.oc_routes.specs.Asks.{IsLawfulAsk};
 ghost use Rattle.oc_routes.specs.Reports.{report_of};
 ghost use Rattle.oc_routes.specs.Routes.{response_for};
+ghost use Rattle.oc_routes.specs.Sights.{sight_of};
 ghost use Rattle.oc_routes.specs.Lawful.{IsAsked};
 ghost use Rattle.oc_wire.specs.Spelling.{HasSpelling};
 ghost use Rattle.oc_deeds.specs.Asks.{answer_now, has_to_wait, holding_in, response_now};
@@ -46,15 +47,17 @@ impl<D: Disk, L: Link, K: Sink> Server<D, L, K> {
             node: self.kept.node(),
             shelf: self.kept.shelf(),
             messages: self.outbox.len(),
+            directory: directory_of(&self.config),
+            tally: &self.tally,
+            about: self.about,
         };
-        response_to(self.alloc, &self.config, &seen, pending, accepted)
+        response_to(self.alloc, &seen, pending, accepted)
     }
 }
 
 /// The answer to a request by a node in this state.
 fn response_to(
     alloc: Global,
-    config: &Config,
     seen: &Seen<'_>,
     pending: &Pending,
     accepted: &Accepted,
@@ -62,8 +65,8 @@ fn response_to(
     requires asks { IsAsked pending.now.asked.operation }
     requires back { IfSome accepted.now.back (λ m. HasSpelling m.body) }
     ensures { IfOk result (λ response. response ≡ response_for pending.now.asked pending.now.last accepted.now.answer accepted.now.back
-        (holding_in pending.now.asked.operation seen.now.shelf.now) config.now.addresses (key_of config.now.keys)
-        (report_of pending.now.asked.operation seen.now.node.now.control seen.now.shelf.now seen.now.messages)) }
+        (holding_in pending.now.asked.operation seen.now.shelf.now) (sight_of seen.now).addresses (option_map (λ k. k.now) seen.now.directory.key)
+        (report_of pending.now.asked.operation (sight_of seen.now))) }
 {
     let report = report_of(alloc, &pending.asked.operation, seen)?;
     let answered = Answered {
@@ -72,11 +75,28 @@ fn response_to(
         holding: holding_in(&pending.asked.operation, seen.shelf),
         report: &report,
     };
-    let network = Directory {
+    respond(
+        alloc,
+        pending.asked,
+        pending.last,
+        &answered,
+        &seen.directory,
+    )
+}
+
+/// What replies depend on of the network of a configuration.
+fn directory_of(config: &Config) -> Directory<'_>
+    ensures addresses { map (option_map string_bytes) result.addresses.now ≡ config.now.addresses }
+    ensures names { map (option_map string_bytes) result.names.now ≡ config.now.names }
+    ensures retired { result.retired.now ≡ config.now.retired }
+    ensures key { option_map (λ k. k.now) result.key ≡ key_of config.now.keys }
+{
+    Directory {
         addresses: &config.addresses,
+        names: &config.names,
+        retired: &config.retired,
         key: config.key(),
-    };
-    respond(alloc, pending.asked, pending.last, &answered, &network)
+    }
 }
 
 /// Whether a request is to wait: one of a client that follows a group and has all of its bytes.

@@ -16,6 +16,7 @@ use oc_config::Config;
 use oc_deeds::asked::{Accepted, held_back, sender_of};
 use oc_deeds::brief::{Before, told_after};
 use oc_deeds::contents::{begin_rest, keeps, transfer_for};
+use oc_deeds::counting::{count_input, count_refusal, count_reply};
 use oc_deeds::lines::put_note;
 use oc_deeds::{
     Dialling, Doer, Errand, Log, Outbox, Pending, Transfer, TurnEnd, Unfit, Waiting, Work, put_all,
@@ -26,7 +27,9 @@ use oc_io::{Disk, Sink};
 use oc_link::{ConnectionId, DialId, Ending, Link, Look};
 use oc_model::{Answer, Input};
 use oc_node::Node;
-use oc_routes::{CONTINUE, Refusal, Request, put_refusal_line, refusal_reply};
+use oc_routes::{
+    CONTINUE, KnownRows, MessageFault, Refusal, Request, put_refusal_line, refusal_reply,
+};
 use std::alloc::Global;
 
 /// The line that tells that a configuration is gone by from now on.
@@ -92,16 +95,16 @@ impl<D: Disk, L: Link, K: Sink> Doer for Server<D, L, K> {
     fn accepts(&mut self, input: Input) -> Result<Accepted, TurnEnd> {
         self.kept.recovers();
         let line = line_of(self.alloc, self.log, &self.kept, &input)?;
+        let known = KnownRows::before(self.alloc, self.kept.node().table(), &input)?;
         let sender = sender_of(&input);
         let outcome = keep(&mut self.kept, input)?;
         write_line(&mut self.sink, &line)?;
         // The first message that goes back to the sender of a message is its reply.
         let (back, others) = held_back(sender, outcome.sends);
         put_all(&mut self.outbox, others);
-        Ok(Accepted {
-            answer: outcome.answer,
-            back,
-        })
+        let answer = outcome.answer;
+        count_input(&mut self.tally, sender, &known, answer, self.kept.node());
+        Ok(Accepted { answer, back })
     }
 
     fn says_ahead(&mut self, input: &Input) -> Result<(), TurnEnd> {
@@ -150,6 +153,7 @@ impl<D: Disk, L: Link, K: Sink> Doer for Server<D, L, K> {
             watched: pending.told,
         };
         finish(&mut self.link, pending.connection, ending, &piece.rest);
+        count_reply(&mut self.tally, &pending.asked.operation, all);
         Ok(())
     }
 
@@ -165,8 +169,13 @@ impl<D: Disk, L: Link, K: Sink> Doer for Server<D, L, K> {
         put_refusal_line(&mut line, refusal.why)?;
         // The line is written before the reply is given.
         write_line(&mut self.sink, &line)?;
+        count_refusal(&mut self.tally, refusal.why, &reply);
         refuse(&mut self.link, connection, count, reply);
         Ok(())
+    }
+
+    fn rejects(&mut self, fault: MessageFault) {
+        self.tally.refuses(fault);
     }
 
     fn breaks_off(&mut self, connection: ConnectionId) {
@@ -185,6 +194,7 @@ impl<D: Disk, L: Link, K: Sink> Doer for Server<D, L, K> {
             watched: transfer.told,
         };
         finish(&mut self.link, transfer.connection, ending, &piece.rest);
+        self.tally.sends(piece.text.len());
         Ok(())
     }
 

@@ -4,6 +4,7 @@ use oc_http::HeadReader;
 use oc_io::{Disk, Sink};
 use oc_keep::Kept;
 use oc_link::Link;
+use oc_routes::{About, Tally};
 use std::alloc::Global;
 
 /// A running node: its files, the messages to send and the requests to answer, its configuration, and its ways to the
@@ -19,6 +20,10 @@ pub struct Server<D: Disk, L: Link, K: Sink> {
     /// The dials of the node.
     pub dials: Dials,
     pub config: Config,
+    /// What is told of its program.
+    pub about: About,
+    /// What it counted.
+    pub tally: Tally,
     /// The form of its log of inputs.
     pub log: Log,
     pub link: L,

@@ -17,13 +17,15 @@ use crate::noting::write_line;
 use crate::sendable::sendable;
 use crate::server::Server;
 use oc_base::Memory;
+use oc_deeds::asked::sender_of;
+use oc_deeds::counting::count_input;
 use oc_deeds::{Log, TurnEnd, put_all};
 use oc_io::{Disk, Sink};
 use oc_keep::{KeepError, Kept, Outcome};
 use oc_laws_step::lawful_nodes_stay_lawful;
 use oc_link::Link;
 use oc_model::{Answer, Body, Input};
-use oc_routes::put_input_line;
+use oc_routes::{KnownRows, put_input_line};
 use oc_wire::spellings_are_read;
 use std::alloc::Global;
 
@@ -39,11 +41,14 @@ impl<D: Disk, L: Link, K: Sink> Server<D, L, K> {
     {
         self.kept.recovers();
         let line = line_of(self.alloc, self.log, &self.kept, &input)?;
+        let known = KnownRows::before(self.alloc, self.kept.node().table(), &input)?;
+        let sender = sender_of(&input);
         let outcome = keep(&mut self.kept, input)?;
         // Where the output fails, the disks have the input already.
         write_line(&mut self.sink, &line)?;
         let answer = outcome.answer;
         put_all(&mut self.outbox, outcome.sends);
+        count_input(&mut self.tally, sender, &known, answer, self.kept.node());
         Ok(answer)
     }
 }

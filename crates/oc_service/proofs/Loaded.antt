@@ -68,9 +68,10 @@ loaded_areas view c config me d k node is = ap (λ (x : Settings). x.areas) is �
 pub loaded_machine : {D L K : Type 0} (view : D → DiskView) (c : Settings) (task : Task) (site : Site D L K) (turns : Turns D L K) → IsLoaded view c task site turns → AreHonest view (disks_in site.files)
     → machine turns ≡ machine_on view c task (disks_in site.files)
 loaded_machine view c task site turns loaded honest =
-    ap (λ (ms : List Message). machine_of (record { node = node_of turns.server.kept; outbox = ms; works = turns.server.works; dials = turns.server.dials; config = turns.server.config }) turns.pace turns.probing turns.reading) loaded.outbox
-    ∙ ap (λ (ws : List Work). machine_of (record { node = node_of turns.server.kept; outbox = []; works = ws; dials = turns.server.dials; config = turns.server.config }) turns.pace turns.probing turns.reading) loaded.works
-    ∙ ap (λ (ds : List Dialling). machine_of (record { node = node_of turns.server.kept; outbox = []; works = []; dials = ds; config = turns.server.config }) turns.pace turns.probing turns.reading) loaded.dials
+    ap (λ (ms : List Message). machine_of (record { node = node_of turns.server.kept; outbox = ms; works = turns.server.works; dials = turns.server.dials; config = turns.server.config; tally = turns.server.tally }) turns.pace turns.probing turns.reading) loaded.outbox
+    ∙ ap (λ (ws : List Work). machine_of (record { node = node_of turns.server.kept; outbox = []; works = ws; dials = turns.server.dials; config = turns.server.config; tally = turns.server.tally }) turns.pace turns.probing turns.reading) loaded.works
+    ∙ ap (λ (ds : List Dialling). machine_of (record { node = node_of turns.server.kept; outbox = []; works = []; dials = ds; config = turns.server.config; tally = turns.server.tally }) turns.pace turns.probing turns.reading) loaded.dials
+    ∙ ap (λ (t : TallyView). machine_of (record { node = node_of turns.server.kept; outbox = []; works = []; dials = []; config = turns.server.config; tally = t }) turns.pace turns.probing turns.reading) loaded.tally
     ∙ ap (λ (x : Settings). machine_of (node_at_first x (node_of turns.server.kept)) turns.pace turns.probing turns.reading) loaded.config
     ∙ ap (λ (p : Pace). machine_of (node_at_first c (node_of turns.server.kept)) p turns.probing turns.reading) loaded.pace
     ∙ ap (λ (last : Option (List ℕ)). machine_of (node_at_first c (node_of turns.server.kept)) (first_pace (is_record task.log) (most_interval task.probes task.me)) turns.probing last) loaded.reading

@@ -87,7 +87,9 @@ module _ {D L K : Type 0} (view : D → DiskView) (takes fails : K → List ℕ 
   honest_kept honest = all_honest view d (disks_of first.server.kept) safely.goes_on honest
 
   setting_is : setting first.server ≡ setting_of task
-  setting_is = ap (λ (x : ℕ). record { me = x; log = first.server.log }) loaded.id ∙ ap (λ (x : Log). record { me = me; log = x }) log
+  setting_is = ap (λ (x : ℕ). record { me = x; log = first.server.log; about = about_of first.server.about }) loaded.id
+      ∙ ap (λ (x : Log). record { me = me; log = x; about = about_of first.server.about }) log
+      ∙ ap (λ (x : About). record { me = me; log = task.log; about = about_of x }) about
 
   -- a statement about every crash under the node's own name is one under that of the files
   named : (P : Header → ℕ → Type 0) → P (header_of first.server.kept.node.control) first.server.kept.node.control.me → P h me
@@ -302,7 +304,7 @@ module _ {D L K : Type 0} (view : D → DiskView) (takes fails : K → List ℕ 
       -- the bytes written after the deeds
       rest_on : (end : TurnEnd) (breaks : BreaksAfter view takes fails faults story counts end deeds under l last.server) → WritesAt takes fails breaks.0.sink last.server.sink end [] (under_line (setting_of task) under)
       rest_on end (at, did, breaks) =
-          subst (λ (x : Setting). WritesAt takes fails at.sink last.server.sink end [] (under_line x under)) (setting_stays view takes fails faults story counts l at did.same did.log ∙ setting_is) breaks.text
+          subst (λ (x : Setting). WritesAt takes fails at.sink last.server.sink end [] (under_line x under)) (setting_stays view takes fails faults story counts l at did.same did.log did.about ∙ setting_is) breaks.text
 
       adds_all : (end : TurnEnd) → BreaksAfter view takes fails faults story counts end deeds under l last.server → AreHonest view d
           → AddsAll (calls_of (setting l) deeds (running l)) (story link) (story last.server.link)

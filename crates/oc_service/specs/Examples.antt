@@ -10,6 +10,7 @@ use Rattle.oc_link.specs.declared.event.Loss.TheVariants as losses
 use Rattle.oc_model.specs.Node.{new_node}
 use Rattle.oc_routes.specs.Refusals.{refusing}
 use Rattle.oc_routes.specs.Verdicts.{arrival}
+use Rattle.oc_routes.specs.Tallies.{first_tally}
 use Rattle.oc_routes.specs.declared.verdict.Verdict.TheVariants as verdicts
 use Rattle.oc_routes.specs.declared.refused.Refused.{Refused}
 use Rattle.oc_routes.specs.declared.refused.Refused.TheVariants as refusals
@@ -26,10 +27,14 @@ use Rattle.oc_service.specs.Failures.{AreBorneOut}
 
 -- node 1 of 2, new, whose tick is not due
 abbrev example : Setting
-example = record { me = 1; log = Inputs }
+example = record {
+  me = 1;
+  log = Inputs;
+  about = record { version = codes "1.0.0"; started = 1796102400; refused = false };
+}
 
 abbrev idle : Running
-idle = record { node = new_node (record { nodes = 2; chain = 1; chunk = 4096; areas = 0 ∷ 0 ∷ [] }) 1; outbox = []; works = []; dials = []; config = two_nodes }
+idle = record { node = new_node (record { nodes = 2; chain = 1; chunk = 4096; areas = 0 ∷ 0 ∷ [] }) 1; outbox = []; works = []; dials = []; config = two_nodes; tally = first_tally 2 }
 
 abbrev ticked : Pace
 ticked = record { last = Some 0; interval = 100; most = 1000; whole = false; second = None }

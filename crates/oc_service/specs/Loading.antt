@@ -10,6 +10,7 @@ use Rattle.oc_keep.specs.Promises.{IsNodeOf, LoadsSafely, RefusesNode}
 use Rattle.oc_keep.specs.declared.errors.KeepLoad.{KeepLoad}
 use Rattle.oc_model.specs.declared.message.Message.{Message}
 use Rattle.oc_probe.specs.declared.probing.Probing.{Probing}
+use Rattle.oc_routes.specs.Tallies.{TallyView, first_tally}
 use Rattle.oc_deeds.specs.Lawful.{IsMadeFor}
 use Rattle.oc_server.specs.Lawful.{IsReady}
 use Rattle.oc_deeds.specs.Pace.{first_pace, most_interval}
@@ -19,12 +20,13 @@ use Rattle.oc_service.specs.OnSite.{header_of_settings, probing_at_first}
 use Rattle.oc_service.specs.declared.running.Task.{Task}
 use Rattle.oc_service.specs.declared.site.Site.{Site}
 
--- the state of a node besides its files: the areas, no messages to send, and the state of its
--- probing
-pub record IsEquipped (c : Settings) (probes : Bool) (me : ℕ) (areas : List ℕ) (outbox : List Message) (probing : Option Probing) : Type 0 where
+-- the state of a node besides its files: the areas, no messages to send, nothing counted, and the
+-- state of its probing
+pub record IsEquipped (c : Settings) (probes : Bool) (me : ℕ) (areas : List ℕ) (outbox : List Message) (tally : TallyView) (probing : Option Probing) : Type 0 where
   pub same : areas ≡ c.areas
   pub bytes : AllByRecursion (λ a. a ≤ MAX_AREA) areas
   pub empty : outbox ≡ []
+  pub uncounted : tally ≡ first_tally (length c.addresses)
   pub first : probing ≡ probing_at_first probes me c.addresses
   pub made : IfSome probing (IsMadeFor (length c.addresses))
 
@@ -37,11 +39,13 @@ pub record IsLoaded {D L K : Type 0} (view : D → DiskView) (c : Settings) (tas
   pub outbox : turns.server.outbox ≡ []
   pub works : turns.server.works ≡ []
   pub dials : turns.server.dials ≡ []
+  pub tally : turns.server.tally ≡ first_tally (length c.addresses)
   pub pace : turns.pace ≡ first_pace (is_record task.log) (most_interval task.probes task.me)
   pub probing : turns.probing ≡ probing_at_first task.probes task.me c.addresses
   pub reading : turns.reading ≡ Some task.text
   pub config : turns.server.config ≡ c
   pub log : turns.server.log ≡ task.log
+  pub about : turns.server.about ≡ task.about
   pub link : turns.server.link ≡ site.link
   pub sink : turns.server.sink ≡ site.sink
 

@@ -24,6 +24,7 @@ use Rattle.oc_model.specs.Step.{step}
 use Rattle.oc_probe.specs.Turns.{peers_of}
 use Rattle.oc_probe.specs.declared.probing.Probing.{Probing}
 use Rattle.oc_routes.specs.Responses.{address_of}
+use Rattle.oc_routes.specs.Sights.{about_of}
 use Rattle.oc_deeds.specs.Deeds.{Deed, Setting, calls_of, inputs_of, line, lines}
 use Rattle.oc_deeds.specs.Pace.{most_interval}
 use Rattle.oc_deeds.specs.Under.{Cuts}
@@ -51,9 +52,13 @@ use Rattle.oc_service.specs.declared.running.Task.{Task}
 abbrev pub header_of_settings : Settings → Header
 header_of_settings c = header (length c.addresses) c.chain c.chunk c.areas
 
--- the number of the node, and the form of the log
+-- the number of the node, the form of the log, and what is told of the program
 abbrev pub setting_of : Task → Setting
-setting_of task = record { me = task.me; log = task.log }
+setting_of task = record {
+  me = task.me;
+  log = task.log;
+  about = about_of task.about;
+}
 
 -- the state of probing at first: no rates of peers, and all other nodes that have an address in turn
 abbrev pub probing_of : ℕ → List (Option (List ℕ)) → Probing

@@ -23,6 +23,7 @@ use oc_keep::{KeepLoad, Kept, Seat};
 use oc_link::Link;
 use oc_model::{Header, Sizes};
 use oc_probe::Probing;
+use oc_routes::Tally;
 use oc_server::{Server, Turns};
 use std::alloc::Global;
 
@@ -31,6 +32,7 @@ use std::alloc::Global;
 struct Equipment {
     areas: Vec<u8>,
     outbox: Outbox,
+    tally: Tally,
     heads: HeadReader,
     probing: Option<Probing>,
 }
@@ -50,6 +52,7 @@ pub(crate) fn load<D: Disk, L: Link, K: Sink>(
     let Equipment {
         areas,
         outbox,
+        tally,
         heads,
         probing,
     } = match equip(alloc, &config, task.me, task.probes) {
@@ -63,6 +66,7 @@ pub(crate) fn load<D: Disk, L: Link, K: Sink>(
         probes,
         log,
         text,
+        about,
     } = task;
     let seat = Seat {
         id: me,
@@ -84,6 +88,8 @@ pub(crate) fn load<D: Disk, L: Link, K: Sink>(
                 works: Works::new(alloc),
                 dials: Dials::new(alloc),
                 config,
+                about,
+                tally,
                 log,
                 link,
                 sink,
@@ -97,16 +103,17 @@ pub(crate) fn load<D: Disk, L: Link, K: Sink>(
     }
 }
 
-/// The state of the node besides its files: the areas of all nodes, no messages to send, and the
-/// state of its probing.
+/// The state of the node besides its files: the areas of all nodes, no messages to send, nothing
+/// counted, and the state of its probing.
 fn equip(alloc: Global, config: &Config, me: NodeId, probes: bool) -> Result<Equipment, Memory>
     requires config { IsConfig config.now }
     requires me { IsNode (length config.now.addresses) me }
-    ensures { IfOk result (λ equipment. IsEquipped config.now probes me equipment.areas.items equipment.outbox equipment.probing) }
+    ensures { IfOk result (λ equipment. IsEquipped config.now probes me equipment.areas.items equipment.outbox equipment.tally equipment.probing) }
 {
     Ok(Equipment {
         areas: copy_areas(alloc, &config.areas)?,
         outbox: Outbox::new(alloc)?,
+        tally: Tally::new(alloc, nodes_of(config))?,
         heads: HeadReader::new(alloc)?,
         probing: first_probing(alloc, me, &config.addresses, probes)?,
     })

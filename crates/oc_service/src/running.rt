@@ -24,7 +24,7 @@ use oc_deeds::{Log, TurnEnd};
 use oc_io::{Disk, Sink};
 use oc_keep::{Files, KeepLoad};
 use oc_link::Link;
-use oc_routes::address_of;
+use oc_routes::{About, address_of};
 use oc_server::{Server, Turns, turns_are_in_order};
 use std::alloc::Global;
 
@@ -41,6 +41,8 @@ pub struct Task {
     pub log: Log,
     /// The bytes that its configuration was read from.
     pub text: Bytes,
+    /// What is told of the program.
+    pub about: About,
 }
 
 /// The end of a node's run.
@@ -78,7 +80,7 @@ pub fn run_node<D: Disk, L: Link, K: Sink>(
         (at_run D.view L.story L.counts K.takes K.fails config task (disks_in site.files) (disks_in result.site.files) site.link result.site.link site.sink result.site.sink)
         (λ text. K.takes site.sink text result.site.sink)
         (λ text. K.fails site.sink text result.site.sink × Rose (K.faults site.sink) (K.faults result.site.sink))
-        (setting_of config task) result.end }
+        (setting_of task) result.end }
 
     // All turns are made, unless memory runs out or a file is full, with the files of a node on honest
     // disks, if neither a disk nor the output nor the asking of the link fails.
@@ -178,6 +180,8 @@ fn leave<D: Disk, L: Link, K: Sink>(turns: Turns<D, L, K>) -> Site<D, L, K>
         works,
         dials,
         config,
+        about: _,
+        tally,
         log: _,
         link,
         sink,
@@ -187,6 +191,7 @@ fn leave<D: Disk, L: Link, K: Sink>(turns: Turns<D, L, K>) -> Site<D, L, K>
     drop(works);
     drop(dials);
     drop(config);
+    drop(tally);
     drop(heads);
     let (control, alternate, content) = kept.into_disks();
     Site {

@@ -74,7 +74,7 @@ button, input { font: inherit; color: inherit; background: var(--card); border: 
 button { cursor: pointer; }
 button:hover { border-color: var(--here); color: var(--here); }
 :focus-visible { outline: 2px solid var(--here); outline-offset: 2px; }
-input { width: 7.5rem; }
+input { width: 9.5rem; }
 ul.tree, ul.tree ul { list-style: none; margin: 0; padding: 0; }
 ul.tree ul { margin-left: .56rem; padding-left: 1.1rem; }
 ul.tree { overflow-x: auto; padding: 3px; margin: -3px; }
@@ -102,6 +102,26 @@ ul.tree li.leaves li::before, ul.tree li.leaves li::after { content: none; }
 .loose-node { border-radius: 4px; border-style: dotted; border-color: var(--loose); background: var(--loose-soft); }
 .out .row .leaf { margin: .05rem 0; }
 .found > .row, .found.leaf, .found > .leaf { outline: 3px solid var(--here); outline-offset: 1px; border-radius: 6px; }
+#wrong { margin: 0 0 1.1rem; }
+#wrong.is-wrong { border-color: var(--down); border-left-width: 6px; }
+#wrong ul { list-style: none; margin: 0; padding: 0; }
+#wrong li { display: flex; gap: .55rem; padding: .34rem 0; border-top: 1px solid var(--line); }
+#wrong li:first-child { border-top: 0; padding-top: 0; }
+#wrong li > .mark { margin-top: .22rem; }
+#wrong li > div { min-width: 0; overflow-wrap: anywhere; }
+#wrong li .more { color: var(--quiet); }
+#wrong p { margin: 0; }
+.named { font-weight: 400; overflow-wrap: anywhere; }
+.row .named, .leaf .named { max-width: 21rem; overflow: hidden; text-overflow: ellipsis; white-space: nowrap; }
+.row > .named { line-height: 1.56rem; flex: 0 1 auto; min-width: 0; }
+.leaf .named { max-width: 12rem; }
+details summary { cursor: pointer; color: var(--quiet); padding: .15rem 0; }
+details[open] summary { margin-bottom: .4rem; }
+details.inner { margin-top: .7rem; border-top: 1px solid var(--line); padding-top: .5rem; }
+dl.facts dd.hint { grid-column: 1 / -1; text-align: left; color: var(--quiet); font-size: .84rem; margin-bottom: .3rem; }
+th abbr { text-decoration: underline dotted; text-underline-offset: 2px; cursor: help; }
+td.word.named { white-space: normal; min-width: 9.5rem; overflow-wrap: break-word; }
+#groups { max-height: 38rem; overflow: auto; }
 dl.facts { margin: 0; display: grid; grid-template-columns: auto minmax(0, 1fr); gap: .22rem .9rem; }
 dl.facts dt { color: var(--quiet); }
 dl.facts dd { margin: 0; text-align: right; overflow-wrap: anywhere; }
@@ -110,9 +130,10 @@ dl.facts dd { margin: 0; text-align: right; overflow-wrap: anywhere; }
 .group .name { font-weight: 600; overflow-wrap: anywhere; display: block; }
 .group .size { color: var(--quiet); font-size: .9rem; display: flex; flex-wrap: wrap; justify-content: space-between; gap: .1rem .7rem; }
 .seal { display: inline-flex; align-items: center; gap: .3rem; }
-.lease { display: grid; grid-template-columns: 4.2rem minmax(0, 1fr) auto; gap: .1rem .6rem; align-items: center; padding: .18rem 0; font-size: .93rem; }
+.lease { display: grid; grid-template-columns: minmax(3.4rem, 6rem) minmax(2rem, 1fr) auto; gap: .1rem .6rem; align-items: center; padding: .18rem 0; font-size: .93rem; }
+.lease span:first-child { overflow: hidden; text-overflow: ellipsis; white-space: nowrap; }
 .lease meter { width: 100%; height: .6rem; }
-.lease .rate { color: var(--quiet); text-align: right; min-width: 5rem; }
+.lease .rate { color: var(--quiet); text-align: right; min-width: 5rem; white-space: nowrap; }
 .leases { max-height: 22rem; overflow: auto; }
 .scroll { overflow-x: auto; }
 table { border-collapse: collapse; width: 100%; font-size: .92rem; }
@@ -135,6 +156,10 @@ footer a { color: inherit; }
   ul.tree ul > li::before, ul.tree ul > li::after { left: -.75rem; }
   ul.tree ul > li::after { width: .62rem; }
   th, td { padding: .26rem .45rem; }
+  .row { flex-wrap: wrap; }
+  .row .named { max-width: 12rem; }
+  .row > .more:not(.word) { flex: 1 1 100%; padding: 0 0 0 2.2rem; }
+  td.word.named { min-width: 7.5rem; }
 }
 ul.tree ul ul ul ul ul ul ul ul { margin-left: 0; padding-left: .4rem; }
 ul.tree ul ul ul ul ul ul ul ul > li::before, ul.tree ul ul ul ul ul ul ul ul > li::after { left: -.4rem; max-width: .35rem; }
@@ -169,6 +194,11 @@ ul.tree ul ul ul ul ul ul ul ul > li::before, ul.tree ul ul ul ul ul ul ul ul > 
 <div id="silence"><strong role="alert" id="silence-what"></strong><span id="silence-since"></span></div>
 <noscript><p>This page draws what the node tells, and needs JavaScript for it. Without it read <a href="../-/status">/-/status</a> or <a href="../-/metrics">/-/metrics</a>.</p></noscript>
 <main id="main" hidden>
+  <section id="wrong" aria-labelledby="wrong-title">
+    <h2 id="wrong-title">What is wrong</h2>
+    <ul id="wrong-list"></ul>
+    <p class="quiet" id="fine">Nothing that this node knows of.</p>
+  </section>
   <dl class="counts" id="counts"></dl>
   <div class="columns">
     <div class="drawn">
@@ -176,7 +206,7 @@ ul.tree ul ul ul ul ul ul ul ul > li::before, ul.tree ul ul ul ul ul ul ul ul > 
         <h2 id="tree-title">The tree</h2>
         <div class="tools">
           <ul class="legend" id="legend"></ul>
-          <label for="find" class="quiet">Node</label><input id="find" inputmode="numeric" placeholder="number" autocomplete="off">
+          <label for="find" class="quiet">Node</label><input id="find" placeholder="number or name" autocomplete="off">
           <button id="unfold" type="button">Unfold all</button>
         </div>
         <ul class="tree" id="tree"></ul>
@@ -188,15 +218,16 @@ ul.tree ul ul ul ul ul ul ul ul > li::before, ul.tree ul ul ul ul ul ul ul ul > 
       </section>
     </div>
     <div class="side">
-      <section aria-labelledby="groups-title"><h2 id="groups-title">Groups</h2><div id="groups"></div></section>
-      <section aria-labelledby="node-title"><h2 id="node-title">This node</h2><dl class="facts" id="facts"></dl></section>
+      <section aria-labelledby="groups-title"><h2 id="groups-title">Groups</h2><div id="groups" tabindex="0" role="group" aria-label="Groups"></div></section>
+      <section aria-labelledby="node-title"><h2 id="node-title">This node</h2><dl class="facts" id="facts"></dl>
+        <details class="inner"><summary>In the words of the protocol</summary><dl class="facts" id="inner"></dl></details></section>
       <section class="live" id="children" aria-labelledby="children-title"><h2 id="children-title">Leases of its children</h2><div class="leases" id="leases" tabindex="0" role="group" aria-label="Leases of its children"></div></section>
     </div>
     <section class="all" aria-labelledby="all-title">
       <h2 id="all-title">All nodes of the table</h2>
       <p class="quiet" id="caption"></p>
       <div class="scroll" tabindex="0" role="group" aria-label="All nodes of the table"><table aria-labelledby="all-title" aria-describedby="caption">
-        <thead><tr><th scope="col">Node</th><th scope="col" class="word">State</th><th scope="col">Parent</th><th scope="col">Clients</th><th scope="col">Ask</th><th scope="col">Count</th><th scope="col">Lease</th><th scope="col">Rate</th></tr></thead>
+        <thead><tr><th scope="col">Node</th><th scope="col" class="word">Name</th><th scope="col" class="word">State</th><th scope="col">Heard of</th><th scope="col">Parent</th><th scope="col">Clients</th><th scope="col"><abbr title="How often the node has asked another one to be its parent (seq).">Ask</abbr></th><th scope="col"><abbr title="How often the node has told how many clients it served (number).">Count</abbr></th><th scope="col"><abbr title="For how long a child is taken for alive without another word of it.">Lease</abbr></th><th scope="col"><abbr title="What the child measured of its line to this node.">Rate</abbr></th></tr></thead>
         <tbody id="rows"></tbody>
       </table></div>
     </section>
@@ -240,9 +271,15 @@ ul.tree ul ul ul ul ul ul ul ul > li::before, ul.tree ul ul ul ul ul ul ul ul > 
     return (at === 0 ? value : value.toFixed(value < 10 ? 2 : value < 100 ? 1 : 0)) + '\u00a0' + words[at];
   }
   const time = (date) => date.toLocaleTimeString([], { hour: '2-digit', minute: '2-digit', second: '2-digit' });
+  const day = (date) => date.toLocaleDateString([], { day: 'numeric', month: 'short', year: 'numeric' });
+  // the moment so many seconds before the last answer
+  function moment(seconds) {
+    const date = new Date((last || opened).getTime() - 1000 * seconds);
+    return seconds < 43200 ? time(date) : day(date) + ', ' + date.toLocaleTimeString([], { hour: '2-digit', minute: '2-digit' });
+  }
   function span(seconds) {
     const [h, m, s] = [Math.floor(seconds / 3600), Math.floor(seconds / 60) % 60, seconds % 60];
-    return h ? h + ' h ' + m + ' min' : m ? m + ' min ' + s + ' s' : s + ' s';
+    return h > 47 ? Math.floor(h / 24) + ' days' : h ? h + ' h ' + m + ' min' : m ? m + ' min ' + s + ' s' : s + ' s';
   }
   function ranges(list) {
     const runs = [];
@@ -251,6 +288,12 @@ ul.tree ul ul ul ul ul ul ul ul > li::before, ul.tree ul ul ul ul ul ul ul ul > 
       if (run && run[1] === n - 1) run[1] = n; else runs.push([n, n]);
     }
     return runs.map(([a, b]) => a === b ? a : b === a + 1 ? a + ', ' + b : a + '–' + b).join(', ');
+  }
+
+  // the same, of which the first are told
+  function front(list) {
+    const few = ranges(list).split(', ');
+    return few.length > 24 ? few.slice(0, 20).join(', ') + ' …' : few.join(', ');
   }
 
   // What a status says
@@ -270,11 +313,14 @@ ul.tree ul ul ul ul ul ul ul ul > li::before, ul.tree ul ul ul ul ul ul ul ul > 
       const own = node === status.node ? status.clients : rows.get(node).clients;
       sizes.set(node, { nodes: inner.reduce((n, it) => n + 1 + sizes.get(it).nodes, 0), clients: inner.reduce((n, it) => n + sizes.get(it).clients, BigInt(own)) });
     }
-    const known = new Set([status.node, ...status.ancestors, ...rows.keys()]);
-    const unknown = [];
-    for (let node = 1; node <= status.nodes; node += 1) if (!known.has(node)) unknown.push(node);
-    return { status, others, rows, beneath, out, sizes, order, unknown, children: new Map(status.children.map((it) => [it.node, it])) };
+    const names = new Map([[status.node, status.name], ...status.table.map((row) => [row.node, row.name]), ...status.missing.map((it) => [it.node, it.name])].filter(([, name]) => name));
+    return { status, others, rows, beneath, out, sizes, order, names, children: new Map(status.children.map((it) => [it.node, it])) };
   }
+  // a node in a text: its number, and its name where it has one
+  const title = (seen, node) => seen.names.has(node) ? node + ' ' + seen.names.get(node) : String(node);
+  const name = (seen, node) => seen.names.has(node) ? el('span', { class: 'named', title: seen.names.get(node) }, seen.names.get(node)) : '';
+  // since when nothing was heard of a node
+  const since = (row) => row.heard === null ? 'since before this node started' : 'since ' + moment(Number(row.heard)) + ', for ' + span(Number(row.heard));
   const state = (row) => row.listed ? 'up' : row.up ? 'loose' : 'down';
   const clients = (n) => String(n) === '0' ? '' : many(n, 'client', 'clients');
 
@@ -283,7 +329,7 @@ ul.tree ul ul ul ul ul ul ul ul > li::before, ul.tree ul ul ul ul ul ul ul ul > 
   function leaf(seen, node, kind) {
     const word = kind === 'up' ? el('span', { class: 'said' }, ' up') : '';
     return el('span', { class: 'leaf ' + kind + '-node', 'data-node': node, 'data-kind': kind === 'up' ? '' : STATES[kind] },
-      mark(kind), el('b', null, String(node)), word, el('span', { class: 'more', 'data-says': 'leaf' }));
+      mark(kind), el('b', null, String(node)), name(seen, node), word, el('span', { class: 'more', 'data-says': 'leaf' }));
   }
   function isOpen(seen, node) {
     if (folds.has(node)) return folds.get(node);
@@ -315,7 +361,7 @@ ul.tree ul ul ul ul ul ul ul ul > li::before, ul.tree ul ul ul ul ul ul ul ul > 
       fold.append(arrow);
       row.append(fold);
     }
-    row.append(mark(here ? 'here' : 'up'), el('b', null, (here ? 'Node ' : '') + node), el('span', { class: here ? 'more word' : 'said' }, here ? 'this node' : 'up'));
+    row.append(mark(here ? 'here' : 'up'), el('b', null, (here ? 'Node ' : '') + node), name(seen, node), el('span', { class: here ? 'more word' : 'said' }, here ? 'this node' : 'up'));
     row.append(el('span', { class: 'more', 'data-says': 'row', 'data-above': above }));
     made.append(row);
     list.append(made);
@@ -354,7 +400,7 @@ ul.tree ul ul ul ul ul ul ul ul > li::before, ul.tree ul ul ul ul ul ul ul ul > 
   function draw(seen) {
     seen.open = opens(seen);
     // the drawing is made anew only where the tree or what is unfolded is another than before
-    const shape = JSON.stringify([seen.status.node, seen.status.table.map((row) => [row.node, row.parent, row.up, row.listed]), [...folds], all]);
+    const shape = JSON.stringify([seen.status.node, seen.status.table.map((row) => [row.node, row.parent, row.up, row.listed]), [...seen.names], [...folds], all]);
     if (shape !== drawn) {
       const focused = document.activeElement && document.activeElement.dataset.fold;
       get('tree').replaceChildren();
@@ -369,7 +415,8 @@ ul.tree ul ul ul ul ul ul ul ul > li::before, ul.tree ul ul ul ul ul ul ul ul > 
       const node = Number(says.closest('[data-node]').dataset.node);
       if (says.dataset.says === 'leaf') {
         const kind = says.closest('.leaf').dataset.kind;
-        put(says, [kind, clients(seen.rows.get(node).clients)].filter(Boolean).join(' · '));
+        const row = seen.rows.get(node), silent = state(row) === 'down' && row.heard !== null ? ' for ' + span(Number(row.heard)) : '';
+        put(says, [kind && kind + silent, clients(row.clients)].filter(Boolean).join(' · '));
       } else {
         const own = node === seen.status.node ? seen.status.clients : seen.rows.get(node).clients, of = seen.sizes.get(node);
         const beneath = of.nodes ? many(of.nodes, 'node', 'nodes') + ' beneath' : '';
@@ -392,8 +439,8 @@ ul.tree ul ul ul ul ul ul ul ul > li::before, ul.tree ul ul ul ul ul ul ul ul > 
     const whole = sum([s.clients, ...seen.others.map((row) => row.clients)]);
     const list = [
       ['up', 'up beneath it', grouped(listed)], ['down', 'down', grouped(down)], ['loose', 'unlisted', grouped(loose)],
-      [null, 'clients served', grouped(whole)], [null, 'groups', grouped(s.groups.length)],
-      [null, 'certificates waiting', grouped(BigInt(s.log.length) - BigInt(s.log.acked))],
+      [null, 'clients served', grouped(whole)], [null, 'groups, of ' + s.groups_limit, grouped(s.groups.length)],
+      [null, 'sent since its start', size(s.sent)],
     ];
     const box = get('counts');
     if (!box.children.length) for (const [kind, word] of list) box.append(el('div', null, el('dt', null, kind ? mark(kind) : '', word), el('dd')));
@@ -403,23 +450,87 @@ ul.tree ul ul ul ul ul ul ul ul > li::before, ul.tree ul ul ul ul ul ul ul ul > 
     if (loose) says.push('Unlisted: it was up by the last word, but no way of living nodes leads from this node to it.');
     put(get('out-says'), says.join(' '));
   }
+  // What is wrong: each of these gives lines, with a mark, what is wrong, and more of it
+
+  const FEW_LINES = 5;
+  // a line for each of the first, and one for all others
+  function lines(list, one, others) {
+    const told = list.length > FEW_LINES + 1 ? list.slice(0, FEW_LINES) : list, rest = list.slice(told.length);
+    return [...told.map(one), ...(rest.length ? [others(rest)] : [])];
+  }
+  const WRONG = [
+    function down(seen) {
+      const list = seen.out.filter((row) => !row.up).sort((a, b) => (a.heard === null) - (b.heard === null) || a.heard - b.heard);
+      return lines(list, (row) => ['down', title(seen, row.node) + ' is down', since(row)],
+        (rest) => ['down', many(rest.length, 'more node is', 'more nodes are') + ' down', front(rest.map((row) => row.node).sort((a, b) => a - b))]);
+    },
+    function cutOff(seen) {
+      const list = seen.out.filter((row) => row.up).map((row) => row.node);
+      return list.length ? [['loose', many(list.length, 'node is', 'nodes are') + ' unlisted', 'no way of living nodes leads there: ' + front(list)]] : [];
+    },
+    function missing(seen) {
+      return lines(seen.status.missing, (it) => ['loose', title(seen, it.node) + ' is missing', 'it has an address in the configuration, and never joined'],
+        (rest) => ['loose', many(rest.length, 'more node is', 'more nodes are') + ' missing', front(rest.map((it) => it.node))]);
+    },
+    function configuration(seen) {
+      return seen.status.configuration === 'good' ? [] : [['down', 'The file of the configuration was refused when it was read last', 'the node goes on by the one before; its error output says why']];
+    },
+    function refused(seen) {
+      const { mac, message } = seen.status.refused, started = ', since the start at ' + start(seen.status);
+      return [
+        ...(String(mac) === '0' ? [] : [['loose', many(mac, 'message', 'messages') + ' without a good MAC', 'refused' + started + ': another key, or a stranger']]),
+        ...(String(message) === '0' ? [] : [['loose', many(message, 'message', 'messages') + ' that were none to this node', 'refused' + started + ': another version or configuration, or a stranger']]),
+      ];
+    },
+    function full(seen) {
+      return seen.status.groups.length < seen.status.groups_limit ? [] : [['loose', 'All ' + seen.status.groups_limit + ' groups are taken', 'another one is refused']];
+    },
+  ];
+  function wrong(seen) {
+    const list = WRONG.flatMap((find) => find(seen)), box = get('wrong-list');
+    get('wrong').classList.toggle('is-wrong', list.length > 0);
+    get('fine').hidden = list.length > 0;
+    while (box.children.length > list.length) box.lastChild.remove();
+    while (box.children.length < list.length) box.append(el('li', null, el('span'), el('div', null, el('b'), el('span', { class: 'more' }))));
+    list.forEach(([kind, what, more], at) => {
+      const [sign, says] = box.children[at].children;
+      if (box.children[at].dataset.kind !== kind) { box.children[at].dataset.kind = kind; sign.replaceChildren(mark(kind)); }
+      put(says.firstChild, what);
+      put(says.lastChild, ': ' + more + '.');
+    });
+  }
+
+  // This node
+
+  // the day and time of its start
+  const start = (s) => { const date = new Date(1000 * Number(s.started)); return day(date) + ', ' + time(date); };
+  function fill(box, list) {
+    if (!box.children.length) for (const [word, , hint] of list) box.append(el('dt', null, word), el('dd'), ...(hint ? [el('dd', { class: 'hint' }, hint)] : []));
+    const values = box.querySelectorAll('dd:not(.hint)');
+    list.forEach(([, text], at) => put(values[at], text));
+  }
   function facts(seen) {
-    const s = seen.status, list = [
-      ['Mode', s.mode + (s.parent === null ? '' : ' ' + s.parent)],
-      ['Parent', s.parent === null ? 'none' : String(s.parent)],
-      ['Above it', s.ancestors.length ? s.ancestors.join(' ‹ ') : 'nobody'],
-      ['Rank', s.rank === null ? 'none' : s.rank],
-      ['Asks', grouped(s.seq)],
-      ['Change log', grouped(s.log.acked) + ' of ' + grouped(s.log.length) + ' acknowledged'],
-      ['Its own clients', grouped(s.clients) + ' (count ' + grouped(s.number) + ')'],
-      ['Clock', grouped(s.clock) + ' s'],
-      ['Network', many(s.nodes, 'node', 'nodes') + ', chain ' + s.chain],
-      ['Chunk', size(s.chunk)],
-      ['Not in its table', seen.unknown.length ? ranges(seen.unknown) : 'nobody'],
-    ];
-    const box = get('facts');
-    if (!box.children.length) for (const [word] of list) box.append(el('dt', null, word), el('dd'));
-    list.forEach(([, text], at) => put(box.children[2 * at + 1], text));
+    const s = seen.status;
+    fill(get('facts'), [
+      ['Name', s.name === null ? 'none' : s.name],
+      ['State', s.mode + (s.parent === null ? '' : ' ' + s.parent)],
+      ['Parent', s.parent === null ? 'none' : title(seen, s.parent)],
+      ['Above it', s.ancestors.length ? s.ancestors.map((node) => title(seen, node)).join(' ‹ ') : 'nobody'],
+      ['Its own clients', grouped(s.clients)],
+      ['Served since its start', grouped(s.served)],
+      ['Started', start(s)],
+      ['Version', s.version],
+      ['Ids', 'up to ' + grouped(s.nodes)],
+    ]);
+    fill(get('inner'), [
+      ['Rank', s.rank === null ? 'none' : s.rank, 'Epoch and depth: the later root has the greater epoch, and the depth counts the steps down from it. A node joins only one of better rank.'],
+      ['Asks (seq)', grouped(s.seq), 'How often it has asked another node to be its parent.'],
+      ['Change log', grouped(s.log.acked) + ' of ' + grouped(s.log.length) + ' acknowledged', 'Its news for its parent. Each is a certificate: that a node is up beneath another one, or down.'],
+      ['Count (number)', grouped(s.number), 'How often it has told how many clients it served.'],
+      ['Clock', grouped(s.clock) + ' s', 'Its own, by which leases end.'],
+      ['Chain', String(s.chain), 'The nodes from 1 to this one, of which the first that is up acts as root.'],
+      ['Chunk', size(s.chunk), 'The most bytes of a group that one message has.'],
+    ]);
   }
   function groups(seen) {
     const text = JSON.stringify(seen.status.groups), box = get('groups');
@@ -431,11 +542,11 @@ ul.tree ul ul ul ul ul ul ul ul > li::before, ul.tree ul ul ul ul ul ul ul ul > 
     if (!seen.status.groups.length) box.replaceChildren(el('p', { class: 'quiet' }, 'It holds none.'));
   }
   function leases(seen) {
-    const s = seen.status, box = get('leases'), key = s.children.map((it) => it.node).join();
+    const s = seen.status, box = get('leases'), key = s.children.map((it) => title(seen, it.node)).join();
     get('children').hidden = s.children.length === 0;
     if (box.dataset.key !== key) {
       box.dataset.key = key;
-      box.replaceChildren(...s.children.map((it) => el('div', { class: 'lease' }, el('span', null, 'Node ' + it.node), el('meter', { min: 0, max: LEASE, low: 10, 'aria-label': 'Seconds of the lease of node ' + it.node }), el('span', { class: 'rate' }))));
+      box.replaceChildren(...s.children.map((it) => el('div', { class: 'lease' }, el('span', { title: title(seen, it.node) }, title(seen, it.node)), el('meter', { min: 0, max: LEASE, low: 10, 'aria-label': 'Seconds of the lease of node ' + it.node }), el('span', { class: 'rate' }))));
     }
     s.children.forEach((it, at) => {
       const [, meter, rate] = box.children[at].children, rest = left(s, it);
@@ -446,26 +557,28 @@ ul.tree ul ul ul ul ul ul ul ul > li::before, ul.tree ul ul ul ul ul ul ul ul > 
   const left = (status, child) => child.lease === null ? null : Math.max(0, Number(child.lease) - Number(status.clock));
   function table(seen) {
     const s = seen.status, body = get('rows');
-    put(get('caption'), 'Node ' + s.node + ', ' + at(s) + ', and each node of its table: ' + many(s.table.length, 'row', 'rows') + '. ' + (seen.unknown.length ? 'Not in it: ' + ranges(seen.unknown) + '.' : ''));
-    const list = [[s.node, 'here', s.parent, s.clients, s.seq, s.number, null], ...s.table.map((row) => [row.node, row.node === s.node ? 'own' : state(row), row.parent, row.clients, row.seq, row.number, seen.children.get(row.node)])];
+    put(get('caption'), 'Node ' + s.node + ', ' + at(s) + ', and each node of its table: ' + many(s.table.length, 'row', 'rows') + '. ' + (s.missing.length ? 'Missing: ' + ranges(s.missing.map((it) => it.node)) + '.' : ''));
+    const list = [[s.node, 'here', null, s.parent, s.clients, s.seq, s.number, null],
+      ...s.table.map((row) => [row.node, row.node === s.node ? 'own' : state(row), row.heard, row.parent, row.clients, row.seq, row.number, seen.children.get(row.node)])];
     while (body.children.length > list.length) body.lastChild.remove();
-    while (body.children.length < list.length) body.append(el('tr', null, el('th', { scope: 'row' }), el('td', { class: 'word' }), ...Array.from({ length: 6 }, () => el('td'))));
-    list.forEach(([node, kind, parent, served, seq, number, child], at) => {
+    while (body.children.length < list.length) body.append(el('tr', null, el('th', { scope: 'row' }), el('td', { class: 'word named' }), el('td', { class: 'word' }), ...Array.from({ length: 7 }, () => el('td'))));
+    list.forEach(([node, kind, heard, parent, served, seq, number, child], at) => {
       const cells = body.children[at].children, rest = child ? left(s, child) : null;
       put(cells[0], String(node));
-      if (cells[1].dataset.kind !== kind) { cells[1].dataset.kind = kind; cells[1].replaceChildren(mark(kind === 'own' ? 'here' : kind), ' ' + (kind === 'own' ? 'this node, by its table' : STATES[kind])); }
-      [parent === null ? '–' : String(parent), grouped(served), grouped(seq), grouped(number), rest === null ? '–' : rest + ' s', child && String(child.rate) !== '0' ? size(child.rate) + '/s' : '–']
-        .forEach((text, k) => put(cells[k + 2], text));
+      put(cells[1], seen.names.get(node) || '');
+      if (cells[2].dataset.kind !== kind) { cells[2].dataset.kind = kind; cells[2].replaceChildren(mark(kind === 'own' ? 'here' : kind), ' ' + (kind === 'own' ? 'this node, by its table' : STATES[kind])); }
+      [heard === null ? '–' : span(Number(heard)) + ' ago', parent === null ? '–' : String(parent), grouped(served), grouped(seq), grouped(number), rest === null ? '–' : rest + ' s', child && String(child.rate) !== '0' ? size(child.rate) + '/s' : '–']
+        .forEach((text, k) => put(cells[k + 3], text));
     });
   }
   const at = (s) => s.mode === 'acting' ? 'acting as root' : s.mode === 'joined' ? 'joined to node ' + s.parent : s.mode === 'asking' ? 'asking node ' + s.parent : 'idle, out of the tree';
   function show(status) {
     const seen = read(status);
-    put(get('name'), 'Node ' + status.node);
+    put(get('name'), 'Node ' + title(seen, status.node));
     const above = status.mode === 'joined' && status.ancestors.length > 1 ? ' (above it ' + status.ancestors.slice(1).join(', ') + ')' : '';
-    put(get('what'), at(status)[0].toUpperCase() + at(status).slice(1) + above + ', in a network of ' + many(status.nodes, 'node', 'nodes') + '.');
+    put(get('what'), at(status)[0].toUpperCase() + at(status).slice(1) + above + ', ' + (seen.order.length > 1 ? 'with ' + many(seen.order.length - 1, 'node', 'nodes') + ' beneath it.' : 'with nobody beneath it.'));
     get('main').hidden = false;
-    counts(seen); draw(seen); facts(seen); groups(seen); leases(seen); table(seen);
+    wrong(seen); counts(seen); draw(seen); facts(seen); groups(seen); leases(seen); table(seen);
   }
 
   // Finding a node, folding
@@ -477,9 +590,14 @@ ul.tree ul ul ul ul ul ul ul ul > li::before, ul.tree ul ul ul ul ul ul ul ul > 
     if (it) it.classList.add('found');
     return it;
   }
+  // the first node whose name has this text
+  function byName(text) {
+    const it = [...read(good).names].find(([, name]) => name.toLowerCase().includes(text));
+    return it ? it[0] : null;
+  }
   function find() {
     const text = get('find').value.trim();
-    found = /^\d+$/.test(text) ? Number(text) : null;
+    found = /^\d+$/.test(text) ? Number(text) : text && good ? byName(text.toLowerCase()) : null;
     if (good && found !== null) {
       const rows = new Map(good.table.map((row) => [row.node, row]));
       let node = found;
@@ -519,7 +637,7 @@ ul.tree ul ul ul ul ul ul ul ul > li::before, ul.tree ul ul ul ul ul ul ul ul > 
     put(get('silence-since'), text[1]);
     put(get('asof'), why === null ? 'As of ' + time(last) : last ? 'Last answer ' + time(last) : 'No answer yet');
     const down = good ? good.table.filter((row) => !row.up).length : 0;
-    document.title = (why === null ? '' : 'No answer: ') + (good ? 'Node ' + good.node + (down ? ', ' + down + ' down' : '') + ' · ' : '') + 'Overcast';
+    document.title = (why === null ? '' : 'No answer: ') + (good ? (good.name || 'Node ' + good.node) + (down ? ', ' + down + ' down' : '') + ' · ' : '') + 'Overcast';
   }
   async function turn() {
     const begun = Date.now(), end = new AbortController(), timer = setTimeout(() => end.abort(), 5000);

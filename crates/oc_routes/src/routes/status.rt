@@ -2,13 +2,19 @@
 
 ghost use Rattle.std.specs.Prelude.{◌≡◌, ◌++◌, IfOk, OnOk};
 ghost use Rattle.oc_routes.specs.Json.{number_text, or_null};
-ghost use Rattle.oc_routes.specs.Status.{counts_text, mode_word, network_text, peer_of, place_text, rank_text, state_text, status_text, object_text};
+ghost use Rattle.oc_routes.specs.Sights.{about_of, sight_of};
+ghost use Rattle.oc_routes.specs.Status.{configuration_word, counts_text, end_text, mode_word, network_text, object_text, peer_of, place_text, program_text, rank_text, state_text, status_text, tally_text};
 
+use crate::about::About;
 use crate::arrays::put_list;
 use crate::json::{put_field, put_number_or_null, put_quoted};
 use crate::leased::{Leased, leased_of};
-use crate::rows::{Row, rows_of};
-use oc_base::{Memory, NodeId, Rank, Shelf, put, put_number, put_with_number};
+use crate::objects::put_name;
+use crate::rows::{Row, rows_told};
+use crate::seen::Seen;
+use crate::sights::{MissingNode, missing};
+use crate::tally::Tally;
+use oc_base::{MAX_GROUPS, Memory, NodeId, Rank, put, put_number, put_with_number};
 use oc_model::Mode;
 use oc_node::Node;
 use std::alloc::Global;
@@ -19,41 +25,81 @@ pub const STATUS_PATH: &str = "/!status";
 /// The same under a name that shells and collectors can spell.
 pub const STATUS_NAME: &str = "/-/status";
 
-/// The report of a node at `/!status`: one object of JSON, and a line's end. `shelf` is its holding of each
-/// group.
-pub fn status(alloc: Global, node: &Node, shelf: &[Shelf]) -> Result<Vec<u8>, Memory>
-    ensures { IfOk result (λ text. text.items ≡ status_text node.now.control shelf.now) }
+/// The report of a node at `/!status`: one object of JSON, and a line's end.
+pub fn status(alloc: Global, seen: &Seen<'_>) -> Result<Vec<u8>, Memory>
+    ensures { IfOk result (λ text. text.items ≡ status_text (sight_of seen.now)) }
 {
-    let rows = rows_of(alloc, node.table(), node.id())?;
+    let rows = rows_told(alloc, seen)?;
     let leased = leased_of(
         alloc,
-        node.table(),
-        node.id(),
-        node.lease_ends(),
-        node.rates(),
+        seen.node.table(),
+        seen.node.id(),
+        seen.node.lease_ends(),
+        seen.node.rates(),
     )?;
+    let missing = missing(alloc, seen)?;
     let mut text = Vec::new(alloc);
-    put_object(&mut text, node, shelf, &rows, &leased)?;
+    put_object(&mut text, seen, &rows, &leased)?;
+    put_end(&mut text, seen, &missing)?;
     Ok(text)
 }
 
-/// Puts the whole status, with these rows and children.
+/// Puts the status with these rows and children, without its end.
 fn put_object(
     out: &mut Vec<u8>,
-    node: &Node,
-    shelf: &[Shelf],
+    seen: &Seen<'_>,
     rows: &[Row],
     leased: &[Leased],
 ) -> Result<(), Memory>
-    ensures { OnOk result (out.new.items ≡ out.old.items ++ object_text node.now.control shelf.now rows.now leased.now) }
+    ensures { OnOk result (out.new.items ≡ out.old.items ++ object_text (sight_of seen.now) rows.now leased.now) }
 {
     put(out, b"{")?;
-    put_state(out, node)?;
-    put_list(out, "ancestors", node.ancestors())?;
-    put_list(out, "groups", shelf)?;
-    put_list(out, "table", rows)?;
-    put_list(out, "children", leased)?;
+    put_state(out, seen.node)?;
+    put_list(out, "ancestors", seen.node.ancestors(), seen)?;
+    put_list(out, "groups", seen.shelf, seen)?;
+    put_list(out, "table", rows, seen)?;
+    put_list(out, "children", leased, seen)
+}
+
+/// Puts the end of the status: the node's own name, who is missing, the program, what the run counted, and the configuration.
+#[tactic(auto, unfolding(crate::specs::Status::end_text))]
+fn put_end(out: &mut Vec<u8>, seen: &Seen<'_>, missing: &[MissingNode]) -> Result<(), Memory>
+    ensures { OnOk result (out.new.items ≡ out.old.items ++ end_text (sight_of seen.now) missing.now) }
+{
+    put_name(out, ",\"name\":", seen, seen.node.id())?;
+    put_list(out, "missing", missing, seen)?;
+    put_program(out, &seen.about)?;
+    put_tally(out, seen.tally)?;
+    put(out, b",\"configuration\":")?;
+    put_quoted(out, configuration_word(seen.about.refused).as_bytes())?;
     put(out, b"}\n")
+}
+
+/// Puts what is told of the program, and its limit of groups.
+fn put_program(out: &mut Vec<u8>, about: &About) -> Result<(), Memory>
+    ensures { OnOk result (out.new.items ≡ out.old.items ++ program_text (about_of about.now)) }
+{
+    put(out, b",\"version\":")?;
+    put_quoted(out, about.version.as_bytes())?;
+    put_field(out, ",\"started\":", about.started)?;
+    put_field(out, ",\"groups_limit\":", MAX_GROUPS as u64)
+}
+
+/// Puts what the run counted.
+fn put_tally(out: &mut Vec<u8>, tally: &Tally) -> Result<(), Memory>
+    ensures { OnOk result (out.new.items ≡ out.old.items ++ tally_text tally.now) }
+{
+    put_field(out, ",\"served\":", tally.served())?;
+    put_field(out, ",\"sent\":", tally.sent())?;
+    put_field(out, ",\"refused\":{\"mac\":", tally.macs())?;
+    put_field(out, ",\"message\":", tally.messages())?;
+    put(out, b"}")
+}
+
+fn configuration_word(refused: bool) -> &'static str
+    ensures { result.now ≡ configuration_word refused }
+{
+    if refused { "refused" } else { "good" }
 }
 
 /// Puts who the node is, its place in the tree, and its counts.

@@ -4,7 +4,7 @@ use oc_base::{Bytes, NodeId};
 use oc_config::read;
 use oc_io::{Disk, Sink};
 use oc_link::Link;
-use oc_service::{Log, Ran, Site, Task, run_node};
+use oc_service::{About, Log, Ran, Site, Task, run_node};
 use std::alloc::Global;
 use test_tools::Fault;
 
@@ -16,6 +16,13 @@ pub struct Play {
     pub probes: bool,
     pub log: Log,
 }
+
+/// What is told of the program in a scene.
+const ABOUT: About = About {
+    version: "1.0.0",
+    started: 1_796_102_400,
+    refused: false,
+};
 
 /// Runs a node of the configuration in this text.
 pub fn run<D: Disk + Drop, L: Link + Drop, K: Sink + Drop>(
@@ -37,6 +44,7 @@ pub fn run<D: Disk + Drop, L: Link + Drop, K: Sink + Drop>(
         probes: play.probes,
         log: play.log,
         text,
+        about: ABOUT,
     };
     Ok(run_node(alloc, config, task, site))
 }

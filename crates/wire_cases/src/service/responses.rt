@@ -132,6 +132,8 @@ fn respond_with(
     };
     let network = Directory {
         addresses: &addresses,
+        names: &[],
+        retired: &[],
         key: None,
     };
     Ok(respond(alloc, asked, last, &answered, &network)?)

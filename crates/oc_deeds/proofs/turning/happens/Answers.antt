@@ -5,7 +5,7 @@ use Rattle.oc_deeds.specs.Hurries.{came_hurries}
 use Rattle.oc_deeds.specs.Lawful.{IsLawfulCame}
 use Rattle.oc_deeds.specs.Rooms.{takes_loss, takes_room}
 use Rattle.oc_deeds.specs.Measured.{IsMeasured}
-use Rattle.oc_deeds.specs.Turns.{takes_brought, happens, measures, probed, probes_next}
+use Rattle.oc_deeds.specs.Turns.{takes_reply, happens, measures, probed, probes_next}
 use Rattle.oc_deeds.specs.declared.came.Came.{Came}
 use Rattle.oc_deeds.proofs.Results.{done_then, err_then, ok_then}
 use Rattle.oc_deeds.proofs.turning.happens.Goals as goal
@@ -104,36 +104,36 @@ returns-in_err-takes_loss-in-Gone-clause-breaks g c =
 pub returns-in_err-takes_loss-in-Gone-clause-probing : goal.returns-in_err-takes_loss-in-Gone-clause-probing
 returns-in_err-takes_loss-in-Gone-clause-probing g c = sym (ap (λ (x : Came). probed x c.args.now (g.W.Doer.running c.args.doer.now).dials c.args.probing.now) c.in-Gone.is)
 
-pub returns-in_ok-takes_brought-in-Reply-clause-did : goal.returns-in_ok-takes_brought-in-Reply-clause-did
-returns-in_ok-takes_brought-in-Reply-clause-did g c =
+pub returns-in_ok-takes_reply-in-Reply-clause-did : goal.returns-in_ok-takes_reply-in-Reply-clause-did
+returns-in_ok-takes_reply-in-Reply-clause-did g c =
     let s = c.args.doer.now in
-    let does = c.in_ok-takes_brought-in-Reply.ensures.did in (
+    let does = c.in_ok-takes_reply-in-Reply.ensures.did in (
       0,
       0,
       subst (λ (x : Came). IsMeasured c.args.probing.now x c.args.now 0) (sym c.in-Reply.is) tt,
-      c.parts_go_on.ensures.as_same (takes_brought c.in-Reply.input) (happens c.args.probing.now c.args.came c.args.now 0 0) s c.takes_brought.new.doer (λ honest. ap (λ (x : Came). happens c.args.probing.now x c.args.now 0 0 (g.W.Doer.setting s) (g.W.Doer.running s)) c.in-Reply.is) does,
+      c.parts_go_on.ensures.as_same (takes_reply c.in-Reply.input c.in-Reply.refused) (happens c.args.probing.now c.args.came c.args.now 0 0) s c.takes_reply.new.doer (λ honest. ap (λ (x : Came). happens c.args.probing.now x c.args.now 0 0 (g.W.Doer.setting s) (g.W.Doer.running s)) c.in-Reply.is) does,
     )
 
-pub returns-in_ok-takes_brought-in-Reply-clause-hurries : goal.returns-in_ok-takes_brought-in-Reply-clause-hurries
-returns-in_ok-takes_brought-in-Reply-clause-hurries g c = λ honest. sym (ap (λ (x : Came). came_hurries x (g.W.Doer.running c.args.doer.now).node) c.in-Reply.is)
+pub returns-in_ok-takes_reply-in-Reply-clause-hurries : goal.returns-in_ok-takes_reply-in-Reply-clause-hurries
+returns-in_ok-takes_reply-in-Reply-clause-hurries g c = λ honest. sym (ap (λ (x : Came). came_hurries x (g.W.Doer.running c.args.doer.now).node) c.in-Reply.is)
 
-pub returns-in_ok-takes_brought-in-Reply-clause-probing : goal.returns-in_ok-takes_brought-in-Reply-clause-probing
-returns-in_ok-takes_brought-in-Reply-clause-probing g c = sym (ap (λ (x : Came). probed x c.args.now (g.W.Doer.running c.args.doer.now).dials c.args.probing.now) c.in-Reply.is)
+pub returns-in_ok-takes_reply-in-Reply-clause-probing : goal.returns-in_ok-takes_reply-in-Reply-clause-probing
+returns-in_ok-takes_reply-in-Reply-clause-probing g c = sym (ap (λ (x : Came). probed x c.args.now (g.W.Doer.running c.args.doer.now).dials c.args.probing.now) c.in-Reply.is)
 
-pub returns-in_err-takes_brought-in-Reply-clause-breaks : goal.returns-in_err-takes_brought-in-Reply-clause-breaks
-returns-in_err-takes_brought-in-Reply-clause-breaks g c =
-    let p = err_from_is_err_and c.from_residual-in_err-takes_brought-in-Reply.result c.from_residual-in_err-takes_brought-in-Reply.ensures.1 in
+pub returns-in_err-takes_reply-in-Reply-clause-breaks : goal.returns-in_err-takes_reply-in-Reply-clause-breaks
+returns-in_err-takes_reply-in-Reply-clause-breaks g c =
+    let p = err_from_is_err_and c.from_residual-in_err-takes_reply-in-Reply.result c.from_residual-in_err-takes_reply-in-Reply.ensures.1 in
     let s = c.args.doer.now in
-    let stops = c.in_err-takes_brought-in-Reply.ensures.breaks in
+    let stops = c.in_err-takes_reply-in-Reply.ensures.breaks in
     rw (p.1, p.2) (
       0,
       0,
       subst (λ (x : Came). IsMeasured c.args.probing.now x c.args.now 0) (sym c.in-Reply.is) tt,
-      c.parts_stop.ensures.as_same c.in_err-takes_brought-in-Reply.field-0.0 (takes_brought c.in-Reply.input) (happens c.args.probing.now c.args.came c.args.now 0 0) s c.takes_brought.new.doer (λ honest. ap (λ (x : Came). happens c.args.probing.now x c.args.now 0 0 (g.W.Doer.setting s) (g.W.Doer.running s)) c.in-Reply.is) stops,
+      c.parts_stop.ensures.as_same c.in_err-takes_reply-in-Reply.field-0.0 (takes_reply c.in-Reply.input c.in-Reply.refused) (happens c.args.probing.now c.args.came c.args.now 0 0) s c.takes_reply.new.doer (λ honest. ap (λ (x : Came). happens c.args.probing.now x c.args.now 0 0 (g.W.Doer.setting s) (g.W.Doer.running s)) c.in-Reply.is) stops,
     )
 
-pub returns-in_err-takes_brought-in-Reply-clause-probing : goal.returns-in_err-takes_brought-in-Reply-clause-probing
-returns-in_err-takes_brought-in-Reply-clause-probing g c = sym (ap (λ (x : Came). probed x c.args.now (g.W.Doer.running c.args.doer.now).dials c.args.probing.now) c.in-Reply.is)
+pub returns-in_err-takes_reply-in-Reply-clause-probing : goal.returns-in_err-takes_reply-in-Reply-clause-probing
+returns-in_err-takes_reply-in-Reply-clause-probing g c = sym (ap (λ (x : Came). probed x c.args.now (g.W.Doer.running c.args.doer.now).dials c.args.probing.now) c.in-Reply.is)
 
 pub returns-in_ok-measures-in-Probed-clause-did : goal.returns-in_ok-measures-in-Probed-clause-did
 returns-in_ok-measures-in-Probed-clause-did g c =

@@ -1,7 +1,8 @@
-use Rattle.std.proofs.Common.{◌≡◌, List, Option, refl, ap, subst, sym, ◌∙◌}
+use Rattle.std.proofs.Common.{◌≡◌, ℕ, List, Option, length, refl, ap, subst, sym, ◌∙◌}
 use Rattle.std.proofs.lemmas.Result.{err_from_is_err_and}
 use Rattle.std.specs.List.{AllByRecursion}
 use Rattle.oc_keep.specs.KeptView.{node_of}
+use Rattle.oc_routes.specs.Tallies.{with_sent}
 use Rattle.oc_deeds.specs.Deeds.{Gives, piece, rest, with_content}
 use Rattle.oc_deeds.specs.Lawful.{IsLawfulWork}
 use Rattle.oc_deeds.specs.Works.{without_work}
@@ -27,11 +28,12 @@ returns-clause-did g c =
     let left = c.in_ok-piece.piece.rest in
     let is : c.begin_rest.new.works ≡ with_content left others = c.in_ok-begin_rest.ensures.begun ∙ ap (with_content left) c.take-given.ensures.rest in
     does_one g.D.Disk.view g.K.Sink.takes g.K.Sink.fails g.K.Sink.faults g.L.Link.story g.L.Link.counts (Gives c.args.transfer c.args.now) (one (Gives c.args.transfer c.args.now)) s _ (λ honest. refl)
-    (did_given g.D.Disk.view g.K.Sink.takes g.K.Sink.fails g.K.Sink.faults g.L.Link.story g.L.Link.counts g.met.K.Sink.takes_nothing (Gives p c.args.now) s c.next_piece.new.kept c.begin_rest.new.works (with_content (rest p c.args.now groups) others) c.finish.new.link
+    (did_given g.D.Disk.view g.K.Sink.takes g.K.Sink.fails g.K.Sink.faults g.L.Link.story g.L.Link.counts g.met.K.Sink.takes_nothing (Gives p c.args.now) s c.next_piece.new.kept c.begin_rest.new.works (with_content (rest p c.args.now groups) others) c.finish.new.link c.sends.new.self (with_sent (length (piece p groups)) s.tally)
     refl refl refl c.in_ok-piece.ensures.looks (c.finish.ensures.counts ∙ c.give.ensures.counts)
     (λ all. subst (λ (ws : List Work). AllByRecursion (IsLawfulWork nodes me) ws) (sym is) (works_with_content nodes me left others (works_without nodes me p.connection s.works all)))
     refl
     (λ honest. is ∙ ap (λ (x : Option Transfer). with_content x others) (c.in_ok-piece.ensures.rest honest))
+    (λ honest. c.sends.ensures ∙ ap (λ (n : ℕ). with_sent n s.tally) (c.len.ensures ∙ ap (λ (t : List ℕ). length t) (c.in_ok-piece.ensures.text honest)))
     (λ honest. gave p.connection c.deref.result.now (piece p groups) p.keeps p.told left (rest p c.args.now groups) (g.L.Link.story s.link) (g.L.Link.story c.give.new.self) (g.L.Link.story c.finish.new.link)
     (c.deref.ensures.value ∙ c.in_ok-piece.ensures.text honest) (c.in_ok-piece.ensures.rest honest) c.give.ensures.story c.finish.ensures.calls))
 

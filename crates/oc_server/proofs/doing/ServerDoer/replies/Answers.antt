@@ -4,7 +4,8 @@ use Rattle.std.specs.List.{AllByRecursion}
 use Rattle.oc_link.specs.declared.call.Call.TheVariants as acts
 use Rattle.oc_link.proofs.Stories.{adds-then}
 use Rattle.oc_keep.specs.KeptView.{IsHonest, node_of}
-use Rattle.oc_deeds.specs.Deeds.{Replies, finish, first_piece, first_rest, keeps, transfer_for, takes_request, with_content}
+use Rattle.oc_deeds.specs.Counted.{with_reply_to}
+use Rattle.oc_deeds.specs.Deeds.{Replies, finish, given_first, first_piece, first_rest, keeps, transfer_for, takes_request, with_content}
 use Rattle.oc_deeds.specs.Lawful.{IsLawfulWork}
 use Rattle.oc_deeds.specs.Works.{without_work}
 use Rattle.oc_deeds.specs.declared.ends.TurnEnd.TheVariants.{Memory}
@@ -37,10 +38,12 @@ returns-clause-did g c =
     let text_is : IsHonest g.D.Disk.view s.kept → response.text ++ c.in_ok-piece.piece.text.items ≡ response.text ++ first_piece (transfer_for r response now) groups = λ honest. ap (λ (t : List ℕ). response.text ++ t) (c.in_ok-piece.ensures.text honest ∙ ap (λ (p : Option Transfer). first_piece p groups) transfer) in
     does_one g.D.Disk.view g.K.Sink.takes g.K.Sink.fails g.K.Sink.faults g.L.Link.story g.L.Link.counts (Replies r response now) (replies c.args.pending c.args.now c.args.accepted.now.answer c.args.accepted.now.back) s _ (λ honest. ap (λ (x : Response). Replies r x now ∷ []) (sym (c.in_ok-response.ensures honest)))
     (did_given g.D.Disk.view g.K.Sink.takes g.K.Sink.fails g.K.Sink.faults g.L.Link.story g.L.Link.counts g.met.K.Sink.takes_nothing (Replies r response now) s c.first_piece.new.kept c.begin_rest.new.works (with_content (first_rest (transfer_for r response now) now groups) others) c.finish.new.link
+    c.count_reply.new.tally (with_reply_to r.asked.operation (given_first r response now groups) s.tally)
     refl refl refl c.in_ok-piece.ensures.looks (c.finish.ensures.counts ∙ c.give.ensures.counts ∙ c.take_request.ensures.counts)
     (λ all. subst (λ (ws : List Work). AllByRecursion (IsLawfulWork nodes me) ws) (sym is) (works_with_content nodes me left others (works_without nodes me r.connection s.works all)))
     refl
     (λ honest. is ∙ ap (λ (x : Option Transfer). with_content x others) (rest_is honest))
+    (λ honest. c.count_reply.ensures ∙ ap (λ (t : List ℕ). with_reply_to r.asked.operation t s.tally) (search rules ∙ text_is honest))
     (λ honest. adds-then (takes_request r) (acts.Give r.connection (response.text ++ first_piece (transfer_for r response now) groups) ∷ finish r.connection (keeps response.connection) r.told (first_rest (transfer_for r response now) now groups))
     (g.L.Link.story s.link) (g.L.Link.story c.take_request.new.link) (g.L.Link.story c.finish.new.link) c.take_request.ensures.calls
     (gave r.connection _ (response.text ++ first_piece (transfer_for r response now) groups) (keeps response.connection) r.told left (first_rest (transfer_for r response now) now groups) (g.L.Link.story c.take_request.new.link) (g.L.Link.story c.give.new.self) (g.L.Link.story c.finish.new.link)

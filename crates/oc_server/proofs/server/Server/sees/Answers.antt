@@ -21,7 +21,7 @@ returns-in-Ok-clause-did g c =
           (g.L.Link.counts c.next.new.self, c.in-Ok.ensures.counts, refl) (looks_none g.D.Disk.view s.kept c.requires.is_open)
           (lawful_of s _ (record { me = refl; header = refl }) (λ all. all) (λ all. all)
           (λ all. subst (λ (ds : List Dialling). AllByRecursion (IsLawfulDial s.kept.node.control.nodes) ds) (sym is) (dials_seen s.kept.node.control.nodes e s.dials all)))
-          (λ honest. ap (λ (ds : List Dialling). record { node = node_of s.kept; outbox = s.outbox; works = s.works; dials = ds; config = s.config }) is) (λ honest. told.1),
+          (λ honest. ap (λ (ds : List Dialling). record { node = node_of s.kept; outbox = s.outbox; works = s.works; dials = ds; config = s.config; tally = s.tally }) is) (λ honest. told.1),
     )
 
 pub returns-in-Err-clause-breaks : goal.returns-in-Err-clause-breaks

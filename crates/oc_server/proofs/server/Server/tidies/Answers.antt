@@ -6,7 +6,7 @@ use Rattle.oc_server.proofs.server.Server.tidies.Goals as goal
 
 pub returns-clause-did : goal.returns-clause-did
 returns-clause-did g c =
-    done_then c.tidy.result (λ looks. did_look g.D.Disk.view g.K.Sink.takes g.K.Sink.fails g.K.Sink.faults g.L.Link.story g.L.Link.counts g.met.K.Sink.takes_nothing c.args.self.now _ refl refl refl refl refl refl refl (lawful_of c.args.self.now _ looks.same (λ all. all) (λ all. all) (λ all. all)) looks) c.tidy.ensures.looks
+    done_then c.tidy.result (λ looks. did_look g.D.Disk.view g.K.Sink.takes g.K.Sink.fails g.K.Sink.faults g.L.Link.story g.L.Link.counts g.met.K.Sink.takes_nothing c.args.self.now _ refl refl refl refl refl refl refl refl refl (lawful_of c.args.self.now _ looks.same (λ all. all) (λ all. all) (λ all. all)) looks) c.tidy.ensures.looks
 
 pub returns-clause-breaks : goal.returns-clause-breaks
 returns-clause-breaks g c =

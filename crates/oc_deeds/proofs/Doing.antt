@@ -17,9 +17,9 @@ input_stays nodes me more other i many same lawful =
     subst (λ (n : ℕ). IsInput n other i) (sym many) (subst (λ (x : ℕ). IsInput nodes x i) (sym same) lawful)
 
 -- the lines by the facts before an input are those of the input
-pub told_after : (d : Deed) (i : Input) (s : Setting) (a b : Running) (before : Option Before) (answer : Answer) → IsBefore s.log a.node.control i before
+pub says_told : (d : Deed) (i : Input) (s : Setting) (a b : Running) (before : Option Before) (answer : Answer) → IsBefore s.log a.node.control i before
     → (after d a).node ≡ (step a.node i).node → b ≡ after d a → answer ≡ (step a.node i).answer
     → Says (told_after before b.node.control answer) ∷ [] ≡ Says (told_of s.log a.node i) ∷ []
-told_after d i s a b before answer known stepped is says =
+says_told d i s a b before answer known stepped is says =
     ap (λ (t : List ℕ). Says t ∷ [])
     (told_same s.log a.node b.node.control i before answer known (ap (λ (r : Running). r.node.control) is ∙ ap (λ (n : Node). n.control) stepped) says)

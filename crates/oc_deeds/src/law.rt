@@ -1,6 +1,6 @@
 //! Laws of the definitions.
 
-ghost use Rattle.std.specs.Prelude.{◌≡◌, ◌≢◌, ◌⊎◌, ℕ, Bool, List, [], ◌++◌};
+ghost use Rattle.std.specs.Prelude.{◌≡◌, ◌≢◌, ◌⊎◌, ℕ, Bool, Option, List, [], ◌++◌};
 ghost use Rattle.oc_base.specs.declared.group.Group.{Group};
 ghost use Rattle.oc_link.specs.Calls.{IsFront};
 ghost use Rattle.oc_link.specs.Traffic.{given};

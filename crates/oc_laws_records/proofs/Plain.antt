@@ -256,21 +256,21 @@ delivered_plain : (peer : ℕ) (message : Option Message) → IsOfRecord (delive
 delivered_plain peer None = tt
 delivered_plain peer (Some message) = tt
 
-reply_plain : (me nodes : ℕ) (key : Option (List ℕ)) (peer : ℕ) (reply : Reply) → IfSome (input_of_reply me nodes key peer reply) IsOfRecord
-reply_plain me nodes key peer reply = by_test (reply.status == 204)
+reply_plain : (t : NodeTerms) (peer : ℕ) (reply : Reply) → IfSome (input_of_reply t.me t.nodes t.keys peer reply) IsOfRecord
+reply_plain t peer reply = by_test (reply.status == 204)
   where
-    by_test : (b : Bool) → IfSome (if b then None else Some (delivered_or peer (message_in me nodes key reply))) IsOfRecord
+    by_test : (b : Bool) → IfSome (if b then None else Some (delivered_or peer (message_in t.me t.nodes t.keys reply))) IsOfRecord
     by_test true = tt
-    by_test false = delivered_plain peer (message_in me nodes key reply)
+    by_test false = delivered_plain peer (message_in t.me t.nodes t.keys reply)
 
-input_plain : (me nodes : ℕ) (key : Option (List ℕ)) (peer : ℕ) (reading : Result Reply HttpFault) → IfSome (input_of me nodes key peer reading) IsOfRecord
-input_plain me nodes key peer (Ok reply) = reply_plain me nodes key peer reply
-input_plain me nodes key peer (Err fault) = tt
+input_plain : (t : NodeTerms) (peer : ℕ) (reading : Result Reply HttpFault) → IfSome (input_of t.me t.nodes t.keys peer reading) IsOfRecord
+input_plain t peer (Ok reply) = reply_plain t peer reply
+input_plain t peer (Err fault) = tt
 
 -- the reply on a dial
 back_plain : (t : NodeTerms) (errand : Errand) (reading : Result Reply HttpFault) (probing : Option Probing) (now median started : ℕ) (s : Setting) (a : Running)
     → ArePlain (happens probing (comes_back t.me t.nodes t.keys errand reading) now median started s a)
-back_plain t (errands.Message to fetch) reading probing now median started s a = plain_brought (input_of t.me t.nodes t.keys to reading) s a (input_plain t.me t.nodes t.keys to reading)
+back_plain t (errands.Message to fetch) reading probing now median started s a = plain_brought (input_of t.me t.nodes t.keys to reading) s a (input_plain t to reading)
 back_plain t (errands.Probe peer since) reading probing now median started s a = plain_measures probing peer (fault_of reading) median s a
 
 nothing_plain : (probing : Option Probing) (now median started : ℕ) (s : Setting) (a : Running) → ArePlain (happens probing comes.Nothing now median started s a)

@@ -42,10 +42,11 @@ pub(crate) fn to_client(
         answered.now.answer answered.now.holding (map (option_map string_bytes) addresses.now)) }
 {
     let holding = answered.holding;
-    let shown = as_shown(client.hint, answered.answer, holding, client.start);
-    match shown.answer {
+    let Shown { answer, sealed } = as_shown(client.hint, answered.answer, holding, client.start);
+    match answer {
         Answer::Redirect(node) => sent_on(alloc, client, holding, address_of(addresses, node)),
-        _ => given(alloc, client, shown, holding),
+        Answer::Serve(count) => served_or_past(alloc, client, holding, sealed, count),
+        _ => no_group(alloc, client.manner),
     }
 }
 
@@ -56,22 +57,16 @@ fn here(alloc: Global, client: &Client, holding: Holding) -> Result<Response, Me
 {
     match client.manner {
         Manner::Follow => nowhere(alloc, client.manner),
-        Manner::Once | Manner::HeadAlone => {
-            let shown = Shown {
-                answer: here_answer(holding, client.start),
-                sealed: holding.sealed,
-            };
-            given(alloc, client, shown, holding)
-        }
+        Manner::Once | Manner::HeadAlone => given(alloc, client, holding),
     }
 }
 
-/// The reply to a client that is not sent elsewhere.
-fn given(alloc: Global, client: &Client, shown: Shown, holding: Holding) -> Result<Response, Memory>
-    ensures { IfOk result (λ response. response ≡ given_response client.now.start client.now.manner shown.answer shown.sealed client.now.last holding) }
+/// The reply of the node itself to a client.
+fn given(alloc: Global, client: &Client, holding: Holding) -> Result<Response, Memory>
+    ensures { IfOk result (λ response. response ≡ given_response client.now.start client.now.manner (here_answer holding client.now.start) holding.sealed client.now.last holding) }
 {
-    match shown.answer {
-        Answer::Serve(count) => served_or_past(alloc, client, holding, shown.sealed, count),
+    match here_answer(holding, client.start) {
+        Answer::Serve(count) => served_or_past(alloc, client, holding, holding.sealed, count),
         _ => no_group(alloc, client.manner),
     }
 }

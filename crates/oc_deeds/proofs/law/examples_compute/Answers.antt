@@ -12,6 +12,7 @@ returns c = record {
   content_left = refl;
   content_given = refl;
   dial_calls = refl;
+  dial_nowhere = refl;
   dial_under_way = refl;
   dial_outbox = refl;
   dial_errand = refl;

@@ -6,7 +6,7 @@ use Rattle.oc_deeds.specs.Deeds.{Accepts, Says}
 use Rattle.oc_deeds.specs.Parts.{Part, in_turn, one}
 use Rattle.oc_deeds.specs.Telling.{IsBefore, says_after, accepts_told}
 use Rattle.oc_deeds.specs.declared.log.Log.{Log}
-use Rattle.oc_deeds.proofs.Doing.{told_after}
+use Rattle.oc_deeds.proofs.Doing.{says_told}
 use Rattle.oc_deeds.proofs.told.accepts_told.Goals as goal
 
 pub returns-in_err-before-clause-breaks : goal.returns-in_err-before-clause-breaks
@@ -28,7 +28,7 @@ returns-clause-did g c =
     let before = c.in_ok-before.before in
     let told : Part = λ s x. Says (told_of (g.W.Doer.setting c.args.doer.now).log (g.W.Doer.running c.args.doer.now).node i) ∷ [] in
     let known : IsBefore (g.W.Doer.setting c.args.doer.now).log (g.W.Doer.running c.args.doer.now).node.control i before = subst (λ (n : Control). IsBefore (g.W.Doer.setting c.args.doer.now).log n i before) c.node.ensures (subst (λ (l : Log). IsBefore l c.node.result.now.control i before) c.log.ensures c.in_ok-before.ensures) in
-    let same = λ (honest : g.W.Doer.honest c.args.doer.now). told_after (Accepts i) i (g.W.Doer.setting c.args.doer.now) (g.W.Doer.running c.args.doer.now) (g.W.Doer.running c.accepts.new.self) before c.in_ok-accepted.accepted.answer known refl (c.parts_go_on.ensures.leaves (one (Accepts i)) a c.accepts.new.self c.in_ok-accepted.ensures.did honest) (c.in_ok-accepted.ensures.answer honest) in
+    let same = λ (honest : g.W.Doer.honest c.args.doer.now). says_told (Accepts i) i (g.W.Doer.setting c.args.doer.now) (g.W.Doer.running c.args.doer.now) (g.W.Doer.running c.accepts.new.self) before c.in_ok-accepted.accepted.answer known refl (c.parts_go_on.ensures.leaves (one (Accepts i)) a c.accepts.new.self c.in_ok-accepted.ensures.did honest) (c.in_ok-accepted.ensures.answer honest) in
     c.parts_go_on.ensures.as_same (in_turn (one (Accepts i)) told) (accepts_told i) a c.says_after.new.self (λ honest. refl) (c.parts_go_on.ensures.follows (one (Accepts i)) told (says_after before c.in_ok-accepted.accepted.answer) a c.accepts.new.self c.says_after.new.self c.in_ok-accepted.ensures.did same c.in_ok-says_after.ensures.did)
 
 pub returns-in_err-says_after-clause-breaks : goal.returns-in_err-says_after-clause-breaks
@@ -39,5 +39,5 @@ returns-in_err-says_after-clause-breaks g c =
     let before = c.in_ok-before.before in
     let told : Part = λ s x. Says (told_of (g.W.Doer.setting c.args.doer.now).log (g.W.Doer.running c.args.doer.now).node i) ∷ [] in
     let known : IsBefore (g.W.Doer.setting c.args.doer.now).log (g.W.Doer.running c.args.doer.now).node.control i before = subst (λ (n : Control). IsBefore (g.W.Doer.setting c.args.doer.now).log n i before) c.node.ensures (subst (λ (l : Log). IsBefore l c.node.result.now.control i before) c.log.ensures c.in_ok-before.ensures) in
-    let same = λ (honest : g.W.Doer.honest c.args.doer.now). told_after (Accepts i) i (g.W.Doer.setting c.args.doer.now) (g.W.Doer.running c.args.doer.now) (g.W.Doer.running c.accepts.new.self) before c.in_ok-accepted.accepted.answer known refl (c.parts_go_on.ensures.leaves (one (Accepts i)) a c.accepts.new.self c.in_ok-accepted.ensures.did honest) (c.in_ok-accepted.ensures.answer honest) in
+    let same = λ (honest : g.W.Doer.honest c.args.doer.now). says_told (Accepts i) i (g.W.Doer.setting c.args.doer.now) (g.W.Doer.running c.args.doer.now) (g.W.Doer.running c.accepts.new.self) before c.in_ok-accepted.accepted.answer known refl (c.parts_go_on.ensures.leaves (one (Accepts i)) a c.accepts.new.self c.in_ok-accepted.ensures.did honest) (c.in_ok-accepted.ensures.answer honest) in
     rw (p.1, p.2) (c.parts_stop.ensures.as_same _ (in_turn (one (Accepts i)) told) (accepts_told i) a c.says_after.new.self (λ honest. refl) (c.parts_stop.ensures.follows _ (one (Accepts i)) told (says_after before c.in_ok-accepted.accepted.answer) a c.accepts.new.self c.says_after.new.self c.in_ok-accepted.ensures.did same c.in_err-says_after.ensures.breaks))

@@ -38,7 +38,7 @@ log_of Inputs = logs.Inputs
 log_of Record = logs.Record
 log_of Brief = logs.Brief
 
--- what is told of the program, which started at this second since 1970
+-- the program, which started at this second since 1970
 abbrev pub about : ℕ → AboutView
 about started = record { version = VERSION.now; started = started; refused = false }
 

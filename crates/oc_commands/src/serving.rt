@@ -103,7 +103,7 @@ fn serve_config<D: Disk, L: Link, K: Sink>(
     }
 }
 
-/// What is told of the program, which started at this second since 1970.
+/// The program, which started at this second since 1970.
 fn about(started: u64) -> About
     ensures { result ≡ about started }
 {

@@ -19,7 +19,6 @@ use Rattle.oc_link.specs.declared.event.Loss.{Loss}
 use Rattle.oc_link.specs.declared.phase.Phase.{Phase}
 use Rattle.oc_link.specs.declared.phase.Phase.TheVariants.{Awaiting, Answering, Whole, Broken, Gone}
 use Rattle.oc_link.specs.declared.phase.Standing.{Standing}
-use Rattle.oc_http.specs.Requests.{begins_with_head}
 use Rattle.oc_http.specs.declared.fault.HttpFault.{HttpFault}
 use Rattle.oc_http.specs.declared.head.Head.{Head}
 use Rattle.oc_http.specs.declared.reply.Reply.{Reply}
@@ -31,13 +30,15 @@ use Rattle.oc_model.specs.Node.{Node}
 use Rattle.oc_model.specs.Step.{step}
 use Rattle.oc_probe.specs.declared.fault.ProbeFault.{ProbeFault}
 use Rattle.oc_probe.specs.declared.probing.Probing.{Probing}
+use Rattle.oc_routes.specs.Askers.{asker_in, asker_of}
+use Rattle.oc_routes.specs.declared.asker.Asker.{Asker}
 use Rattle.oc_routes.specs.Asks.{IsInputOf}
 use Rattle.oc_routes.specs.Conditions.{unmet}
 use Rattle.oc_routes.specs.Elements.{element_at}
 use Rattle.oc_routes.specs.Hints.{asked_with_hint}
 use Rattle.oc_routes.specs.Macs.{is_forged}
 use Rattle.oc_routes.specs.Routes.{response_for}
-use Rattle.oc_routes.specs.Verdicts.{IsVerdict, NodeTerms, answered, fault_met, input_for, is_head, is_none, refuse, routed, taken, unfinished, unread, verdict_for, whole, with_body}
+use Rattle.oc_routes.specs.Verdicts.{IsVerdict, NodeTerms, answered, fault_met, input_for, is_none, refuse, routed, taken, unfinished, unread, verdict_for, whole, with_body}
 use Rattle.oc_routes.specs.declared.hint.Asked.{Asked}
 use Rattle.oc_routes.specs.declared.hint.Hint.{Hint}
 use Rattle.oc_routes.specs.declared.hint.Hint.TheVariants.{Plain, Here, Of, Known}
@@ -280,7 +281,7 @@ body_input t x came head rest said = by_permit (awaits_continue head && not x.pe
     body : List ℕ
     body = take head.length rest
 
-    by_mac : (b : Bool) → HasInput (if b then refuse (is_head head.method) refusals.Mac else answered head request (input_asked t.nodes t.me said.operation body))
+    by_mac : (b : Bool) → HasInput (if b then refuse (asker_of head) refusals.Mac else answered head request (input_asked t.nodes t.me said.operation body))
     by_mac true = tt
     by_mac false = answered_input head request (input_asked t.nodes t.me said.operation body) (asked_input t.nodes t.me said.operation said.hint body)
 
@@ -296,14 +297,14 @@ routed_input : (t : NodeTerms) (x : Arrival) (came : ℕ) (head : Head) (rest : 
 routed_input t x came head rest (Ok said) = body_input t x came head rest said
 routed_input t x came head rest (Err why) = tt
 
-unread_input : (coming : Coming) (none head_alone : Bool) (fault : Option RouteFault) → HasInput (unread coming none head_alone fault)
-unread_input coming none head_alone None = unfinished_input coming none
-unread_input coming none head_alone (Some (faults.Refused why)) = tt
-unread_input coming none head_alone (Some faults.Memory) = tt
+unread_input : (coming : Coming) (none : Bool) (asker : Asker) (fault : Option RouteFault) → HasInput (unread coming none asker fault)
+unread_input coming none asker None = unfinished_input coming none
+unread_input coming none asker (Some (faults.Refused why)) = tt
+unread_input coming none asker (Some faults.Memory) = tt
 
 verdict_input : (t : NodeTerms) (x : Arrival) (bytes rest : List ℕ) (answer : Result Head HttpFault) → HasInput (verdict_for t x bytes rest answer)
 verdict_input t x bytes rest (Ok head) = routed_input t x (length bytes) head rest (asked_with_hint head t.rules)
-verdict_input t x bytes rest (Err fault) = unread_input x.coming (is_none bytes) (begins_with_head (taken bytes rest)) (fault_met fault)
+verdict_input t x bytes rest (Err fault) = unread_input x.coming (is_none bytes) (asker_in (taken bytes rest)) (fault_met fault)
 
 has_input : (t : NodeTerms) (x : Arrival) (bytes : List ℕ) (v : Verdict) → IsVerdict t x bytes v → HasInput v
 has_input t x bytes v is = subst HasInput (sym is.verdict) (verdict_input t x bytes is.rest is.answer)

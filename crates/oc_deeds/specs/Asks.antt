@@ -44,7 +44,7 @@ holding_in other lines = record { there = false; held = 0; sealed = false }
 abbrev pub holding_for : Operation → List Group → Holding
 holding_for asked groups = holding_in asked (shelf groups)
 
--- the report of a node that is asked for
+-- what a node tells of itself, where that is asked
 abbrev pub sight_in : Setting → Running → Sight
 sight_in s a = record {
   node = a.node.control;

@@ -79,7 +79,7 @@ abbrev pub is_taken : Option Keyring → Result Reply HttpFault → Bool
 is_taken keys (Ok reply) = brings_message keys reply
 is_taken keys (Err fault) = false
 
--- why a response of 200 was refused, by whether it has its MAC and by the input that results from it: a message was not
+-- the fault of a response of 200, by whether it has its MAC, and by the input that results from it: a message has none
 abbrev pub fault_by : Bool → Option Input → Option MessageFault
 fault_by false input = Some Mac
 fault_by true (Some (Delivered m)) = None

@@ -196,7 +196,7 @@ abbrev pub first_piece : Option Transfer → List Group → List ℕ
 first_piece None groups = []
 first_piece (Some p) groups = piece p groups
 
--- what is given of a reply at once: its text, and the first piece of its content
+-- the bytes that are given of a reply at once: its text, and the first piece of its content
 abbrev pub given_first : Pending → Response → ℕ → List Group → List ℕ
 given_first r response now groups = response.text ++ first_piece (transfer_for r response now) groups
 
@@ -211,7 +211,7 @@ abbrev pub sender_of : Input → Option ℕ
 sender_of (Delivered m) = Some m.from
 sender_of i = None
 
--- what was counted, with an input that this node took
+-- the counts after an input that this node took
 abbrev pub counted_input : Input → Node → TallyView → TallyView
 counted_input i n t = noted (sender_of i) (known_before i n.control.kept.table) (step n i).answer (step n i).node.control t
 

@@ -123,7 +123,7 @@ probes_next probing started s a = probes_it (next_peer probing a.dials) started 
 
 -- The deeds of a turn
 
--- the reply to a message was refused, if it was
+-- the part that counts the reply to a message, where it was refused
 abbrev pub rejects : Option MessageFault → Part
 rejects None s a = []
 rejects (Some fault) s a = Rejects fault ∷ []
@@ -133,7 +133,7 @@ abbrev pub takes_brought : Option Input → Part
 takes_brought None s a = []
 takes_brought (Some i) s a = takes_in i s a
 
--- the reply to a message is counted where it was refused, and the input that results from it is taken
+-- the part for the reply to a message: it is counted where it was refused, and the input that results from it is taken
 abbrev pub takes_reply : Option Input → Option MessageFault → Part
 takes_reply input refused = rejects refused >> takes_brought input
 

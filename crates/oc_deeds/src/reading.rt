@@ -65,7 +65,7 @@ pub fn comes_back(
     }
 }
 
-/// Whether a reading is a response of 200.
+/// Whether what was read is a response of 200.
 fn has_ok(reply: &Result<ReplyInPlace, HttpFault>) -> bool
     ensures { result ≡ has_ok (reading reply.now) }
 {

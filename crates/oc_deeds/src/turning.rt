@@ -147,7 +147,7 @@ fn rejects<W: Doer>(doer: &mut W, refused: Option<MessageFault>)
     }
 }
 
-/// Takes the measure of a probe, or writes the line with its fault.
+/// Takes what a probe measured, or tells why there is nothing.
 fn measures<W: Doer>(
     doer: &mut W,
     probing: &mut Option<Probing>,

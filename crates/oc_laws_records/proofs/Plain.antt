@@ -10,7 +10,6 @@ use Rattle.oc_link.specs.declared.event.Coming.{Coming}
 use Rattle.oc_link.specs.declared.event.Coming.TheVariants.{Open, Ended, Failed}
 use Rattle.oc_link.specs.declared.event.LinkEvent.{LinkEvent}
 use Rattle.oc_link.specs.declared.event.LinkEvent.TheVariants as events
-use Rattle.oc_http.specs.Requests.{begins_with_head}
 use Rattle.oc_http.specs.declared.fault.HttpFault.{HttpFault}
 use Rattle.oc_http.specs.declared.head.Head.{Head}
 use Rattle.oc_http.specs.declared.reply.Reply.{Reply}
@@ -20,12 +19,14 @@ use Rattle.oc_model.specs.declared.message.Message.{Message}
 use Rattle.oc_probe.specs.declared.fault.ProbeFault.{ProbeFault}
 use Rattle.oc_probe.specs.declared.probing.Probing.{Probing}
 use Rattle.oc_routes.proofs.Bodies.{IsOfBody, IsOfRequest, of_body}
+use Rattle.oc_routes.specs.Askers.{asker_in, asker_of}
+use Rattle.oc_routes.specs.declared.asker.Asker.{Asker}
 use Rattle.oc_routes.specs.Conditions.{unmet}
 use Rattle.oc_routes.specs.Connections.{awaits_continue, is_last}
 use Rattle.oc_routes.specs.Hints.{asked_with_hint}
 use Rattle.oc_routes.specs.Macs.{is_forged}
 use Rattle.oc_routes.specs.Routes.{input_asked}
-use Rattle.oc_routes.specs.Verdicts.{IsVerdict, NodeTerms, answered, fault_met, input_for, is_head, is_none, refuse, routed, taken, unfinished, unread, verdict_for, whole, with_body}
+use Rattle.oc_routes.specs.Verdicts.{IsVerdict, NodeTerms, answered, fault_met, input_for, is_none, refuse, routed, taken, unfinished, unread, verdict_for, whole, with_body}
 use Rattle.oc_routes.specs.declared.fault.RouteFault.{RouteFault}
 use Rattle.oc_routes.specs.declared.fault.RouteFault.TheVariants as faults
 use Rattle.oc_routes.specs.declared.hint.Asked.{Asked}
@@ -41,10 +42,11 @@ use Rattle.oc_routes.specs.declared.verdict.Verdict.{Verdict}
 use Rattle.oc_routes.specs.declared.verdict.Verdict.TheVariants as verdicts
 use Rattle.oc_routes.specs.declared.waiting.Prospect.{Prospect}
 use Rattle.oc_routes.specs.declared.waiting.Prospect.TheVariants as prospects
+use Rattle.oc_routes.specs.declared.tally.MessageFault.{MessageFault}
 use Rattle.oc_deeds.specs.Asks.{has_to_wait, obeys, refuses_or, responds, takes_on, takes_up, waiting}
-use Rattle.oc_deeds.specs.Brought.{comes_back, delivered_or, fault_of, input_of, input_of_reply, message_in}
+use Rattle.oc_deeds.specs.Brought.{comes_back, delivered_or, fault_of, input_of, input_of_reply, message_in, refused_of}
 use Rattle.oc_deeds.specs.Choices.{next_to_dial, prospect_of, wait_for}
-use Rattle.oc_deeds.specs.Deeds.{Deed, Reads, Running, Says, Sees, Setting, Takes, Tells, Waits, after, after_all, errand_in, Rereads}
+use Rattle.oc_deeds.specs.Deeds.{Deed, Reads, Running, Says, Sees, Setting, Takes, Tells, Waits, after, after_all, errand_in, Rejects, Rereads}
 use Rattle.oc_deeds.specs.Hurries.{came_hurries}
 use Rattle.oc_deeds.specs.Pace.{has_passed, wait_until}
 use Rattle.oc_deeds.specs.Parts.{nothing, one, ◌>>◌}
@@ -60,7 +62,7 @@ use Rattle.oc_deeds.specs.declared.reread.Reread.TheVariants as rereads
 use Rattle.oc_deeds.specs.declared.unfit.Unfit.{Unfit}
 use Rattle.oc_deeds.specs.Telling.{takes_ahead}
 use Rattle.oc_deeds.specs.Turns as turns
-use Rattle.oc_deeds.specs.Turns.{terms_in, Means, MeansBack, Observation, takes_brought, deals, happens, measures, next_peer, probes_it, quickened, takes_at, takes_due, ticked, ticks, ticks_and_sends, ticks_if}
+use Rattle.oc_deeds.specs.Turns.{terms_in, Means, MeansBack, Observation, takes_brought, takes_reply, deals, happens, measures, next_peer, probes_it, quickened, takes_at, takes_due, ticked, ticks, ticks_and_sends, ticks_if}
 use Rattle.oc_deeds.specs.Works.{client_input, pending, work_on}
 use Rattle.oc_deeds.specs.declared.came.Came.{Came}
 use Rattle.oc_deeds.specs.declared.came.Came.TheVariants as comes
@@ -173,7 +175,7 @@ body_plain t x came head rest said = by_permit (awaits_continue head && not x.pe
     body : List ℕ
     body = take head.length rest
 
-    by_mac : (b : Bool) → AsksPlainly (if b then refuse (is_head head.method) refusals.Mac else answered head request (input_asked t.nodes t.me said.operation body))
+    by_mac : (b : Bool) → AsksPlainly (if b then refuse (asker_of head) refusals.Mac else answered head request (input_asked t.nodes t.me said.operation body))
     by_mac true = tt
     by_mac false = answered_plain head request (input_asked t.nodes t.me said.operation body) (asked_plain t.nodes t.me said.operation body)
 
@@ -189,14 +191,14 @@ routed_plain : (t : NodeTerms) (x : Arrival) (came : ℕ) (head : Head) (rest : 
 routed_plain t x came head rest (Ok said) = body_plain t x came head rest said
 routed_plain t x came head rest (Err why) = tt
 
-unread_plain : (coming : Coming) (none head_alone : Bool) (fault : Option RouteFault) → AsksPlainly (unread coming none head_alone fault)
-unread_plain coming none head_alone None = unfinished_plain coming none
-unread_plain coming none head_alone (Some (faults.Refused why)) = tt
-unread_plain coming none head_alone (Some faults.Memory) = tt
+unread_plain : (coming : Coming) (none : Bool) (asker : Asker) (fault : Option RouteFault) → AsksPlainly (unread coming none asker fault)
+unread_plain coming none asker None = unfinished_plain coming none
+unread_plain coming none asker (Some (faults.Refused why)) = tt
+unread_plain coming none asker (Some faults.Memory) = tt
 
 verdict_plain : (t : NodeTerms) (x : Arrival) (bytes rest : List ℕ) (answer : Result Head HttpFault) → AsksPlainly (verdict_for t x bytes rest answer)
 verdict_plain t x bytes rest (Ok head) = routed_plain t x (length bytes) head rest (asked_with_hint head t.rules)
-verdict_plain t x bytes rest (Err fault) = unread_plain x.coming (is_none bytes) (begins_with_head (taken bytes rest)) (fault_met fault)
+verdict_plain t x bytes rest (Err fault) = unread_plain x.coming (is_none bytes) (asker_in (taken bytes rest)) (fault_met fault)
 
 read_plain : (t : NodeTerms) (x : Arrival) (bytes : List ℕ) (v : Verdict) → IsVerdict t x bytes v → AsksPlainly v
 read_plain t x bytes v is = subst (λ (w : Verdict). AsksPlainly w) (sym is.verdict) (verdict_plain t x bytes is.rest is.answer)
@@ -247,6 +249,10 @@ plain_brought : (input : Option Input) (s : Setting) (a : Running) → IfSome in
 plain_brought None s a is = tt
 plain_brought (Some i) s a is = (tt, (is, (tt, tt)))
 
+plain_reply_part : (input : Option Input) (refused : Option MessageFault) (s : Setting) (a : Running) → IfSome input IsOfRecord → ArePlain (takes_reply input refused s a)
+plain_reply_part input None s a is = plain_brought input s a is
+plain_reply_part input (Some fault) s a is = (tt, plain_brought input s (after (Rejects fault) a) is)
+
 plain_probe : (peer : Option ℕ) (started : ℕ) (s : Setting) (a : Running) → ArePlain (probes_it peer started s a)
 plain_probe None started s a = tt
 plain_probe (Some peer) started s a = (tt, (tt, tt))
@@ -270,7 +276,7 @@ input_plain t peer (Err fault) = tt
 -- the reply on a dial
 back_plain : (t : NodeTerms) (errand : Errand) (reading : Result Reply HttpFault) (probing : Option Probing) (now median started : ℕ) (s : Setting) (a : Running)
     → ArePlain (happens probing (comes_back t.me t.nodes t.keys errand reading) now median started s a)
-back_plain t (errands.Message to fetch) reading probing now median started s a = plain_brought (input_of t.me t.nodes t.keys to reading) s a (input_plain t to reading)
+back_plain t (errands.Message to fetch) reading probing now median started s a = plain_reply_part (input_of t.me t.nodes t.keys to reading) (refused_of t.me t.nodes t.keys to reading) s a (input_plain t to reading)
 back_plain t (errands.Probe peer since) reading probing now median started s a = plain_measures probing peer (fault_of reading) median s a
 
 nothing_plain : (probing : Option Probing) (now median started : ℕ) (s : Setting) (a : Running) → ArePlain (happens probing comes.Nothing now median started s a)

@@ -8,12 +8,13 @@ use Rattle.oc_link.specs.declared.event.Arrival.{Arrival}
 use Rattle.oc_link.specs.declared.event.Coming.{Coming}
 use Rattle.oc_link.specs.declared.event.Coming.TheVariants as comings
 use Rattle.oc_http.specs.Answers.{AnswersRequest, IsDecided}
-use Rattle.oc_http.specs.Requests.{begins_with_head, read_request}
+use Rattle.oc_http.specs.Requests.{read_request}
 use Rattle.oc_http.proofs.Forms.{request_form}
 use Rattle.oc_http.proofs.OneAnswer.{one_answer}
 use Rattle.oc_http.specs.declared.fault.HttpFault.{HttpFault}
 use Rattle.oc_http.specs.declared.fault.HttpFault.TheVariants.{Source, Ended, Head as NoHead, HeadLong, Fields, Host, Coding, Length, BodyLong, Memory}
 use Rattle.oc_http.specs.declared.head.Head.{Head}
+use Rattle.oc_routes.specs.Askers.{asker_in}
 use Rattle.oc_routes.specs.Connections.{awaits_continue, is_last}
 use Rattle.oc_routes.specs.declared.refused.Refused.{Refused}
 use Rattle.oc_routes.specs.declared.refused.Refused.TheVariants as refusals
@@ -104,15 +105,15 @@ verdict_more : (t : NodeTerms) (c number : ℕ) (permitted : Bool) (coming : Com
 verdict_more t c number permitted coming bytes rest more (Ok head) v same is decided =
     routed_more t c number permitted coming (length bytes) head rest more (asked_with_hint head t.rules) v is decided
     ∙ ap (λ (n : ℕ). after_head t (arrival c number permitted coming) n head (rest ++ more)) (sym (length-append bytes more))
-verdict_more t c number permitted coming bytes rest more (Err Source) v same is decided = is ∙ ap (λ (x : List ℕ). refuse (begins_with_head x) refusals.Source) same
+verdict_more t c number permitted coming bytes rest more (Err Source) v same is decided = is ∙ ap (λ (x : List ℕ). refuse (asker_in x) refusals.Source) same
 verdict_more t c number permitted coming bytes rest more (Err Ended) v same is decided = absurd (decided is)
-verdict_more t c number permitted coming bytes rest more (Err NoHead) v same is decided = is ∙ ap (λ (x : List ℕ). refuse (begins_with_head x) refusals.Head) same
-verdict_more t c number permitted coming bytes rest more (Err HeadLong) v same is decided = is ∙ ap (λ (x : List ℕ). refuse (begins_with_head x) refusals.HeadLong) same
-verdict_more t c number permitted coming bytes rest more (Err Fields) v same is decided = is ∙ ap (λ (x : List ℕ). refuse (begins_with_head x) refusals.Fields) same
-verdict_more t c number permitted coming bytes rest more (Err Host) v same is decided = is ∙ ap (λ (x : List ℕ). refuse (begins_with_head x) refusals.Host) same
-verdict_more t c number permitted coming bytes rest more (Err (Coding both)) v same is decided = is ∙ ap (λ (x : List ℕ). refuse (begins_with_head x) (refusals.Coding both)) same
-verdict_more t c number permitted coming bytes rest more (Err (Length missing)) v same is decided = is ∙ ap (λ (x : List ℕ). refuse (begins_with_head x) (refusals.Length missing)) same
-verdict_more t c number permitted coming bytes rest more (Err BodyLong) v same is decided = is ∙ ap (λ (x : List ℕ). refuse (begins_with_head x) refusals.BodyLong) same
+verdict_more t c number permitted coming bytes rest more (Err NoHead) v same is decided = is ∙ ap (λ (x : List ℕ). refuse (asker_in x) refusals.Head) same
+verdict_more t c number permitted coming bytes rest more (Err HeadLong) v same is decided = is ∙ ap (λ (x : List ℕ). refuse (asker_in x) refusals.HeadLong) same
+verdict_more t c number permitted coming bytes rest more (Err Fields) v same is decided = is ∙ ap (λ (x : List ℕ). refuse (asker_in x) refusals.Fields) same
+verdict_more t c number permitted coming bytes rest more (Err Host) v same is decided = is ∙ ap (λ (x : List ℕ). refuse (asker_in x) refusals.Host) same
+verdict_more t c number permitted coming bytes rest more (Err (Coding both)) v same is decided = is ∙ ap (λ (x : List ℕ). refuse (asker_in x) (refusals.Coding both)) same
+verdict_more t c number permitted coming bytes rest more (Err (Length missing)) v same is decided = is ∙ ap (λ (x : List ℕ). refuse (asker_in x) (refusals.Length missing)) same
+verdict_more t c number permitted coming bytes rest more (Err BodyLong) v same is decided = is ∙ ap (λ (x : List ℕ). refuse (asker_in x) refusals.BodyLong) same
 verdict_more t c number permitted coming bytes rest more (Err Memory) v same is decided = is
 
 -- a part of a request is to wait

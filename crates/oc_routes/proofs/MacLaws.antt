@@ -7,12 +7,13 @@ use Rattle.oc_link.specs.declared.event.Arrival.{Arrival}
 use Rattle.oc_link.specs.declared.event.Coming.{Coming}
 use Rattle.oc_link.specs.declared.event.Coming.TheVariants.{Open, Ended, Failed}
 use Rattle.oc_http.specs.Answers.{AnswersRequest}
-use Rattle.oc_http.specs.Requests.{begins_with_head}
 use Rattle.oc_http.specs.declared.fault.HttpFault.{HttpFault}
 use Rattle.oc_http.specs.declared.fault.HttpFault.TheVariants as http
 use Rattle.oc_http.specs.declared.head.Head.{Head}
 use Rattle.oc_model.specs.declared.input.Input.{Input}
 use Rattle.oc_policy.specs.Keys.{Keyring}
+use Rattle.oc_routes.specs.Askers.{asker_in, asker_of}
+use Rattle.oc_routes.specs.declared.asker.Asker.{Asker}
 use Rattle.oc_routes.specs.Connections.{awaits_continue, is_last}
 use Rattle.oc_routes.specs.Routes.{input_asked}
 use Rattle.oc_routes.specs.declared.fault.RouteFault.{RouteFault}
@@ -28,7 +29,7 @@ use Rattle.oc_routes.proofs.SparedReplies.{head_spared}
 use Rattle.oc_wire.specs.Macs.{HasMac, is_authentic}
 use Rattle.oc_wire.proofs.UnderKeys.{believed}
 use Rattle.oc_routes.specs.Macs.{HaveMac, is_forged}
-use Rattle.oc_routes.specs.Verdicts.{IsVerdict, NodeTerms, answered, fault_met, input_for, is_head, is_none, refuse, routed, taken, unfinished, unread, verdict_for, whole}
+use Rattle.oc_routes.specs.Verdicts.{IsVerdict, NodeTerms, answered, fault_met, input_for, is_none, refuse, routed, taken, unfinished, unread, verdict_for, whole}
 use Rattle.oc_routes.specs.declared.hint.Asked.{Asked}
 use Rattle.oc_routes.specs.declared.verdict.Request.{Request}
 use Rattle.oc_routes.specs.declared.verdict.Verdict.{Verdict}
@@ -48,13 +49,13 @@ answered_asks head q r (Ok input) e = let same : q ≡ record r { input = input_
 answered_asks head q r (Err why) e = cc
 
 -- no request is answered that has a fault
-unread_no : (coming : Coming) (none head_alone : Bool) (fault : Option RouteFault) (q : Request) → Ask q ≡ unread coming none head_alone fault → ⊥
-unread_no Open none head_alone None q e = cc
-unread_no Ended true head_alone None q e = cc
-unread_no Ended false head_alone None q e = cc
-unread_no Failed none head_alone None q e = cc
-unread_no coming none head_alone (Some (faults.Refused why)) q e = cc
-unread_no coming none head_alone (Some faults.Memory) q e = cc
+unread_no : (coming : Coming) (none : Bool) (asker : Asker) (fault : Option RouteFault) (q : Request) → Ask q ≡ unread coming none asker fault → ⊥
+unread_no Open none asker None q e = cc
+unread_no Ended true asker None q e = cc
+unread_no Ended false asker None q e = cc
+unread_no Failed none asker None q e = cc
+unread_no coming none asker (Some (faults.Refused why)) q e = cc
+unread_no coming none asker (Some faults.Memory) q e = cc
 
 unfinished_no : (coming : Coming) (none : Bool) (q : Request) → Ask q ≡ unfinished coming none → ⊥
 unfinished_no Open none q e = cc
@@ -65,7 +66,7 @@ unfinished_no Failed none q e = cc
 -- a whole request that is answered is not forged
 whole_mac : (t : NodeTerms) (ring : Keyring) (head : Head) (q r : Request) (body : List ℕ) → t.keys ≡ Some ring → q.asked.operation ≡ asks.Message
     → (forged : Bool) → is_forged t.keys r.asked.operation head.mac body ≡ forged
-    → Ask q ≡ (if forged then refuse (is_head head.method) refusals.Mac else answered head r (input_asked t.nodes t.me r.asked.operation body))
+    → Ask q ≡ (if forged then refuse (asker_of head) refusals.Mac else answered head r (input_asked t.nodes t.me r.asked.operation body))
     → HasMac ring head.mac body
 whole_mac t ring head q r body has asks_message true is e = cc
 whole_mac t ring head q r body has asks_message false is e =
@@ -104,7 +105,7 @@ have_mac t a ring bytes q has asks_message x = by_answer x.answer x.answers x.ve
       says = took.2;
       mac = routed_mac t ring a (length bytes) head x.rest (asked_with_hint head t.rules) q has asks_message e;
     }
-    by_answer (Err fault) took e = absurd (unread_no a.coming (is_none bytes) (begins_with_head (taken bytes x.rest)) (fault_met fault) q e)
+    by_answer (Err fault) took e = absurd (unread_no a.coming (is_none bytes) (asker_in (taken bytes x.rest)) (fault_met fault) q e)
 
 -- A body is refused as no message only where it came with its MAC
 
@@ -122,17 +123,17 @@ unfinished_other Ended true e = cc
 unfinished_other Ended false e = cc
 unfinished_other Failed none e = cc
 
-unread_other : (coming : Coming) (none head_alone : Bool) (fault : HttpFault) → SaysMessage (unread coming none head_alone (fault_met fault)) → ⊥
-unread_other coming none head_alone http.Source e = cc
-unread_other coming none head_alone http.Ended e = unfinished_other coming none e
-unread_other coming none head_alone http.Head e = cc
-unread_other coming none head_alone http.HeadLong e = cc
-unread_other coming none head_alone http.Fields e = cc
-unread_other coming none head_alone http.Host e = cc
-unread_other coming none head_alone (http.Coding both) e = cc
-unread_other coming none head_alone (http.Length missing) e = cc
-unread_other coming none head_alone http.BodyLong e = cc
-unread_other coming none head_alone http.Memory e = cc
+unread_other : (coming : Coming) (none : Bool) (asker : Asker) (fault : HttpFault) → SaysMessage (unread coming none asker (fault_met fault)) → ⊥
+unread_other coming none asker http.Source e = cc
+unread_other coming none asker http.Ended e = unfinished_other coming none e
+unread_other coming none asker http.Head e = cc
+unread_other coming none asker http.HeadLong e = cc
+unread_other coming none asker http.Fields e = cc
+unread_other coming none asker http.Host e = cc
+unread_other coming none asker (http.Coding both) e = cc
+unread_other coming none asker (http.Length missing) e = cc
+unread_other coming none asker http.BodyLong e = cc
+unread_other coming none asker http.Memory e = cc
 
 -- a body is no message only where a message is asked
 input_message : (nodes me : ℕ) (operation : Operation) (body : List ℕ) → input_asked nodes me operation body ≡ Err refusals.Message → operation ≡ asks.Message
@@ -144,7 +145,7 @@ answered_message head r (Err why) e = let same : why ≡ refusals.Message = cc i
 
 whole_refused : (t : NodeTerms) (ring : Keyring) (head : Head) (r : Request) (body : List ℕ) → t.keys ≡ Some ring
     → (forged : Bool) → is_forged t.keys r.asked.operation head.mac body ≡ forged
-    → SaysMessage (if forged then refuse (is_head head.method) refusals.Mac else answered head r (input_asked t.nodes t.me r.asked.operation body))
+    → SaysMessage (if forged then refuse (asker_of head) refusals.Mac else answered head r (input_asked t.nodes t.me r.asked.operation body))
     → HasMac ring head.mac body
 whole_refused t ring head r body has true is e = cc
 whole_refused t ring head r body has false is e =
@@ -172,8 +173,8 @@ routed_refused t ring a came head rest (Ok said) has spared e =
     request = record { count = came - length rest + head.length; asked = said; input = None; last = is_last head a.number }
 
 -- a body that is read as a message came with its MAC under one of the keys, also where it is none
-pub read_mac : (t : NodeTerms) (a : Arrival) (ring : Keyring) (bytes : List ℕ) (head_alone : Bool) → t.keys ≡ Some ring → IsVerdict t a bytes (refuse head_alone refusals.Message) → HaveMac ring bytes
-read_mac t a ring bytes head_alone has x = by_answer x.answer x.answers (ap why_of x.verdict)
+pub read_mac : (t : NodeTerms) (a : Arrival) (ring : Keyring) (bytes : List ℕ) (asker : Asker) → t.keys ≡ Some ring → IsVerdict t a bytes (refuse asker refusals.Message) → HaveMac ring bytes
+read_mac t a ring bytes asker has x = by_answer x.answer x.answers (ap why_of x.verdict)
   where
     by_answer : (answer : Result Head HttpFault) → AnswersRequest bytes x.rest answer → SaysMessage (verdict_for t a bytes x.rest answer) → HaveMac ring bytes
     by_answer (Ok head) took e = record {
@@ -184,4 +185,4 @@ read_mac t a ring bytes head_alone has x = by_answer x.answer x.answers (ap why_
       says = took.2;
       mac = routed_refused t ring a (length bytes) head x.rest (asked_with_hint head t.rules) has (head_spared head t.rules) e;
     }
-    by_answer (Err fault) took e = absurd (unread_other a.coming (is_none bytes) (begins_with_head (taken bytes x.rest)) fault e)
+    by_answer (Err fault) took e = absurd (unread_other a.coming (is_none bytes) (asker_in (taken bytes x.rest)) fault e)

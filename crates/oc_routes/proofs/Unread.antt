@@ -2,11 +2,11 @@
 use Rattle.std.proofs.Common.{◌≡◌, ℕ, Bool, Some, None, Result, Ok, Err, IfOk, List, [], ◌++◌, refl, sym, ap, ◌∙◌, subst}
 use Rattle.oc_link.specs.declared.event.Arrival.{Arrival}
 use Rattle.oc_http.specs.Answers.{AnswersRequest, IsDecided}
-use Rattle.oc_http.specs.Requests.{begins_with_head}
 use Rattle.oc_http.specs.Taking.{RefusesRequest, Took}
 use Rattle.oc_http.specs.declared.fault.HttpFault.{HttpFault}
 use Rattle.oc_http.specs.declared.fault.HttpFault.TheVariants.{Source, Ended, Head as NoHead, HeadLong, Fields, Host, Coding, Length, BodyLong, Memory}
 use Rattle.oc_http.specs.declared.head.Head.{Head}
+use Rattle.oc_routes.specs.Askers.{asker_in}
 use Rattle.oc_routes.specs.declared.fault.RouteFault.TheVariants as faults
 use Rattle.oc_routes.specs.declared.refused.Refused.{Refused}
 use Rattle.oc_routes.specs.Verdicts.{IsVerdict, NodeTerms, fault_met, is_none, refuse, taken, unfinished, unread}
@@ -32,7 +32,7 @@ stopped_answers left old new BodyLong h some = ((h.0, h.1, h.2), tt)
 stopped_answers left old new Memory h some = absurd (some refl)
 
 unread_verdict : {S : Type 0} (left : S → List ℕ) (old new : S) (t : NodeTerms) (a : Arrival) (fault : HttpFault) (v : Verdict) → Stopped left old new fault → (fault_met fault ≡ Some faults.Memory → ⊥)
-    → v ≡ unread a.coming (is_none (left old)) (begins_with_head (taken (left old) (left new))) (fault_met fault) → IsVerdict t a (left old) v
+    → v ≡ unread a.coming (is_none (left old)) (asker_in (taken (left old) (left new))) (fault_met fault) → IsVerdict t a (left old) v
 unread_verdict left old new t a fault v stopped some is =
     let both = stopped_answers left old new fault stopped some in
     record { answer = Err fault; rest = left new; answers = both.0; decided = both.1; verdict = is }
@@ -43,13 +43,13 @@ pub ended_verdict : {S M : Type 0} (left : S → List ℕ) (old new : S) (t : No
 ended_verdict left old new t a fault bytes none (Ok v) stopped met from is_it is =
     subst (λ (x : List ℕ). IsVerdict t a x v) (sym from)
     (unread_verdict left old new t a fault v stopped (λ (e : fault_met fault ≡ Some faults.Memory). cc)
-    (is ∙ ap (unfinished a.coming) (is_it ∙ ap is_none from) ∙ ap (unread a.coming (is_none (left old)) (begins_with_head (taken (left old) (left new)))) (sym met)))
+    (is ∙ ap (unfinished a.coming) (is_it ∙ ap is_none from) ∙ ap (unread a.coming (is_none (left old)) (asker_in (taken (left old) (left new)))) (sym met)))
 ended_verdict left old new t a fault bytes none (Err e) stopped met from is_it is = tt
 
 -- the bytes are refused, by whether those that were taken begin a HEAD
 pub refused_verdict : {S : Type 0} (left : S → List ℕ) (old new : S) (t : NodeTerms) (a : Arrival) (fault : HttpFault) (why : Refused) (bytes : List ℕ) (v : Verdict) → Stopped left old new fault → fault_met fault ≡ Some (faults.Refused why)
-    → bytes ≡ left old → v ≡ refuse (begins_with_head (taken bytes (left new))) why → IsVerdict t a bytes v
+    → bytes ≡ left old → v ≡ refuse (asker_in (taken bytes (left new))) why → IsVerdict t a bytes v
 refused_verdict left old new t a fault why bytes v stopped met from is =
     subst (λ (x : List ℕ). IsVerdict t a x v) (sym from)
     (unread_verdict left old new t a fault v stopped (λ (e : fault_met fault ≡ Some faults.Memory). cc)
-    (is ∙ ap (λ (x : List ℕ). refuse (begins_with_head (taken x (left new))) why) from ∙ ap (unread a.coming (is_none (left old)) (begins_with_head (taken (left old) (left new)))) (sym met)))
+    (is ∙ ap (λ (x : List ℕ). refuse (asker_in (taken x (left new))) why) from ∙ ap (unread a.coming (is_none (left old)) (asker_in (taken (left old) (left new)))) (sym met)))

@@ -24,6 +24,7 @@ use Rattle.oc_routes.specs.declared.routes.Operation.{Operation}
 use Rattle.oc_routes.specs.declared.routes.Operation.TheVariants as operations
 use Rattle.oc_routes.specs.declared.manner.Manner.{Manner}
 use Rattle.oc_routes.specs.declared.manner.Manner.TheVariants.{HeadAlone, Once, Follow}
+use Rattle.oc_routes.specs.declared.asker.Asker.TheVariants as askers
 use Rattle.oc_routes.specs.declared.refused.Refused.{Refused}
 use Rattle.oc_routes.specs.declared.refused.Refused.TheVariants as refusals
 use Rattle.oc_routes.specs.declared.report.Report.{Report}
@@ -204,7 +205,7 @@ pub record AreAnswered : Type 0 where
       (codes "access rule 1 denies this without a token: send the field Authorization: Bearer TOKEN\n"))
   pub method_reply : refusal_text (refusing refusals.Method)
       ≡ Some (says (codes "HTTP/1.1 405 Method Not Allowed") (codes "Allow: GET, HEAD, POST" ∷ plain_text ∷ []) (codes "there is no such method here: use GET, HEAD or POST\n"))
-  pub head_reply : refusal_text (record { why = refusals.Host; head_alone = true })
+  pub head_reply : refusal_text (record { why = refusals.Host; asker = askers.HeadAlone })
       ≡ Some (lines (codes "HTTP/1.1 400 Bad Request" ∷ plain_text ∷ codes "Content-Length: 48" ∷ closes ∷ []))
   pub no_reply : refusal_text (refusing refusals.Ended) ≡ None
   pub reply : reply_to (look_at 3 ∷ rejoin ∷ look_at 2 ∷ look_at 2 ∷ []) 2 ≡ Some (look_at 2)

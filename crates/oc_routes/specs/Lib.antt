@@ -1,5 +1,6 @@
 pub mod Reasons
 pub mod Lines
+pub mod Askers
 pub mod Refusals
 pub mod Inputs
 pub mod Responses

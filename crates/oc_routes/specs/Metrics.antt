@@ -15,11 +15,11 @@ use Rattle.oc_routes.specs.Tallies.{TallyView}
 use Rattle.oc_routes.specs.declared.counts.Counts.{Counts}
 use Rattle.oc_routes.specs.declared.tally.StatusCount.{StatusCount}
 
--- the two lines that name a metric of this kind and say what it is
+-- the two lines with the name of a metric of this kind and its meaning
 unfoldable pub heading_as : List ℕ → List ℕ → List ℕ → List ℕ
 heading_as kind name says = codes "# HELP " ++ name ++ codes " " ++ says ++ codes "\n# TYPE " ++ name ++ codes " " ++ kind ++ codes "\n"
 
--- of a value that rises and falls, and of a count since the start
+-- the lines of a gauge, and of a counter
 abbrev pub heading : List ℕ → List ℕ → List ℕ
 heading name says = heading_as (codes "gauge") name says
 
@@ -81,29 +81,30 @@ group_gauges shelf =
     heading (codes "overcast_group_bytes") (codes "Bytes held of a group.") ++ held_samples shelf
     ++ heading (codes "overcast_group_sealed") (codes "Whether a group is sealed.") ++ sealed_samples shelf
 
--- Nodes by their ids
+-- The other nodes
 
 abbrev pub name_label : Option (List ℕ) → List ℕ
 name_label None = []
 name_label (Some name) = codes ",name=\"" ++ name ++ codes "\""
 
--- a sample of a node, with its name where it has one
+-- a sample about a node, with its name where it has one
 unfoldable pub node_sample : List ℕ → Option (List ℕ) → ℕ → ℕ → List ℕ
 node_sample metric name x value = metric ++ codes "{node=\"" ++ decimal x ++ codes "\"" ++ name_label name ++ codes "} " ++ decimal value ++ codes "\n"
 
--- whether a node is listed, or is this one
+-- the sample of whether a node is listed, or is this one
 abbrev pub up_sample : Sight → ℕ → List ℕ
 up_sample s x = node_sample (codes "overcast_node_up") (name_of s x) x (from_bool (is_here s x))
 
--- told by an acting node alone
+-- the samples of an acting node; of any other none
 abbrev pub up_samples : Sight → List ℕ → List ℕ
 up_samples s xs = if is_acting s.node.kept.mode then flat_map (up_sample s) xs else []
 
--- the seconds since it was heard of, where it was, and is not this one
+-- the sample of the seconds since a node was heard of, where it was
 abbrev pub silent_sample : Sight → ℕ → Option ℕ → List ℕ
 silent_sample s x None = []
 silent_sample s x (Some seconds) = node_sample (codes "overcast_node_last_heard_seconds") (name_of s x) x seconds
 
+-- the same of a node that is not this one
 abbrev pub heard_sample : Sight → ℕ → List ℕ
 heard_sample s x = if x == s.node.me then [] else silent_sample s x (silence_of s x)
 
@@ -112,7 +113,7 @@ node_gauges s xs =
     heading (codes "overcast_node_up") (codes "Whether a node is listed; told by an acting node.") ++ up_samples s xs
     ++ heading (codes "overcast_node_last_heard_seconds") (codes "Seconds since a node was heard of.") ++ flat_map (heard_sample s) xs
 
--- What the run counted
+-- The counts of the run
 
 -- a sample with a label of this value
 unfoldable pub labelled : List ℕ → List ℕ → List ℕ → ℕ → List ℕ
@@ -136,7 +137,7 @@ other_counters t =
     ++ cause_sample (codes "message") t.messages
     ++ counter (codes "overcast_clients_total") (codes "Clients served since the start.") t.served
 
--- the limit of groups, and what is told of the program
+-- the limit of groups, and the program
 abbrev pub program_gauges : AboutView → List ℕ
 program_gauges about =
     gauge (codes "overcast_groups_limit") (codes "The most groups that a node holds.") MAX_GROUPS
@@ -144,12 +145,12 @@ program_gauges about =
     ++ heading (codes "overcast_build_info") (codes "The version of the program.") ++ labelled (codes "overcast_build_info") (codes "version") about.version 1
     ++ gauge (codes "overcast_configuration_refused") (codes "Whether the configuration's file was refused when it was read last.") (from_bool about.refused)
 
--- what was told first: the node's place, its counts, its groups and its outbox
+-- the node's place, its counts, its groups and its outbox
 unfoldable pub state_gauges : Sight → List ℕ
 state_gauges s =
     place_gauges s.node.kept.mode ++ count_gauges (counted s.node) ++ group_gauges s.shelf
     ++ gauge (codes "overcast_outbox_messages") (codes "Messages waiting to be sent.") s.messages
 
--- the whole, of a node that is looked at so
+-- the metrics of a node that is seen so
 abbrev pub metrics_text : Sight → List ℕ
 metrics_text s = state_gauges s ++ node_gauges s (ids_told s) ++ reply_counters s.tally ++ other_counters s.tally ++ program_gauges s.about

@@ -1,9 +1,11 @@
 -- The answer to a refused request, and its line.
-use Rattle.std.specs.Prelude.{ℕ, Bool, false, if◌then◌else◌, Option, Some, None, option_map, List, [], ◌++◌, codes, decimal}
+use Rattle.std.specs.Prelude.{ℕ, if◌then◌else◌, Option, Some, None, option_map, List, [], ◌++◌, codes, decimal}
 use Rattle.oc_http.specs.declared.fault.HttpFault.{HttpFault}
 use Rattle.oc_http.specs.declared.fault.HttpFault.TheVariants as http
 use Rattle.oc_http.specs.declared.reply.Reply.{Reply}
+use Rattle.oc_routes.specs.Askers.{gets_head_alone}
 use Rattle.oc_routes.specs.Reasons.{refused_line, reply_text, telling}
+use Rattle.oc_routes.specs.declared.asker.Asker.TheVariants.{Client}
 use Rattle.oc_routes.specs.declared.fault.RouteFault.{RouteFault}
 use Rattle.oc_routes.specs.declared.fault.RouteFault.TheVariants as faults
 use Rattle.oc_routes.specs.declared.refused.Refused.{Refused}
@@ -59,11 +61,11 @@ refusal status refused = record (telling status (refused_line refused)) { rule =
 
 -- the text of that reply, which ends the connection; a connection that failed or ended gets none
 abbrev pub refusal_text : Refusal → Option (List ℕ)
-refusal_text r = option_map (λ status. reply_text r.head_alone (refusal status r.why)) (status_of r.why)
+refusal_text r = option_map (λ status. reply_text (gets_head_alone r.asker) (refusal status r.why)) (status_of r.why)
 
 -- one to whose client nothing is said, or that is no HEAD
 abbrev pub refusing : Refused → Refusal
-refusing why = record { why = why; head_alone = false }
+refusing why = record { why = why; asker = Client }
 
 -- the word for the cause of a refusal
 abbrev pub why_text : Refused → List ℕ

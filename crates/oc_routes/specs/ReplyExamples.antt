@@ -21,6 +21,7 @@ use Rattle.oc_routes.specs.declared.routes.Operation.{Operation}
 use Rattle.oc_routes.specs.declared.routes.Operation.TheVariants as asks
 use Rattle.oc_routes.specs.declared.manner.Manner.{Manner}
 use Rattle.oc_routes.specs.declared.manner.Manner.TheVariants.{HeadAlone, Once, Follow}
+use Rattle.oc_routes.specs.declared.asker.Asker.TheVariants as askers
 use Rattle.oc_routes.specs.declared.refused.Refused.{Refused}
 use Rattle.oc_routes.specs.declared.refused.Refused.TheVariants as refusals
 use Rattle.oc_routes.specs.declared.report.Report.TheVariants as reports
@@ -84,31 +85,31 @@ read hint = verdicts.Ask (record { count = 40; asked = record { operation = asks
 -- the verdicts on a connection
 pub record AreJudged : Type 0 where
   pub waits : came_open cut_publish (codes "ab") 42 verdicts.Wait
-  pub ended : after_head open_terms (arrival 7 1 false comings.Ended) 42 cut_publish (codes "ab") ≡ refuse false refusals.Ended
-  pub failed : after_head open_terms (arrival 7 1 false comings.Failed) 42 cut_publish (codes "ab") ≡ refuse false refusals.Source
+  pub ended : after_head open_terms (arrival 7 1 false comings.Ended) 42 cut_publish (codes "ab") ≡ refuse askers.Client refusals.Ended
+  pub failed : after_head open_terms (arrival 7 1 false comings.Failed) 42 cut_publish (codes "ab") ≡ refuse askers.Client refusals.Source
   pub whole : came_open cut_publish (codes "abc") 43 (published 43 false)
   pub more_behind : came_open cut_publish (codes "abcGET") 46 (published 43 false)
   pub whole_at_its_end : after_head open_terms (arrival 7 1 false comings.Ended) 43 cut_publish (codes "abc") ≡ published 43 false
   pub sixteenth : after_head open_terms (arrival 7 16 false comings.Open) 43 cut_publish (codes "abc") ≡ published 43 true
   pub permits : came_open (record cut_publish { expects = true }) (codes "abc") 43 verdicts.Permit
   pub permitted : after_head open_terms (arrival 7 1 true comings.Open) 43 (record cut_publish { expects = true }) (codes "abc") ≡ published 43 false
-  pub refused_at_its_head : came_open (record (head methods.Post (codes "/%") [] 3) { expects = true }) [] 40 (refuse false refusals.Path)
-  pub sealed_with_a_body : came_open (head methods.Post (codes "/a") (codes "seal") 3) (codes "abc") 43 (refuse false refusals.Body)
-  pub head_refused : came_open (head methods.Head (codes "/%") [] 0) [] 40 (refuse true refusals.Path)
+  pub refused_at_its_head : came_open (record (head methods.Post (codes "/%") [] 3) { expects = true }) [] 40 (refuse askers.Client refusals.Path)
+  pub sealed_with_a_body : came_open (head methods.Post (codes "/a") (codes "seal") 3) (codes "abc") 43 (refuse askers.Client refusals.Body)
+  pub head_refused : came_open (head methods.Head (codes "/%") [] 0) [] 40 (refuse askers.HeadAlone refusals.Path)
   pub follows : came_open (head methods.Get (codes "/a") (codes "follow") 0) [] 40 (read hints.Plain)
   pub follows_known : came_open (head methods.Get (codes "/a") (codes "follow&known") 0) [] 40 (read hints.Known)
   pub here : came_open (head methods.Get (codes "/a") (codes "follow&here") 0) [] 40
       (verdicts.Ask (record { count = 40; asked = record { operation = asks.Client (codes "/a") 0 0 Follow; hint = hints.Here }; input = None; last = false }))
   pub message : judged_under None (posted None) rejoin_bytes (verdicts.Ask (record { count = 57; asked = record { operation = asks.Message; hint = hints.Plain }; input = Some (inputs.Delivered to_this_node); last = false }))
-  pub mac_without_a_key : judged_under None (posted (Some (codes "0a"))) (0 ∷ []) (refuse false refusals.Message)
-  pub no_mac : judged_under (Some (codes "key")) (posted None) rejoin_bytes (refuse false refusals.Mac)
-  pub no_mac_of_no_message : judged_under (Some (codes "key")) (posted None) (0 ∷ []) (refuse false refusals.Mac)
-  pub path_before_mac : judged_under (Some (codes "key")) (record (posted None) { method = methods.Get }) rejoin_bytes (refuse false refusals.Path)
-  pub part_before_mac : after_head (keyed (Some (codes "key"))) (arrival 7 1 false comings.Ended) 41 (record (posted None) { length = 2 }) (0 ∷ []) ≡ refuse false refusals.Ended
+  pub mac_without_a_key : judged_under None (posted (Some (codes "0a"))) (0 ∷ []) (refuse askers.Node refusals.Message)
+  pub no_mac : judged_under (Some (codes "key")) (posted None) rejoin_bytes (refuse askers.Node refusals.Mac)
+  pub no_mac_of_no_message : judged_under (Some (codes "key")) (posted None) (0 ∷ []) (refuse askers.Node refusals.Mac)
+  pub path_before_mac : judged_under (Some (codes "key")) (record (posted None) { method = methods.Get }) rejoin_bytes (refuse askers.Client refusals.Path)
+  pub part_before_mac : after_head (keyed (Some (codes "key"))) (arrival 7 1 false comings.Ended) 41 (record (posted None) { length = 2 }) (0 ∷ []) ≡ refuse askers.Client refusals.Ended
   pub publish_needs_none : after_head (keyed (Some (codes "key"))) (arrival 7 1 false comings.Open) 43 cut_publish (codes "abc") ≡ published 43 false
   pub nothing_waits : unfinished comings.Open true ≡ verdicts.Wait
   pub nothing_ended : unfinished comings.Ended true ≡ verdicts.Leave
-  pub nothing_failed : unfinished comings.Failed true ≡ refuse false refusals.Source
+  pub nothing_failed : unfinished comings.Failed true ≡ refuse askers.Client refusals.Source
 
 abbrev asks_under : List Rule → Method → List ℕ → List ℕ → Result Asked Refused → Type 0
 asks_under rules method path query wanted = asked_with_hint (head method path query 0) rules ≡ wanted

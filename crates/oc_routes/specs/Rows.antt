@@ -14,7 +14,7 @@ use Rattle.oc_routes.specs.declared.rows.Row.{Row}
 abbrev pub rows_of : List Cert → ℕ → List Row
 rows_of t r = map (λ k. record { cert = k; listed = is_listed t r k.subject }) t
 
--- those of whose nodes something is told: a retired one is left out while it is not listed
+-- the rows of the status: without those of nodes that are retired and not listed
 abbrev pub rows_told : Sight → List Row
 rows_told s = filter (λ row. not (is_left_out s row.cert.subject row.listed)) (rows_of s.node.kept.table s.node.me)
 

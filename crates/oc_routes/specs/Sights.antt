@@ -1,5 +1,5 @@
--- A node as it is looked at, and what is told of nodes by their ids.
-use Rattle.std.specs.Prelude.{ℕ, zero, suc, ◌+◌, ◌-◌, Bool, true, false, not, ◌&&◌, ◌||◌, ◌==◌, if◌then◌else◌, Option, Some, None, is_some, List, [], ◌∷◌, filter, map, option_map, string_bytes}
+-- A node as it is seen by its reports, and the facts about nodes by their ids.
+use Rattle.std.specs.Prelude.{ℕ, zero, suc, ◌+◌, ◌-◌, Bool, false, not, ◌&&◌, ◌||◌, ◌==◌, if◌then◌else◌, Option, None, is_some, List, [], ◌∷◌, filter, map, option_map, string_bytes}
 use Rattle.oc_base.specs.declared.shelf.Shelf.{Shelf}
 use Rattle.oc_model.specs.Adopting.{is_acting}
 use Rattle.oc_model.specs.Node.{Control}
@@ -9,7 +9,7 @@ use Rattle.oc_routes.specs.Tallies.{TallyView}
 use Rattle.oc_routes.specs.declared.about.About.{About}
 use Rattle.oc_routes.specs.declared.seen.Seen.{Seen}
 
--- the version of the program, when it started, in seconds since 1970, and whether the configuration's file was refused when it was read last
+-- the version of the program; its start, in seconds since 1970; and whether the configuration's file was refused when it was read last
 pub record AboutView : Type 0 where
   pub version : List ℕ
   pub started : ℕ
@@ -18,8 +18,8 @@ pub record AboutView : Type 0 where
 abbrev pub about_of : About → AboutView
 about_of a = record { version = a.version.now; started = a.started; refused = a.refused }
 
--- the control state of a node, what it holds of each group, and the number of messages in its outbox; what its configuration says of the
--- nodes, by their ids; what its run counted; and what is told of the program
+-- the control state of a node, its shelf, and the number of messages in its outbox; the addresses and names of the nodes, by their ids, where
+-- they have one, and whether they are retired; the counts of its run; and the program
 pub record Sight : Type 0 where
   pub node : Control
   pub shelf : List Shelf
@@ -42,7 +42,7 @@ sight_of seen = record {
   about = about_of seen.about;
 }
 
--- Of one node
+-- One node
 
 abbrev pub name_of : Sight → ℕ → Option (List ℕ)
 name_of s x = at s.names x None
@@ -53,37 +53,37 @@ has_address s x = is_some (at s.addresses x None)
 abbrev pub has_row : Sight → ℕ → Bool
 has_row s x = is_some (newest s.node.kept.table x)
 
--- the seconds since a node was heard of, if it was since the start
+-- the seconds since a node was heard of, where it was since the start
 abbrev pub silence_of : Sight → ℕ → Option ℕ
 silence_of s x = option_map (λ second. s.node.soft.clock - second) (at s.tally.heard x None)
 
--- a node that is retired is left out while it is not listed
+-- whether a node is left out of the reports: it is retired, and not listed
 abbrev pub is_left_out : Sight → ℕ → Bool → Bool
 is_left_out s x listed = at s.retired x false && not listed
 
--- whether a node is listed here, or is this one
+-- whether a node is listed, or is this one
 abbrev pub is_here : Sight → ℕ → Bool
 is_here s x = x == s.node.me || is_listed s.node.kept.table s.node.me x
 
--- Of all
+-- All nodes
 
 -- this many ids from x on
 abbrev pub ids_from : ℕ → ℕ → List ℕ
 ids_from x zero = []
 ids_from x (suc count) = x ∷ ids_from (x + 1) count
 
--- the ids for which this holds, ascending
+-- the ids of the nodes for which this holds, ascending
 abbrev pub ids_with : (ℕ → Bool) → Sight → List ℕ
 ids_with holds s = filter holds (ids_from 1 s.node.nodes)
 
--- those of whom something is told: with an address or a row, and not left out
+-- the nodes in the metrics: those with an address or a row that are not left out
 abbrev pub is_told : Sight → ℕ → Bool
 is_told s x = (has_address s x || has_row s x) && not (is_left_out s x (is_here s x))
 
 abbrev pub ids_told : Sight → List ℕ
 ids_told s = ids_with (is_told s) s
 
--- those who are missing at an acting node: others with an address, and without a row
+-- the nodes that are missing at an acting node: others with an address and without a row
 abbrev pub is_missing : Sight → ℕ → Bool
 is_missing s x = not (x == s.node.me) && has_address s x && not (has_row s x)
 

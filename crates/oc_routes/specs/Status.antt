@@ -76,7 +76,7 @@ own_text cert =
     codes ",\"number\":" ++ number_text cert.number
     ++ codes ",\"clients\":" ++ number_text cert.clients
 
--- what is told of a node besides: its name, and the seconds since it was heard of
+-- the name of a node, and the seconds since it was heard of
 abbrev pub known_text : Sight → ℕ → List ℕ
 known_text s x = codes ",\"name\":" ++ or_null quoted (name_of s x) ++ codes ",\"heard\":" ++ or_null number_text (silence_of s x)
 
@@ -110,7 +110,7 @@ program_text about =
     ++ codes ",\"started\":" ++ number_text about.started
     ++ codes ",\"groups_limit\":" ++ number_text MAX_GROUPS
 
--- what the run counted
+-- the counts of the run
 abbrev pub tally_text : TallyView → List ℕ
 tally_text t =
     codes ",\"served\":" ++ number_text t.served
@@ -118,12 +118,12 @@ tally_text t =
     ++ codes ",\"refused\":{\"mac\":" ++ number_text t.macs
     ++ codes ",\"message\":" ++ number_text t.messages ++ codes "}"
 
--- whether the configuration is the one that its file has
+-- the word for the configuration
 abbrev pub configuration_word : Bool → List ℕ
 configuration_word true = codes "refused"
 configuration_word false = codes "good"
 
--- what is told last: the node's own name, who is missing, the program, what the run counted, and the configuration
+-- the end of the status: the node's own name, the missing nodes, the program, the counts of the run, and the configuration
 unfoldable pub end_text : Sight → List ℕ → List ℕ
 end_text s xs =
     codes ",\"name\":" ++ or_null quoted (name_of s s.node.me)
@@ -132,7 +132,7 @@ end_text s xs =
     ++ tally_text s.tally
     ++ codes ",\"configuration\":" ++ quoted (configuration_word s.about.refused) ++ codes "}\n"
 
--- what is told before that, with these rows of the node's table and these leased children: its state, the nodes above it, its groups, these
+-- the status without its end: the state, the ancestors, the groups, these rows of the table, and these leased children
 abbrev pub object_text : Sight → List Row → List Leased → List ℕ
 object_text s rows leased =
     codes "{" ++ state_text s.node
@@ -141,6 +141,6 @@ object_text s rows leased =
     ++ list_text (codes "table") (row_text s) rows
     ++ list_text (codes "children") child_text leased
 
--- the whole, of a node that is looked at so
+-- the status of a node that is seen so
 abbrev pub status_text : Sight → List ℕ
 status_text s = object_text s (rows_told s) (leased_of s.node) ++ end_text s (missing s)

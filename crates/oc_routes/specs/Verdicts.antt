@@ -4,18 +4,18 @@ use Rattle.oc_link.specs.declared.event.Arrival.{Arrival}
 use Rattle.oc_link.specs.declared.event.Coming.{Coming}
 use Rattle.oc_link.specs.declared.event.Coming.TheVariants.{Open, Ended, Failed}
 use Rattle.oc_http.specs.Answers.{AnswersRequest, IsDecided}
-use Rattle.oc_http.specs.Requests.{begins_with_head}
 use Rattle.oc_http.specs.declared.fault.HttpFault.{HttpFault}
 use Rattle.oc_http.specs.declared.fault.HttpFault.TheVariants as http
 use Rattle.oc_http.specs.declared.head.Head.{Head}
-use Rattle.oc_http.specs.declared.head.Method.{Method}
-use Rattle.oc_http.specs.declared.head.Method.TheVariants as methods
 use Rattle.oc_model.specs.declared.input.Input.{Input}
 use Rattle.oc_policy.specs.Keys.{Keyring}
 use Rattle.oc_policy.specs.declared.rule.Rule.{Rule}
+use Rattle.oc_routes.specs.Askers.{asker_in, asker_of}
 use Rattle.oc_routes.specs.Connections.{awaits_continue, is_last}
 use Rattle.oc_routes.specs.Routes.{input_asked}
 use Rattle.oc_routes.specs.Refusals.{fault_of_http, refusing}
+use Rattle.oc_routes.specs.declared.asker.Asker.{Asker}
+use Rattle.oc_routes.specs.declared.asker.Asker.TheVariants.{Client}
 use Rattle.oc_routes.specs.declared.fault.RouteFault.{RouteFault}
 use Rattle.oc_routes.specs.declared.fault.RouteFault.TheVariants as faults
 use Rattle.oc_routes.specs.declared.refused.Refused.{Refused}
@@ -44,25 +44,21 @@ terms_of me nodes rules keys = record { me = me; nodes = nodes; rules = rules; k
 abbrev pub arrival : ℕ → ℕ → Bool → Coming → Arrival
 arrival c number permitted coming = record { connection = c; number = number; permitted = permitted; coming = coming }
 
--- a request is refused, whether it is a HEAD or not
-abbrev pub refuse : Bool → Refused → Verdict
-refuse head_alone why = Refuse (record { why = why; head_alone = head_alone })
-
-abbrev pub is_head : Method → Bool
-is_head methods.Head = true
-is_head method = false
+-- a request of this sender is refused
+abbrev pub refuse : Asker → Refused → Verdict
+refuse asker why = Refuse (record { why = why; asker = asker })
 
 -- a request is refused for a fault
-abbrev pub refused_for : Bool → RouteFault → Verdict
-refused_for head_alone (faults.Refused why) = refuse head_alone why
-refused_for head_alone faults.Memory = Wait
+abbrev pub refused_for : Asker → RouteFault → Verdict
+refused_for asker (faults.Refused why) = refuse asker why
+refused_for asker faults.Memory = Wait
 
 -- The bytes so far are a part of a request, none where there are none. One that ended without a byte is left without a word; a link tells of one
 -- that ran out of its time without a byte the same, or nothing.
 abbrev pub unfinished : Coming → Bool → Verdict
 unfinished Open none = Wait
-unfinished Ended none = if none then Leave else refuse false refusals.Ended
-unfinished Failed none = refuse false refusals.Source
+unfinished Ended none = if none then Leave else refuse Client refusals.Ended
+unfinished Failed none = refuse Client refusals.Source
 
 abbrev pub is_none : List ℕ → Bool
 is_none [] = true
@@ -76,11 +72,11 @@ input_for hint input = input
 -- a whole request, with its body
 abbrev pub answered : Head → Request → Result (Option Input) Refused → Verdict
 answered head request (Ok input) = Ask (record request { input = input_for request.asked.hint input })
-answered head request (Err why) = refuse (is_head head.method) why
+answered head request (Err why) = refuse (asker_of head) why
 
 abbrev pub whole : NodeTerms → Head → Request → List ℕ → Verdict
 whole t head request body =
-    if is_forged t.keys request.asked.operation head.mac body then refuse (is_head head.method) refusals.Mac
+    if is_forged t.keys request.asked.operation head.mac body then refuse (asker_of head) refusals.Mac
     else answered head request (input_asked t.nodes t.me request.asked.operation body)
 
 -- the verdict on a head with this operation, with the bytes that came after it
@@ -97,7 +93,7 @@ with_body t a came head rest said =
 
 abbrev pub routed : NodeTerms → Arrival → ℕ → Head → List ℕ → Result Asked Refused → Verdict
 routed t a came head rest (Ok said) = with_body t a came head rest said
-routed t a came head rest (Err why) = refuse (is_head head.method) why
+routed t a came head rest (Err why) = refuse (asker_of head) why
 
 -- the verdict on a whole head, with the bytes that came after it
 abbrev pub after_head : NodeTerms → Arrival → ℕ → Head → List ℕ → Verdict
@@ -109,9 +105,9 @@ fault_met http.Ended = None
 fault_met fault = Some (fault_of_http fault)
 
 -- no head was read
-abbrev pub unread : Coming → Bool → Bool → Option RouteFault → Verdict
-unread coming none head_alone None = unfinished coming none
-unread coming none head_alone (Some fault) = refused_for head_alone fault
+abbrev pub unread : Coming → Bool → Asker → Option RouteFault → Verdict
+unread coming none asker None = unfinished coming none
+unread coming none asker (Some fault) = refused_for asker fault
 
 -- the bytes that a reader of heads took of these, of which it left those
 abbrev pub taken : List ℕ → List ℕ → List ℕ
@@ -120,7 +116,7 @@ taken bytes rest = take (length bytes - length rest) bytes
 -- the verdict on the answer of a reader of heads, with the bytes that it left; a head with a fault is a HEAD where it begins as one
 abbrev pub verdict_for : NodeTerms → Arrival → List ℕ → List ℕ → Result Head HttpFault → Verdict
 verdict_for t a bytes rest (Ok head) = after_head t a (length bytes) head rest
-verdict_for t a bytes rest (Err fault) = unread a.coming (is_none bytes) (begins_with_head (taken bytes rest)) (fault_met fault)
+verdict_for t a bytes rest (Err fault) = unread a.coming (is_none bytes) (asker_in (taken bytes rest)) (fault_met fault)
 
 -- The verdict on these bytes: the answer to a source that gives these bytes and then ends, where its end is what it is here.
 pub record IsVerdict (t : NodeTerms) (a : Arrival) (bytes : List ℕ) (v : Verdict) : Type 0 where

@@ -10,7 +10,7 @@ use oc_base::{Memory, put};
 
 /// An item of an array.
 pub(crate) trait ArrayItem {
-    /// Its text, where the node is looked at so.
+    /// The text of the item, at a node that is seen so.
     ghost text: { Sight → Self → List ℕ };
 
     /// Puts its text.

@@ -4,8 +4,9 @@ ghost use Rattle.std.specs.Prelude.{◌≡◌, ◌≤◌, ◌++◌, length, opti
 ghost use Rattle.oc_base.specs.declared.limits.TheConstants.{MAX_BODY_BYTES as MOST_BODY};
 ghost use Rattle.oc_policy.specs.declared.deciding.TheConstants.{MAX_RULES as MOST_RULES};
 ghost use Rattle.oc_routes.specs.Asks.{IsLawfulVerdict};
-ghost use Rattle.oc_routes.specs.Verdicts.{IsVerdict, after_head, fault_met, input_for, is_head, refuse, taken, terms_of, unfinished};
+ghost use Rattle.oc_routes.specs.Verdicts.{IsVerdict, after_head, fault_met, input_for, refuse, taken, terms_of, unfinished};
 
+use crate::asker::Asker;
 use crate::hint::{Hint, route_with_hint};
 use crate::rest::Rest;
 use crate::routes::message::is_forged;
@@ -13,7 +14,7 @@ use crate::terms::Terms;
 use crate::verdict::{Refusal, Request, Verdict};
 use crate::{Refused, RouteFault, awaits_continue, input_of, is_last};
 use oc_base::Memory;
-use oc_http::{Head, HeadReader, HttpFault, Method, begins_with_head};
+use oc_http::{Head, HeadReader, HttpFault};
 use oc_link::{Arrival, Coming};
 use oc_model::Input;
 use std::alloc::Global;
@@ -44,7 +45,8 @@ pub fn judge(
         Err(fault) => match fault_met(fault) {
             None => Ok(unfinished(arrival.coming, bytes.is_empty())),
             Some(RouteFault::Refused(why)) => {
-                Ok(refuse(begins_with_head(taken(bytes, source.left)), why))
+                let asker = Asker::of_front(taken(bytes, source.left));
+                Ok(refuse(asker, why))
             }
             Some(RouteFault::Memory) => Err(Memory),
         },
@@ -59,17 +61,11 @@ fn taken<'a>(bytes: &'a [u8], left: &[u8]) -> &'a [u8]
     &bytes[..count]
 }
 
-/// A request is refused, whether it is a HEAD or not.
-fn refuse(head_alone: bool, why: Refused) -> Verdict
-    ensures { result ≡ refuse head_alone why }
+/// The verdict that refuses a request of this sender.
+fn refuse(asker: Asker, why: Refused) -> Verdict
+    ensures { result ≡ refuse asker why }
 {
-    Verdict::Refuse(Refusal { why, head_alone })
-}
-
-fn is_head(method: Method) -> bool
-    ensures { result ≡ is_head method }
-{
-    method == Method::Head
+    Verdict::Refuse(Refusal { why, asker })
 }
 
 /// The fault by which a reader of heads met no head; `None` where the bytes ended before.
@@ -99,7 +95,7 @@ fn after_head(
 {
     let said = match route_with_hint(head, terms.rules) {
         Ok(said) => said,
-        Err(why) => return Ok(refuse(is_head(head.method), why)),
+        Err(why) => return Ok(refuse(Asker::of(head), why)),
     };
     if awaits_continue(head) && !arrival.permitted {
         return Ok(Verdict::Permit);
@@ -109,7 +105,7 @@ fn after_head(
     }
     let body = &rest[..head.length as usize];
     if is_forged(terms.keys, &said.operation, head.mac.as_ref(), body) {
-        return Ok(refuse(is_head(head.method), Refused::Mac));
+        return Ok(refuse(Asker::of(head), Refused::Mac));
     }
     let body = copied(alloc, body)?;
     match input_of(alloc, &said.operation, body, terms.me, terms.nodes) {
@@ -119,7 +115,7 @@ fn after_head(
             input: input_for(said.hint, input),
             last: is_last(head, arrival.number),
         })),
-        Err(RouteFault::Refused(why)) => Ok(refuse(is_head(head.method), why)),
+        Err(RouteFault::Refused(why)) => Ok(refuse(Asker::of(head), why)),
         Err(RouteFault::Memory) => Err(Memory),
     }
 }
@@ -141,8 +137,8 @@ fn unfinished(coming: Coming, none: bool) -> Verdict
     match coming {
         Coming::Open => Verdict::Wait,
         Coming::Ended if none => Verdict::Leave,
-        Coming::Ended => refuse(false, Refused::Ended),
-        Coming::Failed => refuse(false, Refused::Source),
+        Coming::Ended => refuse(Asker::Client, Refused::Ended),
+        Coming::Failed => refuse(Asker::Client, Refused::Source),
     }
 }
 

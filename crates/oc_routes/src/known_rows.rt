@@ -43,7 +43,7 @@ impl KnownRows {
         }))
     }
 
-    /// Whether this row of its node is another than it was.
+    /// Whether a row is another than its node had.
     pub(crate) fn is_news(&self, row: Option<Cert>) -> bool
         ensures { result ≡ is_news_of self.now row }
     {

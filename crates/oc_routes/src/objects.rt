@@ -67,7 +67,7 @@ impl ArrayItem for MissingNode {
     }
 }
 
-/// Puts what is told of a node besides: its name, and the seconds since it was heard of.
+/// Puts the name of a node, and the seconds since it was heard of.
 fn put_known(out: &mut Vec<u8>, seen: &Seen<'_>, node: NodeId) -> Result<(), Memory>
     ensures { OnOk result (out.new.items ≡ out.old.items ++ known_text (sight_of seen.now) node) }
 {

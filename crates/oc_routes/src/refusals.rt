@@ -5,7 +5,7 @@ ghost use Rattle.oc_http.specs.Writing.{HasPhrase};
 ghost use Rattle.oc_routes.specs.Refusals.{group_length_of, refusal, refusal_text, refusing, rule_of, status_of};
 
 use crate::reasons::{refused_line, reply_text, telling};
-use crate::{Refusal, Refused};
+use crate::{Asker, Refusal, Refused};
 use oc_base::Memory;
 use oc_http::Reply;
 use std::alloc::Global;
@@ -19,7 +19,7 @@ pub fn refusal_reply(alloc: Global, refusal: Refusal) -> Result<Option<Vec<u8>>,
         None => Ok(None),
         Some(status) => {
             let reply = reply_of(alloc, status, refusal.why)?;
-            Ok(Some(reply_text(alloc, refusal.head_alone, &reply)?))
+            Ok(Some(reply_text(alloc, refusal.asker.gets_head_alone(), &reply)?))
         }
     }
 }
@@ -40,7 +40,7 @@ pub(crate) fn refusing(why: Refused) -> Refusal
 {
     Refusal {
         why,
-        head_alone: false,
+        asker: Asker::Client,
     }
 }
 

@@ -17,6 +17,7 @@ ghost use Rattle.oc_routes.specs.Stillness.{HasNothingNew, IsEarly};
 ghost use Rattle.oc_routes.specs.Verdicts.{IsVerdict, NodeTerms, arrival, refuse};
 ghost use Rattle.oc_routes.specs.Shown.{here_answer};
 ghost use Rattle.oc_routes.specs.Waits.{gives_nothing, holding, is_due, prospect};
+ghost use Rattle.oc_routes.specs.declared.asker.Asker.{Asker};
 ghost use Rattle.oc_routes.specs.declared.content.UnderWay.{UnderWay};
 ghost use Rattle.oc_routes.specs.declared.hint.Hint.{Hint};
 ghost use Rattle.oc_routes.specs.declared.holding.Holding.{Holding};
@@ -51,7 +52,7 @@ pub fn a_condition_says_the_length()
 pub fn a_message_has_its_mac()
     ensures taken { (t : NodeTerms) (a : Arrival) (ring : Keyring) (bytes : List ℕ) (request : Request) → t.keys ≡ Some ring → request.asked.operation ≡ MessageAsked
         → IsVerdict t a bytes (Ask request) → HaveMac ring bytes }
-    ensures read { (t : NodeTerms) (a : Arrival) (ring : Keyring) (bytes : List ℕ) (head_alone : Bool) → t.keys ≡ Some ring → IsVerdict t a bytes (refuse head_alone NoMessage) → HaveMac ring bytes }
+    ensures read { (t : NodeTerms) (a : Arrival) (ring : Keyring) (bytes : List ℕ) (asker : Asker) → t.keys ≡ Some ring → IsVerdict t a bytes (refuse asker NoMessage) → HaveMac ring bytes }
 {}
 
 /// The pieces of a content are its text: the text that is owed before the first is that of the whole, the one before

@@ -29,7 +29,7 @@ pub(crate) fn rows_of(alloc: Global, table: &Table, me: NodeId) -> Result<Vec<Ro
     Ok(made)
 }
 
-/// The rows of those nodes of whom something is told: a retired one is left out while it is not listed.
+/// The rows of the status: without those of nodes that are retired and not listed.
 pub(crate) fn rows_told(alloc: Global, seen: &Seen<'_>) -> Result<Vec<Row>, Memory>
     ensures { IfOk result (λ told. told.items ≡ rows_told (sight_of seen.now)) }
 {

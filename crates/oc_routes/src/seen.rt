@@ -12,9 +12,9 @@ pub struct Seen<'a> {
     pub shelf: &'a [Shelf],
     /// The number of messages in its outbox.
     pub messages: usize,
-    /// What its configuration says of the nodes.
+    /// The nodes of its network, by its configuration.
     pub directory: Directory<'a>,
-    /// What its run counted.
+    /// The counts of its run.
     pub tally: &'a Tally,
     pub about: About,
 }

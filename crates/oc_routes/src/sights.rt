@@ -1,4 +1,4 @@
-//! What is told of nodes by their ids.
+//! The facts about nodes by their ids.
 
 ghost use Rattle.std.specs.Prelude.{◌≡◌, IfOk, false, option_map};
 ghost use Rattle.oc_model.specs.Numbers.{at};
@@ -9,7 +9,7 @@ use oc_base::{Memory, NodeId};
 use std::alloc::Global;
 use std::marker::Model;
 
-/// A node that an acting one has no row of.
+/// A node that is missing at an acting one.
 #[derive(Clone, Copy)]
 pub(crate) struct MissingNode(pub(crate) NodeId);
 
@@ -53,7 +53,7 @@ pub(crate) fn is_here(seen: &Seen<'_>, node: NodeId) -> bool
     node == me || seen.node.table().is_listed(me, node)
 }
 
-/// Whether a node is left out: a retired one is, while it is not listed.
+/// Whether a node is left out of the reports: it is retired, and not listed.
 pub(crate) fn is_left_out(seen: &Seen<'_>, node: NodeId, listed: bool) -> bool
     ensures { result ≡ is_left_out (sight_of seen.now) node listed }
 {
@@ -85,7 +85,7 @@ fn has_row(seen: &Seen<'_>, node: NodeId) -> bool
     seen.node.table().entry(node).is_some()
 }
 
-/// Whether something is told of a node: it has an address or a row, and is not left out.
+/// Whether a node is in the metrics: it has an address or a row, and is not left out.
 fn is_told(seen: &Seen<'_>, node: NodeId) -> bool
     ensures { result ≡ is_told (sight_of seen.now) node }
 {
@@ -93,14 +93,14 @@ fn is_told(seen: &Seen<'_>, node: NodeId) -> bool
         && !is_left_out(seen, node, is_here(seen, node))
 }
 
-/// Whether a node is missing at an acting one: another with an address, and without a row.
+/// Whether a node is missing at an acting one: it is another, with an address and without a row.
 fn is_missing(seen: &Seen<'_>, node: NodeId) -> bool
     ensures { result ≡ is_missing (sight_of seen.now) node }
 {
     node != seen.node.id() && has_address(seen, node) && !has_row(seen, node)
 }
 
-/// The nodes of whom something is told, ascending.
+/// The nodes in the metrics, ascending.
 pub(crate) fn ids_told(alloc: Global, seen: &Seen<'_>) -> Result<Vec<NodeId>, Memory>
     ensures { IfOk result (λ ids. ids.items ≡ ids_told (sight_of seen.now)) }
 {
@@ -114,7 +114,7 @@ pub(crate) fn ids_told(alloc: Global, seen: &Seen<'_>) -> Result<Vec<NodeId>, Me
     Ok(ids)
 }
 
-/// The nodes that are missing at an acting one, ascending; at any other none.
+/// The nodes that are missing at an acting one, ascending; at any other node none.
 pub(crate) fn missing(alloc: Global, seen: &Seen<'_>) -> Result<Vec<MissingNode>, Memory>
     ensures { IfOk result (λ ids. ids.items ≡ missing (sight_of seen.now)) }
 {

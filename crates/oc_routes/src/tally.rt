@@ -1,8 +1,8 @@
-//! What a run of a node counts from its start on.
+//! The counts of a node's run since its start.
 
-ghost use Rattle.std.specs.Prelude.{◌≡◌, ◌≤◌, IfOk, None, length, map, option_map};
+ghost use Rattle.std.specs.Prelude.{◌≡◌, ◌≤◌, IfOk, None, Some, length, map, option_map};
 ghost use Rattle.oc_base.specs.declared.limits.TheConstants.{MAX_NODES as NODES_LIMIT};
-ghost use Rattle.oc_model.specs.Numbers.{at};
+ghost use Rattle.oc_model.specs.Numbers.{at, put_at};
 ghost use Rattle.oc_routes.specs.Tallies.{counted_in, first_tally, is_news_in, none_replied, noted_from, status_in, sum_of, with_answer, with_news, with_refused, with_reply, with_sender, with_sent};
 
 use crate::known_rows::KnownRows;
@@ -23,23 +23,23 @@ const MIN_STATUS: u64 = 100;
 
 const MAX_STATUS: u64 = 999;
 
-/// How many replies had a status.
+/// The number of replies with a status.
 #[derive(Clone, Copy, Debug)]
 pub struct StatusCount {
     pub status: u64,
     pub count: u64,
 }
 
-/// Why a message of another node was refused.
+/// The fault of a message of another node that was refused.
 #[derive(Clone, Copy, Debug, PartialEq, Eq)]
 pub enum MessageFault {
-    /// It has no good MAC.
+    /// The message has no good MAC.
     Mac,
-    /// It is no message to this node.
+    /// The bytes are no message to this node.
     Message,
 }
 
-/// What a run of a node counted since its start. A count goes up to 2^64 - 1 and stays there.
+/// The counts of a node's run since its start. A count goes up to 2^64 - 1 and stays there.
 #[derive(Drop)]
 pub struct Tally {
     sent: u64,
@@ -70,7 +70,7 @@ impl Model for Tally {
 }
 
 impl Tally {
-    /// Nothing was counted yet, in a network of this number of nodes.
+    /// The counts at the start, in a network of this number of nodes.
     pub fn new(alloc: Global, nodes: u32) -> Result<Tally, Memory>
         requires { nodes ≤ NODES_LIMIT }
         ensures { IfOk result (λ tally. tally ≡ first_tally nodes) }
@@ -85,35 +85,35 @@ impl Tally {
         })
     }
 
-    /// The bytes of replies to clients: heads and bodies, as they were given.
+    /// The number of bytes of replies to clients: heads and bodies, as they were given.
     pub fn sent(&self) -> u64
         ensures { result ≡ self.now.sent }
     {
         self.sent
     }
 
-    /// The replies to clients, by their statuses.
+    /// The numbers of replies to clients, by status.
     pub fn replied(&self) -> &[StatusCount]
         ensures { result.now ≡ self.now.replied }
     {
         &self.replied
     }
 
-    /// The messages of nodes that were refused since they had no good MAC.
+    /// The number of messages of nodes that were refused without a good MAC.
     pub fn macs(&self) -> u64
         ensures { result ≡ self.now.macs }
     {
         self.macs
     }
 
-    /// The others that were no message to this node.
+    /// The number of others that were no message to this node.
     pub fn messages(&self) -> u64
         ensures { result ≡ self.now.messages }
     {
         self.messages
     }
 
-    /// The inputs of clients that were answered with bytes of this node.
+    /// The number of inputs that were answered `Serve`.
     pub fn served(&self) -> u64
         ensures { result ≡ self.now.served }
     {
@@ -124,12 +124,7 @@ impl Tally {
     pub fn heard(&self, node: NodeId) -> Option<u64>
         ensures { result ≡ at self.now.heard node None }
     {
-        let slot = (node.0 as usize).saturating_sub(1);
-        if slot < self.heard.len() {
-            self.heard[slot]
-        } else {
-            None
-        }
+        second_of(&self.heard, node)
     }
 
     /// Counts this many bytes of replies to clients.
@@ -172,14 +167,11 @@ impl Tally {
         ensures { self.new ≡ with_sender sender second self.old }
     {
         if let Some(sender) = sender {
-            let slot = (sender.0 as usize).saturating_sub(1);
-            if slot < self.heard.len() {
-                self.heard[slot] = Some(second);
-            }
+            put_second(&mut self.heard, sender, second);
         }
     }
 
-    /// Notes for which nodes a table has another row at this second than before, where it was known then.
+    /// Notes the nodes whose rows have changed at this second, where the table before is known.
     pub fn hears_of(&mut self, before: Option<&KnownRows>, table: &Table, second: u64)
         ensures { self.new ≡ with_news (option_map (λ known. known.now) before.entry) table.now.entries second self.old }
     {
@@ -189,7 +181,30 @@ impl Tally {
     }
 }
 
-/// Notes for which nodes a table has another row at this second than before.
+/// The second of a node, by its id.
+fn second_of(heard: &[Option<u64>], node: NodeId) -> Option<u64>
+    ensures { result ≡ at heard.now node None }
+{
+    let slot = (node.0 as usize).saturating_sub(1);
+    if slot < heard.len() {
+        heard[slot]
+    } else {
+        None
+    }
+}
+
+/// Puts the second of a node, by its id.
+#[tactic(auto, using(std::proofs::lemmas::List::set_past))]
+fn put_second(heard: &mut [Option<u64>], node: NodeId, second: u64)
+    ensures { heard.new ≡ put_at heard.old node (Some second) }
+{
+    let slot = (node.0 as usize).saturating_sub(1);
+    if slot < heard.len() {
+        heard[slot] = Some(second);
+    }
+}
+
+/// Notes the nodes whose rows have changed at this second.
 fn note_news(heard: &mut [Option<u64>], before: &KnownRows, table: &Table, second: u64)
     requires { length heard.old ≤ NODES_LIMIT }
     ensures { heard.new ≡ noted_from (is_news_in before.now table.now.entries) second 1 heard.old }
@@ -201,7 +216,7 @@ fn note_news(heard: &mut [Option<u64>], before: &KnownRows, table: &Table, secon
     }
 }
 
-/// No reply of any status was given.
+/// No replies of any status.
 fn none_replied(alloc: Global) -> Result<Vec<StatusCount>, Memory>
     ensures { IfOk result (λ made. made.items ≡ none_replied) }
 {
@@ -212,19 +227,21 @@ fn none_replied(alloc: Global) -> Result<Vec<StatusCount>, Memory>
     Ok(made)
 }
 
-/// A count and more, up to 2^64 - 1.
+/// The sum of a count and more, up to 2^64 - 1.
 fn sum_of(count: u64, more: u64) -> u64
     ensures { result ≡ sum_of count more }
 {
     count.saturating_add(more)
 }
 
-/// The status of a reply, which comes after `HTTP/1.1 `.
+/// The status of a reply: the three digits after `HTTP/1.1 `.
 fn status_in(text: &[u8]) -> Option<u64>
     ensures { result ≡ status_in text.now }
 {
-    let digits = text.get(9..12)?;
-    number(digits, MIN_STATUS, MAX_STATUS).ok()
+    if text.len() < 12 {
+        return None;
+    }
+    number(&text[9..12], MIN_STATUS, MAX_STATUS).ok()
 }
 
 /// Counts one more reply of a status.

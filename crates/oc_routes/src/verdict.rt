@@ -1,4 +1,4 @@
-use crate::{Asked, Refused};
+use crate::{Asked, Asker, Refused};
 use oc_model::Input;
 
 /// The verdict on a connection for the bytes that came on it.
@@ -32,6 +32,6 @@ pub struct Request {
 #[derive(Clone, Copy, Debug, PartialEq, Eq)]
 pub struct Refusal {
     pub why: Refused,
-    /// Whether the request is a HEAD, whose reply has no body.
-    pub head_alone: bool,
+    /// The sender of the request.
+    pub asker: Asker,
 }

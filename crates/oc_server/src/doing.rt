@@ -169,7 +169,7 @@ impl<D: Disk, L: Link, K: Sink> Doer for Server<D, L, K> {
         put_refusal_line(&mut line, refusal.why)?;
         // The line is written before the reply is given.
         write_line(&mut self.sink, &line)?;
-        count_refusal(&mut self.tally, refusal.why, &reply);
+        count_refusal(&mut self.tally, refusal, &reply);
         refuse(&mut self.link, connection, count, reply);
         Ok(())
     }

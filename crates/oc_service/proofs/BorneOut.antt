@@ -18,7 +18,6 @@ use Rattle.oc_link.specs.declared.event.LinkEvent.TheVariants as events
 use Rattle.oc_link.specs.declared.event.Loss.{Loss}
 use Rattle.oc_link.specs.declared.event.Loss.TheVariants as losses
 use Rattle.oc_http.specs.Answers.{IsDecided}
-use Rattle.oc_http.specs.Requests.{begins_with_head}
 use Rattle.oc_http.specs.declared.fault.HttpFault.{HttpFault}
 use Rattle.oc_http.specs.declared.fault.HttpFault.TheVariants as http
 use Rattle.oc_http.specs.declared.head.Head.{Head}
@@ -28,11 +27,13 @@ use Rattle.oc_model.specs.declared.input.Input.TheVariants.{Measured}
 use Rattle.oc_model.specs.declared.message.Message.{Message}
 use Rattle.oc_probe.specs.declared.fault.ProbeFault.{ProbeFault}
 use Rattle.oc_probe.specs.declared.probing.Probing.{Probing}
+use Rattle.oc_routes.specs.Askers.{asker_in, asker_of}
+use Rattle.oc_routes.specs.declared.asker.Asker.{Asker}
 use Rattle.oc_routes.specs.Conditions.{unmet, unmet_at, unmet_by}
 use Rattle.oc_routes.specs.Hints.{asked_with_hint}
 use Rattle.oc_routes.specs.Macs.{is_forged}
 use Rattle.oc_routes.specs.Refusals.{refusing}
-use Rattle.oc_routes.specs.Verdicts.{IsVerdict, NodeTerms, answered, fault_met, is_head, is_none, refuse, routed, taken, unfinished, unread, verdict_for, whole, with_body}
+use Rattle.oc_routes.specs.Verdicts.{IsVerdict, NodeTerms, answered, fault_met, is_none, refuse, routed, taken, unfinished, unread, verdict_for, whole, with_body}
 use Rattle.oc_routes.specs.Waits.{holding}
 use Rattle.oc_routes.specs.declared.hint.Asked.{Asked}
 use Rattle.oc_routes.specs.declared.verdict.Request.{Request}
@@ -47,10 +48,11 @@ use Rattle.oc_routes.specs.declared.verdict.Refusal.{Refusal}
 use Rattle.oc_routes.specs.declared.refused.Refused.TheVariants as refusals
 use Rattle.oc_routes.specs.declared.routes.Operation.{Operation}
 use Rattle.oc_routes.specs.declared.routes.Operation.TheVariants as asks
+use Rattle.oc_routes.specs.declared.tally.MessageFault.{MessageFault}
 use Rattle.oc_deeds.specs.Asks.{has_to_wait, obeys, refuses_or, responds, takes_on, takes_up, waiting}
-use Rattle.oc_deeds.specs.Brought.{comes_back, fault_of, input_of}
+use Rattle.oc_deeds.specs.Brought.{comes_back, fault_of, input_of, refused_of}
 use Rattle.oc_deeds.specs.Choices.{due_index, next_to_dial, prospect_of, wait_for}
-use Rattle.oc_deeds.specs.Deeds.{Deed, Drops, Reads, Refuses, Running, Says, Sees, Setting, Takes, Tells, Waits, after, after_all, errand_in, Rereads}
+use Rattle.oc_deeds.specs.Deeds.{Deed, Drops, Reads, Refuses, Running, Says, Sees, Setting, Takes, Tells, Waits, after, after_all, errand_in, Rejects, Rereads}
 use Rattle.oc_deeds.specs.Hurries.{came_hurries}
 use Rattle.oc_deeds.specs.Pace.{has_passed, wait_until}
 use Rattle.oc_deeds.specs.Parts.{nothing, one, ◌>>◌}
@@ -67,7 +69,7 @@ use Rattle.oc_deeds.specs.declared.reread.Reread.TheVariants as rereads
 use Rattle.oc_deeds.specs.declared.unfit.Unfit.{Unfit}
 use Rattle.oc_deeds.specs.Telling.{takes_ahead}
 use Rattle.oc_deeds.specs.Turns as turns
-use Rattle.oc_deeds.specs.Turns.{terms_in, Means, MeansBack, Observation, takes_brought, deals, happens, measures, next_peer, probes_it, quickened, takes_at, takes_due, ticked, ticks, ticks_and_sends, ticks_if}
+use Rattle.oc_deeds.specs.Turns.{terms_in, Means, MeansBack, Observation, takes_brought, takes_reply, deals, happens, measures, next_peer, probes_it, quickened, takes_at, takes_due, ticked, ticks, ticks_and_sends, ticks_if}
 use Rattle.oc_deeds.specs.Works.{client_input, pending, work_on}
 use Rattle.oc_deeds.specs.declared.came.Came.{Came}
 use Rattle.oc_deeds.specs.declared.came.Came.TheVariants as comes
@@ -169,8 +171,8 @@ abbrev FailsBy : Bool → Verdict → Type 0
 FailsBy failed (verdicts.Refuse refusal) = refusal.why ≡ refusals.Source → failed ≡ true
 FailsBy failed v = Unit {0}
 
-other_fails : (failed head_alone : Bool) (why : Refused) → IsOther why → FailsBy failed (refuse head_alone why)
-other_fails failed head_alone why other = λ is. absurd (subst (λ (x : Refused). IsOther x) is other)
+other_fails : (failed : Bool) (asker : Asker) (why : Refused) → IsOther why → FailsBy failed (refuse asker why)
+other_fails failed asker why other = λ is. absurd (subst (λ (x : Refused). IsOther x) is other)
 
 unfinished_fails : (coming : Coming) (none : Bool) → FailsBy (has_failed coming) (unfinished coming none)
 unfinished_fails Open none = tt
@@ -196,7 +198,7 @@ body_fails t x came head rest said = by_permit (awaits_continue head && not x.pe
     body : List ℕ
     body = take head.length rest
 
-    by_mac : (b : Bool) → FailsBy (has_failed x.coming) (if b then refuse (is_head head.method) refusals.Mac else answered head request (input_asked t.nodes t.me said.operation body))
+    by_mac : (b : Bool) → FailsBy (has_failed x.coming) (if b then refuse (asker_of head) refusals.Mac else answered head request (input_asked t.nodes t.me said.operation body))
     by_mac true = other_fails (has_failed x.coming) (is_head head.method) refusals.Mac tt
     by_mac false = answered_fails (has_failed x.coming) head request (input_asked t.nodes t.me said.operation body) (body_spared t.nodes t.me said.operation body)
 
@@ -216,13 +218,13 @@ verdict_fails : (t : NodeTerms) (x : Arrival) (bytes rest : List ℕ) (answer : 
 verdict_fails t x bytes rest (Ok head) decided = routed_fails t x (length bytes) head rest (asked_with_hint head t.rules) (head_spared head t.rules)
 verdict_fails t x bytes rest (Err http.Source) decided = absurd decided
 verdict_fails t x bytes rest (Err http.Ended) decided = unfinished_fails x.coming (is_none bytes)
-verdict_fails t x bytes rest (Err http.Head) decided = other_fails (has_failed x.coming) (begins_with_head (taken bytes rest)) refusals.Head tt
-verdict_fails t x bytes rest (Err http.HeadLong) decided = other_fails (has_failed x.coming) (begins_with_head (taken bytes rest)) refusals.HeadLong tt
-verdict_fails t x bytes rest (Err http.Fields) decided = other_fails (has_failed x.coming) (begins_with_head (taken bytes rest)) refusals.Fields tt
-verdict_fails t x bytes rest (Err http.Host) decided = other_fails (has_failed x.coming) (begins_with_head (taken bytes rest)) refusals.Host tt
-verdict_fails t x bytes rest (Err (http.Coding both)) decided = other_fails (has_failed x.coming) (begins_with_head (taken bytes rest)) (refusals.Coding both) tt
-verdict_fails t x bytes rest (Err (http.Length missing)) decided = other_fails (has_failed x.coming) (begins_with_head (taken bytes rest)) (refusals.Length missing) tt
-verdict_fails t x bytes rest (Err http.BodyLong) decided = other_fails (has_failed x.coming) (begins_with_head (taken bytes rest)) refusals.BodyLong tt
+verdict_fails t x bytes rest (Err http.Head) decided = other_fails (has_failed x.coming) (asker_in (taken bytes rest)) refusals.Head tt
+verdict_fails t x bytes rest (Err http.HeadLong) decided = other_fails (has_failed x.coming) (asker_in (taken bytes rest)) refusals.HeadLong tt
+verdict_fails t x bytes rest (Err http.Fields) decided = other_fails (has_failed x.coming) (asker_in (taken bytes rest)) refusals.Fields tt
+verdict_fails t x bytes rest (Err http.Host) decided = other_fails (has_failed x.coming) (asker_in (taken bytes rest)) refusals.Host tt
+verdict_fails t x bytes rest (Err (http.Coding both)) decided = other_fails (has_failed x.coming) (asker_in (taken bytes rest)) (refusals.Coding both) tt
+verdict_fails t x bytes rest (Err (http.Length missing)) decided = other_fails (has_failed x.coming) (asker_in (taken bytes rest)) (refusals.Length missing) tt
+verdict_fails t x bytes rest (Err http.BodyLong) decided = other_fails (has_failed x.coming) (asker_in (taken bytes rest)) refusals.BodyLong tt
 verdict_fails t x bytes rest (Err http.Memory) decided = absurd decided
 
 read_fails : (t : NodeTerms) (x : Arrival) (bytes : List ℕ) (v : Verdict) → IsVerdict t x bytes v → FailsBy (has_failed x.coming) v
@@ -311,6 +313,10 @@ mild_brought : (input : Option Input) (s : Setting) (a : Running) → all_mild (
 mild_brought None s a = refl
 mild_brought (Some i) s a = refl
 
+mild_reply : (input : Option Input) (refused : Option MessageFault) (s : Setting) (a : Running) → all_mild (takes_reply input refused s a) ≡ true
+mild_reply input None s a = mild_brought input s a
+mild_reply input (Some fault) s a = mild_brought input s (after (Rejects fault) a)
+
 mild_probe : (peer : Option ℕ) (started : ℕ) (s : Setting) (a : Running) → all_mild (probes_it peer started s a) ≡ true
 mild_probe None started s a = refl
 mild_probe (Some peer) started s a = refl
@@ -318,7 +324,7 @@ mild_probe (Some peer) started s a = refl
 -- the reply on a dial
 back_borne : (t : NodeTerms) (event : LinkEvent) (errand : Errand) (reading : Result Reply HttpFault) (probing : Option Probing) (now median started : ℕ) (s : Setting) (a : Running)
     → AreBorneOut event (happens probing (comes_back t.me t.nodes t.keys errand reading) now median started s a)
-back_borne t event (errands.Message to fetch) reading probing now median started s a = borne_mild event (takes_brought (input_of t.me t.nodes t.keys to reading) s a) (mild_brought (input_of t.me t.nodes t.keys to reading) s a)
+back_borne t event (errands.Message to fetch) reading probing now median started s a = borne_mild event (takes_reply (input_of t.me t.nodes t.keys to reading) (refused_of t.me t.nodes t.keys to reading) s a) (mild_reply (input_of t.me t.nodes t.keys to reading) (refused_of t.me t.nodes t.keys to reading) s a)
 back_borne t event (errands.Probe peer since) reading probing now median started s a = borne_mild event (measures probing peer (fault_of reading) median s a) (mild_measures probing peer (fault_of reading) median s a)
 
 nothing_borne : (event : LinkEvent) (probing : Option Probing) (now median started : ℕ) (s : Setting) (a : Running) → AreBorneOut event (happens probing comes.Nothing now median started s a)

@@ -22,6 +22,7 @@ use Rattle.oc_deeds.specs.Sending.{AreSendable}
 use Rattle.oc_deeds.specs.declared.dials.Dialling.{Dialling}
 use Rattle.oc_deeds.specs.declared.pace.Pace.{Pace}
 use Rattle.oc_server.specs.declared.turns.Turns.{Turns}
+use Rattle.oc_routes.specs.Tallies.{TallyView, first_tally}
 use Rattle.oc_deeds.specs.declared.work.Work.{Work}
 use Rattle.oc_service.specs.Loading.{IsLoaded}
 use Rattle.oc_service.specs.OnSite.{header_of_settings, machine_on, probing_at_first}
@@ -68,10 +69,11 @@ loaded_areas view c config me d k node is = ap (λ (x : Settings). x.areas) is �
 pub loaded_machine : {D L K : Type 0} (view : D → DiskView) (c : Settings) (task : Task) (site : Site D L K) (turns : Turns D L K) → IsLoaded view c task site turns → AreHonest view (disks_in site.files)
     → machine turns ≡ machine_on view c task (disks_in site.files)
 loaded_machine view c task site turns loaded honest =
+    let nodes_are : turns.server.kept.node.control.nodes ≡ length c.addresses = ap (λ (h : Header). h.nodes) loaded.node.header in
     ap (λ (ms : List Message). machine_of (record { node = node_of turns.server.kept; outbox = ms; works = turns.server.works; dials = turns.server.dials; config = turns.server.config; tally = turns.server.tally }) turns.pace turns.probing turns.reading) loaded.outbox
     ∙ ap (λ (ws : List Work). machine_of (record { node = node_of turns.server.kept; outbox = []; works = ws; dials = turns.server.dials; config = turns.server.config; tally = turns.server.tally }) turns.pace turns.probing turns.reading) loaded.works
     ∙ ap (λ (ds : List Dialling). machine_of (record { node = node_of turns.server.kept; outbox = []; works = []; dials = ds; config = turns.server.config; tally = turns.server.tally }) turns.pace turns.probing turns.reading) loaded.dials
-    ∙ ap (λ (t : TallyView). machine_of (record { node = node_of turns.server.kept; outbox = []; works = []; dials = []; config = turns.server.config; tally = t }) turns.pace turns.probing turns.reading) loaded.tally
+    ∙ ap (λ (t : TallyView). machine_of (record { node = node_of turns.server.kept; outbox = []; works = []; dials = []; config = turns.server.config; tally = t }) turns.pace turns.probing turns.reading) (loaded.tally ∙ sym (ap first_tally nodes_are))
     ∙ ap (λ (x : Settings). machine_of (node_at_first x (node_of turns.server.kept)) turns.pace turns.probing turns.reading) loaded.config
     ∙ ap (λ (p : Pace). machine_of (node_at_first c (node_of turns.server.kept)) p turns.probing turns.reading) loaded.pace
     ∙ ap (λ (last : Option (List ℕ)). machine_of (node_at_first c (node_of turns.server.kept)) (first_pace (is_record task.log) (most_interval task.probes task.me)) turns.probing last) loaded.reading

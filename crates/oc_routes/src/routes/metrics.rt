@@ -267,7 +267,7 @@ fn put_replies(out: &mut Vec<u8>, tally: &Tally) -> Result<(), Memory>
     put_statuses(out, tally.replied())
 }
 
-/// Puts how many replies had each status.
+/// Puts the number of replies with each status.
 fn put_statuses(out: &mut Vec<u8>, replied: &[StatusCount]) -> Result<(), Memory>
     ensures { OnOk result (out.new.items ≡ out.old.items ++ flat_map status_sample replied.now) }
 {
@@ -277,7 +277,7 @@ fn put_statuses(out: &mut Vec<u8>, replied: &[StatusCount]) -> Result<(), Memory
     Ok(())
 }
 
-/// Puts how many replies had a status.
+/// Puts the number of replies with a status.
 fn put_status(out: &mut Vec<u8>, row: &StatusCount) -> Result<(), Memory>
     ensures { OnOk result (out.new.items ≡ out.old.items ++ status_sample row.now) }
 {
@@ -305,7 +305,7 @@ fn put_others(out: &mut Vec<u8>, tally: &Tally) -> Result<(), Memory>
     )
 }
 
-/// Puts how many messages were refused for a cause.
+/// Puts the number of messages that were refused for a cause.
 fn put_cause(out: &mut Vec<u8>, cause: &str, count: u64) -> Result<(), Memory>
     ensures { OnOk result (out.new.items ≡ out.old.items ++ cause_sample cause.now count) }
 {
@@ -318,7 +318,7 @@ fn put_cause(out: &mut Vec<u8>, cause: &str, count: u64) -> Result<(), Memory>
     )
 }
 
-/// Puts the limit of groups, and what is told of the program.
+/// Puts the limit of groups, and the program.
 fn put_program(out: &mut Vec<u8>, about: &About) -> Result<(), Memory>
     ensures { OnOk result (out.new.items ≡ out.old.items ++ program_gauges (about_of about.now)) }
 {
@@ -364,7 +364,7 @@ fn put_labelled(
     put(out, b"\n")
 }
 
-/// Puts a metric of the node that rises and falls.
+/// Puts a gauge of the node.
 fn put_gauge(out: &mut Vec<u8>, name: &str, says: &str, value: u64) -> Result<(), Memory>
     ensures { OnOk result (out.new.items ≡ out.old.items ++ gauge name.now says.now value) }
 {
@@ -372,7 +372,7 @@ fn put_gauge(out: &mut Vec<u8>, name: &str, says: &str, value: u64) -> Result<()
     put_bare_sample(out, name, value)
 }
 
-/// Puts a metric of the node that counts from the start on.
+/// Puts a counter of the node.
 fn put_counter(out: &mut Vec<u8>, name: &str, says: &str, value: u64) -> Result<(), Memory>
     ensures { OnOk result (out.new.items ≡ out.old.items ++ counter name.now says.now value) }
 {
@@ -390,21 +390,21 @@ fn put_bare_sample(out: &mut Vec<u8>, name: &str, value: u64) -> Result<(), Memo
     put(out, b"\n")
 }
 
-/// Puts the two lines that name a metric which rises and falls.
+/// Puts the two lines of a gauge.
 fn put_heading(out: &mut Vec<u8>, name: &str, says: &str) -> Result<(), Memory>
     ensures { OnOk result (out.new.items ≡ out.old.items ++ heading name.now says.now) }
 {
     put_heading_as(out, "gauge", name, says)
 }
 
-/// Puts the two lines that name a count since the start.
+/// Puts the two lines of a counter.
 fn put_count_heading(out: &mut Vec<u8>, name: &str, says: &str) -> Result<(), Memory>
     ensures { OnOk result (out.new.items ≡ out.old.items ++ count_heading name.now says.now) }
 {
     put_heading_as(out, "counter", name, says)
 }
 
-/// Puts the two lines that name a metric of this kind and say what it is.
+/// Puts the two lines with the name of a metric of this kind and its meaning.
 #[tactic(auto, unfolding(crate::specs::Metrics::heading_as))]
 fn put_heading_as(out: &mut Vec<u8>, kind: &str, name: &str, says: &str) -> Result<(), Memory>
     ensures { OnOk result (out.new.items ≡ out.old.items ++ heading_as kind.now name.now says.now) }

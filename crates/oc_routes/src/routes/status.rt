@@ -61,7 +61,8 @@ fn put_object(
     put_list(out, "children", leased, seen)
 }
 
-/// Puts the end of the status: the node's own name, who is missing, the program, what the run counted, and the configuration.
+/// Puts the end of the status: the node's own name, the missing nodes, the program, the counts of the run, and the
+/// configuration.
 #[tactic(auto, unfolding(crate::specs::Status::end_text))]
 fn put_end(out: &mut Vec<u8>, seen: &Seen<'_>, missing: &[MissingNode]) -> Result<(), Memory>
     ensures { OnOk result (out.new.items ≡ out.old.items ++ end_text (sight_of seen.now) missing.now) }
@@ -75,7 +76,7 @@ fn put_end(out: &mut Vec<u8>, seen: &Seen<'_>, missing: &[MissingNode]) -> Resul
     put(out, b"}\n")
 }
 
-/// Puts what is told of the program, and its limit of groups.
+/// Puts the program, and its limit of groups.
 fn put_program(out: &mut Vec<u8>, about: &About) -> Result<(), Memory>
     ensures { OnOk result (out.new.items ≡ out.old.items ++ program_text (about_of about.now)) }
 {
@@ -85,7 +86,7 @@ fn put_program(out: &mut Vec<u8>, about: &About) -> Result<(), Memory>
     put_field(out, ",\"groups_limit\":", MAX_GROUPS as u64)
 }
 
-/// Puts what the run counted.
+/// Puts the counts of the run.
 fn put_tally(out: &mut Vec<u8>, tally: &Tally) -> Result<(), Memory>
     ensures { OnOk result (out.new.items ≡ out.old.items ++ tally_text tally.now) }
 {

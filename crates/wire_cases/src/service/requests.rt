@@ -6,9 +6,10 @@ ghost use Rattle.oc_policy.specs.declared.deciding.TheConstants.{MAX_RULES as RU
 
 use crate::service::asking::{request_in, rules_in};
 use oc_base::NodeId;
-use oc_http::begins_with_head;
 use oc_policy::Rule;
-use oc_routes::{Refusal, RouteFault, input_of, put_input_line, put_refusal_line, refusal_reply};
+use oc_routes::{
+    Asker, Refusal, RouteFault, input_of, put_input_line, put_refusal_line, refusal_reply,
+};
 use std::alloc::Global;
 use test_tools::{Fault, RowFields, put_spelled, spelled_in};
 
@@ -22,10 +23,10 @@ pub fn put_words(alloc: Global, given: &str, said: &mut String) -> Result<(), Fa
     let me = RowFields::of(me, ' ').node()?;
     let rules = rules_in(alloc, rules)?;
     let bytes = spelled_in(alloc, text)?;
-    let head_alone = begins_with_head(&bytes);
+    let asker = Asker::of_front(&bytes);
     match line_of(alloc, bytes, &rules, me) {
         Ok(line) => put_line(said, &line),
-        Err(RouteFault::Refused(why)) => put_refusal(alloc, said, Refusal { why, head_alone }),
+        Err(RouteFault::Refused(why)) => put_refusal(alloc, said, Refusal { why, asker }),
         Err(RouteFault::Memory) => Err(Fault::Memory),
     }
 }

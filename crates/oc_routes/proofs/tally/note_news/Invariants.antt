@@ -1,5 +1,5 @@
 -- The nodes so far are noted, and the others are as they were.
-use Rattle.std.proofs.Common.{◌≡◌, ◌×◌, ◌++◌, drop, length, take}
+use Rattle.std.proofs.Common.{◌≡◌, ◌++◌, drop, take}
 use Rattle.oc_routes.specs.Tallies.{is_news_in, noted_from}
 use Rattle.oc_routes.proofs.tally.note_news.Given as goal
 

@@ -31,6 +31,7 @@ returns-in-Ok-load-clause-loaded g c =
       node = node;
       safely = safely;
       outbox = c.in-Ok.ensures.empty;
+      tally = c.in-Ok.ensures.uncounted;
       works = c.new.ensures;
       dials = c.new-in-Ok-load.ensures;
       pace = c.new-in-Ok-load-2.ensures ∙ ap (λ (whole : Bool). first_pace whole c.most_interval.result) c.is_record.ensures ∙ ap (first_pace (is_record c.args.task.log)) c.most_interval.ensures;
@@ -38,6 +39,7 @@ returns-in-Ok-load-clause-loaded g c =
       reading = refl;
       config = refl;
       log = refl;
+      about = refl;
       link = refl;
       sink = refl;
     }

@@ -18,13 +18,13 @@ returns g c =
     let there = c.directory_of.ensures in
     let answered : (Control → ℕ → List Shelf → List (Option (List ℕ)) → List (Option (List ℕ)) → List Bool → Option (List ℕ) → Response) =
     λ n many lines addresses names retired key. response_for r.asked r.last told.answer told.back (holding_in r.asked.operation lines) addresses key
-      (report_of r.asked.operation (record { node = n; shelf = lines; messages = many; addresses = addresses; names = names; retired = retired; tally = s.tally; about = about_of s.about })) in
+    (report_of r.asked.operation (record { node = n; shelf = lines; messages = many; addresses = addresses; names = names; retired = retired; tally = s.tally; about = about_of s.about })) in
     let seen = c.directory_of.result in
     ok_then c.response_to.result (λ response is honest. is
-      ∙ ap (λ n. answered n.control c.len.result c.shelf.result.now _ _ _ _) c.node.ensures
-      ∙ ap (λ (many : ℕ). answered s.kept.node.control many c.shelf.result.now _ _ _ _) c.len.ensures
-      ∙ ap (λ (lines : List Shelf). answered s.kept.node.control (length s.outbox) lines _ _ _ _) (c.shelf.ensures.groups honest)
-      ∙ ap (λ (addresses : List (Option (List ℕ))). answered s.kept.node.control (length s.outbox) _ addresses _ _ _) there.addresses
-      ∙ ap (λ (names : List (Option (List ℕ))). answered s.kept.node.control (length s.outbox) _ s.config.addresses names _ _) there.names
-      ∙ ap (λ (retired : List Bool). answered s.kept.node.control (length s.outbox) _ s.config.addresses s.config.names retired _) there.retired
-      ∙ ap (λ (key : Option (List ℕ)). answered s.kept.node.control (length s.outbox) _ s.config.addresses s.config.names s.config.retired key) there.key) c.response_to.ensures
+    ∙ ap (λ n. answered n.control c.len.result c.shelf.result.now _ _ _ _) c.node.ensures
+    ∙ ap (λ (many : ℕ). answered s.kept.node.control many c.shelf.result.now _ _ _ _) c.len.ensures
+    ∙ ap (λ (lines : List Shelf). answered s.kept.node.control (length s.outbox) lines _ _ _ _) (c.shelf.ensures.groups honest)
+    ∙ ap (λ (addresses : List (Option (List ℕ))). answered s.kept.node.control (length s.outbox) _ addresses _ _ _) there.addresses
+    ∙ ap (λ (names : List (Option (List ℕ))). answered s.kept.node.control (length s.outbox) _ s.config.addresses names _ _) there.names
+    ∙ ap (λ (retired : List Bool). answered s.kept.node.control (length s.outbox) _ s.config.addresses s.config.names retired _) there.retired
+    ∙ ap (λ (key : Option (List ℕ)). answered s.kept.node.control (length s.outbox) _ s.config.addresses s.config.names s.config.retired key) there.key) c.response_to.ensures

@@ -214,6 +214,7 @@ inputs_told (Permits c ∷ ds) = inputs_told ds
 inputs_told (Waits w ∷ ds) = inputs_told ds
 inputs_told (Replies r response now ∷ ds) = inputs_told ds
 inputs_told (Refuses c count why ∷ ds) = inputs_told ds
+inputs_told (Rejects fault ∷ ds) = inputs_told ds
 inputs_told (BreaksOff c ∷ ds) = inputs_told ds
 inputs_told (Gives p now ∷ ds) = inputs_told ds
 inputs_told (LaysAside p ∷ ds) = inputs_told ds

@@ -287,10 +287,11 @@ module _ (i j : Input) (o p : Output) (d e : OnError) (stage : OnStage) (input :
 
   node_told : (node other : OnNode) → TellsNode node other → (v : Service) (end : ServiceEnd) → HappenedAtNode i node o v end → HappenedAtNode j other p v end
   node_told node other tells v (services.Config end) h = (config_told (Err end) h.0, output.written _ h.1)
-  node_told node other tells v services.Stranger h = let (settings, read, rest) = h in (settings, config_told (Ok settings) read, (rest.0, output.written _ rest.1))
+  node_told node other tells v services.Stranger h = let (c, read, rest) = h in (c, (input.whole _ read.0, read.1), (rest.0, output.written _ rest.1))
   node_told node other tells v (services.Ran end) h =
-      let (settings, read, rest) = h in
-      (settings, config_told (Ok settings) read, (rest.0, rest.1, run_told (node.run settings (task_of v rest.1)) (other.run settings (task_of v rest.1)) (tells.run settings (task_of v rest.1)) (setting_of settings (task_of v rest.1)) end rest.2))
+      let (c, read, rest) = h in
+      let task = task_of v c.text rest.1 in
+      (c, (input.whole _ read.0, read.1), (rest.0, rest.1, run_told (node.run c.config task) (other.run c.config task) (tells.run c.config task) (setting_of task) end rest.2))
 
   module _ (asked : Option Invocation) (files : OnFiles) (link : OnLink) (node other : OnNode) (t u : Input) (tells : TellsNode node other) (token : TellsInput t u) where
     abbrev before : Outside

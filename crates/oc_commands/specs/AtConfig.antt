@@ -5,6 +5,7 @@ use Rattle.oc_config.specs.Settings.{Settings}
 use Rattle.oc_config.specs.declared.fault.ConfigFault.TheVariants as faults
 use Rattle.oc_commands.specs.Outside.{Input}
 use Rattle.oc_commands.specs.declared.configuring.ConfigEnd.{ConfigEnd}
+use Rattle.oc_commands.specs.declared.configuring.Configured.{Configured}
 use Rattle.oc_commands.specs.declared.configuring.ConfigEnd.TheVariants.{Source, Long, Fault}
 
 -- the bytes have these settings, or this first fault
@@ -20,3 +21,8 @@ ReadsConfig input (Err Source) = input.failed
 ReadsConfig input (Err Long) = input.long
 ReadsConfig input (Err (Fault faults.Memory)) = input.came
 ReadsConfig input read = (bytes : List ℕ) × input.whole bytes × GivesConfig read bytes
+
+-- the same, with the bytes of the whole input
+abbrev pub ReadsConfigured : Input → Result Configured ConfigEnd → Type 0
+ReadsConfigured input (Ok c) = input.whole c.text × GivesConfig (Ok c.config) c.text
+ReadsConfigured input (Err end) = ReadsConfig input (Err end)

@@ -17,9 +17,10 @@ use Rattle.oc_words.specs.declared.request.LogWord.{LogWord}
 use Rattle.oc_words.specs.declared.request.LogWord.TheVariants.{Brief, Inputs, Record}
 use Rattle.oc_words.specs.declared.command.TheConstants.{VERSION}
 use Rattle.oc_words.specs.declared.request.Service.{Service}
-use Rattle.oc_commands.specs.AtConfig.{ReadsConfig}
+use Rattle.oc_commands.specs.AtConfig.{ReadsConfig, ReadsConfigured}
 use Rattle.oc_commands.specs.AtRules.{status_of_settings}
 use Rattle.oc_commands.specs.Outside.{Input, OnNode, Output}
+use Rattle.oc_commands.specs.declared.configuring.Configured.{Configured}
 use Rattle.oc_commands.specs.declared.serving.ServiceEnd.{ServiceEnd}
 use Rattle.oc_commands.specs.declared.serving.ServiceEnd.TheVariants.{Config, Stranger, Ran}
 
@@ -41,20 +42,21 @@ log_of Brief = logs.Brief
 abbrev pub about : ℕ → AboutView
 about started = record { version = VERSION.now; started = started; refused = false }
 
--- the task of that node
-abbrev pub task_of : Service → ℕ → Task
-task_of v started = record { me = v.id; turns = v.turns; probes = v.probes; log = log_of v.log; about = about started }
+-- the task of that node, whose configuration was read from these bytes
+abbrev pub task_of : Service → List ℕ → ℕ → Task
+task_of v text started = record { me = v.id; turns = v.turns; probes = v.probes; log = log_of v.log; text = text; about = about started }
 
 -- no node of the configuration has this id and an address, or the node ran; it was told when the program started
-abbrev pub RunsService : OnNode → Output → Settings → Service → ServiceEnd → Type 0
-RunsService node output s v Stranger = (HasNode s v → ⊥) × output.written []
-RunsService node output s v (Ran end) = HasNode s v × (started : ℕ) × NodeEnds (node.run s (task_of v started)) output.written output.cut_off (setting_of s (task_of v started)) end
-RunsService node output s v (Config end) = ⊥
+abbrev pub RunsService : OnNode → Output → Configured → Service → ServiceEnd → Type 0
+RunsService node output c v Stranger = (HasNode c.config v → ⊥) × output.written []
+RunsService node output c v (Ran end) =
+    HasNode c.config v × (started : ℕ) × NodeEnds (node.run c.config (task_of v c.text started)) output.written output.cut_off (setting_of (task_of v c.text started)) end
+RunsService node output c v (Config end) = ⊥
 
 -- the effect of this end
 abbrev pub HappenedAtNode : Input → OnNode → Output → Service → ServiceEnd → Type 0
 HappenedAtNode input node output v (Config end) = ReadsConfig input (Err end) × output.written []
-HappenedAtNode input node output v end = (s : Settings) × ReadsConfig input (Ok s) × RunsService node output s v end
+HappenedAtNode input node output v end = (c : Configured) × ReadsConfigured input (Ok c) × RunsService node output c v end
 
 -- a statement that holds unless the node ran
 abbrev pub UnlessRan : ServiceEnd → Type 0 → Type 0

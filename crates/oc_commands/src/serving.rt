@@ -9,7 +9,7 @@ ghost use Rattle.oc_commands.specs.Ends.{status_of_service};
 ghost use Rattle.oc_commands.specs.Outside.{at_node, at_sink, at_source};
 ghost use Rattle.oc_words.specs.Status.{number_of};
 
-use crate::configuring::{ConfigEnd, read_config};
+use crate::configuring::{ConfigEnd, Configured, read_configured};
 use oc_base::NodeId;
 use oc_config::Config;
 use oc_io::{Disk, Sink, Source};
@@ -54,8 +54,8 @@ pub fn run_service<S: Source, D: Disk, L: Link, K: Sink>(
     ensures input_count { NoFall (S.faults input.old) (S.faults input.new) }
     ensures done_count { number_of (status_of_service result.end) ≡ 0 → NoFall (K.faults site.sink) (K.faults result.site.sink) }
 {
-    match read_config(alloc, input) {
-        Ok(config) => serve_config(alloc, service, started, config, site),
+    match read_configured(alloc, input) {
+        Ok(configured) => serve_config(alloc, service, started, configured, site),
         Err(end) => Served {
             end: ServiceEnd::Config(end),
             site,
@@ -68,17 +68,18 @@ fn serve_config<D: Disk, L: Link, K: Sink>(
     alloc: Global,
     service: Service,
     started: u64,
-    config: Config,
+    configured: Configured,
     site: Site<D, L, K>,
 ) -> Served<D, L, K>
-    requires { IsConfig config }
+    requires { IsConfig configured.config }
     ensures happened { RunsService
         (at_node D.view L.story L.counts K.takes K.fails (disks_in site.files) (disks_in result.site.files) site.link result.site.link site.sink result.site.sink)
-        (at_sink K.takes K.fails K.faults site.sink result.site.sink) config service result.end }
+        (at_sink K.takes K.fails K.faults site.sink result.site.sink) configured service result.end }
     ensures files { UnlessRan result.end (disks_in result.site.files ≡ disks_in site.files) }
     ensures link { UnlessRan result.end (result.site.link ≡ site.link) }
     ensures done_count { number_of (status_of_service result.end) ≡ 0 → NoFall (K.faults site.sink) (K.faults result.site.sink) }
 {
+    let Configured { config, text } = configured;
     match placed_of(&config, service.id) {
         Some(me) => {
             let task = Task {
@@ -86,6 +87,7 @@ fn serve_config<D: Disk, L: Link, K: Sink>(
                 turns: service.turns,
                 probes: service.probes,
                 log: log_of(service.log),
+                text,
                 about: about(started),
             };
             let Ran { end, site } = run_node(alloc, config, task, site);

@@ -10,4 +10,5 @@ pub mod Known
 pub mod Reading
 pub mod Laws
 pub mod Changes
+pub mod FaultTexts
 pub mod Examples

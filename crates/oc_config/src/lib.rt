@@ -18,6 +18,7 @@ mod change;
 mod config;
 mod config_key;
 mod fault;
+mod fault_text;
 mod key_name;
 mod keyring;
 mod known;
@@ -35,6 +36,7 @@ pub use change::{Running, config_change, has_measure};
 pub use config::{Config, FIRST_CHUNK, MAX_CHUNK};
 pub use config_key::ConfigKey;
 pub use fault::ConfigFault;
+pub use fault_text::put_fault;
 pub use key_name::KeyName;
 pub use law::{
     a_change_keeps_the_network, each_address_is_a_host, each_node_has_its_table, examples_are_read,

@@ -1,5 +1,5 @@
 -- A turn answers each request by the step of its input.
-use Rattle.std.proofs.Common.{ℕ, zero, suc, Bool, true, false, Option, None, Some, List, [], ◌∷◌, ◌++◌, refl}
+use Rattle.std.proofs.Common.{ℕ, zero, suc, Bool, true, false, Option, None, Some, List, [], ◌∷◌, ◌++◌, refl, Result, Ok, Err}
 use Rattle.std.specs.Prelude.{◌==◌, if◌then◌else◌, is_some, slice_get}
 use Rattle.oc_base.specs.Groups.{shelf}
 use Rattle.oc_model.specs.declared.answer.Answer.{Answer}
@@ -19,7 +19,15 @@ use Rattle.oc_routes.specs.declared.tally.MessageFault.{MessageFault}
 use Rattle.oc_deeds.specs.Answered.{AreAnswered, AreAnsweredBy, IsAnsweredBy, answer_of, back_of}
 use Rattle.oc_deeds.specs.Asks.{has_to_wait, obeys, refuses_or, responds, takes_on, takes_up, waiting}
 use Rattle.oc_deeds.specs.Choices.{due_index, next_to_dial, prospect_of, wait_for}
-use Rattle.oc_deeds.specs.Deeds.{Deed, Sees, Reads, Tells, Takes, Accepts, Says, Notes, Permits, Waits, Replies, Refuses, Rejects, BreaksOff, Gives, LaysAside, Drops, Dials, Probes, Running, Setting, after, after_all}
+use Rattle.oc_deeds.specs.Deeds.{Accepts, BreaksOff, Deed, Dials, Drops, Gives, Keeps, LaysAside, Looks, Notes, Permits, Probes, Reads, Refuses, Rejects, Replies, Rereads, Running, Says, Sees, Setting, Takes, Tells, Waits, after, after_all}
+use Rattle.oc_config.specs.Settings.{Settings}
+use Rattle.oc_link.specs.declared.look.Look.{Look}
+use Rattle.oc_updown.specs.declared.measure_lines.Measure.{Measure}
+use Rattle.oc_deeds.specs.Rereading.{fitting, fresh, goes_by, looks_again, measured_by, settles, takes_measures}
+use Rattle.oc_deeds.specs.Telling.{takes_ahead}
+use Rattle.oc_deeds.specs.declared.reread.Reread.{Reread}
+use Rattle.oc_deeds.specs.declared.reread.Reread.TheVariants as rereads
+use Rattle.oc_deeds.specs.declared.unfit.Unfit.{Unfit}
 use Rattle.oc_deeds.specs.Hurries.{came_hurries}
 use Rattle.oc_deeds.specs.Pace.{has_passed, wait_until}
 use Rattle.oc_deeds.specs.Parts.{nothing, one, ◌>>◌}
@@ -27,6 +35,7 @@ use Rattle.oc_deeds.specs.Rooms.{goes_on, moves, takes_room, room_for}
 use Rattle.oc_deeds.specs.Rooms as rooms
 use Rattle.oc_deeds.specs.Sends.{dials_at, dials_it, dials_next, sends}
 use Rattle.oc_deeds.specs.Turns.{Observation, takes_brought, takes_reply, deals, happens, measures, next_peer, probes_it, quickened, takes_at, takes_due, ticked, ticks, ticks_and_sends, ticks_if, turn}
+use Rattle.oc_deeds.specs.Turns as turns
 use Rattle.oc_deeds.specs.Works.{client_input, pending, work_on}
 use Rattle.oc_deeds.specs.declared.came.Came.{Came}
 use Rattle.oc_deeds.specs.declared.came.Came.TheVariants as comes
@@ -70,6 +79,9 @@ silent_one answer back s (LaysAside p) a silent = tt
 silent_one answer back s (Drops c told) a silent = tt
 silent_one answer back s (Dials place m d) a silent = tt
 silent_one answer back s (Probes peer d now) a silent = tt
+silent_one answer back s (Looks look) a silent = tt
+silent_one answer back s (Rereads config) a silent = tt
+silent_one answer back s (Keeps why) a silent = tt
 
 silent_all : (answer : Answer) (back : Option Message) (s : Setting) (ds : List Deed) (a : Running) → AreSilent ds → AreAnsweredBy answer back s ds a
 silent_all answer back s [] a silent = tt
@@ -199,5 +211,27 @@ took_at None pace probing t s a =
     (tt, (tt, dealt pace probing t.came t.now t.median t.started t.seconds s behind))
 took_at (Some place) pace probing t s a = took_due pace (slice_get a.works place) t.before t.seconds s a
 
+-- A configuration that was read again
+
+silent_measured : (ms : List Measure) (s : Setting) (a : Running) → AreSilent (takes_measures ms s a)
+unfolding takes_measures
+silent_measured [] s a = tt
+silent_measured (m ∷ ms) s a = (tt, (tt, silent_measured ms s (after_all (takes_ahead (measured_by m) s a) a)))
+
+silent_settled : (o : Result Settings Unfit) (old : Settings) (s : Setting) (a : Running) → AreSilent (settles o old s a)
+silent_settled (Err why) old s a = (tt, tt)
+silent_settled (Ok new) old s a = (tt, silent_measured (fresh s.me old new) s (after (Rereads new) a))
+
+silent_by : (r : Reread) (s : Setting) (a : Running) → AreSilent (goes_by r s a)
+silent_by rereads.Nothing s a = tt
+silent_by (rereads.Unfit why) s a = (tt, tt)
+silent_by (rereads.Config new) s a = silent_settled (fitting s.me a.config new) a.config s a
+
+silent_looks : (look : Look) (r : Reread) (s : Setting) (a : Running) → AreSilent (looks_again look r s a)
+silent_looks look r s a = (tt, silent_by r s a)
+
 pub turn_answers : (pace : Pace) (probing : Option Probing) (t : Observation) (s : Setting) (a : Running) → AreAnswered s (turn pace probing t s a) a
-turn_answers pace probing t s a = (tt, took_at (due_index a.works (shelf a.node.groups) t.before) pace probing t s a)
+turn_answers pace probing t s a =
+    let ds : List Deed = turns.dealt pace probing t s a in
+    answered_then answers.Ok None s ds (looks_again t.look t.reread s (after_all ds a)) a (tt, took_at (due_index a.works (shelf a.node.groups) t.before) pace probing t s a)
+    (silent_looks t.look t.reread s (after_all ds a))

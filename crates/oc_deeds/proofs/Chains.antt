@@ -4,7 +4,9 @@ use Rattle.std.proofs.lemmas.List.{append_assoc}
 use Rattle.oc_link.specs.declared.call.Call.{Call}
 use Rattle.oc_link.specs.declared.counts.LinkCounts.{LinkCounts}
 use Rattle.oc_model.specs.declared.input.Input.{Input}
-use Rattle.oc_deeds.specs.Deeds.{Deed, Running, Setting, after, after_all, calls, calls_of, deed_input, inputs_of, line, lines, with_input}
+use Rattle.std.specs.Prelude.{unwrap_or}
+use Rattle.oc_config.specs.Settings.{Settings}
+use Rattle.oc_deeds.specs.Deeds.{Deed, Running, Setting, after, after_all, calls, calls_of, config_behind, deed_input, inputs_of, line, lines, reread_of, with_input}
 use Rattle.oc_deeds.specs.Deeds as deeds
 use Rattle.oc_deeds.specs.Done.{CountsAll}
 
@@ -30,7 +32,39 @@ pub after_append : (ds es : List Deed) (a : Running) → after_all (ds ++ es) a 
 after_append [] es a = refl
 after_append (d ∷ ds) es a = after_append ds es (after d a)
 
--- the calls of deeds
+-- the configuration that they leave
+pub config_append : (ds es : List Deed) (c : Settings) → config_behind (ds ++ es) c ≡ config_behind es (config_behind ds c)
+config_append [] es c = refl
+config_append (d ∷ ds) es c = config_append ds es (unwrap_or (reread_of d) c)
+
+-- it is that of the running node
+config_after : (d : Deed) (a : Running) → (after d a).config ≡ unwrap_or (reread_of d) a.config
+config_after (deeds.Sees e wait bytes) a = refl
+config_after (deeds.Reads t) a = refl
+config_after (deeds.Tells t) a = refl
+config_after (deeds.Takes i) a = refl
+config_after (deeds.Accepts i) a = refl
+config_after (deeds.Says text) a = refl
+config_after (deeds.Notes why) a = refl
+config_after (deeds.Permits c) a = refl
+config_after (deeds.Waits w) a = refl
+config_after (deeds.Replies r response now) a = refl
+config_after (deeds.Refuses c count why) a = refl
+config_after (deeds.BreaksOff c) a = refl
+config_after (deeds.Gives p now) a = refl
+config_after (deeds.LaysAside p) a = refl
+config_after (deeds.Drops c told) a = refl
+config_after (deeds.Dials place m d) a = refl
+config_after (deeds.Probes peer d now) a = refl
+config_after (deeds.Looks look) a = refl
+config_after (deeds.Rereads config) a = refl
+config_after (deeds.Keeps why) a = refl
+
+pub config_after_all : (ds : List Deed) (a : Running) → (after_all ds a).config ≡ config_behind ds a.config
+config_after_all [] a = refl
+config_after_all (d ∷ ds) a = config_after_all ds (after d a) ∙ ap (config_behind ds) (config_after d a)
+
+-- their calls
 pub calls_append : (s : Setting) (ds es : List Deed) (a : Running) → calls_of s (ds ++ es) a ≡ calls_of s ds a ++ calls_of s es (after_all ds a)
 calls_append s [] es a = refl
 calls_append s (d ∷ ds) es a =
@@ -60,6 +94,9 @@ counts_append (deeds.LaysAside p ∷ ds) es a b c first second = counts_append d
 counts_append (deeds.Drops x told ∷ ds) es a b c first second = counts_append ds es a b c first second
 counts_append (deeds.Dials place m d ∷ ds) es a b c first second = counts_append ds es a b c first second
 counts_append (deeds.Probes peer d now ∷ ds) es a b c first second = counts_append ds es a b c first second
+counts_append (deeds.Looks look ∷ ds) es a b c first second = counts_append ds es a b c first second
+counts_append (deeds.Rereads config ∷ ds) es a b c first second = counts_append ds es a b c first second
+counts_append (deeds.Keeps why ∷ ds) es a b c first second = counts_append ds es a b c first second
 
 -- deeds never raise the count of failures of `next`
 pub counts_listening : (ds : List Deed) (a b : LinkCounts) → CountsAll ds a b → b.listening ≡ a.listening
@@ -82,3 +119,6 @@ counts_listening (deeds.LaysAside p ∷ ds) a b done = counts_listening ds a b d
 counts_listening (deeds.Drops x told ∷ ds) a b done = counts_listening ds a b done
 counts_listening (deeds.Dials place m d ∷ ds) a b done = counts_listening ds a b done
 counts_listening (deeds.Probes peer d now ∷ ds) a b done = counts_listening ds a b done
+counts_listening (deeds.Looks look ∷ ds) a b done = counts_listening ds a b done
+counts_listening (deeds.Rereads config ∷ ds) a b done = counts_listening ds a b done
+counts_listening (deeds.Keeps why ∷ ds) a b done = counts_listening ds a b done

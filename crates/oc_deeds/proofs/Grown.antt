@@ -9,7 +9,7 @@ use Rattle.oc_model.proofs.Groups.{group_of-with_group, group_or_empty-name}
 use Rattle.oc_model.specs.Node.{Node}
 use Rattle.oc_model.specs.Step.{Piece, grown, kept_at, piece_of, plan, step}
 use Rattle.oc_model.specs.declared.input.Input.{Input}
-use Rattle.oc_deeds.specs.Deeds.{Deed, Sees, Reads, Tells, Takes, Accepts, Says, Notes, Permits, Waits, Replies, Refuses, Rejects, BreaksOff, Gives, LaysAside, Drops, Dials, Probes, Running, after, after_all}
+use Rattle.oc_deeds.specs.Deeds.{Accepts, BreaksOff, Deed, Dials, Drops, Gives, Keeps, LaysAside, Looks, Notes, Permits, Probes, Reads, Refuses, Rejects, Replies, Rereads, Running, Says, Sees, Takes, Tells, Waits, after, after_all}
 
 -- the bytes of each group are a beginning of its bytes later
 abbrev pub Grows : List Group → List Group → Type 0
@@ -69,6 +69,9 @@ grows_after (LaysAside p) a = grows_none a.node.groups
 grows_after (Drops c told) a = grows_none a.node.groups
 grows_after (Dials place m d) a = grows_none a.node.groups
 grows_after (Probes peer d now) a = grows_none a.node.groups
+grows_after (Looks look) a = grows_none a.node.groups
+grows_after (Rereads config) a = grows_none a.node.groups
+grows_after (Keeps why) a = grows_none a.node.groups
 
 pub grows_all : (ds : List Deed) (a : Running) → Grows a.node.groups (after_all ds a).node.groups
 grows_all [] a = grows_none a.node.groups

@@ -9,6 +9,8 @@ pub mod Outgoing
 pub mod Responding
 pub mod Doing
 pub mod TickDue
+pub mod Peers
+pub mod Rereading
 pub mod Probings
 pub mod WorksOn
 pub mod Grown

@@ -65,7 +65,8 @@ use Rattle.oc_deeds.specs.Brief.{told_of}
 use Rattle.oc_deeds.specs.Records.{told_ahead}
 use Rattle.oc_deeds.specs.Brought.{comes_back}
 use Rattle.oc_deeds.specs.Choices.{due_index, next_to_dial, prospect_of, wait_for}
-use Rattle.oc_deeds.specs.Deeds.{Deed, Sees, Reads, Rejects, Tells, Accepts, Says, Waits, Running, Setting, after, after_all, back_to, calls_of, content_in, sender_of}
+use Rattle.oc_deeds.specs.Deeds.{Deed, Sees, Reads, Rejects, Tells, Accepts, Says, Waits, Running, Setting, after, after_all, back_to, calls_of, content_in, sender_of, key_in}
+use Rattle.oc_deeds.specs.Rereading.{looks_again}
 use Rattle.oc_deeds.specs.Hurries.{came_hurries}
 use Rattle.oc_deeds.specs.Pace.{has_passed, wait_until}
 use Rattle.oc_deeds.specs.Parts.{nothing, one, ◌>>◌}
@@ -75,7 +76,7 @@ use Rattle.oc_deeds.specs.Rooms as rooms
 use Rattle.oc_deeds.specs.Telling.{takes_in}
 use Rattle.oc_deeds.specs.Sends.{dials_at, dials_it, dials_next, sends}
 use Rattle.oc_deeds.specs.Settled.{Fits, IsSettled}
-use Rattle.oc_deeds.specs.Turns.{Means, MeansBack, Observation, takes_brought, takes_reply, deals, happens, measures, next_peer, probes_it, quickened, takes_at, takes_due, takes_next, takes_one, ticked, ticks, ticks_and_sends, ticks_if, turn}
+use Rattle.oc_deeds.specs.Turns.{Means, MeansBack, Observation, takes_brought, takes_reply, deals, happens, measures, next_peer, probes_it, quickened, takes_at, takes_due, takes_next, takes_one, ticked, ticks, ticks_and_sends, ticks_if, turn, dealt}
 use Rattle.oc_deeds.specs.Works.{client_input, connection_of, pending, index_on, work_on}
 use Rattle.oc_deeds.specs.declared.came.Came.{Came}
 use Rattle.oc_deeds.specs.declared.came.Came.TheVariants as comes
@@ -212,7 +213,7 @@ pub responding : (s : Setting) (made : List Call) (r : Pending) (input : Option 
     → IsInputOf r.asked.operation r.asked.hint input → IsSettled made a.works → IsOrderly s made (responds r input now s a) a
 responding s made r None now a may is settled =
     replies_request s made r (response_now r answers.Ok None s a) now a may
-    (at_once r.asked.operation r.asked.hint r.last None a.node.groups s.addresses s.key (report_for r.asked.operation a) is) settled
+    (at_once r.asked.operation r.asked.hint r.last None a.node.groups a.config.addresses (key_in a) (report_for r.asked.operation s a) is) settled
 responding s made r (Some i) now a may is settled =
     let ds : List Deed = replies r now (step a.node i).answer (back_to (sender_of i) (step a.node i).sends) s (after (Accepts i) a) in
     quiet_behind s made (Says (told_ahead s.log s.me i)) (Accepts i ∷ Says (told_of s.log a.node i) ∷ ds) a tt settled
@@ -221,7 +222,7 @@ responding s made r (Some i) now a may is settled =
     (λ behind. replies_request s (((made ++ []) ++ []) ++ []) r
     (response_now r (step a.node i).answer (back_to (sender_of i) (step a.node i).sends) s (after (Accepts i) a)) now (after (Accepts i) a)
     (subst (λ (cs : List Call). MayAnswer r.waited r.connection cs a.works) (sym (append-nil ((made ++ []) ++ []) ∙ append-nil (made ++ []) ∙ append-nil made)) may)
-    (by_step r.asked.operation r.asked.hint r.last i (back_to (sender_of i) (step a.node i).sends) a.node s.addresses s.key (report_for r.asked.operation (after (Accepts i) a)) is) behind)))
+    (by_step r.asked.operation r.asked.hint r.last i (back_to (sender_of i) (step a.node i).sends) a.node a.config.addresses (key_in a) (report_for r.asked.operation s (after (Accepts i) a)) is) behind)))
 
 taking_on : (s : Setting) (made : List Call) (c : ℕ) (request : Request) (now : ℕ) (a : Running) → phase_on c made ≡ Awaiting → IsInputOf request.asked.operation request.asked.hint request.input → IsSettled made a.works
     → IsOrderly s made (takes_on c request now s a) a
@@ -499,9 +500,18 @@ taking_at : (due : Option ℕ) (s : Setting) (made : List Call) (pace : Pace) (p
 taking_at None s made pace probing t a told settled = taking_next s made pace probing t a told settled
 taking_at (Some place) s made pace probing t a told settled = taking_due s made pace place t.before t.seconds a settled
 
+-- what came or was due is dealt with in order
+dealt_with : (s : Setting) (made : List Call) (pace : Pace) (probing : Option Probing) (t : Observation) (a : Running) → IsToldAt (due_index a.works (shelf a.node.groups) t.before) t (made ++ (acts.Millis t.before ∷ []))
+    → IsSettled made a.works → IsOrderly s made (dealt pace probing t s a) a
+dealt_with s made pace probing t a told settled =
+    quiet_behind s made (Reads t.before) (takes_one pace probing t s a) a tt settled
+    (λ behind. taking_at (due_index a.works (shelf a.node.groups) t.before) s (made ++ (acts.Millis t.before ∷ [])) pace probing t a told behind)
+
 -- a turn does its deeds in order
 pub turning : (s : Setting) (made : List Call) (pace : Pace) (probing : Option Probing) (t : Observation) (a : Running) → IsToldAt (due_index a.works (shelf a.node.groups) t.before) t (made ++ (acts.Millis t.before ∷ []))
     → IsSettled made a.works → IsOrderly s made (turn pace probing t s a) a
 turning s made pace probing t a told settled =
-    quiet_behind s made (Reads t.before) (takes_one pace probing t s a) a tt settled
-    (λ behind. taking_at (due_index a.works (shelf a.node.groups) t.before) s (made ++ (acts.Millis t.before ∷ [])) pace probing t a told behind)
+    let ds : List Deed = dealt pace probing t s a in
+    let first = dealt_with s made pace probing t a told settled in
+    orderly_then s made ds (looks_again t.look t.reread s (after_all ds a)) a first
+    (all_quiet s (made ++ calls_of s ds a) (looks_again t.look t.reread s (after_all ds a)) (after_all ds a) (quiet_looks t.look t.reread s (after_all ds a)) first.settled)

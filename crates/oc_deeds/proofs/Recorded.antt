@@ -1,5 +1,5 @@
 -- Turns of a node that writes a record: the line of each input is written before the input is taken, and no other line tells of the input.
-use Rattle.std.proofs.Common.{◌≡◌, ◌⊎◌, ℕ, zero, suc, Bool, true, false, Option, None, Some, List, [], ◌∷◌, ◌++◌, slice_get, refl, sym, ap, ap₂, subst, ◌∙◌}
+use Rattle.std.proofs.Common.{◌≡◌, ◌⊎◌, ℕ, zero, suc, Bool, true, false, Option, None, Some, List, [], ◌∷◌, ◌++◌, slice_get, refl, sym, ap, ap₂, subst, ◌∙◌, Result, Ok, Err}
 use Rattle.std.specs.Prelude.{◌==◌, if◌then◌else◌, is_some, is_none, codes}
 use Rattle.std.proofs.lemmas.List.{append-nil, append_assoc}
 use Rattle.oc_base.specs.Groups.{shelf}
@@ -24,7 +24,14 @@ use Rattle.oc_routes.specs.declared.tally.MessageFault.{MessageFault}
 use Rattle.oc_deeds.specs.Asks.{has_to_wait, obeys, refuses_or, replies, responds, takes_on, takes_up, waiting}
 use Rattle.oc_deeds.specs.Brief.{told_of}
 use Rattle.oc_deeds.specs.Choices.{due_index, has_room, next_to_dial, prospect_of, wait_for}
-use Rattle.oc_deeds.specs.Deeds.{Deed, Sees, Reads, Tells, Takes, Accepts, Says, Notes, Permits, Waits, Replies, Refuses, Rejects, BreaksOff, Gives, LaysAside, Drops, Dials, Probes, Running, Setting, after, after_all, back_to, inputs_of, line, lines, sender_of, taken_line, with_input}
+use Rattle.oc_deeds.specs.Deeds.{Accepts, BreaksOff, Deed, Dials, Drops, Gives, Keeps, LaysAside, Looks, Notes, Permits, Probes, Reads, Refuses, Rejects, Replies, Rereads, Running, Says, Sees, Setting, Takes, Tells, Waits, after, after_all, back_to, inputs_of, line, lines, sender_of, taken_line, with_input}
+use Rattle.oc_config.specs.Settings.{Settings}
+use Rattle.oc_link.specs.declared.look.Look.{Look}
+use Rattle.oc_updown.specs.declared.measure_lines.Measure.{Measure}
+use Rattle.oc_deeds.specs.Rereading.{fitting, fresh, goes_by, looks_again, measured_by, settles, takes_measures}
+use Rattle.oc_deeds.specs.declared.reread.Reread.{Reread}
+use Rattle.oc_deeds.specs.declared.reread.Reread.TheVariants as rereads
+use Rattle.oc_deeds.specs.declared.unfit.Unfit.{Unfit}
 use Rattle.oc_deeds.specs.Hurries.{came_hurries}
 use Rattle.oc_deeds.specs.Pace.{has_passed, wait_until}
 use Rattle.oc_deeds.specs.Parts.{nothing, one, ◌>>◌}
@@ -32,8 +39,8 @@ use Rattle.oc_deeds.specs.Recorded.{IsNext, RecordLine, input_in, inputs_in, lin
 use Rattle.oc_deeds.specs.Records.{told_ahead}
 use Rattle.oc_deeds.specs.Rooms.{transfer_of, goes_on, moves, takes_room, room_for}
 use Rattle.oc_deeds.specs.Sends.{dials_at, dials_it, dials_next, sends}
-use Rattle.oc_deeds.specs.Telling.{takes_in}
-use Rattle.oc_deeds.specs.Turns.{Observation, takes_brought, takes_reply, deals, happens, measures, next_peer, probes_it, quickened, takes_at, takes_due, ticked, ticks, ticks_and_sends, ticks_if, turn}
+use Rattle.oc_deeds.specs.Telling.{takes_in, takes_ahead}
+use Rattle.oc_deeds.specs.Turns.{Observation, takes_brought, takes_reply, deals, happens, measures, next_peer, probes_it, quickened, takes_at, takes_due, ticked, ticks, ticks_and_sends, ticks_if, turn, dealt}
 use Rattle.oc_deeds.specs.Works.{client_input, pending, work_on}
 use Rattle.oc_deeds.specs.declared.came.Came.{Came}
 use Rattle.oc_deeds.specs.declared.came.Came.TheVariants as comes
@@ -102,6 +109,9 @@ next_of s (Some i) (LaysAside q ∷ ds) (next, moves, rest) = absurd moves
 next_of s (Some i) (Drops c told ∷ ds) (next, moves, rest) = absurd moves
 next_of s (Some i) (Dials place m d ∷ ds) (next, moves, rest) = absurd moves
 next_of s (Some i) (Probes peer d now ∷ ds) (next, moves, rest) = absurd moves
+next_of s (Some i) (Looks look ∷ ds) (next, moves, rest) = absurd moves
+next_of s (Some i) (Rereads config ∷ ds) (next, moves, rest) = absurd moves
+next_of s (Some i) (Keeps why ∷ ds) (next, moves, rest) = absurd moves
 
 -- The text of deeds
 
@@ -162,6 +172,9 @@ leads_text s is None q (LaysAside p ∷ ds) (next, moves, rest) = text_cons s (L
 leads_text s is None q (Drops c told ∷ ds) (next, moves, rest) = text_cons s (Drops c told) ds q (dropped s c told) (leads_text s is None q ds (subst (λ (o : Option Input). Leads s o ds q) moves rest))
 leads_text s is None q (Dials place m d ∷ ds) (next, moves, rest) = text_cons s (Dials place m d) ds q refl (leads_text s is None q ds (subst (λ (o : Option Input). Leads s o ds q) moves rest))
 leads_text s is None q (Probes peer d now ∷ ds) (next, moves, rest) = text_cons s (Probes peer d now) ds q refl (leads_text s is None q ds (subst (λ (o : Option Input). Leads s o ds q) moves rest))
+leads_text s is None q (Looks look ∷ ds) (next, moves, rest) = text_cons s (Looks look) ds q refl (leads_text s is None q ds (subst (λ (o : Option Input). Leads s o ds q) moves rest))
+leads_text s is None q (Rereads config ∷ ds) (next, moves, rest) = text_cons s (Rereads config) ds q refl (leads_text s is None q ds (subst (λ (o : Option Input). Leads s o ds q) moves rest))
+leads_text s is None q (Keeps why ∷ ds) (next, moves, rest) = text_cons s (Keeps why) ds q refl (leads_text s is None q ds (subst (λ (o : Option Input). Leads s o ds q) moves rest))
 leads_text s is (Some i) q (Sees e wait bytes ∷ ds) (next, moves, rest) = absurd moves
 leads_text s is (Some i) q (Reads t ∷ ds) (next, moves, rest) = absurd moves
 leads_text s is (Some i) q (Tells t ∷ ds) (next, moves, rest) = absurd moves
@@ -178,6 +191,9 @@ leads_text s is (Some i) q (LaysAside p ∷ ds) (next, moves, rest) = absurd mov
 leads_text s is (Some i) q (Drops c told ∷ ds) (next, moves, rest) = absurd moves
 leads_text s is (Some i) q (Dials place m d ∷ ds) (next, moves, rest) = absurd moves
 leads_text s is (Some i) q (Probes peer d now ∷ ds) (next, moves, rest) = absurd moves
+leads_text s is (Some i) q (Looks look ∷ ds) (next, moves, rest) = absurd moves
+leads_text s is (Some i) q (Rereads config ∷ ds) (next, moves, rest) = absurd moves
+leads_text s is (Some i) q (Keeps why ∷ ds) (next, moves, rest) = absurd moves
 
 -- the inputs that the lines of deeds tell are those of the deeds
 
@@ -205,6 +221,9 @@ inputs_told (LaysAside p ∷ ds) = inputs_told ds
 inputs_told (Drops c told ∷ ds) = drop_inputs told ds ∙ inputs_told ds
 inputs_told (Dials place m d ∷ ds) = inputs_told ds
 inputs_told (Probes peer d now ∷ ds) = inputs_told ds
+inputs_told (Looks look ∷ ds) = inputs_told ds
+inputs_told (Rereads config ∷ ds) = inputs_told ds
+inputs_told (Keeps why ∷ ds) = inputs_told ds
 
 -- Parts of turns
 
@@ -307,10 +326,6 @@ module _ (s : Setting) (recorded : s.log ≡ logs.Record) where
   leads_obeys c count (verdicts.Refuse why) now a = (None, refl, refl)
   leads_obeys c count (verdicts.Ask request) now a = leads_on c request now a
 
-  leads_reply : (input : Option Input) (refused : Option MessageFault) (a : Running) → Whole (takes_reply input refused s a)
-  leads_reply input None a = leads_brought input a
-  leads_reply input (Some fault) a = (None, refl, leads_brought input (after (Rejects fault) a))
-
   leads_happens : (probing : Option Probing) (came : Came) (now median started : ℕ) (a : Running) → Whole (happens probing came now median started s a)
   leads_happens probing (comes.Request c count v) now median started a = leads_obeys c count v now a
   leads_happens probing (comes.Room c) now median started a = leads_room (work_on c a.works) now a
@@ -324,6 +339,10 @@ module _ (s : Setting) (recorded : s.log ≡ logs.Record) where
       let ds : List Deed = happens probing came now median started s a in
       let soon : Pace = quickened (came_hurries came a.node) pace in
       whole_then ds (ticks_and_sends soon now seconds s (after_all ds a)) (leads_happens probing came now median started a) (leads_end soon now seconds (after_all ds a))
+
+  leads_reply : (input : Option Input) (refused : Option MessageFault) (a : Running) → Whole (takes_reply input refused s a)
+  leads_reply input None a = leads_brought input a
+  leads_reply input (Some fault) a = (None, refl, leads_brought input (after (Rejects fault) a))
 
   -- Turns in which some work was due
 
@@ -345,6 +364,28 @@ module _ (s : Setting) (recorded : s.log ≡ logs.Record) where
       (None, refl, (None, refl, leads_deals pace probing t.came t.now t.median t.started t.seconds seen))
   leads_place (Some place) pace probing t a = leads_due pace (slice_get a.works place) t.before t.seconds a
 
+  -- A configuration that was read again
+
+  leads_measured : (ms : List Measure) (a : Running) → Whole (takes_measures ms s a)
+  unfolding takes_measures
+  leads_measured [] a = refl
+  leads_measured (m ∷ ms) a = leads_taken (measured_by m) (takes_measures ms s (after_all (takes_ahead (measured_by m) s a) a)) (leads_measured ms (after_all (takes_ahead (measured_by m) s a) a))
+
+  leads_settled : (o : Result Settings Unfit) (old : Settings) (a : Running) → Whole (settles o old s a)
+  leads_settled (Err why) old a = (None, refl, refl)
+  leads_settled (Ok new) old a = (None, refl, leads_measured (fresh s.me old new) (after (Rereads new) a))
+
+  leads_by : (r : Reread) (a : Running) → Whole (goes_by r s a)
+  leads_by rereads.Nothing a = refl
+  leads_by (rereads.Unfit why) a = (None, refl, refl)
+  leads_by (rereads.Config new) a = leads_settled (fitting s.me a.config new) a.config a
+
+  leads_looks : (look : Look) (r : Reread) (a : Running) → Whole (looks_again look r s a)
+  leads_looks look r a = (None, refl, leads_by r a)
+
   -- A turn
   pub leads_turn : (pace : Pace) (probing : Option Probing) (t : Observation) (a : Running) → Whole (turn pace probing t s a)
-  leads_turn pace probing t a = (None, refl, leads_place (due_index a.works (shelf a.node.groups) t.before) pace probing t a)
+  leads_turn pace probing t a =
+      let ds : List Deed = dealt pace probing t s a in
+      whole_then ds (looks_again t.look t.reread s (after_all ds a)) (None, refl, leads_place (due_index a.works (shelf a.node.groups) t.before) pace probing t a)
+      (leads_looks t.look t.reread (after_all ds a))

@@ -24,7 +24,7 @@ use Rattle.oc_deeds.proofs.Givings.{Holds, IsGiving, content_left, content_under
 use Rattle.oc_deeds.proofs.Grown.{Grows, grows_after, grows_all, grows_none, grows_then}
 use Rattle.oc_deeds.proofs.Replying.{first_at, left_on, other_left, over, permitted, phase_here, refused, rest_at, taken, taken_other, taken_out, text_given, text_other, waiting}
 use Rattle.oc_deeds.proofs.WorksOn.{other_pushed, other_without, own_pushed}
-use Rattle.oc_deeds.specs.Deeds.{Deed, Sees, Reads, Tells, Takes, Accepts, Says, Notes, Permits, Waits, Replies, Refuses, Rejects, BreaksOff, Gives, LaysAside, Drops, Dials, Probes, Running, Setting, after, after_all, calls, calls_of, content_in, finish, first_piece, first_rest, keeps, piece, transfer_for, refuses, rest, takes_request, with_content}
+use Rattle.oc_deeds.specs.Deeds.{Accepts, BreaksOff, Deed, Dials, Drops, Gives, Keeps, LaysAside, Looks, Notes, Permits, Probes, Reads, Refuses, Rejects, Replies, Rereads, Running, Says, Sees, Setting, Takes, Tells, Waits, after, after_all, calls, calls_of, content_in, finish, first_piece, first_rest, keeps, piece, transfer_for, refuses, rest, takes_request, with_content}
 use Rattle.oc_deeds.specs.Replying.{HasContent, IsGivable, IsOrdered, MayAnswer, MayDo, replied, replied_all, phase_on, text_or_none, whole_reply, works_on}
 use Rattle.oc_deeds.specs.Works.{without_work}
 use Rattle.oc_deeds.specs.declared.work.Pending.{Pending}
@@ -276,6 +276,9 @@ done s (LaysAside p) c a made later g w grows may h = lays c p a made later g w 
 done s (Drops d told) c a made later g w grows may h = drops c d a made later g w may h
 done s (Dials place m d) c a made later g w grows may h = holds_still (phase_on c made) (works_on c a.works) a.node.groups a.node.groups later g w (grows_none a.node.groups) h
 done s (Probes peer d t) c a made later g w grows may h = holds_still (phase_on c made) (works_on c a.works) a.node.groups a.node.groups later g w (grows_none a.node.groups) h
+done s (Looks look) c a made later g w grows may h = holds_still (phase_on c made) (works_on c a.works) a.node.groups a.node.groups later g w (grows_none a.node.groups) h
+done s (Rereads config) c a made later g w grows may h = holds_still (phase_on c made) (works_on c a.works) a.node.groups a.node.groups later g w (grows_none a.node.groups) h
+done s (Keeps why) c a made later g w grows may h = holds_still (phase_on c made) (works_on c a.works) a.node.groups a.node.groups later g w (grows_none a.node.groups) h
 
 all_done : (s : Setting) (ds : List Deed) (c : ℕ) (a : Running) (made : List Call) (later : List Group) (g w : List ℕ) → Grows (after_all ds a).node.groups later → IsOrdered s made ds a
     → Holds (phase_on c made) (works_on c a.works) a.node.groups later g w

@@ -1,5 +1,5 @@
 -- Deed by deed, the works go on to fit each connection, and each deed comes in its order.
-use Rattle.std.proofs.Common.{◌≡◌, ℕ, Bool, true, false, Option, None, Some, List, [], ◌∷◌, ◌++◌, drop, refl, sym, ap, subst, ◌∙◌}
+use Rattle.std.proofs.Common.{◌≡◌, ℕ, Bool, true, false, Option, None, Some, List, [], ◌∷◌, ◌++◌, drop, refl, sym, ap, subst, ◌∙◌, Result, Ok, Err}
 use Rattle.std.specs.Prelude.{◌==◌, if◌then◌else◌, length}
 use Rattle.std.proofs.lemmas.Bool.{eqb-true}
 use Rattle.std.proofs.lemmas.List.{append_assoc, append-nil}
@@ -17,7 +17,15 @@ use Rattle.oc_routes.specs.declared.response.Response.{Response}
 use Rattle.oc_deeds.proofs.Givings.{works_left}
 use Rattle.oc_deeds.proofs.Replying.{first_at, left_on, other_left, phase_here, rest_at, taken_other, taken_out}
 use Rattle.oc_deeds.proofs.WorksOn.{other_pushed, other_without, own_pushed}
-use Rattle.oc_deeds.specs.Deeds.{Deed, Sees, Reads, Tells, Takes, Accepts, Says, Notes, Permits, Waits, Replies, Refuses, Rejects, BreaksOff, Gives, LaysAside, Drops, Dials, Probes, Running, Setting, after, after_all, calls, calls_of, content_in, finish, first_piece, first_rest, keeps, piece, transfer_for, refuses, rest, takes_request, with_content}
+use Rattle.oc_deeds.specs.Deeds.{Accepts, BreaksOff, Deed, Dials, Drops, Gives, Keeps, LaysAside, Looks, Notes, Permits, Probes, Reads, Refuses, Rejects, Replies, Rereads, Running, Says, Sees, Setting, Takes, Tells, Waits, after, after_all, calls, calls_of, content_in, finish, first_piece, first_rest, keeps, piece, transfer_for, refuses, rest, takes_request, with_content}
+use Rattle.oc_config.specs.Settings.{Settings}
+use Rattle.oc_link.specs.declared.look.Look.{Look}
+use Rattle.oc_updown.specs.declared.measure_lines.Measure.{Measure}
+use Rattle.oc_deeds.specs.Rereading.{fitting, fresh, goes_by, looks_again, measured_by, settles, takes_measures}
+use Rattle.oc_deeds.specs.Telling.{takes_ahead}
+use Rattle.oc_deeds.specs.declared.reread.Reread.{Reread}
+use Rattle.oc_deeds.specs.declared.reread.Reread.TheVariants as rereads
+use Rattle.oc_deeds.specs.declared.unfit.Unfit.{Unfit}
 use Rattle.oc_deeds.specs.Replying.{HasContent, IsGivable, IsOrdered, MayAnswer, MayDo, phase_on, works_on}
 use Rattle.oc_deeds.specs.Settled.{Fits, IsSettled}
 use Rattle.oc_deeds.specs.Works.{without_work}
@@ -110,6 +118,9 @@ IsQuiet (Notes why) = Unit {0}
 IsQuiet (Rejects fault) = Unit {0}
 IsQuiet (Dials place m d) = Unit {0}
 IsQuiet (Probes peer d t) = Unit {0}
+IsQuiet (Looks look) = Unit {0}
+IsQuiet (Rereads config) = Unit {0}
+IsQuiet (Keeps why) = Unit {0}
 IsQuiet d = ⊥
 
 abbrev pub AllQuiet : List Deed → Type 0
@@ -127,6 +138,9 @@ quiet_behind s made (Notes why) ds a quiet settled onward = orderly_behind s mad
 quiet_behind s made (Rejects fault) ds a quiet settled onward = orderly_behind s made (Rejects fault) ds a tt (onward (settled_by made [] a.works (λ c. settled c)))
 quiet_behind s made (Dials place m d) ds a quiet settled onward = orderly_behind s made (Dials place m d) ds a tt (onward (settled_by made (calls s (Dials place m d) a) a.works (λ c. settled c)))
 quiet_behind s made (Probes peer d t) ds a quiet settled onward = orderly_behind s made (Probes peer d t) ds a tt (onward (settled_by made (calls s (Probes peer d t) a) a.works (λ c. settled c)))
+quiet_behind s made (Looks look) ds a quiet settled onward = orderly_behind s made (Looks look) ds a tt (onward (settled_by made (calls s (Looks look) a) a.works (λ c. settled c)))
+quiet_behind s made (Rereads config) ds a quiet settled onward = orderly_behind s made (Rereads config) ds a tt (onward (settled_by made (calls s (Rereads config) a) a.works (λ c. settled c)))
+quiet_behind s made (Keeps why) ds a quiet settled onward = orderly_behind s made (Keeps why) ds a tt (onward (settled_by made (calls s (Keeps why) a) a.works (λ c. settled c)))
 quiet_behind s made (Sees e wait bytes) ds a quiet settled onward = absurd quiet
 quiet_behind s made (Permits c) ds a quiet settled onward = absurd quiet
 quiet_behind s made (Waits w) ds a quiet settled onward = absurd quiet
@@ -141,6 +155,24 @@ pub all_quiet : (s : Setting) (made : List Call) (ds : List Deed) (a : Running) 
 all_quiet s made [] a quiet settled = orderly_none s made a settled
 all_quiet s made (d ∷ ds) a quiet settled =
     quiet_behind s made d ds a (quiet.0) settled (λ settled_after. all_quiet s (made ++ calls s d a) ds (after d a) (quiet.1) settled_after)
+
+-- those by which a configuration that was read again is gone by
+quiet_measures : (ms : List Measure) (s : Setting) (a : Running) → AllQuiet (takes_measures ms s a)
+unfolding takes_measures
+quiet_measures [] s a = tt
+quiet_measures (m ∷ ms) s a = (tt, (tt, quiet_measures ms s (after_all (takes_ahead (measured_by m) s a) a)))
+
+quiet_settled : (o : Result Settings Unfit) (old : Settings) (s : Setting) (a : Running) → AllQuiet (settles o old s a)
+quiet_settled (Err why) old s a = (tt, tt)
+quiet_settled (Ok new) old s a = (tt, quiet_measures (fresh s.me old new) s (after (Rereads new) a))
+
+pub quiet_by : (r : Reread) (s : Setting) (a : Running) → AllQuiet (goes_by r s a)
+quiet_by rereads.Nothing s a = tt
+quiet_by (rereads.Unfit why) s a = (tt, tt)
+quiet_by (rereads.Config new) s a = quiet_settled (fitting s.me a.config new) a.config s a
+
+pub quiet_looks : (look : Look) (r : Reread) (s : Setting) (a : Running) → AllQuiet (looks_again look r s a)
+quiet_looks look r s a = (tt, quiet_by r s a)
 
 -- A permission, a wait, a refusal, and the end of a connection
 

@@ -44,10 +44,10 @@ short (x ∷ y ∷ []) behind more d e is few =
 short (x ∷ y ∷ z ∷ xs) behind more d e is few = absurd (omega (arith, few))
 
 -- no other deed was done where a turn only asked for news
-pub asked_only : (due : Option ℕ) (s : Setting) (made : List Call) (pace : Pace) (probing : Option Probing) (t : Observation) (a : Running) (deeds behind : List Deed) → due ≡ None
-    → Reads t.before ∷ takes_at due pace probing t s a ≡ deeds ++ behind → length deeds < 3 → IsOrdered s made deeds a
-asked_only (Some place) s made pace probing t a deeds behind none is few = let no : Some place ≡ None = none in absurd (cc no)
-asked_only None s made pace probing t a deeds behind none is few =
+pub asked_only : (due : Option ℕ) (s : Setting) (made : List Call) (pace : Pace) (probing : Option Probing) (t : Observation) (a : Running) (more deeds behind : List Deed) → due ≡ None
+    → (Reads t.before ∷ takes_at due pace probing t s a) ++ more ≡ deeds ++ behind → length deeds < 3 → IsOrdered s made deeds a
+asked_only (Some place) s made pace probing t a more deeds behind none is few = let no : Some place ≡ None = none in absurd (cc no)
+asked_only None s made pace probing t a more deeds behind none is few =
     let front = short deeds behind _ (Reads t.before) (Sees t.event (wait_for pace a.works t.before) t.bytes) is few in
     ordered_front s made deeds (front.0) a
     (subst (λ (ds : List Deed). IsOrdered s made ds a) (front.1) (tt, (tt, tt)))

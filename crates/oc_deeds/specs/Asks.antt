@@ -22,7 +22,7 @@ use Rattle.oc_routes.specs.declared.verdict.Refusal.{Refusal}
 use Rattle.oc_routes.specs.declared.response.Response.{Response}
 use Rattle.oc_routes.specs.declared.routes.Operation.{Operation}
 use Rattle.oc_routes.specs.declared.routes.Operation.TheVariants as asks
-use Rattle.oc_deeds.specs.Deeds.{BreaksOff, Permits, Refuses, Replies, Running, Setting, Waits, back_to, sender_of}
+use Rattle.oc_deeds.specs.Deeds.{BreaksOff, Permits, Refuses, Replies, Running, Setting, Waits, back_to, key_in, sender_of}
 use Rattle.oc_deeds.specs.Parts.{Part, nothing, one, ◌>>◌}
 use Rattle.oc_deeds.specs.Rooms.{goes_on}
 use Rattle.oc_deeds.specs.Telling.{accepts_in}
@@ -50,9 +50,9 @@ sight_in s a = record {
   node = a.node.control;
   shelf = shelf a.node.groups;
   messages = length a.outbox;
-  addresses = s.addresses;
-  names = s.names;
-  retired = s.retired;
+  addresses = a.config.addresses;
+  names = a.config.names;
+  retired = a.config.retired;
   tally = a.tally;
   about = s.about;
 }
@@ -62,7 +62,7 @@ report_for asked s a = report_of asked (sight_in s a)
 
 -- the answer to a request by the node as it is now
 abbrev pub response_now : Pending → Answer → Option Message → Setting → Running → Response
-response_now r answer back s a = response_for r.asked r.last answer back (holding_for r.asked.operation a.node.groups) s.addresses s.key (report_for r.asked.operation s a)
+response_now r answer back s a = response_for r.asked r.last answer back (holding_for r.asked.operation a.node.groups) a.config.addresses (key_in a) (report_for r.asked.operation s a)
 
 abbrev pub replies : Pending → ℕ → Answer → Option Message → Part
 replies r now answer back s a = Replies r (response_now r answer back s a) now ∷ []

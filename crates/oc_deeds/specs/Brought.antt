@@ -95,7 +95,7 @@ has_ok (Err fault) = false
 abbrev pub refused_of : ℕ → ℕ → Option Keyring → ℕ → Result Reply HttpFault → Option MessageFault
 refused_of me nodes keys peer reading = fault_in (has_ok reading) (is_taken keys reading) (input_of me nodes keys peer reading)
 
--- What results from a probe's reply
+-- The rate that results from a probe's reply
 
 abbrev pub is_answer : Reply → Bool
 is_answer reply = (reply.status == 200) && (length reply.body == PROBE_BYTES)

@@ -1,11 +1,12 @@
 -- The deeds of a running node: the node after each deed, the line that the deed writes, and its calls on the link.
-use Rattle.std.specs.Prelude.{ℕ, Bool, true, false, if◌then◌else◌, Option, None, Some, List, [], ◌∷◌, ◌++◌, codes, length, remove, nat_le, ◌+◌, ◌-◌, ◌^◌}
+use Rattle.std.specs.Prelude.{ℕ, Bool, true, false, if◌then◌else◌, Option, None, Some, unwrap_or, List, [], ◌∷◌, ◌++◌, codes, length, remove, nat_le, ◌+◌, ◌-◌, ◌^◌}
 use Rattle.std.specs.Option.{option_map}
 use Rattle.oc_base.specs.declared.group.Group.{Group}
 use Rattle.oc_link.specs.declared.call.Call.{Call}
 use Rattle.oc_link.specs.declared.call.Call.TheVariants as acts
 use Rattle.oc_link.specs.declared.event.LinkEvent.{LinkEvent}
 use Rattle.oc_link.specs.declared.event.LinkEvent.TheVariants as events
+use Rattle.oc_link.specs.declared.look.Look.{Look}
 use Rattle.oc_http.specs.Writing.{probe_text}
 use Rattle.oc_http.specs.declared.framing.Persistence.{Persistence}
 use Rattle.oc_http.specs.declared.framing.Persistence.TheVariants.{Close, Keep}
@@ -26,6 +27,7 @@ use Rattle.oc_routes.specs.declared.response.GroupRange.{GroupRange}
 use Rattle.oc_routes.specs.declared.response.Response.{Response}
 use Rattle.oc_routes.specs.declared.routes.Operation.{Operation}
 use Rattle.oc_routes.specs.declared.routes.Operation.TheVariants as asks
+use Rattle.oc_config.specs.Settings.{Settings, key_of}
 use Rattle.oc_routes.specs.Tallies.{TallyView, known_before, with_refused, with_sent}
 use Rattle.oc_routes.specs.Sights.{AboutView}
 use Rattle.oc_routes.specs.declared.tally.MessageFault.{MessageFault}
@@ -40,38 +42,41 @@ use Rattle.oc_deeds.specs.declared.dials.Errand.{Errand}
 use Rattle.oc_deeds.specs.declared.dials.Errand.TheVariants as errands
 use Rattle.oc_deeds.specs.declared.log.Log.{Log}
 use Rattle.oc_deeds.specs.declared.log.Log.TheVariants.{Brief, Inputs, Record}
+use Rattle.oc_deeds.specs.Unfit.{unfit_line}
+use Rattle.oc_deeds.specs.declared.unfit.Unfit.{Unfit}
 use Rattle.oc_deeds.specs.declared.work.Pending.{Pending}
 use Rattle.oc_deeds.specs.declared.work.Transfer.{Transfer}
 use Rattle.oc_deeds.specs.declared.work.Waiting.{Waiting}
 use Rattle.oc_deeds.specs.declared.work.Work.{Work}
 use Rattle.oc_deeds.specs.declared.work.Work.TheVariants as works
 
--- the id of the node; of all nodes by their ids the addresses and names, where they have one, and whether they are retired; the key for messages
--- that go out, where the network has one; the form of the log of inputs; and the program
+-- which node it is, the form of the log of inputs, and what is told of the program
 pub record Setting : Type 0 where
   pub me : ℕ
-  pub addresses : List (Option (List ℕ))
-  pub names : List (Option (List ℕ))
-  pub retired : List Bool
-  pub key : Option (List ℕ)
   pub log : Log
   pub about : AboutView
-
-abbrev pub address_in : Setting → ℕ → List ℕ
-address_in s node = address_of s.addresses node
 
 -- the text of a dial: the request that brings the message, and nothing to a node without an address, to which a dial has failed when it begins
 abbrev pub dial_text : Option (List ℕ) → List ℕ → Message → List ℕ
 dial_text key [] m = []
 dial_text key (b ∷ host) m = request_of key (b ∷ host) m
 
--- a running node: its state, the messages that it has still to send, the works on its connections, its dials, and the counts of its run
+-- a running node: its state, the messages that it has still to send, the works on its connections, its dials, what it counted,
+-- and the configuration that it goes by
 pub record Running : Type 0 where
   pub node : Node
   pub outbox : List Message
   pub works : List Work
   pub dials : List Dialling
   pub tally : TallyView
+  pub config : Settings
+
+-- the address of a node, and the key of what goes out, where the network has one
+abbrev pub address_in : Running → ℕ → List ℕ
+address_in a node = address_of a.config.addresses node
+
+abbrev pub key_in : Running → Option (List ℕ)
+key_in a = key_of a.config.keys
 
 pub data Deed : Type 0 where
   -- the link was asked, with this wait, and told this event, by which these bytes came
@@ -110,6 +115,12 @@ pub data Deed : Type 0 where
   Dials : ℕ → Message → ℕ → Deed
   -- the probe of a node began under this number and at this time
   Probes : ℕ → ℕ → ℕ → Deed
+  -- the file of the configuration was looked at, which gave this
+  Looks : Look → Deed
+  -- a configuration was read again, and is the one that the node goes by from now on
+  Rereads : Settings → Deed
+  -- what was read again is not, for this reason
+  Keeps : Unfit → Deed
 
 -- Lines
 
@@ -126,6 +137,10 @@ abbrev pub taken_line : Log → ℕ → Input → List ℕ
 taken_line Inputs me i = input_line me i
 taken_line Record me i = []
 taken_line Brief me i = []
+
+-- what is told of a configuration that is gone by from now on
+abbrev pub reread_line : List ℕ
+reread_line = codes "overcast: configuration read again\n"
 
 -- the lines of a deed
 abbrev pub line : Setting → Deed → List ℕ
@@ -255,6 +270,7 @@ after (LaysAside p) a = record a { works = without_work p.connection a.works ++ 
 after (Drops c told) a = record a { works = without_work c a.works }
 after (Dials place m d) a = record a { outbox = remove a.outbox place; dials = a.dials ++ dialling d (brings m) ∷ [] }
 after (Probes peer d now) a = record a { dials = a.dials ++ dialling d (errands.Probe peer now) ∷ [] }
+after (Rereads config) a = record a { config = config }
 after d a = a
 
 -- The calls of a deed
@@ -286,8 +302,11 @@ calls s (Replies r response now) a =
 calls s (Refuses c count refusal) a = refuses c count (refusal_text refusal)
 calls s (BreaksOff c) a = acts.BreakOff c ∷ []
 calls s (Gives p now) a = acts.Give p.connection (piece p a.node.groups) ∷ finish p.connection p.keeps p.told (rest p now a.node.groups)
-calls s (Dials place m d) a = acts.Dial d (address_in s m.to) (dial_text s.key (address_in s m.to) m) ∷ []
-calls s (Probes peer d now) a = acts.Dial d (address_in s peer) (probe_text (address_in s peer)) ∷ []
+calls s (Dials place m d) a = acts.Dial d (address_in a m.to) (dial_text (key_in a) (address_in a m.to) m) ∷ []
+calls s (Probes peer d now) a = acts.Dial d (address_in a peer) (probe_text (address_in a peer)) ∷ []
+calls s (Looks look) a = acts.Look look ∷ []
+calls s (Rereads config) a = acts.Report reread_line ∷ []
+calls s (Keeps why) a = acts.Report (unfit_line why) ∷ []
 calls s d a = []
 
 -- Deeds one after another
@@ -318,3 +337,13 @@ with_input (Some i) is = i ∷ is
 abbrev pub inputs_of : List Deed → List Input
 inputs_of [] = []
 inputs_of (d ∷ ds) = with_input (deed_input d) (inputs_of ds)
+
+-- the configuration of a deed that goes on by another one
+abbrev pub reread_of : Deed → Option Settings
+reread_of (Rereads config) = Some config
+reread_of d = None
+
+-- the configuration after deeds
+abbrev pub config_behind : List Deed → Settings → Settings
+config_behind [] c = c
+config_behind (d ∷ ds) c = config_behind ds (unwrap_or (reread_of d) c)

@@ -19,8 +19,9 @@ use Rattle.oc_routes.specs.declared.response.GroupRange.{GroupRange}
 use Rattle.oc_routes.specs.declared.response.Response.{Response}
 use Rattle.oc_routes.specs.declared.routes.Operation.{Operation}
 use Rattle.oc_routes.specs.declared.routes.Operation.TheVariants as asks
+use Rattle.oc_config.specs.Settings.{Settings}
 use Rattle.oc_wire.specs.Macs.{request_of}
-use Rattle.oc_deeds.specs.Deeds.{Accepts, Deed, Dials, Drops, Gives, Notes, Replies, Running, Sees, Setting, after_all, calls_of, errand_in, lines}
+use Rattle.oc_deeds.specs.Deeds.{Accepts, Deed, Dials, Drops, Gives, Notes, Replies, Rereads, Running, Sees, Setting, after_all, calls_of, errand_in, lines}
 use Rattle.oc_deeds.specs.Dials.{dialling}
 use Rattle.oc_deeds.specs.declared.dials.Errand.TheVariants as errands
 use Rattle.oc_deeds.specs.declared.work.Pending.{Pending}
@@ -28,21 +29,32 @@ use Rattle.oc_deeds.specs.declared.log.Log.TheVariants.{Inputs}
 use Rattle.oc_deeds.specs.declared.work.Transfer.{Transfer}
 use Rattle.oc_deeds.specs.declared.work.Work.TheVariants as works
 
--- node 1 of 2, at these addresses
+-- two nodes, at these addresses
+abbrev pub two_nodes : Settings
+two_nodes = record {
+  chain = 1;
+  chunk = 4096;
+  keys = None;
+  retired = false ∷ false ∷ [];
+  addresses = Some (codes "a:1") ∷ Some (codes "b:2") ∷ [];
+  listens = Some (codes "a:1") ∷ Some (codes "b:2") ∷ [];
+  areas = 0 ∷ 0 ∷ [];
+  names = None ∷ None ∷ [];
+  measures = [];
+  rules = [];
+}
+
+-- node 1 of them
 abbrev example : Setting
 example = record {
   me = 1;
-  addresses = Some (codes "a:1") ∷ Some (codes "b:2") ∷ [];
-  names = None ∷ None ∷ [];
-  retired = false ∷ false ∷ [];
-  key = None;
   log = Inputs;
   about = record { version = codes "1.0.0"; started = 1796102400; refused = false };
 }
 
 -- node 1, new, with these messages to send
 abbrev started : List Message → Running
-started outbox = record { node = new_node (record { nodes = 2; chain = 1; chunk = 4096; areas = 0 ∷ 0 ∷ [] }) 1; outbox = outbox; works = []; dials = []; tally = first_tally 2 }
+started outbox = record { node = new_node (record { nodes = 2; chain = 1; chunk = 4096; areas = 0 ∷ 0 ∷ [] }) 1; outbox = outbox; works = []; dials = []; config = two_nodes; tally = first_tally 2 }
 
 -- a request of a connection has come
 abbrev came : ℕ → LinkEvent
@@ -108,7 +120,8 @@ pub record AreRuns : Type 0 where
   pub content_given : (after_all content published).works ≡ []
   pub dial_calls : calls_of example (dial ++ Sees reply 100 (codes "204") ∷ []) (started (look ∷ []))
       ≡ acts.Dial 3 (codes "b:2") (request_of None (codes "b:2") look) ∷ acts.Next reply (codes "204") ∷ []
-  pub dial_nowhere : calls_of (record example { addresses = Some (codes "a:1") ∷ None ∷ [] }) dial (started (look ∷ [])) ≡ acts.Dial 3 [] [] ∷ []
+  pub dial_nowhere : calls_of example (Rereads (record two_nodes { addresses = Some (codes "a:1") ∷ None ∷ [] }) ∷ dial) (started (look ∷ []))
+      ≡ acts.Report (codes "overcast: configuration read again\n") ∷ acts.Dial 3 [] [] ∷ []
   pub dial_under_way : (after_all dial (started (look ∷ []))).dials ≡ dialling 3 (errands.Message 2 false) ∷ []
   pub dial_outbox : (after_all dial (started (look ∷ []))).outbox ≡ []
   pub dial_errand : errand_in reply (after_all dial (started (look ∷ []))).dials ≡ Some (errands.Message 2 false)

@@ -6,6 +6,7 @@ pub mod Sending
 pub mod Within
 pub mod Records
 pub mod Brief
+pub mod Unfit
 pub mod Counted
 pub mod Deeds
 pub mod Done
@@ -16,6 +17,7 @@ pub mod Examples
 pub mod Choices
 pub mod Telling
 pub mod Recorded
+pub mod Rereading
 pub mod Rooms
 pub mod Sends
 pub mod Brought

@@ -9,6 +9,7 @@ use Rattle.oc_routes.specs.declared.hint.Hint.TheVariants.{Of}
 use Rattle.oc_routes.specs.declared.manner.Manner.TheVariants.{Follow}
 use Rattle.oc_routes.specs.declared.routes.Operation.TheVariants as asks
 use Rattle.oc_deeds.specs.Deeds.{Accepts, BreaksOff, Deed, Gives, Permits, Replies, Running, Setting, after_all, calls_of}
+use Rattle.oc_deeds.specs.Examples.{two_nodes}
 use Rattle.oc_deeds.specs.Replying.{IsOrdered, replied_all}
 use Rattle.oc_deeds.specs.declared.log.Log.TheVariants.{Inputs}
 use Rattle.oc_deeds.specs.declared.work.Transfer.{Transfer}
@@ -17,10 +18,6 @@ use Rattle.oc_deeds.specs.declared.work.Transfer.{Transfer}
 abbrev node_one : Setting
 node_one = record {
   me = 1;
-  addresses = Some (codes "a:1") ∷ Some (codes "b:2") ∷ [];
-  names = None ∷ None ∷ [];
-  retired = false ∷ false ∷ [];
-  key = None;
   log = Inputs;
   about = record { version = codes "1.0.0"; started = 1796102400; refused = false };
 }
@@ -31,6 +28,7 @@ holds_three = record {
   outbox = [];
   works = [];
   dials = [];
+  config = two_nodes;
   tally = first_tally 2;
 }
 

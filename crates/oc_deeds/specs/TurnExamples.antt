@@ -2,7 +2,10 @@
 use Rattle.std.specs.Prelude.{◌≡◌, ℕ, true, false, None, Some, List, [], ◌∷◌, codes}
 use Rattle.oc_base.specs.declared.shelf.Shelf.{Shelf}
 use Rattle.oc_link.specs.declared.event.LinkEvent.TheVariants as events
+use Rattle.oc_config.specs.Settings.{Settings}
+use Rattle.oc_config.specs.declared.config_key.ConfigKey.TheVariants.{Chain}
 use Rattle.oc_link.specs.declared.event.Loss.TheVariants as losses
+use Rattle.oc_link.specs.declared.look.Look.TheVariants as looks
 use Rattle.oc_model.specs.Node.{new_node}
 use Rattle.oc_model.specs.declared.input.Input.TheVariants as inputs
 use Rattle.oc_model.specs.declared.message.Body.TheVariants as bodies
@@ -15,34 +18,34 @@ use Rattle.oc_routes.specs.declared.manner.Manner.TheVariants.{Follow}
 use Rattle.oc_routes.specs.declared.routes.Operation.TheVariants as asks
 use Rattle.oc_deeds.specs.Asks.{obeys, waiting}
 use Rattle.oc_deeds.specs.Choices.{due_index, free_number, next_to_dial, wait_for}
-use Rattle.oc_deeds.specs.Deeds.{Accepts, BreaksOff, Drops, Gives, LaysAside, Permits, Reads, Running, Says, Sees, Setting, Takes, Tells, Waits, after_all}
+use Rattle.oc_deeds.specs.Deeds.{Accepts, BreaksOff, Drops, Gives, Keeps, LaysAside, Looks, Permits, Reads, Rereads, Running, Says, Sees, Setting, Takes, Tells, Waits, after_all}
 use Rattle.oc_deeds.specs.Dials.{dialling}
+use Rattle.oc_deeds.specs.Examples.{two_nodes}
 use Rattle.oc_deeds.specs.Pace.{first_pace}
+use Rattle.oc_deeds.specs.Rereading.{MeansLook, looks_again}
 use Rattle.oc_deeds.specs.Rooms.{takes_loss, takes_room}
 use Rattle.oc_deeds.specs.Turns.{Observation, ticks, turn}
 use Rattle.oc_deeds.specs.declared.came.Came.TheVariants as comes
 use Rattle.oc_deeds.specs.declared.dials.Errand.TheVariants as errands
 use Rattle.oc_deeds.specs.declared.pace.Pace.{Pace}
 use Rattle.oc_deeds.specs.declared.log.Log.TheVariants.{Inputs, Record}
+use Rattle.oc_deeds.specs.declared.reread.Reread.TheVariants as rereads
+use Rattle.oc_deeds.specs.declared.unfit.Unfit.TheVariants.{Restart, Stranger}
 use Rattle.oc_deeds.specs.declared.work.Transfer.{Transfer}
 use Rattle.oc_deeds.specs.declared.work.Work.{Work}
 use Rattle.oc_deeds.specs.declared.work.Work.TheVariants as works
 
--- node 1 of 2, at these addresses
+-- node 1 of 2
 abbrev example : Setting
 example = record {
   me = 1;
-  addresses = Some (codes "a:1") ∷ Some (codes "b:2") ∷ [];
-  names = None ∷ None ∷ [];
-  retired = false ∷ false ∷ [];
-  key = None;
   log = Inputs;
   about = record { version = codes "1.0.0"; started = 1796102400; refused = false };
 }
 
 -- node 1, new, with this under way
 abbrev started : List Work → Running
-started ws = record { node = new_node (record { nodes = 2; chain = 1; chunk = 4096; areas = 0 ∷ 0 ∷ [] }) 1; outbox = []; works = ws; dials = []; tally = first_tally 2 }
+started ws = record { node = new_node (record { nodes = 2; chain = 1; chunk = 4096; areas = 0 ∷ 0 ∷ [] }) 1; outbox = []; works = ws; dials = []; config = two_nodes; tally = first_tally 2 }
 
 -- node 1 with a group of three bytes, and with this under way
 abbrev held : List Work → Running
@@ -64,7 +67,7 @@ fetch = record { from = 1; to = 2; body = bodies.Fetch [] }
 
 -- the news of a quiet turn
 abbrev quiet : Observation
-quiet = record { before = 0; event = events.Quiet; bytes = []; came = comes.Nothing; now = 5; median = 0; started = 5; seconds = 7 }
+quiet = record { before = 0; event = events.Quiet; bytes = []; came = comes.Nothing; now = 5; median = 0; started = 5; seconds = 7; look = looks.Nothing; reread = rereads.Nothing }
 
 -- a request of a client that follows the group and has all of its bytes
 abbrev follows : Request
@@ -80,6 +83,16 @@ recording = record example { log = Record }
 
 abbrev ticked_at_seven : Pace
 ticked_at_seven = record { last = Some 0; interval = 100; most = 1000; whole = true; second = Some 7 }
+
+-- a configuration with a measure of node 1 and one of node 2, or with another chain, or without node 1
+abbrev measured : Settings
+measured = record two_nodes { measures = record { from = 1; peer = 2; rate = 9; hops = 3 } ∷ record { from = 2; peer = 1; rate = 8; hops = 3 } ∷ [] }
+
+abbrev chained : Settings
+chained = record two_nodes { chain = 2 }
+
+abbrev elsewhere : Settings
+elsewhere = record two_nodes { addresses = None ∷ Some (codes "b:2") ∷ [] }
 
 pub record AreTurns : Type 0 where
   -- a content is given the bytes that are there, and is laid aside until there are more
@@ -119,4 +132,14 @@ pub record AreTurns : Type 0 where
   pub same_second : ticks ticked_at_seven 130 7 recording (started []) ≡ Tells 7 ∷ []
   pub next_second : ticks ticked_at_seven 130 8 recording (started []) ≡ Tells 8 ∷ Says (codes "tick 1 8\n") ∷ Takes (inputs.Tick 8) ∷ Says [] ∷ []
   -- a first turn in which nothing happens
-  pub quiet_turn : turn (first_pace false 1000) None quiet example (started []) ≡ Reads 0 ∷ Sees events.Quiet 0 [] ∷ Reads 5 ∷ Tells 7 ∷ Says [] ∷ Takes (inputs.Tick 7) ∷ Says [] ∷ []
+  pub quiet_turn : turn (first_pace false 1000) None quiet example (started []) ≡ Reads 0 ∷ Sees events.Quiet 0 [] ∷ Reads 5 ∷ Tells 7 ∷ Says [] ∷ Takes (inputs.Tick 7) ∷ Says [] ∷ Looks looks.Nothing ∷ []
+  -- a configuration that was read again is gone by, with the node's own measures that the old one had not
+  pub taken_over : looks_again (looks.Text (codes "c")) (rereads.Config measured) example (started [])
+      ≡ Looks (looks.Text (codes "c")) ∷ Rereads measured ∷ Says [] ∷ Takes (inputs.Measured 2 9 3) ∷ []
+  pub taken_before : looks_again (looks.Text (codes "c")) (rereads.Config measured) example (after_all (Rereads measured ∷ []) (started []))
+      ≡ Looks (looks.Text (codes "c")) ∷ Rereads measured ∷ []
+  -- or it is not
+  pub restarts : looks_again (looks.Text (codes "c")) (rereads.Config chained) example (started []) ≡ Looks (looks.Text (codes "c")) ∷ Keeps (Restart Chain) ∷ []
+  pub stranger : looks_again (looks.Text (codes "c")) (rereads.Config elsewhere) example (started []) ≡ Looks (looks.Text (codes "c")) ∷ Keeps Stranger ∷ []
+  -- the bytes of the last reading are passed over
+  pub again : MeansLook (Some (codes "c")) (looks.Text (codes "c")) rereads.Nothing

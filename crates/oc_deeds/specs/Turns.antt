@@ -6,6 +6,7 @@ use Rattle.oc_base.specs.declared.limits.TheConstants.{MAX_RATE, MAX_TIME}
 use Rattle.oc_link.specs.declared.event.Coming.{Coming}
 use Rattle.oc_link.specs.declared.event.LinkEvent.{LinkEvent}
 use Rattle.oc_link.specs.declared.event.LinkEvent.TheVariants as events
+use Rattle.oc_link.specs.declared.look.Look.{Look}
 use Rattle.oc_http.specs.declared.fault.HttpFault.{HttpFault}
 use Rattle.oc_http.specs.declared.reply.Reply.{Reply}
 use Rattle.oc_model.specs.declared.input.Input.{Input}
@@ -18,15 +19,16 @@ use Rattle.oc_probe.specs.declared.fault.ProbeFault.{ProbeFault}
 use Rattle.oc_probe.specs.declared.fault.ProbeFault.TheVariants as faults
 use Rattle.oc_probe.specs.declared.probing.Probing.{Probing}
 use Rattle.oc_routes.specs.declared.tally.MessageFault.{MessageFault}
-use Rattle.oc_routes.specs.Verdicts.{IsVerdict, NodeTerms}
+use Rattle.oc_routes.specs.Verdicts.{IsVerdict, NodeTerms, terms_of}
 use Rattle.oc_routes.specs.declared.verdict.Verdict.{Verdict}
 use Rattle.oc_deeds.specs.Asks.{obeys, takes_up}
 use Rattle.oc_deeds.specs.Brought.{HadMemory, IsReading, comes_back}
 use Rattle.oc_deeds.specs.Choices.{due_index, free_number, wait_for}
-use Rattle.oc_deeds.specs.Deeds.{Notes, Probes, Reads, Rejects, Sees, Tells, dials_after}
+use Rattle.oc_deeds.specs.Deeds.{Notes, Probes, Reads, Running, Rejects, Sees, Setting, Tells, dials_after}
 use Rattle.oc_deeds.specs.Hurries.{came_hurries}
 use Rattle.oc_deeds.specs.Pace.{has_passed, hurried, looked, wait_until}
 use Rattle.oc_deeds.specs.Parts.{Part, nothing, one, ◌>>◌}
+use Rattle.oc_deeds.specs.Rereading.{looks_again}
 use Rattle.oc_deeds.specs.Rooms.{takes_loss, takes_room}
 use Rattle.oc_deeds.specs.Sends.{sends}
 use Rattle.oc_deeds.specs.Telling.{takes_ahead, takes_in}
@@ -36,9 +38,14 @@ use Rattle.oc_deeds.specs.declared.choosing.TheConstants.{MAX_DIALS}
 use Rattle.oc_deeds.specs.declared.dials.Dialling.{Dialling}
 use Rattle.oc_deeds.specs.declared.dials.Errand.{Errand}
 use Rattle.oc_deeds.specs.declared.pace.Pace.{Pace}
+use Rattle.oc_deeds.specs.declared.reread.Reread.{Reread}
 use Rattle.oc_deeds.specs.declared.work.Work.{Work}
 
 -- News
+
+-- the terms by which a running node reads requests
+abbrev pub terms_in : Setting → Running → NodeTerms
+terms_in s a = terms_of s.me a.node.control.nodes a.config.rules a.config.keys
 
 -- the news of a dial with this errand; a reply to no dial is no news
 abbrev pub MeansBack : NodeTerms → List ℕ → Option Errand → Coming → Came → Type 0
@@ -69,6 +76,9 @@ pub record Observation : Type 0 where
   pub started : ℕ
   -- the seconds at the tick
   pub seconds : ℕ
+  -- what the look at the file of the configuration gave, and what that is
+  pub look : Look
+  pub reread : Reread
 
 -- Probes
 
@@ -127,7 +137,7 @@ takes_brought (Some i) s a = takes_in i s a
 abbrev pub takes_reply : Option Input → Option MessageFault → Part
 takes_reply input refused = rejects refused >> takes_brought input
 
--- what is done with what came: at this time, with the median of the rates of a peer that was probed, and the time when a probe begins
+-- the part for this news: at this time, with the median of the rates of a peer that was probed, and the time when a probe begins
 abbrev pub happens : Option Probing → Came → ℕ → ℕ → ℕ → Part
 happens probing (comes.Request c count verdict) now median started = obeys c count verdict now
 happens probing (comes.Room c) now median started = takes_room c now
@@ -179,9 +189,13 @@ takes_at (Some place) pace probing t s a = takes_due pace (slice_get a.works pla
 abbrev pub takes_one : Pace → Option Probing → Observation → Part
 takes_one pace probing t s a = takes_at (due_index a.works (shelf a.node.groups) t.before) pace probing t s a
 
--- The deeds of a turn, by its news.
+-- what came or was due is dealt with
+abbrev pub dealt : Pace → Option Probing → Observation → Part
+dealt pace probing t = one (Reads t.before) >> takes_one pace probing t
+
+-- What a turn does, by what it is told: it deals with what came or was due, and looks whether the configuration changed.
 abbrev pub turn : Pace → Option Probing → Observation → Part
-turn pace probing t = one (Reads t.before) >> takes_one pace probing t
+turn pace probing t = dealt pace probing t >> looks_again t.look t.reread
 
 -- The state after a turn
 

@@ -10,7 +10,8 @@ ghost use Rattle.oc_routes.specs.Asks.{IsLawfulAsk};
 ghost use Rattle.oc_routes.specs.Lawful.{IsAsked};
 ghost use Rattle.oc_wire.specs.Spelling.{HasSpelling};
 ghost use Rattle.oc_deeds.specs.Asks.{has_to_wait, replies};
-ghost use Rattle.oc_deeds.specs.Deeds.{Accepts, BreaksOff, Drops, Gives, LaysAside, Notes, Permits, Probes, Reads, Refuses, Rejects, Running, Setting, Takes, Tells, Waits, after_all, back_to, sender_of};
+ghost use Rattle.oc_config.specs.Reading.{IsConfig};
+ghost use Rattle.oc_deeds.specs.Deeds.{Accepts, BreaksOff, Drops, Gives, Keeps, LaysAside, Looks, Notes, Permits, Probes, Reads, Refuses, Rereads, Rejects, Running, Setting, Takes, Tells, Waits, after_all, back_to, sender_of};
 ghost use Rattle.oc_deeds.specs.Lawful.{IsLawfulWaiting, IsLawfulWork};
 ghost use Rattle.oc_deeds.specs.Parts.{Part, in_turn, nothing, one};
 ghost use Rattle.oc_deeds.specs.Sends.{dials_as};
@@ -24,9 +25,11 @@ use crate::dials::Dialling;
 use crate::ends::TurnEnd;
 use crate::log::Log;
 use crate::outbox::Outbox;
+use crate::unfit::Unfit;
 use crate::work::{Pending, Transfer, Waiting, Work};
 use oc_base::{NodeId, Shelf};
-use oc_link::{ConnectionId, DialId};
+use oc_config::Config;
+use oc_link::{ConnectionId, DialId, Look};
 use oc_model::{Answer, Input};
 use oc_node::Node;
 use oc_routes::{MessageFault, Refusal, Request};
@@ -80,6 +83,10 @@ pub trait Doer {
     /// The form of the node's log of inputs.
     fn log(&self) -> Log
         ensures { result ≡ (setting self.now).log };
+
+    /// The configuration that it goes by.
+    fn config(&self) -> &Config
+        ensures { result.now ≡ (running self.now).config };
 
     // Deeds
 
@@ -203,6 +210,24 @@ pub trait Doer {
         ensures did { OnOk result (does (one (Probes peer dial now)) self.old self.new) }
         ensures breaks { IfErr result (λ end. stops end (one (Probes peer dial now)) self.old self.new) };
 
+    /// Looks at the file of the configuration, where it is time to.
+    fn looks(&mut self) -> Look
+        requires { serving self.old }
+        ensures { does (one (Looks result)) self.old self.new };
+
+    /// Goes by this configuration from now on, which has a place for as many nodes as before, and tells so.
+    fn rereads(&mut self, config: Config)
+        requires serving { serving self.old }
+        requires config { IsConfig config }
+        requires nodes { length config.addresses ≡ (running self.old).node.control.nodes }
+        ensures { does (one (Rereads config)) self.old self.new };
+
+    /// Tells why it goes on by the configuration that it has.
+    fn keeps(&mut self, why: Unfit) -> Result<(), TurnEnd>
+        requires { serving self.old }
+        ensures did { OnOk result (does (one (Keeps why)) self.old self.new) }
+        ensures breaks { IfErr result (λ end. stops end (one (Keeps why)) self.old self.new) };
+
     /// Whether a request is to wait. Nothing of the node changes.
     fn has_to_wait(&mut self, request: &Request) -> Result<bool, TurnEnd>
         requires serving { serving self.old }
@@ -239,5 +264,6 @@ pub trait Doer {
     /// The works are lawful, and the setting has the id of the node.
     fn is_lawful()
         ensures lawful_works { (a : Self) → serving a → AllByRecursion (IsLawfulWork (running a).node.control.nodes (running a).node.control.me) (running a).works }
-        ensures same_me { (a : Self) → (setting a).me ≡ (running a).node.control.me };
+        ensures same_me { (a : Self) → (setting a).me ≡ (running a).node.control.me }
+        ensures places { (a : Self) → serving a → length (running a).config.addresses ≡ (running a).node.control.nodes };
 }

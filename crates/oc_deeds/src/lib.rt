@@ -41,12 +41,15 @@ pub mod probing;
 pub mod reading;
 pub mod record;
 mod reply_in_place;
+mod reread;
+pub mod rereading;
 pub mod rooms;
 mod sending;
 mod taking_up;
 mod told;
 mod turn_law;
 mod turning;
+mod unfit;
 mod work;
 mod works;
 
@@ -61,7 +64,9 @@ pub use law::{
 pub use log::Log;
 pub use outbox::{Outbox, is_fetch, put_all};
 pub use pace::{Pace, most_interval};
+pub use reread::Reread;
 pub use turn_law::{brief_lines_compute, turns_compute};
 pub use turning::{deals, takes_due};
+pub use unfit::{Unfit, put_unfit_line};
 pub use work::{Pending, Transfer, Waiting, Work, client_input, pending_of};
 pub use works::Works;

@@ -46,7 +46,7 @@ use Rattle.oc_routes.specs.declared.tally.MessageFault.{MessageFault}
 use Rattle.oc_deeds.specs.Asks.{has_to_wait, obeys, refuses_or, responds, takes_on, takes_up, waiting}
 use Rattle.oc_deeds.specs.Brought.{comes_back, delivered_or, fault_of, input_of, input_of_reply, message_in, refused_of}
 use Rattle.oc_deeds.specs.Choices.{next_to_dial, prospect_of, wait_for}
-use Rattle.oc_deeds.specs.Deeds.{Deed, Reads, Running, Says, Sees, Setting, Takes, Tells, Waits, after, after_all, errand_in, Rejects}
+use Rattle.oc_deeds.specs.Deeds.{Deed, Reads, Running, Says, Sees, Setting, Takes, Tells, Waits, after, after_all, errand_in, Rejects, Rereads}
 use Rattle.oc_deeds.specs.Hurries.{came_hurries}
 use Rattle.oc_deeds.specs.Pace.{has_passed, wait_until}
 use Rattle.oc_deeds.specs.Parts.{nothing, one, ◌>>◌}
@@ -54,7 +54,15 @@ use Rattle.oc_deeds.specs.Records.{told_ahead}
 use Rattle.oc_deeds.specs.Rooms.{moves, room_for}
 use Rattle.oc_deeds.specs.Rooms as rooms
 use Rattle.oc_deeds.specs.Sends.{dials_at, dials_it, dials_next, sends}
-use Rattle.oc_deeds.specs.Turns.{Means, MeansBack, Observation, takes_brought, takes_reply, deals, happens, measures, next_peer, probes_it, quickened, takes_at, takes_due, ticked, ticks, ticks_and_sends, ticks_if}
+use Rattle.oc_config.specs.Settings.{Settings}
+use Rattle.oc_link.specs.declared.look.Look.{Look}
+use Rattle.oc_deeds.specs.Rereading.{fitting, fresh, goes_by, looks_again, measured_by, settles, takes_measures}
+use Rattle.oc_deeds.specs.declared.reread.Reread.{Reread}
+use Rattle.oc_deeds.specs.declared.reread.Reread.TheVariants as rereads
+use Rattle.oc_deeds.specs.declared.unfit.Unfit.{Unfit}
+use Rattle.oc_deeds.specs.Telling.{takes_ahead}
+use Rattle.oc_deeds.specs.Turns as turns
+use Rattle.oc_deeds.specs.Turns.{terms_in, Means, MeansBack, Observation, takes_brought, takes_reply, deals, happens, measures, next_peer, probes_it, quickened, takes_at, takes_due, ticked, ticks, ticks_and_sends, ticks_if}
 use Rattle.oc_deeds.specs.Works.{client_input, pending, work_on}
 use Rattle.oc_deeds.specs.declared.came.Came.{Came}
 use Rattle.oc_deeds.specs.declared.came.Came.TheVariants as comes
@@ -329,14 +337,35 @@ turn_at terms calls None s t m heard =
     (tt, (tt, (tt, dealt m.pace m.probing t.came t.now t.median t.started t.seconds s behind (happened terms heard.lent (errand_in t.event m.running.dials) t.event t.came heard.means m.probing t.now t.median t.started s behind))))
 turn_at terms calls (Some place) s t m heard = (tt, plain_due m.pace (slice_get m.running.works place) t.before t.seconds s m.running)
 
-turn_plain : (terms : NodeTerms) (calls : Option (List Call)) (s : Setting) (t : Observation) (m : Machine) → MayHear terms calls (due_at t m) t m → ArePlain (turn_deeds s t m)
-turn_plain terms calls s t m heard = turn_at terms calls (due_at t m) s t m heard
+-- A configuration that was read again
 
-turns_plain : (terms : NodeTerms) (calls : Option (List Call)) (s : Setting) (ts : List Observation) (m : Machine) → AreHeard s terms calls ts m → ArePlain (turns_deeds s ts m)
-turns_plain terms calls s [] m heard = tt
-turns_plain terms calls s (t ∷ ts) m heard =
-    plain_then (turn_deeds s t m) (turns_deeds s ts (after_turn s t m)) (turn_plain terms calls s t m (heard.0))
-    (turns_plain terms (calls_after s t m calls) s ts (after_turn s t m) (heard.1))
+plain_measured : (ms : List Measure) (s : Setting) (a : Running) → ArePlain (takes_measures ms s a)
+unfolding takes_measures
+plain_measured [] s a = tt
+plain_measured (m ∷ ms) s a = (tt, (tt, plain_measured ms s (after_all (takes_ahead (measured_by m) s a) a)))
+
+plain_settled : (o : Result Settings Unfit) (old : Settings) (s : Setting) (a : Running) → ArePlain (settles o old s a)
+plain_settled (Err why) old s a = (tt, tt)
+plain_settled (Ok new) old s a = (tt, plain_measured (fresh s.me old new) s (after (Rereads new) a))
+
+plain_by : (r : Reread) (s : Setting) (a : Running) → ArePlain (goes_by r s a)
+plain_by rereads.Nothing s a = tt
+plain_by (rereads.Unfit why) s a = (tt, tt)
+plain_by (rereads.Config new) s a = plain_settled (fitting s.me a.config new) a.config s a
+
+plain_looks : (look : Look) (r : Reread) (s : Setting) (a : Running) → ArePlain (looks_again look r s a)
+plain_looks look r s a = (tt, plain_by r s a)
+
+turn_plain : (terms : NodeTerms) (calls : Option (List Call)) (s : Setting) (t : Observation) (m : Machine) → MayHear terms calls (due_at t m) t m → ArePlain (turn_deeds s t m)
+turn_plain terms calls s t m heard =
+    let ds : List Deed = turns.dealt m.pace m.probing t s m.running in
+    plain_then ds (looks_again t.look t.reread s (after_all ds m.running)) (turn_at terms calls (due_at t m) s t m heard) (plain_looks t.look t.reread s (after_all ds m.running))
+
+turns_plain : (calls : Option (List Call)) (s : Setting) (ts : List Observation) (m : Machine) → AreHeard s calls ts m → ArePlain (turns_deeds s ts m)
+turns_plain calls s [] m heard = tt
+turns_plain calls s (t ∷ ts) m heard =
+    plain_then (turn_deeds s t m) (turns_deeds s ts (after_turn s t m)) (turn_plain (terms_in s m.running) calls s t m (heard.0.0))
+    (turns_plain (calls_after s t m calls) s ts (after_turn s t m) (heard.1))
 
 -- All that a node does
 
@@ -349,25 +378,31 @@ own_plain s [] = tt
 own_plain s (x ∷ ms) =
     plain_then (own_measure s x) (own_measures s ms) (own_one (told_ahead s.log s.me (inputs.Measured x.peer x.rate x.hops)) x (x.from == s.me)) (own_plain s ms)
 
-pub node_plain : (s : Setting) (terms : NodeTerms) (calls : Option (List Call)) (ms : List Measure) (ts : List Observation) (m : Machine) → AreHeard s terms calls ts (begun s ms m)
+pub node_plain : (s : Setting) (calls : Option (List Call)) (ms : List Measure) (ts : List Observation) (m : Machine) → AreHeard s calls ts (begun s ms m)
     → ArePlain (node_deeds s ms ts m)
-node_plain s terms calls ms ts m heard =
-    plain_then (begins s ms m.running.node) (turns_deeds s ts (begun s ms m)) (tt, own_plain s ms) (turns_plain terms calls s ts (begun s ms m) heard)
+node_plain s calls ms ts m heard =
+    plain_then (begins s ms m.running.node) (turns_deeds s ts (begun s ms m)) (tt, own_plain s ms) (turns_plain calls s ts (begun s ms m) heard)
 
 -- An early end
 
 -- a turn in which nothing is due begins with three deeds that take nothing
-plain_begin : (due : Option ℕ) (s : Setting) (t : Observation) (m : Machine) → due ≡ None → ArePlain (take 3 (Reads t.before ∷ takes_at due m.pace m.probing t s m.running))
-plain_begin None s t m none = (tt, (tt, (tt, tt)))
-plain_begin (Some place) s t m none = let no : Some place ≡ None = none in absurd (cc no)
+plain_begin : (due : Option ℕ) (s : Setting) (t : Observation) (m : Machine) (more : List Deed) → due ≡ None → ArePlain (take 3 ((Reads t.before ∷ takes_at due m.pace m.probing t s m.running) ++ more))
+plain_begin None s t m more none = (tt, (tt, (tt, tt)))
+plain_begin (Some place) s t m more none = let no : Some place ≡ None = none in absurd (cc no)
 
 -- a front of all, and of one more turn
-module _ (s : Setting) (terms : NodeTerms) (calls : Option (List Call)) (ms : List Measure) (ts : List Observation) (last : Observation) (m : Machine) (heard : AreHeard s terms calls ts (begun s ms m)) where
+module _ (s : Setting) (terms : NodeTerms) (calls : Option (List Call)) (ms : List Measure) (ts : List Observation) (last : Observation) (m : Machine) (heard : AreHeard s calls ts (begun s ms m)) where
   abbrev all : List Deed
   all = node_deeds s ms ts m
 
   abbrev turn : List Deed
   turn = turn_deeds s last (machine_after s ms ts m)
+
+  -- its look at the configuration
+  abbrev look : List Deed
+  look =
+      let here = machine_after s ms ts m in
+      looks_again last.look last.reread s (after_all (turns.dealt here.pace here.probing last s here.running) here.running)
 
   abbrev due : Option ℕ
   due = due_at last (machine_after s ms ts m)
@@ -379,13 +414,13 @@ module _ (s : Setting) (terms : NodeTerms) (calls : Option (List Call)) (ms : Li
       by_whole : MayHear terms later due last (machine_after s ms ts m) → ArePlain deeds
       by_whole heard_last =
           plain_front deeds behind (subst (λ (ds : List Deed). ArePlain ds) cut
-          (plain_then all turn (node_plain s terms calls ms ts m heard) (turn_plain terms later s last (machine_after s ms ts m) heard_last)))
+          (plain_then all turn (node_plain s calls ms ts m heard) (turn_plain terms later s last (machine_after s ms ts m) heard_last)))
 
       by_few : length deeds < length all + 3 → due ≡ None → ArePlain deeds
       by_few few none =
           let front = front_of_few deeds behind all turn 3 cut (omega (arith, few)) in
           plain_front deeds (front.0) (subst (λ (ds : List Deed). ArePlain ds) (front.1)
-          (plain_then all (take 3 turn) (node_plain s terms calls ms ts m heard) (plain_begin due s last (machine_after s ms ts m) none)))
+          (plain_then all (take 3 turn) (node_plain s calls ms ts m heard) (plain_begin due s last (machine_after s ms ts m) look none)))
 
       by_due : length deeds < length all + 3 → (due ≡ None) ⊎ ((place : ℕ) × (due ≡ Some place)) → ArePlain deeds
       by_due few (inl none) = by_few few none

@@ -22,8 +22,9 @@ use Rattle.oc_deeds.specs.Under.{Under}
 use Rattle.oc_deeds.specs.Within.{IsWithin}
 use Rattle.oc_deeds.specs.declared.ends.TurnEnd.{TurnEnd}
 use Rattle.oc_deeds.specs.declared.log.Log.TheVariants.{Record}
-use Rattle.oc_service.specs.OnSite.{DidOn, StoppedOn, header_of_settings, heard_before, machine_on, setting_of, terms_in}
-use Rattle.oc_service.specs.WhatNodeDoes.{Machine, begun, own_measures, turns_deeds}
+use Rattle.oc_deeds.specs.Turns.{terms_in}
+use Rattle.oc_service.specs.OnSite.{DidOn, StoppedOn, header_of_settings, heard_before, machine_on, setting_of}
+use Rattle.oc_service.specs.WhatNodeDoes.{Machine, begun, own_measures, turns_deeds, machine_after}
 use Rattle.oc_service.specs.WhatNodeHears.{all_calls_after}
 use Rattle.oc_service.specs.declared.running.Task.{Task}
 use Rattle.oc_routes.specs.Refusals.{why_text}
@@ -140,7 +141,7 @@ module _ {D L K : Type 0} (view : D → DiskView) (story : L → Option (List Ca
   first = first_node view network task.me old
 
   abbrev s : Setting
-  s = setting_of c task
+  s = setting_of task
 
   abbrev heard_from : Option (List Call)
   heard_from = heard_before c task.me (story link) (story after)
@@ -150,12 +151,12 @@ module _ {D L K : Type 0} (view : D → DiskView) (story : L → Option (List Ca
       let m : Machine = machine_on view c task old in
       whole_run_of network s first refl refl node deeds
       (recorded_of s first deeds [] (Says (told_first s.log first.control (shelf first.groups))) (own_measures s c.measures ++ turns_deeds s did.told (begun s c.measures m)) log (did.are honest) (did.recorded honest))
-      did.within (subst (λ (ds : List Deed). ArePlain ds) (sym (did.are honest)) (node_plain s (terms_in c task.me) heard_from c.measures did.told m (did.heard honest)))
+      did.within (subst (λ (ds : List Deed). ArePlain ds) (sym (did.are honest)) (node_plain s heard_from c.measures did.told m (did.heard honest)))
 
   pub cut_run : (end : TurnEnd) (d : Deed) (ds : List Deed) (under : Under) → (stopped : StoppedOn view story counts takes fails c task end (d ∷ ds) under old new link after sink written)
       → IsCutRunOf network s first (d ∷ ds) (stopped.cut honest).behind
   cut_run end d ds under stopped =
       let m : Machine = machine_on view c task old in
       cut_run_of network s first refl refl node (d ∷ ds) (stopped.cut honest).behind (stopped.recorded honest log) stopped.within
-      (front_plain s (terms_in c task.me) heard_from c.measures stopped.told stopped.last m (stopped.heard honest) (d ∷ ds) (stopped.cut honest).behind
+      (front_plain s (terms_in s (machine_after s c.measures stopped.told m).running) heard_from c.measures stopped.told stopped.last m (stopped.heard honest) (d ∷ ds) (stopped.cut honest).behind
       (all_calls_after s stopped.told (begun s c.measures m) heard_from) (stopped.cut honest).front (stopped.last_heard honest))

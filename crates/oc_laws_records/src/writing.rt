@@ -4,7 +4,6 @@ ghost use Rattle.oc_config.specs.Settings.{Settings};
 ghost use Rattle.oc_keep.specs.Files.{AreHonest, Disks};
 ghost use Rattle.oc_keep.specs.Trials.{first_node};
 ghost use Rattle.oc_link.specs.declared.call.Call.{Call};
-ghost use Rattle.oc_routes.specs.Verdicts.{NodeTerms};
 ghost use Rattle.oc_deeds.specs.Deeds.{Deed, Setting};
 ghost use Rattle.oc_deeds.specs.Under.{Under};
 ghost use Rattle.oc_deeds.specs.Turns.{Observation};
@@ -24,8 +23,8 @@ use oc_link::Link;
 /// A running node, whatever its link reports, takes inputs of the kinds that records can have,
 /// ticks no later than records can, and notes no more than a line.
 pub fn nodes_take_inputs_of_records()
-    ensures { (s : Setting) (terms : NodeTerms) (calls : Option (List Call)) (ms : List Measure) (ts : List Observation) (m : Machine)
-        → AreHeard s terms calls ts (begun s ms m) → ArePlain (node_deeds s ms ts m) }
+    ensures { (s : Setting) (calls : Option (List Call)) (ms : List Measure) (ts : List Observation) (m : Machine)
+        → AreHeard s calls ts (begun s ms m) → ArePlain (node_deeds s ms ts m) }
 {}
 
 /// A node that keeps a record on honest disks and made all its turns has written the text of a
@@ -36,9 +35,9 @@ pub fn nodes_write_lawful_runs<D: Disk, L: Link, K: Sink>()
     ensures whole { (c : Settings) (task : Task) (deeds : List Deed) (old new : Disks D) (link after : L) (sink written : K)
         → IsNode (length c.addresses) task.me → task.log ≡ RecordLog → AreHonest D.view old
         → DidOn D.view L.story L.counts K.takes c task deeds old new link after sink written
-        → IsLawfulRunOf (header_of_settings c) (setting_of c task) (first_node D.view (header_of_settings c) task.me old) deeds }
+        → IsLawfulRunOf (header_of_settings c) (setting_of task) (first_node D.view (header_of_settings c) task.me old) deeds }
     ensures cut { (c : Settings) (task : Task) (end : TurnEnd) (d : Deed) (ds : List Deed) (under : Under) (old new : Disks D) (link after : L) (sink written : K)
         → IsNode (length c.addresses) task.me → task.log ≡ RecordLog → (honest : AreHonest D.view old)
         → (stopped : StoppedOn D.view L.story L.counts K.takes K.fails c task end (d ∷ ds) under old new link after sink written)
-        → IsCutRunOf (header_of_settings c) (setting_of c task) (first_node D.view (header_of_settings c) task.me old) (d ∷ ds) (stopped.cut honest).behind }
+        → IsCutRunOf (header_of_settings c) (setting_of task) (first_node D.view (header_of_settings c) task.me old) (d ∷ ds) (stopped.cut honest).behind }
 {}

@@ -26,6 +26,7 @@ event_asked (happenings.Gone c loss) calls = events.Gone c loss
 event_asked (happenings.Replies d bytes coming) calls = events.Reply d coming
 event_asked happenings.Quiet calls = events.Quiet
 event_asked happenings.Fails calls = events.Quiet
+event_asked (happenings.Looks look) calls = events.Quiet
 
 -- the event of a step: the one that it asks for, if that may come, and else `Quiet`
 abbrev pub event_of : Happening → List Call → LinkEvent

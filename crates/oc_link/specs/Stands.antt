@@ -67,6 +67,8 @@ stands c (acts.Give d bytes) s = if d == c then after_give s else s
 stands c (acts.Finish d e) s = if d == c then after_finish e s else s
 stands c (acts.BreakOff d) s = if d == c then after_break s else s
 stands c (acts.Dial d address bytes) s = s
+stands c (acts.Look look) s = s
+stands c (acts.Report line) s = s
 
 -- the state of the connection c after these calls
 abbrev pub stands_after : ℕ → List Call → Standing → Standing

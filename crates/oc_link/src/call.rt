@@ -1,5 +1,6 @@
 use crate::event::LinkEvent;
 use crate::ids::{ConnectionId, DialId};
+use crate::look::Look;
 use oc_base::{Bytes, Text};
 
 /// A call on a link, with its answer; the story of a link is a list of them.
@@ -24,6 +25,10 @@ pub enum Call {
     BreakOff(ConnectionId),
     /// A dial to this address began, with these bytes.
     Dial(DialId, Text, Bytes),
+    /// A look at the file of the configuration gave this.
+    Look(Look),
+    /// This was told to the people who run the program.
+    Report(Bytes),
 }
 
 /// The future of a connection after a full reply.

@@ -3,7 +3,8 @@
 //! **The link of a running node** is a [`Link`]: a sequence of events. `next` gives one [`LinkEvent`]: a request
 //! came, a reply has room for more, a connection is gone, a dial has its reply, or nothing happened within the wait.
 //! No other call waits, and no other call but `listen` fails: a later failure is an event. A link tells the time,
-//! too, so that its story says in which order the link was dialled and the clock was read.
+//! too, looks at the file of the program's configuration, and tells people what became of it, so that its story says
+//! in which order the link was dialled, the clock was read, and that file was.
 //!
 //! The story of a link, if it tells one, is the list of its calls with their answers ([`Call`]). The definitions of
 //! `specs/Traffic` and `specs/Stands` take from that list the bytes that a connection received and was given, and the
@@ -29,6 +30,7 @@ mod event;
 mod history;
 mod ids;
 mod link;
+mod look;
 mod mem_dialler;
 mod mem_link;
 mod outgoing;
@@ -43,6 +45,7 @@ pub use event::{Arrival, Coming, LinkEvent, Loss};
 pub use history::{given, held, is_under_way, may, standing_of};
 pub use ids::{ConnectionId, DialId};
 pub use link::Link;
+pub use look::Look;
 pub use mem_dialler::MemDialler;
 pub use mem_link::MemLink;
 pub use outgoing::Outgoing;

@@ -8,9 +8,11 @@ ghost use Rattle.oc_link.specs.Told.{Adds, NextGives};
 use crate::call::Ending;
 use crate::event::LinkEvent;
 use crate::ids::{ConnectionId, DialId};
+use crate::look::Look;
 use oc_io::Failed;
 
-/// A network and a clock, as a running node uses them: connections that come in, and dials.
+/// A network and a clock, as a running node uses them: connections that come in, and dials. Beside them the file of its
+/// configuration, and the people who run it.
 ///
 /// A link that tells its story says which calls were made and their answers. Sockets tell none; for them only
 /// the clauses about counts hold. Times are in milliseconds unless a comment says seconds.
@@ -74,5 +76,15 @@ pub trait Link {
     /// The time in milliseconds, any number, since a moment of the link's own choice.
     fn millis(&mut self) -> u64
         ensures story { Adds (acts.Millis result) (story self.old) (story self.new) }
+        ensures counts { counts self.new ≡ counts self.old };
+
+    /// Looks at the file of the program's configuration, where it is time to. The link chooses that time.
+    fn look(&mut self) -> Look
+        ensures story { Adds (acts.Look result) (story self.old) (story self.new) }
+        ensures counts { counts self.new ≡ counts self.old };
+
+    /// Tells the people who run the program this line, as far as it can be told.
+    fn report(&mut self, line: &[u8])
+        ensures story { Adds (acts.Report line.now) (story self.old) (story self.new) }
         ensures counts { counts self.new ≡ counts self.old };
 }

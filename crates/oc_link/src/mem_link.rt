@@ -13,6 +13,7 @@ use crate::event::{Arrival, LinkEvent};
 use crate::history::{held, may, standing_of};
 use crate::ids::{ConnectionId, DialId};
 use crate::link::Link;
+use crate::look::Look;
 use crate::script::{Happening, Step};
 use oc_base::{Bytes, Text};
 use oc_io::Failed;
@@ -132,7 +133,7 @@ fn event_asked(happening: &Happening, calls: &[Call]) -> LinkEvent
         Happening::Room(connection) => LinkEvent::Room(*connection),
         Happening::Gone(connection, loss) => LinkEvent::Gone(*connection, *loss),
         Happening::Replies(dial, _, coming) => LinkEvent::Reply(*dial, *coming),
-        Happening::Quiet | Happening::Fails => LinkEvent::Quiet,
+        Happening::Quiet | Happening::Fails | Happening::Looks(_) => LinkEvent::Quiet,
     }
 }
 
@@ -272,6 +273,28 @@ impl Link for MemLink {
         time
     }
 
+    fn look(&mut self) -> Look {
+        let look = look_at(self.alloc, step_at(&self.script, self.at));
+        if look.is_some() {
+            self.at = place_after(&self.script, self.at);
+        }
+        let look = look.unwrap_or(Look::Nothing);
+        match copy_of(self.alloc, &look) {
+            Some(copy) => self.calls = with_call(self.calls.take(), Call::Look(copy)),
+            None => self.calls = None,
+        }
+        look
+    }
+
+    fn report(&mut self, line: &[u8]) {
+        match copied(self.alloc, line) {
+            Some(copy) => {
+                self.calls = with_call(self.calls.take(), Call::Report(Bytes::of(copy)));
+            }
+            None => self.calls = None,
+        }
+    }
+
     fn next(&mut self, wait: u64) -> Result<LinkEvent, Failed>
         ensures story { NextGives result self.new.lends self.old.story self.new.story }
         ensures counts { Counted result wait self.old.counts self.new.counts }
@@ -306,6 +329,31 @@ fn step_at(script: &[Step], at: usize) -> Option<&Step>
     ensures { option_copied result ≡ slice_get (drop at script.now) 0 }
 {
     script[at..].first()
+}
+
+/// What a look gives at the next step, if that is one, and there is memory for it.
+fn look_at(alloc: Global, step: Option<&Step>) -> Option<Look> {
+    match step {
+        Some(step) => match &step.happening {
+            Happening::Looks(look) => copy_of(alloc, look),
+            _ => None,
+        },
+        None => None,
+    }
+}
+
+/// A copy of what a look gave, if there is memory for it.
+fn copy_of(alloc: Global, look: &Look) -> Option<Look>
+    ensures { IfSome result (λ copy. copy ≡ look.now) }
+{
+    match look {
+        Look::Nothing => Some(Look::Nothing),
+        Look::Failed => Some(Look::Failed),
+        Look::Text(bytes) => match copied(alloc, bytes.items()) {
+            Some(copy) => Some(Look::Text(Bytes::of(copy))),
+            None => None,
+        },
+    }
 }
 
 /// The index of the step after this one.

@@ -1,5 +1,6 @@
 use crate::event::{Coming, Loss};
 use crate::ids::{ConnectionId, DialId};
+use crate::look::Look;
 use oc_base::Bytes;
 
 /// The part of a script that one `next` of a link in memory plays.
@@ -25,4 +26,6 @@ pub enum Happening {
     Quiet,
     /// `next` fails, or a `listen` that comes before it.
     Fails,
+    /// A look that comes before it gives this. `next` answers `Quiet`.
+    Looks(Look),
 }

@@ -101,7 +101,7 @@ fn start_at(rt: &HostRuntime, words: &[String], places: &Places) -> Started
     let alternate = FileDisk::new(rt, places.alternate());
     let content = FileDisk::new(rt, places.content());
     let dialler = SocketDialler::new(rt, alloc);
-    let link = SocketLink::new(rt, alloc, places.node);
+    let link = SocketLink::new(rt, alloc, places.node, named(&places.input));
     let pause = Second::new(rt);
     let things = Things {
         stage,
@@ -143,6 +143,14 @@ fn start_at(rt: &HostRuntime, words: &[String], places: &Places) -> Started
         token: shown,
         output,
         error,
+    }
+}
+
+/// The path of a file, if one is named.
+fn named(path: &Option<String>) -> Option<&str> {
+    match path {
+        Some(path) => Some(path.as_str()),
+        None => None,
     }
 }
 

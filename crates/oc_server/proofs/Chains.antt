@@ -33,6 +33,9 @@ node_behind (deeds.LaysAside p) a = refl
 node_behind (deeds.Drops c told) a = refl
 node_behind (deeds.Dials place m d) a = refl
 node_behind (deeds.Probes peer d now) a = refl
+node_behind (deeds.Looks look) a = refl
+node_behind (deeds.Rereads config) a = refl
+node_behind (deeds.Keeps why) a = refl
 
 -- the node after deeds is the fold of their inputs
 pub nodes_behind : (ds : List Deed) (a : Running) → (after_all ds a).node ≡ after_inputs a.node (inputs_of ds)

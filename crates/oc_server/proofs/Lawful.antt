@@ -1,10 +1,12 @@
--- Lawful servers.
-use Rattle.std.proofs.Common.{ℕ, sym, subst}
+-- What is lawful of servers.
+use Rattle.std.proofs.Common.{◌≡◌, ◌≤◌, ℕ, length, sym, subst}
+use Rattle.oc_config.specs.Settings.{Settings}
+use Rattle.oc_policy.specs.declared.deciding.TheConstants.{MAX_RULES}
 use Rattle.std.specs.List.{AllByRecursion}
 use Rattle.oc_keep.specs.Promises.{IsSameNode}
 use Rattle.oc_model.specs.Node.{Header}
-use Rattle.oc_server.specs.Scenes.{IsLawful}
-use Rattle.oc_deeds.specs.Lawful.{IsLawfulDial, IsLawfulWork}
+use Rattle.oc_server.specs.Scenes.{IsLawful, IsSet}
+use Rattle.oc_deeds.specs.Lawful.{IsLawfulDial, IsLawfulWork, IsPlaced}
 use Rattle.oc_deeds.specs.Sending.{AreSendable}
 use Rattle.oc_server.specs.declared.server.Server.{Server}
 
@@ -19,4 +21,12 @@ lawful_of old new same sends work dial lawful = record {
   works = subst (λ (h : Header). AllByRecursion (IsLawfulWork h.nodes new.kept.node.control.me) new.works) (sym same.header)
       (subst (λ (me : ℕ). AllByRecursion (IsLawfulWork old.kept.node.control.nodes me) new.works) (sym same.me) (work lawful.works));
   dials = subst (λ (h : Header). AllByRecursion (IsLawfulDial h.nodes) new.dials) (sym same.header) (dial lawful.dials);
+}
+
+-- with the same configuration it is set as it was
+pub set_of : {D L K : Type 0} (old new : Server D L K) → IsSameNode old.kept.node.control new.kept.node.control → new.config ≡ old.config → IsSet old → IsSet new
+set_of old new same config set = record {
+  placed = subst (λ (c : Settings). IsPlaced new.kept.node.control.nodes c.addresses) (sym config)
+      (subst (λ (h : Header). IsPlaced h.nodes old.config.addresses) (sym same.header) set.placed);
+  rules = subst (λ (c : Settings). length c.rules ≤ MAX_RULES) (sym config) set.rules;
 }

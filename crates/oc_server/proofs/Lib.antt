@@ -3,6 +3,7 @@ pub mod Chains
 pub mod Looking
 pub mod Scenes
 pub mod Lawful
+pub mod Places
 pub mod Steps
 pub mod Turned
 pub mod Takes
@@ -13,6 +14,7 @@ pub mod Stopping
 pub mod Ahead
 pub mod Responding
 pub mod Turning
+pub mod LookingAgain
 pub mod Probings
 pub mod Serves
 pub mod TurnsOrdered

@@ -21,7 +21,7 @@ use Rattle.oc_model.specs.Step.{step}
 use Rattle.oc_policy.specs.declared.deciding.TheConstants.{MAX_RULES}
 use Rattle.oc_routes.specs.Sights.{about_of}
 use Rattle.oc_routes.specs.declared.about.About.{About}
-use Rattle.oc_deeds.specs.Deeds.{Deed, Running, Setting, after_all, calls_of, inputs_of, line, lines}
+use Rattle.oc_deeds.specs.Deeds.{Deed, Running, Setting, after_all, calls_of, config_behind, inputs_of, line, lines}
 use Rattle.oc_server.specs.Looks.{Renews}
 use Rattle.oc_server.specs.Moments.{AtEachPrefix}
 use Rattle.oc_deeds.specs.Done.{AreDone}
@@ -32,24 +32,16 @@ use Rattle.oc_deeds.specs.declared.ends.TurnEnd.{TurnEnd}
 use Rattle.oc_deeds.specs.declared.ends.TurnEnd.TheVariants as ends
 use Rattle.oc_deeds.specs.declared.log.Log.{Log}
 use Rattle.oc_server.specs.declared.server.Server.{Server}
-use Rattle.oc_deeds.proofs.Chains.{after_append, calls_append, counts_append, counts_listening, inputs_append, lines_append}
+use Rattle.oc_deeds.proofs.Chains.{after_append, calls_append, config_append, counts_append, counts_listening, inputs_append, lines_append}
 use Rattle.oc_server.proofs.Chains.{nodes_behind}
 use Rattle.oc_server.proofs.Moments.{prefix_then}
 use Rattle.oc_server.proofs.Looking.{go_on_none, keeps_no_fall, keeps_then, looks_none, named}
 
 -- what a server is set to, by its parts
-abbrev setting_with : ℕ → Settings → Log → About → Setting
-setting_with me c log about = record {
-  me = me;
-  addresses = c.addresses;
-  names = c.names;
-  retired = c.retired;
-  key = key_of c.keys;
-  log = log;
-  about = about_of about;
-}
+abbrev setting_with : ℕ → Log → About → Setting
+setting_with me log about = record { me = me; log = log; about = about_of about }
 
--- What deeds make of a running node
+-- A running node after deeds
 
 -- nothing
 pub done_none : (s : Setting) (a : Running) (story : Option (List Call)) → AreDone s [] a a story story
@@ -71,6 +63,7 @@ module _ {D L K : Type 0} (view : D → DiskView) (takes fails : K → List ℕ 
     is_open = is_open;
     same = record { me = refl; header = refl };
     config = refl;
+    set = λ set. set;
     log = refl;
     about = refl;
     goes_on = go_on_none view (disks_of a.kept);
@@ -85,13 +78,12 @@ module _ {D L K : Type 0} (view : D → DiskView) (takes fails : K → List ℕ 
 
   -- Deeds after deeds
 
-  -- which node it is, at which addresses, and what it writes
-  pub setting_stays : (a b : Server D L K) → IsSameNode a.kept.node.control b.kept.node.control → b.config ≡ a.config → b.log ≡ a.log → b.about ≡ a.about → setting b ≡ setting a
-  setting_stays a b same config log about =
-      ap (λ (me : ℕ). setting_with me b.config b.log b.about) same.me
-      ∙ ap (λ (c : Settings). setting_with a.kept.node.control.me c b.log b.about) config
-      ∙ ap (λ (x : Log). setting_with a.kept.node.control.me a.config x b.about) log
-      ∙ ap (λ (x : About). setting_with a.kept.node.control.me a.config a.log x) about
+  -- which node it is, and what it writes
+  pub setting_stays : (a b : Server D L K) → IsSameNode a.kept.node.control b.kept.node.control → b.log ≡ a.log → b.about ≡ a.about → setting b ≡ setting a
+  setting_stays a b same log about =
+      ap (λ (me : ℕ). setting_with me b.log b.about) same.me
+      ∙ ap (λ (x : Log). setting_with a.kept.node.control.me x b.about) log
+      ∙ ap (λ (x : About). setting_with a.kept.node.control.me a.log x) about
 
   -- the lines after lines, told of the same node
   text_then : (takes_then : (a b c : K) (x y : List ℕ) → takes a x b → takes b y c → takes a (x ++ y) c) (s other : Setting) (ds es : List Deed) (a b c : K)
@@ -105,7 +97,8 @@ module _ {D L K : Type 0} (view : D → DiskView) (takes fails : K → List ℕ 
   did_then takes_then ds es a b c first second = record {
     is_open = second.is_open;
     same = record { me = second.same.me ∙ first.same.me; header = second.same.header ∙ first.same.header };
-    config = second.config ∙ first.config;
+    config = second.config ∙ ap (config_behind es) first.config ∙ sym (config_append ds es a.config);
+    set = λ set. second.set (first.set set);
     log = second.log ∙ first.log;
     about = second.about ∙ first.about;
     goes_on = all_go_on_then view (disks_of a.kept) (disks_of b.kept) (disks_of c.kept) first.goes_on second.goes_on;
@@ -113,29 +106,25 @@ module _ {D L K : Type 0} (view : D → DiskView) (takes fails : K → List ℕ 
     counted = counts_append ds es (counts a.link) (counts b.link) (counts c.link) first.counted second.counted;
     keeps = subst (λ (is : List Input). KeepsAll view is a.kept c.kept) (sym (inputs_append ds es)) (keeps_then view (inputs_of ds) (inputs_of es) a.kept b.kept c.kept first.keeps second.keeps);
     lawful = λ lawful. second.lawful (first.lawful lawful);
-    text = text_then takes_then (setting a) (setting b) ds es a.sink b.sink c.sink (setting_stays a b first.same first.config first.log first.about) first.text second.text;
+    text = text_then takes_then (setting a) (setting b) ds es a.sink b.sink c.sink (setting_stays a b first.same first.log first.about) first.text second.text;
     done = λ honest. done_then (setting a) ds es (running a) (running b) (running c) (story a.link) (story b.link) (story c.link) (first.done honest)
-        (subst (λ (s : Setting). AreDone s es (running b) (running c) (story b.link) (story c.link)) (setting_stays a b first.same first.config first.log first.about)
+        (subst (λ (s : Setting). AreDone s es (running b) (running c) (story b.link) (story c.link)) (setting_stays a b first.same first.log first.about)
         (second.done (all_honest view (disks_of a.kept) (disks_of b.kept) first.goes_on honest)));
     moments = λ honest.
         prefix_then view (header_of a.kept.node.control) a.kept.node.control.me takes (line (setting a)) ds es (node_of a.kept) (disks_of a.kept) (disks_of b.kept) (disks_of c.kept) a.sink b.sink c.sink (first.moments honest)
         (subst (λ (n : Node). AtEachPrefix view (header_of a.kept.node.control) a.kept.node.control.me takes (line (setting a)) es n (disks_of b.kept) b.sink (disks_of c.kept) c.sink)
         (ap (λ (r : Running). r.node) (first.done honest).after ∙ nodes_behind ds (running a))
         (subst (λ (s : Setting). AtEachPrefix view (header_of a.kept.node.control) a.kept.node.control.me takes (line s) es (node_of b.kept) (disks_of b.kept) b.sink (disks_of c.kept) c.sink)
-        (setting_stays a b first.same first.config first.log first.about)
+        (setting_stays a b first.same first.log first.about)
         (named (λ h me. AtEachPrefix view h me takes (line (setting b)) es (node_of b.kept) (disks_of b.kept) b.sink (disks_of c.kept) c.sink) a.kept b.kept first.same
         (second.moments (all_honest view (disks_of a.kept) (disks_of b.kept) first.goes_on honest)))));
   }
 
   -- The facts between any two calls hold after deeds
   pub still_serving : (ds : List Deed) (a b : Server D L K) → Did view takes faults story counts ds a b → IsServing a → IsServing b
-  still_serving ds a b did serving = record {
-    is_open = did.is_open;
-    placed = subst (λ (c : Settings). IsPlaced b.kept.node.control.nodes c.addresses) (sym did.config)
-        (subst (λ (h : Header). IsPlaced h.nodes a.config.addresses) (sym did.same.header) serving.placed);
-    rules = subst (λ (c : Settings). length c.rules ≤ MAX_RULES) (sym did.config) serving.rules;
-    lawful = did.lawful serving.lawful;
-  }
+  still_serving ds a b did serving =
+      let set = did.set (record { placed = serving.placed; rules = serving.rules }) in
+      record { is_open = did.is_open; placed = set.placed; rules = set.rules; lawful = did.lawful serving.lawful }
 
   -- the disks that kept the disk model keep it
   pub still_honest : (ds : List Deed) (a b : Server D L K) → Did view takes faults story counts ds a b → IsHonest view a.kept → IsHonest view b.kept
@@ -203,7 +192,7 @@ module _ {D L K : Type 0} (view : D → DiskView) (takes fails : K → List ℕ 
       → WritesAt takes fails a.sink c.sink end (lines (setting a) ds) (under_line (setting a) under)
   broken_text takes_then takes_fails ds under end a c (b, did, breaks) =
       write_then takes_then takes_fails a.sink b.sink c.sink end (lines (setting a) ds) (under_line (setting a) under) did.text
-      (subst (λ (s : Setting). WritesAt takes fails b.sink c.sink end [] (under_line s under)) (setting_stays a b did.same did.config did.log did.about) breaks.text)
+      (subst (λ (s : Setting). WritesAt takes fails b.sink c.sink end [] (under_line s under)) (setting_stays a b did.same did.log did.about) breaks.text)
 
   cause_of : (a b c : KeptView D) (end : TurnEnd) (under : Under) (x y z : K) (p q r : LinkCounts) → AllGoOn view (disks_of a) (disks_of b) → NoFall (faults x) (faults y) → q.listening ≡ p.listening
       → HasCause view faults end under b c y z q r → HasCause view faults end under a c x z p r

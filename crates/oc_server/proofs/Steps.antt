@@ -1,5 +1,5 @@
 -- Deeds, one at a time.
-use Rattle.std.proofs.Common.{◌≡◌, ℕ, Bool, false, Option, None, Some, List, [], ◌∷◌, ◌++◌, refl, sym, ap, subst, ◌∙◌, arith}
+use Rattle.std.proofs.Common.{◌≡◌, ◌≤◌, length, ℕ, Bool, false, Option, None, Some, List, [], ◌∷◌, ◌++◌, refl, sym, ap, subst, ◌∙◌, arith}
 use Rattle.std.proofs.lemmas.List.{append-nil}
 use Rattle.std.specs.List.{AllByRecursion}
 use Rattle.oc_link.specs.Counts.{CountsFailure}
@@ -16,13 +16,16 @@ use Rattle.oc_keep.specs.KeptView.{IsHonest, KeptView, NodeSurvives, disks_of, h
 use Rattle.oc_model.specs.declared.input.Input.{Input}
 use Rattle.oc_model.specs.declared.message.Message.{Message}
 use Rattle.oc_model.specs.Node.{Node}
-use Rattle.oc_deeds.specs.Deeds.{Deed, Running, after, calls, finish, deed_input, line, with_input}
+use Rattle.std.specs.Prelude.{unwrap_or}
+use Rattle.oc_config.specs.Settings.{Settings}
+use Rattle.oc_deeds.specs.Deeds.{Deed, Rereads, Running, after, calls, finish, deed_input, line, reread_line, reread_of, with_input}
 use Rattle.oc_server.specs.Looks.{LooksOnly, LookStops}
 use Rattle.oc_server.specs.Moments.{TakesOne}
 use Rattle.oc_server.specs.Noting.{LineStops, NoteBreaks}
 use Rattle.oc_deeds.specs.Done.{AreDone, CountsAll}
 use Rattle.oc_server.specs.Scenes.{Breaks, Did, IsLawful, KeepsAll, running, setting}
-use Rattle.oc_deeds.specs.Lawful.{IsLawfulWork}
+use Rattle.oc_deeds.specs.Lawful.{IsLawfulWork, IsPlaced}
+use Rattle.oc_policy.specs.declared.deciding.TheConstants.{MAX_RULES}
 use Rattle.oc_deeds.specs.Under.{Idle}
 use Rattle.oc_deeds.specs.declared.dials.Dialling.{Dialling}
 use Rattle.oc_deeds.specs.declared.ends.TurnEnd.{TurnEnd}
@@ -31,7 +34,7 @@ use Rattle.oc_routes.specs.Tallies.{TallyView}
 use Rattle.oc_server.specs.declared.server.Server.{Server}
 use Rattle.oc_deeds.specs.declared.work.Transfer.{Transfer}
 use Rattle.oc_deeds.specs.declared.work.Work.{Work}
-use Rattle.oc_server.proofs.Lawful.{lawful_of}
+use Rattle.oc_server.proofs.Lawful.{lawful_of, set_of}
 use Rattle.oc_server.proofs.Looking.{go_on_none, looks_none, memory_looks}
 use Rattle.oc_server.proofs.Moments.{prefix_none, prefix_one}
 use Rattle.oc_server.proofs.Scenes.{done_none}
@@ -39,16 +42,17 @@ use Rattle.oc_server.proofs.Scenes.{done_none}
 module _ {D L K : Type 0} (view : D → DiskView) (takes fails : K → List ℕ → K → Type 0) (faults : K → ℕ) (story : L → Option (List Call)) (counts : L → LinkCounts) where
   -- One deed that takes no input
 
-  pub did_step : (d : Deed) (old new : Server D L K) → deed_input d ≡ None → new.config ≡ old.config → new.log ≡ old.log → new.about ≡ old.about
+  pub did_step : (d : Deed) (old new : Server D L K) → deed_input d ≡ None → reread_of d ≡ None → new.config ≡ old.config → new.log ≡ old.log → new.about ≡ old.about
       → takes old.sink (line (setting old) d) new.sink → NoFall (faults old.sink) (faults new.sink)
       → CountsAll (d ∷ []) (counts old.link) (counts new.link) → LooksOnly view old.kept new.kept → (IsLawful old → IsLawful new)
       → (IsHonest view old.kept → running new ≡ after d (running old))
       → (IsHonest view old.kept → AddsAll (calls (setting old) d (running old)) (story old.link) (story new.link))
       → Did view takes faults story counts (d ∷ []) old new
-  did_step d old new none config log about text few counted looks lawful is made = record {
+  did_step d old new none unread config log about text few counted looks lawful is made = record {
     is_open = looks.is_open;
     same = looks.same;
-    config = config;
+    config = config ∙ ap (λ (o : Option Settings). unwrap_or o old.config) (sym unread);
+    set = set_of old new looks.same config;
     log = log;
     about = about;
     goes_on = looks.goes_on;
@@ -69,40 +73,63 @@ module _ {D L K : Type 0} (view : D → DiskView) (takes fails : K → List ℕ 
   }
 
   -- a deed that changes the works and the link
-  pub did_works : (takes_nothing : (k : K) → takes k [] k) (d : Deed) (old : Server D L K) (ws : List Work) (link : L) → deed_input d ≡ None → line (setting old) d ≡ []
+  pub did_works : (takes_nothing : (k : K) → takes k [] k) (d : Deed) (old : Server D L K) (ws : List Work) (link : L) → deed_input d ≡ None → reread_of d ≡ None → line (setting old) d ≡ []
       → old.kept.closed ≡ false → CountsAll (d ∷ []) (counts old.link) (counts link)
       → (AllByRecursion (IsLawfulWork old.kept.node.control.nodes old.kept.node.control.me) old.works → AllByRecursion (IsLawfulWork old.kept.node.control.nodes old.kept.node.control.me) ws)
       → record (running old) { works = ws } ≡ after d (running old) → AddsAll (calls (setting old) d (running old)) (story old.link) (story link)
       → Did view takes faults story counts (d ∷ []) old (record old { works = ws; link = link })
-  did_works takes_nothing d old ws link none silent is_open counted lawful is made =
-      did_step d old (record old { works = ws; link = link }) none refl refl refl (subst (λ (t : List ℕ). takes old.sink t old.sink) (sym silent) (takes_nothing old.sink)) (omega arith)
+  did_works takes_nothing d old ws link none unread silent is_open counted lawful is made =
+      did_step d old (record old { works = ws; link = link }) none unread refl refl refl (subst (λ (t : List ℕ). takes old.sink t old.sink) (sym silent) (takes_nothing old.sink)) (omega arith)
       counted (looks_none view old.kept is_open) (lawful_of old (record old { works = ws; link = link }) (record { me = refl; header = refl }) (λ all. all) lawful (λ all. all)) (λ honest. is) (λ honest. made)
 
-  -- a deed that writes a line, and changes the works and the link
-  pub did_line : (d : Deed) (old : Server D L K) (sink : K) (ws : List Work) (link : L) (tally : TallyView) → deed_input d ≡ None
+  -- a deed that writes a line, and changes the works, the link and the counts
+  pub did_line : (d : Deed) (old : Server D L K) (sink : K) (ws : List Work) (link : L) (tally : TallyView) → deed_input d ≡ None → reread_of d ≡ None
       → old.kept.closed ≡ false → CountsAll (d ∷ []) (counts old.link) (counts link) → takes old.sink (line (setting old) d) sink → NoFall (faults old.sink) (faults sink)
       → (AllByRecursion (IsLawfulWork old.kept.node.control.nodes old.kept.node.control.me) old.works → AllByRecursion (IsLawfulWork old.kept.node.control.nodes old.kept.node.control.me) ws)
       → record (running old) { works = ws; tally = tally } ≡ after d (running old) → AddsAll (calls (setting old) d (running old)) (story old.link) (story link)
       → Did view takes faults story counts (d ∷ []) old (record old { sink = sink; works = ws; link = link; tally = tally })
-  did_line d old sink ws link tally none is_open counted text few lawful is made =
-      did_step d old (record old { sink = sink; works = ws; link = link; tally = tally }) none refl refl refl text few counted (looks_none view old.kept is_open)
+  did_line d old sink ws link tally none unread is_open counted text few lawful is made =
+      did_step d old (record old { sink = sink; works = ws; link = link; tally = tally }) none unread refl refl refl text few counted (looks_none view old.kept is_open)
       (lawful_of old (record old { sink = sink; works = ws; link = link; tally = tally }) (record { me = refl; header = refl }) (λ all. all) lawful (λ all. all)) (λ honest. is) (λ honest. made)
 
-  -- a deed after a look that changes the works and the link
-  pub did_given : (takes_nothing : (k : K) → takes k [] k) (d : Deed) (old : Server D L K) (kept : KeptView D) (ws left : List Work) (link : L) (tally counts_to : TallyView) → deed_input d ≡ None → line (setting old) d ≡ []
+  -- a deed after a look that changes the works, the link and the counts
+  pub did_given : (takes_nothing : (k : K) → takes k [] k) (d : Deed) (old : Server D L K) (kept : KeptView D) (ws left : List Work) (link : L) (tally counts_to : TallyView) → deed_input d ≡ None → reread_of d ≡ None → line (setting old) d ≡ []
       → LooksOnly view old.kept kept → CountsAll (d ∷ []) (counts old.link) (counts link)
       → (AllByRecursion (IsLawfulWork old.kept.node.control.nodes old.kept.node.control.me) old.works → AllByRecursion (IsLawfulWork old.kept.node.control.nodes old.kept.node.control.me) ws)
       → after d (running old) ≡ record (running old) { works = left; tally = counts_to } → (IsHonest view old.kept → ws ≡ left) → (IsHonest view old.kept → tally ≡ counts_to)
       → (IsHonest view old.kept → AddsAll (calls (setting old) d (running old)) (story old.link) (story link))
       → Did view takes faults story counts (d ∷ []) old (record old { kept = kept; works = ws; link = link; tally = tally })
-  did_given takes_nothing d old kept ws left link tally counts_to none silent looks counted lawful behind is tallied made =
-      did_step d old (record old { kept = kept; works = ws; link = link; tally = tally }) none refl refl refl (subst (λ (t : List ℕ). takes old.sink t old.sink) (sym silent) (takes_nothing old.sink)) (omega arith)
+  did_given takes_nothing d old kept ws left link tally counts_to none unread silent looks counted lawful behind is tallied made =
+      did_step d old (record old { kept = kept; works = ws; link = link; tally = tally }) none unread refl refl refl (subst (λ (t : List ℕ). takes old.sink t old.sink) (sym silent) (takes_nothing old.sink)) (omega arith)
       counted looks (lawful_of old (record old { kept = kept; works = ws; link = link; tally = tally }) looks.same (λ all. all) lawful (λ all. all))
       (λ honest.
-      ap (λ (n : Node). record { node = n; outbox = old.outbox; works = ws; dials = old.dials; tally = tally }) (looks.node honest)
-      ∙ ap (λ (x : List Work). record { node = node_of old.kept; outbox = old.outbox; works = x; dials = old.dials; tally = tally }) (is honest)
-      ∙ ap (λ (t : TallyView). record { node = node_of old.kept; outbox = old.outbox; works = left; dials = old.dials; tally = t }) (tallied honest)
+      ap (λ (n : Node). record { node = n; outbox = old.outbox; works = ws; dials = old.dials; config = old.config; tally = tally }) (looks.node honest)
+      ∙ ap (λ (x : List Work). record { node = node_of old.kept; outbox = old.outbox; works = x; dials = old.dials; config = old.config; tally = tally }) (is honest)
+      ∙ ap (λ (t : TallyView). record { node = node_of old.kept; outbox = old.outbox; works = left; dials = old.dials; config = old.config; tally = t }) (tallied honest)
       ∙ sym behind) made
+
+  -- one that goes by another configuration
+  pub did_reread : (takes_nothing : (k : K) → takes k [] k) (old : Server D L K) (config : Settings) (link : L) → old.kept.closed ≡ false
+      → IsPlaced old.kept.node.control.nodes config.addresses → length config.rules ≤ MAX_RULES
+      → AddsAll (acts.Report reread_line ∷ []) (story old.link) (story link) → counts link ≡ counts old.link
+      → Did view takes faults story counts (Rereads config ∷ []) old (record old { config = config; link = link })
+  did_reread takes_nothing old config link is_open placed rules made counted = record {
+    is_open = is_open;
+    same = record { me = refl; header = refl };
+    config = refl;
+    set = λ set. record { placed = placed; rules = rules };
+    log = refl;
+    goes_on = go_on_none view (disks_of old.kept);
+    no_fall = omega arith;
+    counted = counted;
+    keeps = looks_none view old.kept is_open;
+    lawful = lawful_of old (record old { config = config; link = link }) (record { me = refl; header = refl }) (λ all. all) (λ all. all) (λ all. all);
+    text = takes_nothing old.sink;
+    done = λ honest. record { after = refl; calls = made };
+    moments = λ honest.
+        prefix_one view (header_of old.kept.node.control) old.kept.node.control.me takes (line (setting old)) (Rereads config) (node_of old.kept) (disks_of old.kept) (disks_of old.kept) (disks_of old.kept) old.sink old.sink
+        (0, refl) refl (takes_nothing old.sink);
+  }
 
   -- none, and the files were looked at
   pub did_look : (takes_nothing : (k : K) → takes k [] k) (old new : Server D L K) → new.config ≡ old.config → new.log ≡ old.log → new.about ≡ old.about → new.sink ≡ old.sink → new.link ≡ old.link
@@ -112,6 +139,7 @@ module _ {D L K : Type 0} (view : D → DiskView) (takes fails : K → List ℕ 
     is_open = looks.is_open;
     same = looks.same;
     config = config;
+    set = set_of old new looks.same config;
     log = log;
     about = about;
     goes_on = looks.goes_on;
@@ -131,11 +159,12 @@ module _ {D L K : Type 0} (view : D → DiskView) (takes fails : K → List ℕ 
     where
       is_same : IsHonest view old.kept → running new ≡ running old
       is_same honest =
-          ap (λ (n : Node). record { node = n; outbox = new.outbox; works = new.works; dials = new.dials; tally = new.tally }) (looks.node honest)
-          ∙ ap (λ (ms : List Message). record { node = node_of old.kept; outbox = ms; works = new.works; dials = new.dials; tally = new.tally }) outbox
-          ∙ ap (λ (ws : List Work). record { node = node_of old.kept; outbox = old.outbox; works = ws; dials = new.dials; tally = new.tally }) works
-          ∙ ap (λ (ds : List Dialling). record { node = node_of old.kept; outbox = old.outbox; works = old.works; dials = ds; tally = new.tally }) dials
-          ∙ ap (λ (t : TallyView). record { node = node_of old.kept; outbox = old.outbox; works = old.works; dials = old.dials; tally = t }) tally
+          ap (λ (n : Node). record { node = n; outbox = new.outbox; works = new.works; dials = new.dials; config = new.config; tally = new.tally }) (looks.node honest)
+          ∙ ap (λ (ms : List Message). record { node = node_of old.kept; outbox = ms; works = new.works; dials = new.dials; config = new.config; tally = new.tally }) outbox
+          ∙ ap (λ (ws : List Work). record { node = node_of old.kept; outbox = old.outbox; works = ws; dials = new.dials; config = new.config; tally = new.tally }) works
+          ∙ ap (λ (ds : List Dialling). record { node = node_of old.kept; outbox = old.outbox; works = old.works; dials = ds; config = new.config; tally = new.tally }) dials
+          ∙ ap (λ (c : Settings). record { node = node_of old.kept; outbox = old.outbox; works = old.works; dials = old.dials; config = c; tally = new.tally }) config
+          ∙ ap (λ (t : TallyView). record { node = node_of old.kept; outbox = old.outbox; works = old.works; dials = old.dials; config = old.config; tally = t }) tally
 
   -- A break at once
 

@@ -27,7 +27,9 @@ use Rattle.oc_model.specs.declared.message.Message.{Message}
 use Rattle.oc_node.specs.OutcomeView.{OutcomeView}
 use Rattle.oc_routes.specs.Inputs.{HasLine}
 use Rattle.oc_wire.specs.Spelling.{HasSpelling}
-use Rattle.oc_deeds.specs.Deeds.{Accepts, counted_input, Deed, Running, Takes, after, calls, for_outbox, deed_input, line, sender_of, taken_line, with_input}
+use Rattle.std.specs.Prelude.{unwrap_or}
+use Rattle.oc_config.specs.Settings.{Settings}
+use Rattle.oc_deeds.specs.Deeds.{Accepts, counted_input, Deed, Running, Takes, after, calls, for_outbox, deed_input, line, reread_of, sender_of, taken_line, with_input}
 use Rattle.oc_server.specs.Noting.{LineStops}
 use Rattle.oc_server.specs.Moments.{TakesOne}
 use Rattle.oc_deeds.specs.Outboxes.{with_messages}
@@ -46,7 +48,7 @@ use Rattle.oc_deeds.specs.declared.work.Work.{Work}
 use Rattle.oc_server.proofs.Looking.{go_on_none, keeps_one, named}
 use Rattle.oc_server.proofs.Moments.{prefix_one}
 use Rattle.oc_deeds.proofs.Messages.{lawful_are, kept_sendable, with_sendable}
-use Rattle.oc_server.proofs.Lawful.{lawful_of}
+use Rattle.oc_server.proofs.Lawful.{lawful_of, set_of}
 
 -- the messages of the step of a lawful node can be sent
 pub step_sendable : (nodes : ℕ) (n : Node) (i : Input) → ((m : Message) → IsMessage nodes m → HasSpelling m.body) → IsLawfulOutcome nodes (step n i) → AreSendable nodes (step n i).sends
@@ -107,7 +109,7 @@ noted_by i outcome old new = noted (sender_of i) (known_before i old.kept.node.c
 module _ {D L K : Type 0} (view : D → DiskView) (takes fails : K → List ℕ → K → Type 0) (faults : K → ℕ) (story : L → Option (List Call)) (counts : L → LinkCounts) where
   -- an input was taken with its line, and these of its messages went to the outbox
   did_input : (d : Deed) (i : Input) (outcome : OutcomeView) (kept : List Message → List Message) (old new : Server D L K)
-      → deed_input d ≡ Some i → line (setting old) d ≡ taken_line old.log old.kept.node.control.me i
+      → deed_input d ≡ Some i → reread_of d ≡ None → line (setting old) d ≡ taken_line old.log old.kept.node.control.me i
       → ((a : Running) → after d a ≡ record a { node = (step a.node i).node; outbox = with_messages a.outbox (kept (step a.node i).sends); tally = counted_input i a.node a.tally }) → ((a : Running) → calls (setting old) d a ≡ [])
       → CountsAll (d ∷ []) (counts old.link) (counts old.link)
       → ((ms : List Message) → AreSendable old.kept.node.control.nodes ms → AreSendable old.kept.node.control.nodes (kept ms))
@@ -115,10 +117,11 @@ module _ {D L K : Type 0} (view : D → DiskView) (takes fails : K → List ℕ 
       → new.config ≡ old.config → new.log ≡ old.log → new.about ≡ old.about → new.link ≡ old.link → new.works ≡ old.works → new.dials ≡ old.dials → new.outbox ≡ with_messages old.outbox (kept outcome.sends)
       → new.tally ≡ noted_by i outcome old new
       → Did view takes faults story counts (d ∷ []) old new
-  did_input d i outcome kept old new own lined behind silent counted can is_open keeps text few config log about link works dials outbox tally = record {
+  did_input d i outcome kept old new own unread lined behind silent counted can is_open keeps text few config log about link works dials outbox tally = record {
     is_open = keeps.is_open;
     same = keeps.same;
-    config = config;
+    config = config ∙ ap (λ (o : Option Settings). unwrap_or o old.config) (sym unread);
+    set = set_of old new keeps.same config;
     log = log;
     about = about;
     goes_on = keeps.goes_on;
@@ -145,12 +148,13 @@ module _ {D L K : Type 0} (view : D → DiskView) (takes fails : K → List ℕ 
       is : IsHonest view old.kept
           → running new ≡ record (running old) { node = (step (node_of old.kept) i).node; outbox = with_messages old.outbox (kept (step (node_of old.kept) i).sends); tally = counted_input i (node_of old.kept) old.tally }
       is honest =
-          ap (λ (n : Node). record { node = n; outbox = new.outbox; works = new.works; dials = new.dials; tally = new.tally }) (keeps.node honest)
-          ∙ ap (λ (ms : List Message). record { node = (step (node_of old.kept) i).node; outbox = ms; works = new.works; dials = new.dials; tally = new.tally }) outbox
-          ∙ ap (λ (o : OutcomeView). record { node = (step (node_of old.kept) i).node; outbox = with_messages old.outbox (kept o.sends); works = new.works; dials = new.dials; tally = new.tally }) (keeps.outcome_is honest)
-          ∙ ap (λ (ws : List Work). record { node = (step (node_of old.kept) i).node; outbox = with_messages old.outbox (kept (step (node_of old.kept) i).sends); works = ws; dials = new.dials; tally = new.tally }) works
-          ∙ ap (λ (ds : List Dialling). record { node = (step (node_of old.kept) i).node; outbox = with_messages old.outbox (kept (step (node_of old.kept) i).sends); works = old.works; dials = ds; tally = new.tally }) dials
-          ∙ ap (λ (t : TallyView). record { node = (step (node_of old.kept) i).node; outbox = with_messages old.outbox (kept (step (node_of old.kept) i).sends); works = old.works; dials = old.dials; tally = t }) (counts honest)
+          ap (λ (n : Node). record { node = n; outbox = new.outbox; works = new.works; dials = new.dials; config = new.config; tally = new.tally }) (keeps.node honest)
+          ∙ ap (λ (ms : List Message). record { node = (step (node_of old.kept) i).node; outbox = ms; works = new.works; dials = new.dials; config = new.config; tally = new.tally }) outbox
+          ∙ ap (λ (o : OutcomeView). record { node = (step (node_of old.kept) i).node; outbox = with_messages old.outbox (kept o.sends); works = new.works; dials = new.dials; config = new.config; tally = new.tally }) (keeps.outcome_is honest)
+          ∙ ap (λ (ws : List Work). record { node = (step (node_of old.kept) i).node; outbox = with_messages old.outbox (kept (step (node_of old.kept) i).sends); works = ws; dials = new.dials; config = new.config; tally = new.tally }) works
+          ∙ ap (λ (ds : List Dialling). record { node = (step (node_of old.kept) i).node; outbox = with_messages old.outbox (kept (step (node_of old.kept) i).sends); works = old.works; dials = ds; config = new.config; tally = new.tally }) dials
+          ∙ ap (λ (c : Settings). record { node = (step (node_of old.kept) i).node; outbox = with_messages old.outbox (kept (step (node_of old.kept) i).sends); works = old.works; dials = old.dials; config = c; tally = new.tally }) config
+          ∙ ap (λ (t : TallyView). record { node = (step (node_of old.kept) i).node; outbox = with_messages old.outbox (kept (step (node_of old.kept) i).sends); works = old.works; dials = old.dials; config = old.config; tally = t }) (counts honest)
 
       -- it was counted by the step of the input
       counts : IsHonest view old.kept → new.tally ≡ counted_input i (node_of old.kept) old.tally
@@ -165,7 +169,7 @@ module _ {D L K : Type 0} (view : D → DiskView) (takes fails : K → List ℕ 
       → new.config ≡ old.config → new.log ≡ old.log → new.about ≡ old.about → new.link ≡ old.link → new.works ≡ old.works → new.dials ≡ old.dials → new.outbox ≡ with_messages old.outbox outcome.sends
       → new.tally ≡ noted_by i outcome old new
       → Did view takes faults story counts (Takes i ∷ []) old new
-  did_take i outcome old new = did_input (Takes i) i outcome (λ ms. ms) old new refl refl (λ a. refl) (λ a. refl) refl (λ ms all. all)
+  did_take i outcome old new = did_input (Takes i) i outcome (λ ms. ms) old new refl refl refl (λ a. refl) (λ a. refl) refl (λ ms all. all)
 
   -- the outbox gets all messages but the one back to the sender
   pub did_accept : (i : Input) (outcome : OutcomeView) (old new : Server D L K) → old.kept.closed ≡ false → KeepsOne view i outcome old.kept new.kept
@@ -173,7 +177,7 @@ module _ {D L K : Type 0} (view : D → DiskView) (takes fails : K → List ℕ 
       → new.config ≡ old.config → new.log ≡ old.log → new.about ≡ old.about → new.link ≡ old.link → new.works ≡ old.works → new.dials ≡ old.dials → new.outbox ≡ with_messages old.outbox (for_outbox i outcome.sends)
       → new.tally ≡ noted_by i outcome old new
       → Did view takes faults story counts (Accepts i ∷ []) old new
-  did_accept i outcome old new = did_input (Accepts i) i outcome (for_outbox i) old new refl refl (λ a. refl) (λ a. refl) refl (λ ms all. kept_sendable old.kept.node.control.nodes ms (sender_of i) all)
+  did_accept i outcome old new = did_input (Accepts i) i outcome (for_outbox i) old new refl refl refl (λ a. refl) (λ a. refl) refl (λ ms all. kept_sendable old.kept.node.control.nodes ms (sender_of i) all)
 
   -- an input that was not taken wrote nothing
   pub keep_breaks : (takes_nothing : (k : K) → takes k [] k) (end : TurnEnd) (i : Input) (old new : Server D L K)

@@ -19,17 +19,20 @@ use Rattle.oc_routes.specs.Verdicts.{NodeTerms, terms_of}
 use Rattle.oc_base.specs.declared.shelf.Shelf.{Shelf}
 use Rattle.oc_model.specs.Node.{Header}
 use Rattle.oc_deeds.specs.Choices.{due_index, wait_for}
-use Rattle.oc_deeds.specs.Deeds.{Deed, Reads, Running, Sees, after_all, after, calls_of, dials_after, errand_in}
+use Rattle.oc_deeds.specs.Deeds.{Deed, Reads, Running, Sees, after_all, after, calls_of, config_behind, dials_after, errand_in}
 use Rattle.oc_server.specs.Looks.{Renews}
 use Rattle.oc_server.specs.Parts.{Does, Stops}
 use Rattle.oc_deeds.specs.Parts.{Part, one, ◌>>◌}
-use Rattle.oc_server.specs.Runs.{CouldCome, IsLent, IsRead, MayRead, after_reading, due_in, lent_in, reads_by, NextStops, NextTaken, Turned, TurnStops}
+use Rattle.oc_server.specs.Runs.{CouldCome, IsLent, IsRead, MayRead, after_reading, due_in, lent_in, reads_by, NextStops, NextTaken, Handled, HandleStops}
 use Rattle.oc_deeds.specs.Measured.{IsMeasured}
 use Rattle.oc_deeds.specs.Served.{is_something, is_served}
 use Rattle.oc_server.specs.Scenes.{Breaks, Did, IsServing, running, setting}
 use Rattle.oc_deeds.specs.Under.{Idle}
 use Rattle.oc_deeds.specs.Hurries.{came_hurries}
-use Rattle.oc_deeds.specs.Turns.{Means, Observation, deals, quickened, takes_due, pace_after, paced, probed, probing_after, takes_at, takes_next, takes_one, turn}
+use Rattle.oc_deeds.specs.Turns.{Means, Observation, deals, quickened, takes_due, pace_after, paced, probed, probing_after, takes_at, takes_next, takes_one}
+use Rattle.oc_deeds.specs.Turns as turns
+use Rattle.oc_deeds.specs.declared.reread.Reread.TheVariants as rereads
+use Rattle.oc_link.specs.declared.look.Look.TheVariants as looks
 use Rattle.oc_deeds.specs.declared.came.Came.{Came}
 use Rattle.oc_deeds.specs.declared.came.Came.TheVariants as comes
 use Rattle.oc_deeds.specs.declared.dials.Errand.{Errand}
@@ -101,6 +104,7 @@ module _ {D L K : Type 0} (view : D → DiskView) (takes fails : K → List ℕ 
     is_open = did.is_open;
     same = did.same;
     config = did.config;
+    set = λ before. let set = did.set before in record { placed = set.placed; rules = set.rules };
     log = did.log;
     goes_on = did.goes_on;
     no_fall = did.no_fall;
@@ -127,11 +131,11 @@ module _ {D L K : Type 0} (view : D → DiskView) (takes fails : K → List ℕ 
   told_behind ds a b did honest = (did.done honest).calls
 
   -- the terms by which requests are read
-  pub reads_same : (ds : List Deed) (a b : Server D L K) → Did view takes faults story counts ds a b → reads_by b ≡ reads_by a
-  reads_same ds a b did =
+  pub reads_same : (ds : List Deed) (a b : Server D L K) → Did view takes faults story counts ds a b → config_behind ds a.config ≡ a.config → reads_by b ≡ reads_by a
+  reads_same ds a b did same =
       ap (λ (me : ℕ). terms_of me b.kept.node.control.nodes b.config.rules b.config.keys) did.same.me
       ∙ ap (λ (h : Header). terms_of a.kept.node.control.me h.nodes b.config.rules b.config.keys) did.same.header
-      ∙ ap (λ (c : Settings). terms_of a.kept.node.control.me a.kept.node.control.nodes c.rules c.keys) did.config
+      ∙ ap (λ (c : Settings). terms_of a.kept.node.control.me a.kept.node.control.nodes c.rules c.keys) (did.config ∙ same)
 
   -- Work that was due
 
@@ -155,16 +159,16 @@ module _ {D L K : Type 0} (view : D → DiskView) (takes fails : K → List ℕ 
         ∙ ap (λ (n : ℕ). due_index b.works (shelf (node_of b.kept).groups) n) (sym begins))
 
     pub does_turn : (due : Option ℕ) (pace : Pace) (probing : Option Probing) (t : Observation) → t.before ≡ before → (IsHonest view a.kept → due_in a before ≡ due)
-        → Does view takes faults story counts (takes_at due pace probing t) b c → Does view takes faults story counts (turn pace probing t) a c
+        → Does view takes faults story counts (takes_at due pace probing t) b c → Does view takes faults story counts (turns.dealt pace probing t) a c
     does_turn due pace probing t begins is does =
         subst (λ (n : ℕ). Does view takes faults story counts (one (Reads n) >> takes_one pace probing t) a c) (sym begins)
         (does_after view takes fails faults story counts takes_then (one (Reads before)) (takes_one pace probing t) (takes_at due pace probing t) a b c first (one_by due pace probing t begins is) does)
 
     pub stops_turn : (end : TurnEnd) (due : Option ℕ) (pace : Pace) (probing : Option Probing) (t : Observation) → t.before ≡ before → (IsHonest view a.kept → due_in a before ≡ due)
         → (stops : Stops view takes fails faults story counts end (takes_at due pace probing t) b c)
-        → (whole : Stops view takes fails faults story counts end (turn pace probing t) a c) × (whole.deeds ≡ Reads before ∷ stops.deeds)
+        → (whole : Stops view takes fails faults story counts end (turns.dealt pace probing t) a c) × (whole.deeds ≡ Reads before ∷ stops.deeds)
     stops_turn end due pace probing t begins is stops =
-        one_then view takes fails faults story counts takes_then end (Reads before) (turn pace probing t) (takes_one pace probing t) (takes_at due pace probing t) a b c did
+        one_then view takes fails faults story counts takes_then end (Reads before) (turns.dealt pace probing t) (takes_one pace probing t) (takes_at due pace probing t) a b c did
         (λ honest. ap (λ (n : ℕ). (one (Reads n) >> takes_one pace probing t) (setting a) (running a)) begins) (one_by due pace probing t begins is) stops
 
     -- the story when the link was asked
@@ -191,7 +195,7 @@ module _ {D L K : Type 0} (view : D → DiskView) (takes fails : K → List ℕ 
 
     abbrev told_with : Came → ℕ → ℕ → ℕ → ℕ → Observation
     told_with came now median started seconds =
-        record { before = before; event = event; bytes = bytes; came = came; now = now; median = median; started = started; seconds = seconds }
+        record { before = before; event = event; bytes = bytes; came = came; now = now; median = median; started = started; seconds = seconds; look = looks.Nothing; reread = rereads.Nothing }
 
     seen : Did view takes faults story counts (sees ∷ []) old.server b
     seen = subst (λ (n : ℕ). Did view takes faults story counts (Sees event n bytes ∷ []) old.server b) is did
@@ -240,7 +244,7 @@ module _ {D L K : Type 0} (view : D → DiskView) (takes fails : K → List ℕ 
             is_lent = l.is_lent;
             could = l.could;
             means = l.means (reads_by old.server) (errand_in event old.server.dials) came
-                (subst (λ (t : NodeTerms). Means t lent (errand_in event old.server.dials) event came) (reads_same (sees ∷ []) old.server b seen)
+                (subst (λ (t : NodeTerms). Means t lent (errand_in event old.server.dials) event came) (reads_same (sees ∷ []) old.server b seen refl)
                 (subst (λ (e : Option Errand). Means (reads_by b) lent e event came) errand_is means));
             measured = measured;
           }
@@ -252,8 +256,8 @@ module _ {D L K : Type 0} (view : D → DiskView) (takes fails : K → List ℕ 
       calls_behind : (more : List Call) (z : Option (List Call)) → AddsAll more (story c.link) z → AddsAll more (story b.link) z
       calls_behind more z adds = subst (λ (x : L). AddsAll more (story x) z) link_same adds
 
-      pub next_taken : Dealt view takes faults story counts came now (record old { server = d }) new → NextTaken view takes faults story counts before (is_something came) old new
-      next_taken dealt = record {
+      pub next_taken : Dealt view takes faults story counts came now (record old { server = d }) new → new.reading ≡ old.reading → NextTaken view takes faults story counts before (is_something came) old new
+      next_taken dealt reading = record {
         told = told_with came now dealt.median dealt.started dealt.seconds;
         begins = refl;
         does = does_as view takes fails faults story counts (one sees >> (one (Reads now) >> rest_by dealt.median dealt.started dealt.seconds)) (takes_next old.pace old.probing (told_with came now dealt.median dealt.started dealt.seconds)) old.server new.server (λ honest. refl)
@@ -269,6 +273,7 @@ module _ {D L K : Type 0} (view : D → DiskView) (takes fails : K → List ℕ 
             dealt.pace (honest_then honest)
             ∙ ap (λ (r : Running). paced (quickened (came_hurries came r.node) old.pace) now dealt.seconds) (node_then honest);
         probing = λ honest. dealt.probing ∙ ap (λ (r : Running). probed came now r.dials old.probing) (node_then honest);
+        reading = reading;
       }
 
       pub next_stops : (end : TurnEnd) → DealStops view takes fails faults story counts end came now (record old { server = d }) new → NextStops view takes fails faults story counts end before old new
@@ -291,13 +296,13 @@ module _ {D L K : Type 0} (view : D → DiskView) (takes fails : K → List ℕ 
 
   module _ (takes_nothing : (k : K) → takes k [] k) (takes_then : (a b c : K) (x y : List ℕ) → takes a x b → takes b y c → takes a (x ++ y) c) (old : Turns D L K) (before : ℕ) (b : Server D L K) (new : Turns D L K) (did : Did view takes faults story counts (Reads before ∷ []) old.server b) where
     abbrev told_due : ℕ → Observation
-    told_due seconds = record { before = before; event = events.Quiet; bytes = []; came = comes.Nothing; now = 0; median = 0; started = 0; seconds = seconds }
+    told_due seconds = record { before = before; event = events.Quiet; bytes = []; came = comes.Nothing; now = 0; median = 0; started = 0; seconds = seconds; look = looks.Nothing; reread = rereads.Nothing }
 
     -- some work was due
     module _ (place : ℕ) (is : IsHonest view old.server.kept → due_in old.server before ≡ Some place) where
-      pub turned_due : (seconds : ℕ) → Renews view old.server.kept b.kept → Does view takes faults story counts (takes_due old.pace (slice_get b.works place) before seconds) b new.server → new.pace ≡ paced old.pace before seconds → new.probing ≡ old.probing
-          → Turned view takes faults story counts true old new
-      turned_due seconds renews does pace probing = record {
+      pub turned_due : (seconds : ℕ) → Renews view old.server.kept b.kept → Does view takes faults story counts (takes_due old.pace (slice_get b.works place) before seconds) b new.server → new.pace ≡ paced old.pace before seconds → new.probing ≡ old.probing → new.reading ≡ old.reading
+          → Handled view takes faults story counts true old new
+      turned_due seconds renews does pace probing reading = record {
         told = told_due seconds;
         renews = still_renewed view takes fails faults story counts (Reads before ∷ []) does.deeds old.server b new.server did does.did renews;
         does = does_turn takes_then before old.server b new.server did (Some place) old.pace old.probing
@@ -307,9 +312,10 @@ module _ {D L K : Type 0} (view : D → DiskView) (takes fails : K → List ℕ 
         serves = λ honest. sym (ap (λ (o : Option ℕ). is_served o comes.Nothing) (is honest));
         pace = λ honest. pace ∙ sym (ap (λ (o : Option ℕ). pace_after o old.pace (told_due seconds) (node_of old.server.kept)) (is honest));
         probing = λ honest. probing ∙ sym (ap (λ (o : Option ℕ). probing_after o (told_due seconds) old.server.dials old.probing) (is honest));
+        reading = reading;
       }
 
-      pub stopped_due : (end : TurnEnd) (seconds : ℕ) → Stops view takes fails faults story counts end (takes_due old.pace (slice_get b.works place) before seconds) b new.server → TurnStops view takes fails faults story counts end old new
+      pub stopped_due : (end : TurnEnd) (seconds : ℕ) → Stops view takes fails faults story counts end (takes_due old.pace (slice_get b.works place) before seconds) b new.server → HandleStops view takes fails faults story counts end old new
       stopped_due end seconds stops = record {
         told = told_due seconds;
         stops = (stops_turn takes_then before old.server b new.server did end (Some place) old.pace old.probing (told_due seconds) refl is
@@ -329,7 +335,7 @@ module _ {D L K : Type 0} (view : D → DiskView) (takes fails : K → List ℕ 
             lent = read.lent;
             is_lent = lent_then takes_then before old.server b new.server did t.event t.bytes read.lent more (story old.server.link) (story b.link) (story new.server.link) (did.done honest).calls behind read.is_lent;
             could = could_then takes_then before old.server b new.server did t.event more (story old.server.link) (story b.link) (story new.server.link) (did.done honest).calls behind read.could;
-            means = subst (λ (n : NodeTerms). Means n read.lent (errand_in t.event old.server.dials) t.event t.came) (reads_same (Reads before ∷ []) old.server b did)
+            means = subst (λ (n : NodeTerms). Means n read.lent (errand_in t.event old.server.dials) t.event t.came) (reads_same (Reads before ∷ []) old.server b did refl)
                 (subst (λ (r : Running). Means (reads_by b) read.lent (errand_in t.event r.dials) t.event t.came) (did.done honest).after read.means);
             measured = read.measured;
           })))
@@ -337,7 +343,7 @@ module _ {D L K : Type 0} (view : D → DiskView) (takes fails : K → List ℕ 
       b_honest : IsHonest view old.server.kept → IsHonest view b.kept
       b_honest honest = still_honest view takes fails faults story counts (Reads before ∷ []) old.server b did honest
 
-      pub turned_next : (served : Bool) → Renews view old.server.kept b.kept → NextTaken view takes faults story counts before served (record old { server = b }) new → Turned view takes faults story counts served old new
+      pub turned_next : (served : Bool) → Renews view old.server.kept b.kept → NextTaken view takes faults story counts before served (record old { server = b }) new → Handled view takes faults story counts served old new
       turned_next served renews taken = record {
         told = taken.told;
         renews = still_renewed view takes fails faults story counts (Reads before ∷ []) taken.does.deeds old.server b new.server did taken.does.did renews;
@@ -353,12 +359,13 @@ module _ {D L K : Type 0} (view : D → DiskView) (takes fails : K → List ℕ 
             taken.probing (b_honest honest)
             ∙ ap (λ (r : Running). probed taken.told.came taken.told.now (dials_after taken.told.event r.dials) old.probing) (did.done honest).after
             ∙ ap (λ (o : Option ℕ). probing_after o taken.told old.server.dials old.probing) (sym (due_told taken.told taken.begins honest));
+        reading = taken.reading;
       }
         where
           due_told : (t : Observation) → t.before ≡ before → IsHonest view old.server.kept → due_in old.server t.before ≡ None
           due_told t begins honest = ap (λ (n : ℕ). due_in old.server n) begins ∙ is honest
 
-      pub stopped_next : (end : TurnEnd) → NextStops view takes fails faults story counts end before (record old { server = b }) new → TurnStops view takes fails faults story counts end old new
+      pub stopped_next : (end : TurnEnd) → NextStops view takes fails faults story counts end before (record old { server = b }) new → HandleStops view takes fails faults story counts end old new
       stopped_next end taken =
           let whole = stops_turn takes_then before old.server b new.server did end None old.pace old.probing taken.told taken.begins is
           (record { deeds = taken.stops.deeds; under = taken.stops.under; breaks = taken.stops.breaks; cut = taken.stops.cut }) in
@@ -376,9 +383,9 @@ module _ {D L K : Type 0} (view : D → DiskView) (takes fails : K → List ℕ 
 
   -- the turn ended before it began
   pub stopped_at_once : (takes_nothing : (k : K) → takes k [] k) (end : TurnEnd) (old new : Turns D L K) → old.server.kept.closed ≡ false → Breaks view takes fails faults story counts end Idle old.server new.server
-      → TurnStops view takes fails faults story counts end old new
+      → HandleStops view takes fails faults story counts end old new
   stopped_at_once takes_nothing end old new is_open breaks = record {
-    told = record { before = 0; event = events.Quiet; bytes = []; came = comes.Nothing; now = 0; median = 0; started = 0; seconds = 0 };
+    told = record { before = 0; event = events.Quiet; bytes = []; came = comes.Nothing; now = 0; median = 0; started = 0; seconds = 0; look = looks.Nothing; reread = rereads.Nothing };
     stops = record {
       deeds = [];
       under = Idle;
@@ -392,7 +399,7 @@ module _ {D L K : Type 0} (view : D → DiskView) (takes fails : K → List ℕ 
   pub next_unasked : (takes_nothing : (k : K) → takes k [] k) (end : TurnEnd) (before : ℕ) (old new : Turns D L K) → old.server.kept.closed ≡ false → Breaks view takes fails faults story counts end Idle old.server new.server
       → NextStops view takes fails faults story counts end before old new
   next_unasked takes_nothing end before old new is_open breaks = record {
-    told = record { before = before; event = events.Quiet; bytes = []; came = comes.Nothing; now = 0; median = 0; started = 0; seconds = 0 };
+    told = record { before = before; event = events.Quiet; bytes = []; came = comes.Nothing; now = 0; median = 0; started = 0; seconds = 0; look = looks.Nothing; reread = rereads.Nothing };
     begins = refl;
     stops = record {
       deeds = [];

@@ -17,7 +17,8 @@ use Rattle.oc_server.specs.Runs.{CouldCome, MayRead, ServeEnds, Serves, ServesUp
 use Rattle.oc_server.specs.Scenes.{running, setting}
 use Rattle.oc_deeds.specs.Settled.{AreServed, IsSettled}
 use Rattle.oc_server.specs.Settled.{deeds_of, deeds_until, deeds_up_to}
-use Rattle.oc_deeds.specs.Turns.{Observation, turn}
+use Rattle.oc_deeds.specs.Rereading.{looks_again}
+use Rattle.oc_deeds.specs.Turns.{Observation, dealt, turn}
 use Rattle.oc_deeds.specs.declared.ends.TurnEnd.{TurnEnd}
 use Rattle.oc_deeds.specs.declared.ends.TurnEnd.TheVariants as ends
 use Rattle.oc_server.specs.declared.server.Server.{Server}
@@ -85,7 +86,7 @@ module _ {D L K : Type 0} (view : D → DiskView) (takes fails : K → List ℕ 
   turned_done served old new made later turned honest before behind calls settled =
       let did = turned.does.did in
       record {
-        same = setting_stays view takes fails faults story counts old.server new.server did.same did.config did.log did.about;
+        same = setting_stays view takes fails faults story counts old.server new.server did.same did.log did.about;
         after = (did.done honest).after;
         calls = calls;
         orderly = subst (λ (ds : List Deed). IsOrderly (setting old.server) made ds (running old.server)) (sym (turned.does.are honest))
@@ -162,7 +163,8 @@ module _ {D L K : Type 0} (view : D → DiskView) (takes fails : K → List ℕ 
       elim (stops.read honest) [
         | inr read ↦ whole read
         | inl few ↦ elim (due_or_asked (due_in old.server t.before)) [
-          | inl none ↦ asked_only (due_in old.server t.before) (setting old.server) made old.pace old.probing t (running old.server) stops.stops.deeds cut.behind none cut.front few
+          | inl none ↦ asked_only (due_in old.server t.before) (setting old.server) made old.pace old.probing t (running old.server)
+              (looks_again t.look t.reread (setting old.server) (after_all (dealt old.pace old.probing t (setting old.server) (running old.server)) (running old.server))) stops.stops.deeds cut.behind none cut.front few
           | inr due ↦ whole (subst (λ (o : Option ℕ). MayRead story o old new.server t) (sym (due.1)) tt)
         ]
       ]

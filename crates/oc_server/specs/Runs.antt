@@ -11,15 +11,21 @@ use Rattle.oc_link.specs.declared.event.LinkEvent.{LinkEvent}
 use Rattle.oc_link.specs.declared.event.LinkEvent.TheVariants as events
 use Rattle.oc_io.specs.DiskView.{DiskView}
 use Rattle.oc_keep.specs.KeptView.{IsHonest, node_of}
-use Rattle.oc_routes.specs.Verdicts.{NodeTerms, terms_of}
+use Rattle.oc_routes.specs.Verdicts.{NodeTerms}
 use Rattle.oc_deeds.specs.Measured.{IsMeasured}
 use Rattle.oc_deeds.specs.Served.{is_served, is_something}
 use Rattle.oc_deeds.specs.Choices.{due_index}
-use Rattle.oc_deeds.specs.Deeds.{dials_after, errand_in}
+use Rattle.oc_deeds.specs.Deeds.{after_all, dials_after, errand_in}
 use Rattle.oc_deeds.specs.Hurries.{came_hurries}
 use Rattle.oc_server.specs.Looks.{Renews}
 use Rattle.oc_server.specs.Parts.{Does, Stops}
-use Rattle.oc_deeds.specs.Turns.{Means, Observation, pace_after, paced, probed, probing_after, quickened, takes_next, turn}
+use Rattle.oc_server.specs.Scenes.{running, setting}
+use Rattle.oc_deeds.specs.Rereading.{MeansLook, last_read, looks_again, probing_by}
+use Rattle.oc_deeds.specs.declared.reread.Reread.{Reread}
+use Rattle.oc_deeds.specs.declared.reread.Reread.TheVariants as rereads
+use Rattle.oc_link.specs.declared.look.Look.{Look}
+use Rattle.oc_config.specs.Settings.{Settings}
+use Rattle.oc_deeds.specs.Turns.{Means, Observation, dealt, pace_after, paced, probed, probing_after, quickened, takes_next, terms_in, turn}
 use Rattle.oc_deeds.specs.declared.ends.TurnEnd.{TurnEnd}
 use Rattle.oc_deeds.specs.declared.ends.TurnEnd.TheVariants as ends
 use Rattle.oc_server.specs.declared.server.Server.{Server}
@@ -27,7 +33,7 @@ use Rattle.oc_server.specs.declared.turns.Turns.{Turns}
 
 -- the terms by which a server reads requests
 abbrev pub reads_by : {D L K : Type 0} → Server D L K → NodeTerms
-reads_by s = terms_of s.kept.node.control.me s.kept.node.control.nodes s.config.rules s.config.keys
+reads_by s = terms_in (setting s) (running s)
 
 -- the place of the work that is due by itself when a turn begins
 abbrev pub due_in : {D L K : Type 0} → Server D L K → ℕ → Option ℕ
@@ -78,6 +84,7 @@ pub record NextTaken {D L K : Type 0} (view : D → DiskView) (takes : K → Lis
   pub serves : served ≡ is_something told.came
   pub pace : IsHonest view old.server.kept → new.pace ≡ paced (quickened (came_hurries told.came (node_of old.server.kept)) old.pace) told.now told.seconds
   pub probing : IsHonest view old.server.kept → new.probing ≡ probed told.came told.now (dials_after told.event old.server.dials) old.probing
+  pub reading : new.reading ≡ old.reading
 
 -- A front of these deeds was done before this end. The news was read, where more was done than to ask for it.
 pub record NextStops {D L K : Type 0} (view : D → DiskView) (takes fails : K → List ℕ → K → Type 0) (faults : K → ℕ) (story : L → Option (List Call)) (counts : L → LinkCounts) (end : TurnEnd) (before : ℕ) (old new : Turns D L K) : Type 0 where
@@ -86,7 +93,49 @@ pub record NextStops {D L K : Type 0} (view : D → DiskView) (takes fails : K �
   pub stops : Stops view takes fails faults story counts end (takes_next old.pace old.probing told) old.server new.server
   pub read : IsHonest view old.server.kept → (length stops.deeds < 2) ⊎ IsRead old (story old.server.link) (story new.server.link) told
 
+-- What came or was due
+
+-- It was dealt with, and something was served or not.
+pub record Handled {D L K : Type 0} (view : D → DiskView) (takes : K → List ℕ → K → Type 0) (faults : K → ℕ) (story : L → Option (List Call)) (counts : L → LinkCounts) (served : Bool) (old new : Turns D L K) : Type 0 where
+  pub told : Observation
+  pub renews : Renews view old.server.kept new.server.kept
+  pub does : Does view takes faults story counts (dealt old.pace old.probing told) old.server new.server
+  pub read : IsHonest view old.server.kept → MayRead story (due_in old.server told.before) old new.server told
+  pub serves : IsHonest view old.server.kept → served ≡ is_served (due_in old.server told.before) told.came
+  pub pace : IsHonest view old.server.kept → new.pace ≡ pace_after (due_in old.server told.before) old.pace told (node_of old.server.kept)
+  pub probing : IsHonest view old.server.kept → new.probing ≡ probing_after (due_in old.server told.before) told old.server.dials old.probing
+  pub reading : new.reading ≡ old.reading
+
+-- A front of that was done, and then it ended so. What came was read, where more was done than to ask for it.
+pub record HandleStops {D L K : Type 0} (view : D → DiskView) (takes fails : K → List ℕ → K → Type 0) (faults : K → ℕ) (story : L → Option (List Call)) (counts : L → LinkCounts) (end : TurnEnd) (old new : Turns D L K) : Type 0 where
+  pub told : Observation
+  pub stops : Stops view takes fails faults story counts end (dealt old.pace old.probing told) old.server new.server
+  pub read : IsHonest view old.server.kept → (length stops.deeds < 3) ⊎ MayRead story (due_in old.server told.before) old new.server told
+
+-- The look at the file of the configuration
+
+-- The file was looked at, and what that gave was gone by.
+pub record LooksAgain {D L K : Type 0} (view : D → DiskView) (takes : K → List ℕ → K → Type 0) (faults : K → ℕ) (story : L → Option (List Call)) (counts : L → LinkCounts) (old new : Turns D L K) : Type 0 where
+  pub look : Look
+  pub reread : Reread
+  pub does : Does view takes faults story counts (looks_again look reread) old.server new.server
+  pub means : MeansLook old.reading look reread
+  pub reading : new.reading ≡ last_read look old.reading
+  pub pace : new.pace ≡ old.pace
+  pub probing : IsHonest view old.server.kept → new.probing ≡ probing_by (setting old.server).me old.server.config reread old.probing
+
+-- A front of that was done, and then it ended so. What the look gave was read, where anything was done by it.
+pub record LookAgainStops {D L K : Type 0} (view : D → DiskView) (takes fails : K → List ℕ → K → Type 0) (faults : K → ℕ) (story : L → Option (List Call)) (counts : L → LinkCounts) (end : TurnEnd) (old new : Turns D L K) : Type 0 where
+  pub look : Look
+  pub reread : Reread
+  pub stops : Stops view takes fails faults story counts end (looks_again look reread) old.server new.server
+  pub means : (reread ≡ rereads.Nothing) ⊎ MeansLook old.reading look reread
+
 -- One turn
+
+-- the configuration that a server goes by when it looks for a new one
+abbrev pub config_at_look : {D L K : Type 0} → Turns D L K → Observation → Settings
+config_at_look t told = (after_all (dealt t.pace t.probing told (setting t.server) (running t.server)) (running t.server)).config
 
 -- A turn was done, and served something or not.
 pub record Turned {D L K : Type 0} (view : D → DiskView) (takes : K → List ℕ → K → Type 0) (faults : K → ℕ) (story : L → Option (List Call)) (counts : L → LinkCounts) (served : Bool) (old new : Turns D L K) : Type 0 where
@@ -94,15 +143,20 @@ pub record Turned {D L K : Type 0} (view : D → DiskView) (takes : K → List �
   pub renews : Renews view old.server.kept new.server.kept
   pub does : Does view takes faults story counts (turn old.pace old.probing told) old.server new.server
   pub read : IsHonest view old.server.kept → MayRead story (due_in old.server told.before) old new.server told
+  pub again : MeansLook old.reading told.look told.reread
   pub serves : IsHonest view old.server.kept → served ≡ is_served (due_in old.server told.before) told.came
   pub pace : IsHonest view old.server.kept → new.pace ≡ pace_after (due_in old.server told.before) old.pace told (node_of old.server.kept)
-  pub probing : IsHonest view old.server.kept → new.probing ≡ probing_after (due_in old.server told.before) told old.server.dials old.probing
+  pub probing : IsHonest view old.server.kept
+      → new.probing ≡ probing_by (setting old.server).me (config_at_look old told) told.reread (probing_after (due_in old.server told.before) told old.server.dials old.probing)
+  pub reading : new.reading ≡ last_read told.look old.reading
 
--- A front of a turn was done before this end. The news was read, where more was done than to ask for it.
+-- A front of a turn was done, and then it ended so. What came was read, where more was done than to ask for it, and so was what the look gave, where
+-- anything was done by it.
 pub record TurnStops {D L K : Type 0} (view : D → DiskView) (takes fails : K → List ℕ → K → Type 0) (faults : K → ℕ) (story : L → Option (List Call)) (counts : L → LinkCounts) (end : TurnEnd) (old new : Turns D L K) : Type 0 where
   pub told : Observation
   pub stops : Stops view takes fails faults story counts end (turn old.pace old.probing told) old.server new.server
   pub read : IsHonest view old.server.kept → (length stops.deeds < 3) ⊎ MayRead story (due_in old.server told.before) old new.server told
+  pub again : (told.reread ≡ rereads.Nothing) ⊎ MeansLook old.reading told.look told.reread
 
 -- Turns one after another
 

@@ -24,28 +24,23 @@ use Rattle.oc_routes.specs.Sights.{about_of}
 use Rattle.oc_deeds.specs.Done.{AreDone, CountsAll}
 use Rattle.oc_deeds.specs.Lawful.{IsLawfulDial, IsLawfulWork, IsPlaced}
 use Rattle.oc_deeds.specs.Under.{Idle, Taking, Under, under_line}
-use Rattle.oc_deeds.specs.Deeds.{Deed, Running, Setting, inputs_of, line, lines}
+use Rattle.oc_deeds.specs.Deeds.{Deed, Running, Setting, config_behind, inputs_of, line, lines}
 use Rattle.oc_server.specs.Looks.{LooksOn, LooksOnly, RunsSafely}
 use Rattle.oc_server.specs.Moments.{AtEachPrefix}
 use Rattle.oc_deeds.specs.Sending.{AreSendable}
 use Rattle.oc_deeds.specs.Within.{IsWithin}
 use Rattle.oc_deeds.specs.declared.ends.TurnEnd.{TurnEnd}
 use Rattle.oc_deeds.specs.declared.ends.TurnEnd.TheVariants as ends
-use Rattle.oc_config.specs.Settings.{key_of}
 use Rattle.oc_server.specs.declared.server.Server.{Server}
 
 -- The view of a server
 
 abbrev pub running : {D L K : Type 0} → Server D L K → Running
-running s = record { node = node_of s.kept; outbox = s.outbox; works = s.works; dials = s.dials; tally = s.tally }
+running s = record { node = node_of s.kept; outbox = s.outbox; works = s.works; dials = s.dials; config = s.config; tally = s.tally }
 
 abbrev pub setting : {D L K : Type 0} → Server D L K → Setting
 setting s = record {
   me = s.kept.node.control.me;
-  addresses = s.config.addresses;
-  names = s.config.names;
-  retired = s.config.retired;
-  key = key_of s.config.keys;
   log = s.log;
   about = about_of s.about;
 }
@@ -58,7 +53,12 @@ pub record IsLawful {D L K : Type 0} (s : Server D L K) : Type 0 where
   pub works : AllByRecursion (IsLawfulWork s.kept.node.control.nodes s.kept.node.control.me) s.works
   pub dials : AllByRecursion (IsLawfulDial s.kept.node.control.nodes) s.dials
 
--- no disk failed, each node has an address, there are not too many rules, and all is lawful
+-- each node has a place in the configuration, and there are not too many rules
+pub record IsSet {D L K : Type 0} (s : Server D L K) : Type 0 where
+  pub placed : IsPlaced s.kept.node.control.nodes s.config.addresses
+  pub rules : length s.config.rules ≤ MAX_RULES
+
+-- no disk failed, each node has a place, there are not too many rules, and all is lawful
 pub record IsServing {D L K : Type 0} (s : Server D L K) : Type 0 where
   pub is_open : s.kept.closed ≡ false
   pub placed : IsPlaced s.kept.node.control.nodes s.config.addresses
@@ -92,7 +92,8 @@ KeepsAll {D} view (i ∷ is) old new = (at next : KeptView D) × (outcome : Outc
 pub record Did {D L K : Type 0} (view : D → DiskView) (takes : K → List ℕ → K → Type 0) (faults : K → ℕ) (story : L → Option (List Call)) (counts : L → LinkCounts) (deeds : List Deed) (old new : Server D L K) : Type 0 where
   pub is_open : new.kept.closed ≡ false
   pub same : IsSameNode old.kept.node.control new.kept.node.control
-  pub config : new.config ≡ old.config
+  pub config : new.config ≡ config_behind deeds old.config
+  pub set : IsSet old → IsSet new
   pub log : new.log ≡ old.log
   pub about : new.about ≡ old.about
   pub goes_on : AllGoOn view (disks_of old.kept) (disks_of new.kept)

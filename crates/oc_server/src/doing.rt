@@ -12,23 +12,28 @@ use crate::noting::{refuse, write_line, write_told};
 use crate::server::Server;
 use crate::taking::{keep, line_of};
 use oc_base::{NodeId, Shelf};
+use oc_config::Config;
 use oc_deeds::asked::{Accepted, held_back, sender_of};
 use oc_deeds::brief::{Before, told_after};
 use oc_deeds::contents::{begin_rest, keeps, transfer_for};
 use oc_deeds::counting::{count_input, count_refusal, count_reply};
 use oc_deeds::lines::put_note;
 use oc_deeds::{
-    Dialling, Doer, Errand, Log, Outbox, Pending, Transfer, TurnEnd, Waiting, Work, put_all,
+    Dialling, Doer, Errand, Log, Outbox, Pending, Transfer, TurnEnd, Unfit, Waiting, Work, put_all,
+    put_unfit_line,
 };
 use oc_http::write_probe;
 use oc_io::{Disk, Sink};
-use oc_link::{ConnectionId, DialId, Ending, Link};
+use oc_link::{ConnectionId, DialId, Ending, Link, Look};
 use oc_model::{Answer, Input};
 use oc_node::Node;
 use oc_routes::{
     CONTINUE, KnownRows, MessageFault, Refusal, Request, put_refusal_line, refusal_reply,
 };
 use std::alloc::Global;
+
+/// The line that tells that a configuration is gone by from now on.
+const REREAD_LINE: &[u8] = b"overcast: configuration read again\n";
 
 impl<D: Disk, L: Link, K: Sink> Doer for Server<D, L, K> {
     ghost running = { scenes.running };
@@ -69,6 +74,10 @@ impl<D: Disk, L: Link, K: Sink> Doer for Server<D, L, K> {
 
     fn log(&self) -> Log {
         self.log
+    }
+
+    fn config(&self) -> &Config {
+        &self.config
     }
 
     fn millis(&mut self) -> u64 {
@@ -230,6 +239,23 @@ impl<D: Disk, L: Link, K: Sink> Doer for Server<D, L, K> {
         let errand = Errand::Probe { peer, since: now };
         self.dials.begin(dial, errand)?;
         self.link.dial(dial, address, &text);
+        Ok(())
+    }
+
+    fn looks(&mut self) -> Look {
+        self.link.look()
+    }
+
+    fn rereads(&mut self, config: Config) {
+        self.config = config;
+        self.link.report(REREAD_LINE);
+    }
+
+    fn keeps(&mut self, why: Unfit) -> Result<(), TurnEnd> {
+        self.kept.recovers();
+        let mut line = Vec::new(self.alloc);
+        put_unfit_line(&mut line, &why)?;
+        self.link.report(&line);
         Ok(())
     }
 

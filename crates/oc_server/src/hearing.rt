@@ -9,18 +9,20 @@ ghost use Rattle.oc_server.specs.Runs.{reads_by};
 ghost use Rattle.oc_server.specs.Scenes.{Breaks, IsServing};
 ghost use Rattle.oc_deeds.specs.Under.{Idle};
 ghost use Rattle.oc_deeds.specs.Lawful.{IsLawfulErrand};
+ghost use Rattle.oc_deeds.specs.Rereading.{IsLawfulReread, MeansLook};
 ghost use Rattle.oc_deeds.specs.Turns.{Means, MeansBack};
 
 use crate::asking::Heard;
 use crate::server::Server;
-use oc_base::Memory;
+use oc_base::{Bytes, Memory};
 use oc_config::Config;
 use oc_deeds::reading::{Hearer, comes_back};
-use oc_deeds::{Came, Errand, TurnEnd};
+use oc_deeds::rereading::reread;
+use oc_deeds::{Came, Errand, Reread, TurnEnd};
 use oc_http::HeadReader;
 use oc_io::{Disk, Sink};
 use oc_keep::Kept;
-use oc_link::{Arrival, Coming, Link, LinkEvent};
+use oc_link::{Arrival, Coming, Link, LinkEvent, Look};
 use oc_routes::{Terms, judge};
 use std::alloc::Global;
 
@@ -38,7 +40,18 @@ impl<D: Disk, L: Link, K: Sink> Server<D, L, K> {
         Ok(self.meaning_of(happened)?)
     }
 
-    /// The news of an event, by the bytes that the link lends.
+    /// What a look at the file of the configuration gives to one who read these bytes last.
+    pub fn rereads_look(&self, last: &Option<Bytes>, look: &Look) -> Result<Reread, TurnEnd>
+        requires { IsServing self.now }
+        ensures means { IfOk result (MeansLook last.now look.now) }
+        ensures lawful { IfOk result IsLawfulReread }
+        ensures breaks { IfErr result (λ end. (end ≡ TurnEnd.Memory) × Breaks D.view K.takes K.fails K.faults L.story L.counts end Idle self.now self.now) }
+    {
+        self.kept.recovers();
+        Ok(reread(self.alloc, last, look)?)
+    }
+
+    /// What an event is, by what the link lends.
     fn meaning_of(&mut self, happened: Heard) -> Result<Came, Memory>
         requires rules { length self.old.config.rules ≤ MAX_RULES }
         requires errand { IfSome happened.errand (IsLawfulErrand self.old.kept.node.control.nodes) }

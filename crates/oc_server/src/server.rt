@@ -24,7 +24,7 @@ pub struct Server<D: Disk, L: Link, K: Sink> {
     pub about: About,
     /// What it counted.
     pub tally: Tally,
-    /// What it writes of its inputs.
+    /// The form of its log of inputs.
     pub log: Log,
     pub link: L,
     /// The output for its lines.

@@ -1,10 +1,12 @@
 ghost use Rattle.std.specs.Prelude.{IfErr, IfOk, OnOk, unwrap_or};
 ghost use Rattle.oc_server.specs.Lawful.{IsReady};
-ghost use Rattle.oc_server.specs.Runs.{NextStops, NextTaken, ServeEnds, Turned, TurnStops};
+ghost use Rattle.oc_server.specs.Runs.{HandleStops, Handled, LookAgainStops, LooksAgain, NextStops, NextTaken, ServeEnds, Turned, TurnStops};
 
 use crate::server::Server;
+use oc_base::Bytes;
 use oc_deeds::choosing::{due_index, wait_for};
-use oc_deeds::{Pace, TurnEnd, deals, takes_due};
+use oc_deeds::rereading::{goes_by, last_read};
+use oc_deeds::{Doer, Pace, TurnEnd, deals, takes_due};
 use oc_io::{Disk, Sink};
 use oc_link::Link;
 use oc_probe::Probing;
@@ -17,6 +19,8 @@ pub struct Turns<D: Disk, L: Link, K: Sink> {
     pub pace: Pace,
     /// The state for probes, if the node probes.
     pub probing: Option<Probing>,
+    /// The bytes of its configuration that were read last; none where the last reading failed.
+    pub reading: Option<Bytes>,
 }
 
 impl<D: Disk, L: Link, K: Sink> Turns<D, L, K> {
@@ -47,6 +51,18 @@ impl<D: Disk, L: Link, K: Sink> Turns<D, L, K> {
         // The node is ready for another turn.
         ensures ready { OnOk result (IsReady self.new) }
     {
+        let served = self.handles()?;
+        self.looks_again()?;
+        Ok(served)
+    }
+
+    /// Deals with what came or was due. It answers whether something was served.
+    fn handles(&mut self) -> Result<bool, TurnEnd>
+        requires { IsReady self.old }
+        ensures handled { IfOk result (λ served. Handled D.view K.takes K.faults L.story L.counts served self.old self.new) }
+        ensures stops { IfErr result (λ end. HandleStops D.view K.takes K.fails K.faults L.story L.counts end self.old self.new) }
+        ensures ready { OnOk result (IsReady self.new) }
+    {
         self.server.tidies()?;
         let before = self.server.millis();
         match due_index(self.server.works.list(), self.server.kept.shelf(), before) {
@@ -56,6 +72,20 @@ impl<D: Disk, L: Link, K: Sink> Turns<D, L, K> {
             }
             None => self.takes_next(before),
         }
+    }
+
+    /// Looks at the file of the configuration, and goes by what it says now, where that may be.
+    fn looks_again(&mut self) -> Result<(), TurnEnd>
+        requires { IsReady self.old }
+        ensures looked { OnOk result (LooksAgain D.view K.takes K.faults L.story L.counts self.old self.new) }
+        ensures stops { IfErr result (λ end. LookAgainStops D.view K.takes K.fails K.faults L.story L.counts end self.old self.new) }
+        ensures ready { OnOk result (IsReady self.new) }
+    {
+        let look = self.server.looks();
+        let reread = self.server.rereads_look(&self.reading, &look)?;
+        self.reading = last_read(self.reading.take(), look);
+        goes_by(&mut self.server, &mut self.probing, reread)?;
+        Ok(())
     }
 
     /// Takes one thing that happened at the link. Gives whether something was served.

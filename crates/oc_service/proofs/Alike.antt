@@ -3,7 +3,7 @@ use Rattle.std.proofs.Common.{◌≡◌, ◌∙◌, ℕ, ◌+◌, Bool, true, fa
 use Rattle.std.specs.Prelude.{◌==◌, if◌then◌else◌}
 use Rattle.std.proofs.lemmas.List.{append_assoc}
 use Rattle.oc_base.specs.Groups.{shelf}
-use Rattle.oc_link.proofs.Stories.{read-then, taken-then}
+use Rattle.oc_link.proofs.Stories.{read-then, taken-then, given-then}
 use Rattle.oc_link.specs.Traffic.{given, held, read, taken}
 use Rattle.oc_link.specs.declared.call.Call.{Call}
 use Rattle.oc_link.specs.declared.call.Call.TheVariants.{Next}
@@ -17,8 +17,11 @@ use Rattle.oc_routes.specs.declared.verdict.Verdict.{Verdict}
 use Rattle.oc_routes.specs.declared.verdict.Verdict.TheVariants as verdicts
 use Rattle.oc_routes.specs.Refusals.{refusal_text}
 use Rattle.oc_deeds.specs.Choices.{due_index, wait_for}
-use Rattle.oc_deeds.specs.Deeds.{Reads, Running, Sees, Setting, after, calls_of, refuses}
-use Rattle.oc_deeds.specs.Turns.{Means, Observation, takes_at, ticks_and_sends, turn}
+use Rattle.oc_deeds.specs.Deeds.{Reads, Running, Sees, Setting, after, calls_of, refuses, Deed, after_all, lines}
+use Rattle.oc_deeds.specs.Parts.{Part}
+use Rattle.oc_deeds.specs.Rereading.{looks_again}
+use Rattle.oc_deeds.proofs.Chains.{after_append, calls_append, lines_append}
+use Rattle.oc_deeds.specs.Turns.{Means, Observation, takes_at, ticks_and_sends, turn, dealt}
 use Rattle.oc_deeds.specs.declared.came.Came.{Came}
 use Rattle.oc_deeds.specs.declared.came.Came.TheVariants as comes
 use Rattle.oc_deeds.specs.declared.dials.Errand.{Errand}
@@ -62,13 +65,33 @@ alike_at None pace probing t a b bytes other d count more (verdicts.Refuse why) 
   node_is = refl;
 }
 
+-- and then the same part
+alike_then : (s : Setting) (ds es : List Deed) (p : Part) (r : Running) → AreAlike s ds es r → AreAlike s (ds ++ p s (after_all ds r)) (es ++ p s (after_all es r)) r
+alike_then s ds es p r alike = record {
+  lines_are =
+      lines_append s ds (p s (after_all ds r))
+      ∙ ap₂ (λ (x y : List ℕ). x ++ y) alike.lines_are (ap (λ (q : Running). lines s (p s q)) alike.node_is)
+      ∙ sym (lines_append s es (p s (after_all es r)));
+  given_are = λ c.
+      ap (given c) (calls_append s ds (p s (after_all ds r)) r)
+      ∙ given-then c (calls_of s ds r) (calls_of s (p s (after_all ds r)) (after_all ds r))
+      ∙ ap₂ (λ (x y : List ℕ). x ++ y) (alike.given_are c) (ap (λ (q : Running). given c (calls_of s (p s q) q)) alike.node_is)
+      ∙ sym (given-then c (calls_of s es r) (calls_of s (p s (after_all es r)) (after_all es r)))
+      ∙ ap (given c) (sym (calls_append s es (p s (after_all es r)) r));
+  node_is =
+      after_append ds (p s (after_all ds r)) r
+      ∙ ap (λ (q : Running). after_all (p s q) q) alike.node_is
+      ∙ sym (after_append es (p s (after_all es r)) r);
+}
+
 alike_turn : (pace : Pace) (probing : Option Probing) (t : Observation) (a b : Arrival) (bytes other : List ℕ) (d count more : ℕ) (v w : Verdict) (x y : Came) (s : Setting) (r : Running)
     → x ≡ comes.Request d count v → y ≡ comes.Request d more w → v ≡ w → AreAlike s (turn pace probing (told_request t a bytes x) s r) (turn pace probing (told_request t b other y) s r) r
 alike_turn pace probing t a b bytes other d count more v w x y s r first second same =
     subst (λ (p : Came). AreAlike s (turn pace probing (told_request t a bytes p) s r) (turn pace probing (told_request t b other y) s r) r) (sym first)
     (subst (λ (p : Came). AreAlike s (turn pace probing (told_request t a bytes (comes.Request d count v)) s r) (turn pace probing (told_request t b other p) s r) r) (sym second)
     (subst (λ (u : Verdict). AreAlike s (turn pace probing (told_request t a bytes (comes.Request d count v)) s r) (turn pace probing (told_request t b other (comes.Request d more u)) s r) r) same
-    (alike_at (due_index r.works (shelf r.node.groups) t.before) pace probing t a b bytes other d count more v s r)))
+    (alike_then s (dealt pace probing (told_request t a bytes (comes.Request d count v)) s r) (dealt pace probing (told_request t b other (comes.Request d more v)) s r) (looks_again t.look t.reread) r
+    (alike_at (due_index r.works (shelf r.node.groups) t.before) pace probing t a b bytes other d count more v s r))))
 
 module _ (one : (t : NodeTerms) (a : Arrival) (bytes : List ℕ) (v w : Verdict) → IsVerdict t a bytes v → IsVerdict t a bytes w → v ≡ w) where
   -- the same bytes of a request, told with other new bytes

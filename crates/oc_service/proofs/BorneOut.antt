@@ -52,7 +52,7 @@ use Rattle.oc_routes.specs.declared.tally.MessageFault.{MessageFault}
 use Rattle.oc_deeds.specs.Asks.{has_to_wait, obeys, refuses_or, responds, takes_on, takes_up, waiting}
 use Rattle.oc_deeds.specs.Brought.{comes_back, fault_of, input_of, refused_of}
 use Rattle.oc_deeds.specs.Choices.{due_index, next_to_dial, prospect_of, wait_for}
-use Rattle.oc_deeds.specs.Deeds.{Deed, Drops, Reads, Refuses, Running, Says, Sees, Setting, Takes, Tells, Waits, after, after_all, errand_in, Rejects}
+use Rattle.oc_deeds.specs.Deeds.{Deed, Drops, Reads, Refuses, Running, Says, Sees, Setting, Takes, Tells, Waits, after, after_all, errand_in, Rejects, Rereads}
 use Rattle.oc_deeds.specs.Hurries.{came_hurries}
 use Rattle.oc_deeds.specs.Pace.{has_passed, wait_until}
 use Rattle.oc_deeds.specs.Parts.{nothing, one, ◌>>◌}
@@ -61,7 +61,15 @@ use Rattle.oc_deeds.specs.Rooms.{goes_on, is_told, moves, takes_room, room_for}
 use Rattle.oc_deeds.specs.Rooms as rooms
 use Rattle.oc_deeds.specs.Done.{CountsAll}
 use Rattle.oc_deeds.specs.Sends.{dials_at, dials_it, dials_next, sends}
-use Rattle.oc_deeds.specs.Turns.{Means, MeansBack, Observation, takes_brought, takes_reply, deals, happens, measures, next_peer, probes_it, quickened, takes_at, takes_due, ticked, ticks, ticks_and_sends, ticks_if}
+use Rattle.oc_config.specs.Settings.{Settings}
+use Rattle.oc_link.specs.declared.look.Look.{Look}
+use Rattle.oc_deeds.specs.Rereading.{fitting, fresh, goes_by, looks_again, measured_by, settles, takes_measures}
+use Rattle.oc_deeds.specs.declared.reread.Reread.{Reread}
+use Rattle.oc_deeds.specs.declared.reread.Reread.TheVariants as rereads
+use Rattle.oc_deeds.specs.declared.unfit.Unfit.{Unfit}
+use Rattle.oc_deeds.specs.Telling.{takes_ahead}
+use Rattle.oc_deeds.specs.Turns as turns
+use Rattle.oc_deeds.specs.Turns.{terms_in, Means, MeansBack, Observation, takes_brought, takes_reply, deals, happens, measures, next_peer, probes_it, quickened, takes_at, takes_due, ticked, ticks, ticks_and_sends, ticks_if}
 use Rattle.oc_deeds.specs.Works.{client_input, pending, work_on}
 use Rattle.oc_deeds.specs.declared.came.Came.{Came}
 use Rattle.oc_deeds.specs.declared.came.Came.TheVariants as comes
@@ -374,14 +382,36 @@ turn_at event terms calls None s t m heard =
 turn_at event terms calls (Some place) s t m heard =
     borne_mild event (Reads t.before ∷ takes_due m.pace (slice_get m.running.works place) t.before t.seconds s m.running) (mild_due m.pace (slice_get m.running.works place) t.before t.seconds s m.running)
 
-turn_borne : (event : LinkEvent) (terms : NodeTerms) (calls : Option (List Call)) (s : Setting) (t : Observation) (m : Machine) → MayHear terms calls (due_at t m) t m → AreBorneOut event (turn_deeds s t m)
-turn_borne event terms calls s t m heard = turn_at event terms calls (due_at t m) s t m heard
+-- A configuration that was read again
 
-turns_borne : (event : LinkEvent) (terms : NodeTerms) (calls : Option (List Call)) (s : Setting) (ts : List Observation) (m : Machine) → AreHeard s terms calls ts m → AreBorneOut event (turns_deeds s ts m)
-turns_borne event terms calls s [] m heard = tt
-turns_borne event terms calls s (t ∷ ts) m heard =
-    borne_then event (turn_deeds s t m) (turns_deeds s ts (after_turn s t m)) (turn_borne event terms calls s t m (heard.0))
-    (λ last. turns_borne last terms (calls_after s t m calls) s ts (after_turn s t m) (heard.1))
+mild_measured : (ms : List Measure) (s : Setting) (a : Running) → all_mild (takes_measures ms s a) ≡ true
+unfolding takes_measures
+mild_measured [] s a = refl
+mild_measured (m ∷ ms) s a = mild_measured ms s (after_all (takes_ahead (measured_by m) s a) a)
+
+mild_settled : (o : Result Settings Unfit) (old : Settings) (s : Setting) (a : Running) → all_mild (settles o old s a) ≡ true
+mild_settled (Err why) old s a = refl
+mild_settled (Ok new) old s a = mild_measured (fresh s.me old new) s (after (Rereads new) a)
+
+mild_by : (r : Reread) (s : Setting) (a : Running) → all_mild (goes_by r s a) ≡ true
+mild_by rereads.Nothing s a = refl
+mild_by (rereads.Unfit why) s a = refl
+mild_by (rereads.Config new) s a = mild_settled (fitting s.me a.config new) a.config s a
+
+mild_looks : (look : Look) (r : Reread) (s : Setting) (a : Running) → all_mild (looks_again look r s a) ≡ true
+mild_looks look r s a = mild_by r s a
+
+turn_borne : (event : LinkEvent) (terms : NodeTerms) (calls : Option (List Call)) (s : Setting) (t : Observation) (m : Machine) → MayHear terms calls (due_at t m) t m → AreBorneOut event (turn_deeds s t m)
+turn_borne event terms calls s t m heard =
+    let ds : List Deed = turns.dealt m.pace m.probing t s m.running in
+    borne_then event ds (looks_again t.look t.reread s (after_all ds m.running)) (turn_at event terms calls (due_at t m) s t m heard)
+    (λ last. borne_mild last (looks_again t.look t.reread s (after_all ds m.running)) (mild_looks t.look t.reread s (after_all ds m.running)))
+
+turns_borne : (event : LinkEvent) (calls : Option (List Call)) (s : Setting) (ts : List Observation) (m : Machine) → AreHeard s calls ts m → AreBorneOut event (turns_deeds s ts m)
+turns_borne event calls s [] m heard = tt
+turns_borne event calls s (t ∷ ts) m heard =
+    borne_then event (turn_deeds s t m) (turns_deeds s ts (after_turn s t m)) (turn_borne event (terms_in s m.running) calls s t m (heard.0.0))
+    (λ last. turns_borne last (calls_after s t m calls) s ts (after_turn s t m) (heard.1))
 
 -- All that a node does
 
@@ -394,11 +424,11 @@ own_mild s [] = refl
 own_mild s (x ∷ ms) =
     mild_own (told_ahead s.log s.me (Measured x.peer x.rate x.hops)) (Measured x.peer x.rate x.hops) (x.from == s.me) (own_measures s ms) (own_mild s ms)
 
-pub node_borne : (event : LinkEvent) (terms : NodeTerms) (calls : Option (List Call)) (s : Setting) (ms : List Measure) (ts : List Observation) (m : Machine) → AreHeard s terms calls ts (begun s ms m)
+pub node_borne : (event : LinkEvent) (calls : Option (List Call)) (s : Setting) (ms : List Measure) (ts : List Observation) (m : Machine) → AreHeard s calls ts (begun s ms m)
     → AreBorneOut event (node_deeds s ms ts m)
-node_borne event terms calls s ms ts m heard =
+node_borne event calls s ms ts m heard =
     borne_then event (begins s ms m.running.node) (turns_deeds s ts (begun s ms m)) (borne_mild event (begins s ms m.running.node) (own_mild s ms))
-    (λ last. turns_borne last terms calls s ts (begun s ms m) heard)
+    (λ last. turns_borne last calls s ts (begun s ms m) heard)
 
 -- An early end
 
@@ -426,9 +456,9 @@ front_of_few (x ∷ xs) ys (d ∷ ds) es k is few =
     (more.0, ap (λ (y : Deed). y ∷ (ds ++ take k es)) first ∙ ap (λ (zs : List Deed). x ∷ zs) (more.1))
 
 -- a turn in which nothing was due begins with three deeds that tell of no failure
-mild_begin : (due : Option ℕ) (s : Setting) (t : Observation) (m : Machine) → due ≡ None → all_mild (take 3 (Reads t.before ∷ takes_at due m.pace m.probing t s m.running)) ≡ true
-mild_begin None s t m none = refl
-mild_begin (Some place) s t m none = let no : Some place ≡ None = none in absurd (cc no)
+mild_begin : (due : Option ℕ) (s : Setting) (t : Observation) (m : Machine) (more : List Deed) → due ≡ None → all_mild (take 3 ((Reads t.before ∷ takes_at due m.pace m.probing t s m.running) ++ more)) ≡ true
+mild_begin None s t m more none = refl
+mild_begin (Some place) s t m more none = let no : Some place ≡ None = none in absurd (cc no)
 
 pub due_or_none : (due : Option ℕ) → (due ≡ None) ⊎ ((place : ℕ) × (due ≡ Some place))
 due_or_none None = inl refl
@@ -436,23 +466,29 @@ due_or_none (Some place) = inr (place, refl)
 
 -- the deeds of all turns, and of one more, and the one under way
 module _ (event : LinkEvent) (terms : NodeTerms) (calls : Option (List Call)) (s : Setting) (ms : List Measure) (ts : List Observation) (last : Observation) (m : Machine)
-    (heard : AreHeard s terms calls ts (begun s ms m)) where
+    (heard : AreHeard s calls ts (begun s ms m)) where
   abbrev all : List Deed
   all = node_deeds s ms ts m
 
   abbrev turn : List Deed
   turn = turn_deeds s last (machine_after s ms ts m)
 
-  -- the deeds after a turn that was heard are borne out
+  -- its look at the configuration
+  abbrev look : List Deed
+  look =
+      let here = machine_after s ms ts m in
+      looks_again last.look last.reread s (after_all (turns.dealt here.pace here.probing last s here.running) here.running)
+
+  -- after a turn that was heard
   heard_borne : (later : Option (List Call)) → MayHear terms later (due_at last (machine_after s ms ts m)) last (machine_after s ms ts m) → AreBorneOut event (all ++ turn)
   heard_borne later last_heard =
-      borne_then event all turn (node_borne event terms calls s ms ts m heard) (λ x. turn_borne x terms later s last (machine_after s ms ts m) last_heard)
+      borne_then event all turn (node_borne event calls s ms ts m heard) (λ x. turn_borne x terms later s last (machine_after s ms ts m) last_heard)
 
-  -- the first three deeds of a turn in which nothing was due are borne out
+  -- in the first three deeds of one in which nothing was due
   begun_borne : due_at last (machine_after s ms ts m) ≡ None → AreBorneOut event (all ++ take 3 turn)
   begun_borne none =
-      borne_then event all (take 3 turn) (node_borne event terms calls s ms ts m heard)
-      (λ x. borne_mild x (take 3 turn) (mild_begin (due_at last (machine_after s ms ts m)) s last (machine_after s ms ts m) none))
+      borne_then event all (take 3 turn) (node_borne event calls s ms ts m heard)
+      (λ x. borne_mild x (take 3 turn) (mild_begin (due_at last (machine_after s ms ts m)) s last (machine_after s ms ts m) look none))
 
   pub front_borne : (deeds behind : List Deed) (later : Option (List Call)) → all ++ turn ≡ deeds ++ behind
       → (length deeds < length all + 3) ⊎ MayHear terms later (due_at last (machine_after s ms ts m)) last (machine_after s ms ts m) → AreBorneOut event (deeds ++ take 1 behind)

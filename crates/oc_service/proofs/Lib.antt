@@ -8,7 +8,6 @@ mod Recorded
 mod Alike
 pub mod Retold
 mod Headers
-mod Places
 mod Probes
 mod Within
 mod Runs

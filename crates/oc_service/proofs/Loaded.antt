@@ -14,7 +14,7 @@ use Rattle.oc_policy.specs.declared.deciding.TheConstants.{MAX_RULES}
 use Rattle.oc_probe.specs.declared.probing.Probing.{Probing}
 use Rattle.oc_deeds.specs.Lawful.{IsMadeFor}
 use Rattle.oc_server.specs.Lawful.{IsReady}
-use Rattle.oc_deeds.specs.Pace.{most_interval}
+use Rattle.oc_deeds.specs.Pace.{first_pace, most_interval}
 use Rattle.oc_deeds.specs.Records.{is_record}
 use Rattle.oc_deeds.specs.Lawful.{IsLawfulDial, IsLawfulWork, IsPlaced}
 use Rattle.oc_server.specs.Scenes.{IsServing}
@@ -27,10 +27,11 @@ use Rattle.oc_deeds.specs.declared.work.Work.{Work}
 use Rattle.oc_service.specs.Loading.{IsLoaded}
 use Rattle.oc_service.specs.OnSite.{header_of_settings, machine_on, probing_at_first}
 use Rattle.oc_service.specs.Running.{machine}
-use Rattle.oc_service.specs.WhatNodeDoes.{at_first}
+use Rattle.oc_service.specs.WhatNodeDoes.{at_first, node_at_first}
 use Rattle.oc_service.specs.declared.running.Task.{Task}
 use Rattle.oc_service.specs.declared.site.Site.{Site}
-use Rattle.oc_service.proofs.Places.{placed}
+use Rattle.oc_server.proofs.Places.{placed}
+use Rattle.oc_service.proofs.Machines.{machine_of}
 
 module _ {D L K : Type 0} (view : D → DiskView) (c : Settings) (me : ℕ) (probes : Bool) (site : Site D L K) (turns : Turns D L K) (lawful : IsConfig c)
     (node : IsNodeOf view (header_of_settings c) me (disks_in site.files) turns.server.kept)
@@ -69,10 +70,12 @@ pub loaded_machine : {D L K : Type 0} (view : D → DiskView) (c : Settings) (ta
     → machine turns ≡ machine_on view c task (disks_in site.files)
 loaded_machine view c task site turns loaded honest =
     let nodes_are : turns.server.kept.node.control.nodes ≡ length c.addresses = ap (λ (h : Header). h.nodes) loaded.node.header in
-    ap (λ (t : TallyView). record { running = record { node = node_of turns.server.kept; outbox = turns.server.outbox; works = turns.server.works; dials = turns.server.dials; tally = t }; pace = turns.pace; probing = turns.probing }) (loaded.tally ∙ sym (ap first_tally nodes_are))
-    ∙ ap (λ (ms : List Message). record { running = record { node = node_of turns.server.kept; outbox = ms; works = turns.server.works; dials = turns.server.dials; tally = first_tally turns.server.kept.node.control.nodes }; pace = turns.pace; probing = turns.probing }) loaded.outbox
-    ∙ ap (λ (ws : List Work). record { running = record { node = node_of turns.server.kept; outbox = []; works = ws; dials = turns.server.dials; tally = first_tally turns.server.kept.node.control.nodes }; pace = turns.pace; probing = turns.probing }) loaded.works
-    ∙ ap (λ (ds : List Dialling). record { running = record { node = node_of turns.server.kept; outbox = []; works = []; dials = ds; tally = first_tally turns.server.kept.node.control.nodes }; pace = turns.pace; probing = turns.probing }) loaded.dials
-    ∙ ap (λ (p : Pace). record { running = record { node = node_of turns.server.kept; outbox = []; works = []; dials = []; tally = first_tally turns.server.kept.node.control.nodes }; pace = p; probing = turns.probing }) loaded.pace
-    ∙ ap (λ (p : Option Probing). at_first (is_record task.log) (most_interval task.probes task.me) p (node_of turns.server.kept)) loaded.probing
-    ∙ ap (λ (n : Node). at_first (is_record task.log) (most_interval task.probes task.me) (probing_at_first task.probes task.me c.addresses) n) (loaded.node.node honest)
+    ap (λ (ms : List Message). machine_of (record { node = node_of turns.server.kept; outbox = ms; works = turns.server.works; dials = turns.server.dials; config = turns.server.config; tally = turns.server.tally }) turns.pace turns.probing turns.reading) loaded.outbox
+    ∙ ap (λ (ws : List Work). machine_of (record { node = node_of turns.server.kept; outbox = []; works = ws; dials = turns.server.dials; config = turns.server.config; tally = turns.server.tally }) turns.pace turns.probing turns.reading) loaded.works
+    ∙ ap (λ (ds : List Dialling). machine_of (record { node = node_of turns.server.kept; outbox = []; works = []; dials = ds; config = turns.server.config; tally = turns.server.tally }) turns.pace turns.probing turns.reading) loaded.dials
+    ∙ ap (λ (t : TallyView). machine_of (record { node = node_of turns.server.kept; outbox = []; works = []; dials = []; config = turns.server.config; tally = t }) turns.pace turns.probing turns.reading) (loaded.tally ∙ sym (ap first_tally nodes_are))
+    ∙ ap (λ (x : Settings). machine_of (node_at_first x (node_of turns.server.kept)) turns.pace turns.probing turns.reading) loaded.config
+    ∙ ap (λ (p : Pace). machine_of (node_at_first c (node_of turns.server.kept)) p turns.probing turns.reading) loaded.pace
+    ∙ ap (λ (last : Option (List ℕ)). machine_of (node_at_first c (node_of turns.server.kept)) (first_pace (is_record task.log) (most_interval task.probes task.me)) turns.probing last) loaded.reading
+    ∙ ap (λ (p : Option Probing). at_first (is_record task.log) (most_interval task.probes task.me) p task.text c (node_of turns.server.kept)) loaded.probing
+    ∙ ap (λ (n : Node). at_first (is_record task.log) (most_interval task.probes task.me) (probing_at_first task.probes task.me c.addresses) task.text c n) (loaded.node.node honest)

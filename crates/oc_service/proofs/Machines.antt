@@ -1,14 +1,10 @@
 -- Turns of a server, as turns of the machine of a node's deeds.
 use Rattle.std.proofs.Common.{◌≡◌, ◌∙◌, ℕ, zero, suc, Bool, false, Option, None, Some, List, [], ◌∷◌, ◌++◌, length, refl, sym, ap, ap₂, subst}
-use Rattle.oc_config.specs.Settings.{Settings}
 use Rattle.oc_link.specs.Told.{AddsAll}
 use Rattle.oc_link.specs.declared.call.Call.{Call}
 use Rattle.oc_link.specs.declared.counts.LinkCounts.{LinkCounts}
 use Rattle.oc_io.specs.DiskView.{DiskView}
 use Rattle.oc_keep.specs.KeptView.{IsHonest}
-use Rattle.oc_keep.specs.Promises.{IsSameNode}
-use Rattle.oc_model.specs.Node.{Header}
-use Rattle.oc_routes.specs.Verdicts.{NodeTerms, terms_of}
 use Rattle.oc_deeds.specs.Deeds.{Deed, Running, Setting, after_all, calls_of}
 use Rattle.oc_server.specs.Runs.{MayRead, Serves, Turned, due_in, reads_by}
 use Rattle.oc_server.specs.Scenes.{Did, running, setting}
@@ -25,15 +21,8 @@ use Rattle.oc_service.specs.WhatNodeDoes.{Machine, after_turn, after_turns, turn
 use Rattle.oc_service.specs.WhatNodeHears.{AreHeard, MayHear, all_calls_after, calls_after, until}
 use Rattle.oc_service.proofs.Stories.{Follows, follows_adds, follows_then, lent_until, until_then}
 
-abbrev pub machine_of : Running → Pace → Option Probing → Machine
-machine_of running pace probing = record { running = running; pace = pace; probing = probing }
-
--- the terms for reading requests are kept
-pub reads_stay : {D L K : Type 0} (a b : Server D L K) → IsSameNode a.kept.node.control b.kept.node.control → b.config ≡ a.config → reads_by b ≡ reads_by a
-reads_stay a b same config =
-    ap (λ (me : ℕ). terms_of me b.kept.node.control.nodes b.config.rules b.config.keys) same.me
-    ∙ ap (λ (h : Header). terms_of a.kept.node.control.me h.nodes b.config.rules b.config.keys) same.header
-    ∙ ap (λ (c : Settings). terms_of a.kept.node.control.me a.kept.node.control.nodes c.rules c.keys) config
+abbrev pub machine_of : Running → Pace → Option Probing → Option (List ℕ) → Machine
+machine_of running pace probing reading = record { running = running; pace = pace; probing = probing; reading = reading }
 
 module _ {D L K : Type 0} (view : D → DiskView) (takes fails : K → List ℕ → K → Type 0) (faults : K → ℕ) (story : L → Option (List Call)) (counts : L → LinkCounts)
     (takes_nothing : (k : K) → takes k [] k) (takes_then : (a b c : K) (x y : List ℕ) → takes a x b → takes b y c → takes a (x ++ y) c) where
@@ -46,7 +35,7 @@ module _ {D L K : Type 0} (view : D → DiskView) (takes fails : K → List ℕ 
     pub are : IsHonest view old.server.kept → deeds ≡ turns_deeds (setting old.server) told (machine old)
     pub behind : IsHonest view old.server.kept → machine new ≡ after_turns (setting old.server) told (machine old)
     pub heard : IsHonest view old.server.kept → (all : Option (List Call)) → Follows (story new.server.link) all
-        → AreHeard (setting old.server) (reads_by old.server) (until (story old.server.link) all) told (machine old)
+        → AreHeard (setting old.server) (until (story old.server.link) all) told (machine old)
     pub calls : IsHonest view old.server.kept → (all : Option (List Call)) → Follows (story new.server.link) all
         → until (story new.server.link) all ≡ all_calls_after (setting old.server) told (machine old) (until (story old.server.link) all)
 
@@ -65,8 +54,9 @@ module _ {D L K : Type 0} (view : D → DiskView) (takes fails : K → List ℕ 
   behind_one : {served : Bool} (old at : Turns D L K) → (turned : Turned view takes faults story counts served old at) → IsHonest view old.server.kept
       → machine at ≡ after_turn (setting old.server) turned.told (machine old)
   behind_one old at turned honest =
-      ap (λ (r : Running). machine_of r at.pace at.probing) (behind_part view takes fails faults story counts (turn old.pace old.probing turned.told) old.server at.server turned.does honest)
-      ∙ ap₂ (λ (p : Pace) (q : Option Probing). machine_of (after_all (turn_deeds (setting old.server) turned.told (machine old)) (running old.server)) p q) (turned.pace honest) (turned.probing honest)
+      ap (λ (r : Running). machine_of r at.pace at.probing at.reading) (behind_part view takes fails faults story counts (turn old.pace old.probing turned.told) old.server at.server turned.does honest)
+      ∙ ap₂ (λ (p : Pace) (q : Option Probing). machine_of (after_all (turn_deeds (setting old.server) turned.told (machine old)) (running old.server)) p q at.reading) (turned.pace honest) (turned.probing honest)
+      ∙ ap (λ (last : Option (List ℕ)). record (after_turn (setting old.server) turned.told (machine old)) { reading = last }) turned.reading
 
   -- the calls until the end of a turn
   calls_one : {served : Bool} (old at : Turns D L K) → (turned : Turned view takes faults story counts served old at) → IsHonest view old.server.kept
@@ -101,11 +91,10 @@ module _ {D L K : Type 0} (view : D → DiskView) (takes fails : K → List ℕ 
         (made.are (honest_at honest) ∙ ap₂ (λ (s : Setting) (m : Machine). turns_deeds s made.told m) setting_is (behind_one old at turned honest));
     behind = λ honest. made.behind (honest_at honest) ∙ ap₂ (λ (s : Setting) (m : Machine). after_turns s made.told m) setting_is (behind_one old at turned honest);
     heard = λ honest all follows. (
-      heard_at (due_in old.server turned.told.before) old at.server turned.told all (follows_at honest all follows) (turned.read honest),
-      subst (λ (calls : Option (List Call)). AreHeard (setting old.server) (reads_by old.server) calls made.told (after_turn (setting old.server) turned.told (machine old))) (calls_one old at turned honest all (follows_at honest all follows))
-          (subst (λ (m : Machine). AreHeard (setting old.server) (reads_by old.server) (until (story at.server.link) all) made.told m) (behind_one old at turned honest)
-          (subst (λ (terms : NodeTerms). AreHeard (setting old.server) terms (until (story at.server.link) all) made.told (machine at)) (reads_stay old.server at.server did.same did.config)
-          (subst (λ (s : Setting). AreHeard s (reads_by at.server) (until (story at.server.link) all) made.told (machine at)) setting_is (made.heard (honest_at honest) all follows)))),
+      (heard_at (due_in old.server turned.told.before) old at.server turned.told all (follows_at honest all follows) (turned.read honest), turned.again),
+      subst (λ (calls : Option (List Call)). AreHeard (setting old.server) calls made.told (after_turn (setting old.server) turned.told (machine old))) (calls_one old at turned honest all (follows_at honest all follows))
+          (subst (λ (m : Machine). AreHeard (setting old.server) (until (story at.server.link) all) made.told m) (behind_one old at turned honest)
+          (subst (λ (s : Setting). AreHeard s (until (story at.server.link) all) made.told (machine at)) setting_is (made.heard (honest_at honest) all follows))),
     );
     calls = λ honest all follows.
         made.calls (honest_at honest) all follows
@@ -119,7 +108,7 @@ module _ {D L K : Type 0} (view : D → DiskView) (takes fails : K → List ℕ 
     honest_at honest = still_honest view takes fails faults story counts turned.does.deeds old.server at.server did honest
 
     setting_is : setting at.server ≡ setting old.server
-    setting_is = setting_stays view takes fails faults story counts old.server at.server did.same did.config did.log did.about
+    setting_is = setting_stays view takes fails faults story counts old.server at.server did.same did.log did.about
 
     -- the story at the end of the first turn is told where the later one is
     follows_at : IsHonest view old.server.kept → (all : Option (List Call)) → Follows (story new.server.link) all → Follows (story at.server.link) all

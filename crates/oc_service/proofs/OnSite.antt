@@ -3,7 +3,7 @@
 use Rattle.std.proofs.Common.{◌≡◌, ◌⊎◌, ◌∙◌, ℕ, ◌+◌, ◌<◌, false, Option, List, [], ◌∷◌, ◌++◌, length, inl, inr, refl, sym, ap, ap₂, subst}
 use Rattle.std.specs.List.{AllByRecursion}
 use Rattle.oc_content.specs.ContentFile.{groups_in}
-use Rattle.oc_config.specs.Settings.{Settings, key_of}
+use Rattle.oc_config.specs.Settings.{Settings}
 use Rattle.oc_link.specs.Told.{AddsAll}
 use Rattle.oc_link.specs.declared.call.Call.{Call}
 use Rattle.oc_link.specs.declared.call.Call.TheVariants as acts
@@ -22,16 +22,14 @@ use Rattle.oc_model.specs.declared.input.Input.{Input}
 use Rattle.oc_model.specs.Node.{Control, Header, Node}
 use Rattle.oc_model.specs.Step.{step}
 use Rattle.oc_routes.specs.Responses.{address_of}
-use Rattle.oc_routes.specs.Verdicts.{NodeTerms, terms_of}
 use Rattle.oc_deeds.specs.Answered.{AreAnswered}
 use Rattle.oc_deeds.specs.Deeds.{Deed, Setting, calls_of, inputs_of, line, lines}
 use Rattle.oc_server.specs.Moments.{AtEachPrefix}
 use Rattle.oc_deeds.specs.Under.{Cuts}
-use Rattle.oc_server.specs.Runs.{reads_by}
 use Rattle.oc_server.specs.Scenes.{BreaksAfter, Did, EndsOn, HasCause, LeavesAt, LeavesUnder, WritesAt, running, setting}
 use Rattle.oc_deeds.specs.Done.{CountsAll}
 use Rattle.oc_deeds.specs.Under.{Idle, Noting, Taking, Under, under_line}
-use Rattle.oc_deeds.specs.Turns.{Observation}
+use Rattle.oc_deeds.specs.Turns.{Observation, terms_in}
 use Rattle.oc_deeds.specs.Within.{IsWithin}
 use Rattle.oc_deeds.specs.declared.ends.TurnEnd.{TurnEnd}
 use Rattle.oc_deeds.specs.declared.ends.TurnEnd.TheVariants as ends
@@ -41,7 +39,7 @@ use Rattle.oc_deeds.specs.declared.log.Log.{Log}
 use Rattle.oc_server.specs.declared.server.Server.{Server}
 use Rattle.oc_server.specs.declared.turns.Turns.{Turns}
 use Rattle.oc_server.proofs.Scenes.{broken_cause, broken_leaves, broken_text, did_node, setting_stays, still_honest}
-use Rattle.oc_service.specs.OnSite.{CountsUntil, DidOn, HasCauseOn, IsFullFor, LeavesBehind, LeavesOne, NodeEnds, Stops, WasDeaf, Writes, at_run, header_of_settings, heard_before, machine_on, node_calls, setting_of, terms_in}
+use Rattle.oc_service.specs.OnSite.{CountsUntil, DidOn, HasCauseOn, IsFullFor, LeavesBehind, LeavesOne, NodeEnds, Stops, WasDeaf, Writes, at_run, header_of_settings, heard_before, machine_on, node_calls, setting_of}
 use Rattle.oc_service.specs.AtAnyMoment.{AlwaysRecovers}
 use Rattle.oc_service.specs.Failures.{AreBorneOut}
 use Rattle.oc_service.specs.Loading.{IsLoaded}
@@ -51,7 +49,7 @@ use Rattle.oc_service.specs.Running.{Halts, IsDeaf, Listens, RunEnds, Runs, mach
 use Rattle.oc_service.specs.WhatNodeDoes.{Machine, begun, due_at, machine_after, node_deeds, turn_deeds}
 use Rattle.oc_service.specs.WhatNodeDoes as machines
 use Rattle.oc_service.specs.WhatNodeGives.{ServesFrom}
-use Rattle.oc_service.specs.WhatNodeHears.{AreHeard, MayHear, all_calls_after, until}
+use Rattle.oc_service.specs.WhatNodeHears.{AreHeard, MayHear, MayReread, all_calls_after, until}
 use Rattle.oc_service.specs.declared.running.NodeEnd.TheVariants.{Turned}
 use Rattle.oc_service.specs.declared.running.Task.{Task}
 use Rattle.oc_service.proofs.BorneOut.{front_borne, node_borne}
@@ -90,28 +88,10 @@ module _ {D L K : Type 0} (view : D → DiskView) (takes fails : K → List ℕ 
   honest_kept : AreHonest view d → IsHonest view first.server.kept
   honest_kept honest = all_honest view d (disks_of first.server.kept) safely.goes_on honest
 
-  -- the setting of a node of the configuration, by its id, the form of its log and its program
-  abbrev setting_by : ℕ → Log → About → Setting
-  setting_by x form program = record {
-    me = x;
-    addresses = c.addresses;
-    names = c.names;
-    retired = c.retired;
-    key = key_of c.keys;
-    log = form;
-    about = about_of program;
-  }
-
-  setting_is : setting first.server ≡ setting_of c task
-  setting_is =
-      ap (λ (x : ℕ). setting_by x first.server.log first.server.about) loaded.id
-      ∙ ap (λ (x : Log). setting_by me x first.server.about) log
-      ∙ ap (λ (x : About). setting_by me task.log x) about
-
-  terms_is : reads_by first.server ≡ terms_in c me
-  terms_is =
-      ap (λ (x : ℕ). terms_of x first.server.kept.node.control.nodes c.rules c.keys) loaded.id
-      ∙ ap (λ (x : Header). terms_of me x.nodes c.rules c.keys) loaded.header
+  setting_is : setting first.server ≡ setting_of task
+  setting_is = ap (λ (x : ℕ). record { me = x; log = first.server.log; about = about_of first.server.about }) loaded.id
+      ∙ ap (λ (x : Log). record { me = me; log = x; about = about_of first.server.about }) log
+      ∙ ap (λ (x : About). record { me = me; log = task.log; about = about_of x }) about
 
   -- a statement about every crash under the node's own name is one under that of the files
   named : (P : Header → ℕ → Type 0) → P (header_of first.server.kept.node.control) first.server.kept.node.control.me → P h me
@@ -120,14 +100,14 @@ module _ {D L K : Type 0} (view : D → DiskView) (takes fails : K → List ℕ 
   -- Turns before the last one
 
   begins_on_site : (deeds : List Deed) (under : Under) → AreHonest view d → Cuts (machines.begins (setting first.server) c.measures (node_of first.server.kept)) deeds under
-      → Cuts (machines.begins (setting_of c task) c.measures at_first_node) deeds under
+      → Cuts (machines.begins (setting_of task) c.measures at_first_node) deeds under
   begins_on_site deeds under honest front =
-      subst (λ (n : Node). Cuts (machines.begins (setting_of c task) c.measures n) deeds under) (loaded.node honest)
+      subst (λ (n : Node). Cuts (machines.begins (setting_of task) c.measures n) deeds under) (loaded.node honest)
       (subst (λ (x : Setting). Cuts (machines.begins x c.measures (node_of first.server.kept)) deeds under) setting_is front)
 
   few_on : (told : List Observation) (deeds : List Deed) (under : Under)
       → (length told < task.turns) ⊎ (IsHonest view first.server.kept → Cuts (machines.begins (setting first.server) c.measures (node_of first.server.kept)) deeds under)
-      → (length told < task.turns) ⊎ (AreHonest view d → Cuts (machines.begins (setting_of c task) c.measures at_first_node) deeds under)
+      → (length told < task.turns) ⊎ (AreHonest view d → Cuts (machines.begins (setting_of task) c.measures at_first_node) deeds under)
   few_on told deeds under (inl few) = inl few
   few_on told deeds under (inr early) = inr (λ honest. begins_on_site deeds under honest (early (honest_kept honest)))
 
@@ -147,49 +127,54 @@ module _ {D L K : Type 0} (view : D → DiskView) (takes fails : K → List ℕ 
     heard_is all follows = until_then (acts.Listen (address_of c.listens me) ∷ []) (story first.server.link) (story link) all adds_listen follows
 
     heard_on : AreHonest view d → (told : List Observation) → Follows (story link) (story last.server.link)
-        → AreHeard (setting first.server) (reads_by first.server) (until (story link) (story last.server.link)) told (begun (setting first.server) c.measures (machine first))
-        → AreHeard (setting_of c task) (terms_in c me) (heard_before c me (story first.server.link) (story last.server.link)) told (begun (setting_of c task) c.measures m)
+        → AreHeard (setting first.server) (until (story link) (story last.server.link)) told (begun (setting first.server) c.measures (machine first))
+        → AreHeard (setting_of task) (heard_before c me (story first.server.link) (story last.server.link)) told (begun (setting_of task) c.measures m)
     heard_on honest told follows heard =
-        subst (λ (calls : Option (List Call)). AreHeard (setting_of c task) (terms_in c me) calls told (begun (setting_of c task) c.measures m)) (heard_is (story last.server.link) follows)
-        (subst (λ (x : Machine). AreHeard (setting_of c task) (terms_in c me) (until (story link) (story last.server.link)) told (begun (setting_of c task) c.measures x)) (begins honest)
-        (subst (λ (x : NodeTerms). AreHeard (setting_of c task) x (until (story link) (story last.server.link)) told (begun (setting_of c task) c.measures (machine first))) terms_is
-        (subst (λ (x : Setting). AreHeard x (reads_by first.server) (until (story link) (story last.server.link)) told (begun x c.measures (machine first))) setting_is heard)))
+        subst (λ (calls : Option (List Call)). AreHeard (setting_of task) calls told (begun (setting_of task) c.measures m)) (heard_is (story last.server.link) follows)
+        (subst (λ (x : Machine). AreHeard (setting_of task) (until (story link) (story last.server.link)) told (begun (setting_of task) c.measures x)) (begins honest)
+        (subst (λ (x : Setting). AreHeard x (until (story link) (story last.server.link)) told (begun x c.measures (machine first))) setting_is heard))
 
     calls_on : AreHonest view d → (deeds : List Deed) → AddsAll (calls_of (setting l) deeds (running l)) (story link) (story last.server.link)
         → AddsAll (node_calls c task deeds m) (story first.server.link) (story last.server.link)
     calls_on honest deeds adds =
-        adds-then (acts.Listen (address_of c.listens me) ∷ []) (calls_of (setting_of c task) deeds m.running) (story first.server.link) (story link) (story last.server.link) adds_listen
-        (subst (λ (x : Machine). AddsAll (calls_of (setting_of c task) deeds x.running) (story link) (story last.server.link)) (begins honest)
+        adds-then (acts.Listen (address_of c.listens me) ∷ []) (calls_of (setting_of task) deeds m.running) (story first.server.link) (story link) (story last.server.link) adds_listen
+        (subst (λ (x : Machine). AddsAll (calls_of (setting_of task) deeds x.running) (story link) (story last.server.link)) (begins honest)
         (subst (λ (x : Setting). AddsAll (calls_of x deeds (running first.server)) (story link) (story last.server.link)) setting_is adds))
 
-    abbrev Choice : List Observation → Observation → List Deed → Setting → NodeTerms → Machine → Option (List Call) → Type 0
-    Choice told next deeds s terms y calls =
+    abbrev Choice : List Observation → Observation → List Deed → Setting → Machine → Option (List Call) → Type 0
+    Choice told next deeds s y calls =
         (length deeds < length (node_deeds s c.measures told y) + 3)
-        ⊎ MayHear terms (all_calls_after s told (begun s c.measures y) calls) (due_at next (machine_after s c.measures told y)) next (machine_after s c.measures told y)
+        ⊎ MayHear (terms_in s (machine_after s c.measures told y).running) (all_calls_after s told (begun s c.measures y) calls) (due_at next (machine_after s c.measures told y)) next (machine_after s c.measures told y)
 
     last_on : AreHonest view d → (told : List Observation) (next : Observation) (deeds : List Deed) → Follows (story link) (story last.server.link)
         → (length deeds < length (node_deeds (setting first.server) c.measures told (machine first)) + 3)
-        ⊎ MayHear (reads_by first.server) (all_calls_after (setting first.server) told (begun (setting first.server) c.measures (machine first)) (until (story link) (story last.server.link)))
+        ⊎ MayHear (terms_in (setting first.server) (machine_after (setting first.server) c.measures told (machine first)).running) (all_calls_after (setting first.server) told (begun (setting first.server) c.measures (machine first)) (until (story link) (story last.server.link)))
         (due_at next (machine_after (setting first.server) c.measures told (machine first))) next (machine_after (setting first.server) c.measures told (machine first))
-        → (length deeds < length (node_deeds (setting_of c task) c.measures told m) + 3)
-        ⊎ MayHear (terms_in c me) (all_calls_after (setting_of c task) told (begun (setting_of c task) c.measures m) (heard_before c me (story first.server.link) (story last.server.link)))
-        (due_at next (machine_after (setting_of c task) c.measures told m)) next (machine_after (setting_of c task) c.measures told m)
+        → (length deeds < length (node_deeds (setting_of task) c.measures told m) + 3)
+        ⊎ MayHear (terms_in (setting_of task) (machine_after (setting_of task) c.measures told m).running) (all_calls_after (setting_of task) told (begun (setting_of task) c.measures m) (heard_before c me (story first.server.link) (story last.server.link)))
+        (due_at next (machine_after (setting_of task) c.measures told m)) next (machine_after (setting_of task) c.measures told m)
     last_on honest told next deeds follows heard =
-        subst (λ (calls : Option (List Call)). Choice told next deeds (setting_of c task) (terms_in c me) m calls) (heard_is (story last.server.link) follows)
-        (subst (λ (x : Machine). Choice told next deeds (setting_of c task) (terms_in c me) x (until (story link) (story last.server.link))) (begins honest)
-        (subst (λ (x : NodeTerms). Choice told next deeds (setting_of c task) x (machine first) (until (story link) (story last.server.link))) terms_is
-        (subst (λ (x : Setting). Choice told next deeds x (reads_by first.server) (machine first) (until (story link) (story last.server.link))) setting_is heard)))
+        subst (λ (calls : Option (List Call)). Choice told next deeds (setting_of task) m calls) (heard_is (story last.server.link) follows)
+        (subst (λ (x : Machine). Choice told next deeds (setting_of task) x (until (story link) (story last.server.link))) (begins honest)
+        (subst (λ (x : Setting). Choice told next deeds x (machine first) (until (story link) (story last.server.link))) setting_is heard))
+
+    -- what the last look gave
+    reread_on : AreHonest view d → (told : List Observation) (next : Observation) → MayReread next (machine_after (setting first.server) c.measures told (machine first))
+        → MayReread next (machine_after (setting_of task) c.measures told m)
+    reread_on honest told next means =
+        subst (λ (x : Machine). MayReread next (machine_after (setting_of task) c.measures told x)) (begins honest)
+        (subst (λ (x : Setting). MayReread next (machine_after x c.measures told (machine first))) setting_is means)
 
     -- each connection was served, if nothing was under way when it was loaded
     abbrev ServesAll : List Deed → Type 0
     ServesAll deeds = IsHonest view first.server.kept → first.server.works ≡ [] → ServesFrom (setting first.server) deeds (running first.server) (story link) (story last.server.link)
 
     served_on : AreHonest view d → (deeds : List Deed) → Follows (story link) (story last.server.link) → ServesAll deeds
-        → ServesFrom (setting_of c task) deeds m.running (heard_before c me (story first.server.link) (story last.server.link)) (story last.server.link)
+        → ServesFrom (setting_of task) deeds m.running (heard_before c me (story first.server.link) (story last.server.link)) (story last.server.link)
     served_on honest deeds follows serves =
-        subst (λ (calls : Option (List Call)). ServesFrom (setting_of c task) deeds m.running calls (story last.server.link)) (heard_is (story last.server.link) follows)
-        (serves_until (setting_of c task) deeds m.running (story link) (story last.server.link)
-        (subst (λ (x : Machine). ServesFrom (setting_of c task) deeds x.running (story link) (story last.server.link)) (begins honest)
+        subst (λ (calls : Option (List Call)). ServesFrom (setting_of task) deeds m.running calls (story last.server.link)) (heard_is (story last.server.link) follows)
+        (serves_until (setting_of task) deeds m.running (story link) (story last.server.link)
+        (subst (λ (x : Machine). ServesFrom (setting_of task) deeds x.running (story link) (story last.server.link)) (begins honest)
         (subst (λ (x : Setting). ServesFrom x deeds (running first.server) (story link) (story last.server.link)) setting_is
         (serves (honest_kept honest) (ap (λ (x : Machine). x.running.works) (begins honest))))))
 
@@ -199,7 +184,7 @@ module _ {D L K : Type 0} (view : D → DiskView) (takes fails : K → List ℕ 
 
     -- the nodes that crashes leave at each prefix of deeds, and after them
     moments_on : AreHonest view d → (deeds : List Deed) (at : Server D L K) → Did view takes faults story counts deeds l at → (under : Under)
-        → EndsOn view (header_of at.kept.node.control) at.kept.node.control.me (node_of at.kept) under (disks_of at.kept) e → AlwaysRecovers view h me takes (line (setting_of c task)) deeds under d e first.server.sink at.sink
+        → EndsOn view (header_of at.kept.node.control) at.kept.node.control.me (node_of at.kept) under (disks_of at.kept) e → AlwaysRecovers view h me takes (line (setting_of task)) deeds under d e first.server.sink at.sink
     moments_on honest deeds at did under behind = record {
       loaded = disks_of first.server.kept;
       done = disks_of at.kept;
@@ -218,17 +203,17 @@ module _ {D L K : Type 0} (view : D → DiskView) (takes fails : K → List ℕ 
     -- All turns
 
     deeds_on : AreHonest view d → (told : List Observation) (deeds : List Deed) → (IsHonest view first.server.kept → deeds ≡ node_deeds (setting first.server) c.measures told (machine first))
-        → deeds ≡ node_deeds (setting_of c task) c.measures told m
+        → deeds ≡ node_deeds (setting_of task) c.measures told m
     deeds_on honest told deeds are = are (honest_kept honest) ∙ ap₂ (λ (x : Setting) (y : Machine). node_deeds x c.measures told y) setting_is (begins honest)
 
     heard_told : AreHonest view d → (told : List Observation) (deeds : List Deed) → Did view takes faults story counts deeds l last.server
-        → (IsHonest view first.server.kept → AreHeard (setting first.server) (reads_by first.server) (until (story link) (story last.server.link)) told (begun (setting first.server) c.measures (machine first)))
-        → AreHeard (setting_of c task) (terms_in c me) (heard_before c me (story first.server.link) (story last.server.link)) told (begun (setting_of c task) c.measures m)
+        → (IsHonest view first.server.kept → AreHeard (setting first.server) (until (story link) (story last.server.link)) told (begun (setting first.server) c.measures (machine first)))
+        → AreHeard (setting_of task) (heard_before c me (story first.server.link) (story last.server.link)) told (begun (setting_of task) c.measures m)
     heard_told honest told deeds did heard = heard_on honest told (follows_adds (calls_of (setting l) deeds (running l)) (story link) (story last.server.link) (did.done (honest_kept honest)).calls) (heard (honest_kept honest))
 
     did_on : (told : List Observation) (deeds : List Deed) → length told ≡ task.turns → Did view takes faults story counts deeds l last.server
         → (IsHonest view first.server.kept → deeds ≡ node_deeds (setting first.server) c.measures told (machine first))
-        → (IsHonest view first.server.kept → AreHeard (setting first.server) (reads_by first.server) (until (story link) (story last.server.link)) told (begun (setting first.server) c.measures (machine first)))
+        → (IsHonest view first.server.kept → AreHeard (setting first.server) (until (story link) (story last.server.link)) told (begun (setting first.server) c.measures (machine first)))
         → ServesAll deeds
         → DidOn view story counts takes c task deeds d e first.server.link last.server.link first.server.sink last.server.sink
     did_on told deeds many did are heard serves = record {
@@ -238,13 +223,13 @@ module _ {D L K : Type 0} (view : D → DiskView) (takes fails : K → List ℕ 
       heard = λ honest. heard_told honest told deeds did heard;
       calls = λ honest. calls_on honest deeds (did.done (honest_kept honest)).calls;
       replies = λ honest. record {
-        answered = subst (λ (ds : List Deed). AreAnswered (setting_of c task) ds m.running) (sym (deeds_on honest told deeds are)) (node_answered (setting_of c task) c.measures told m);
+        answered = subst (λ (ds : List Deed). AreAnswered (setting_of task) ds m.running) (sym (deeds_on honest told deeds are)) (node_answered (setting_of task) c.measures told m);
         served = served_on honest deeds (follows_adds (calls_of (setting l) deeds (running l)) (story link) (story last.server.link) (did.done (honest_kept honest)).calls) serves;
       };
       failures = λ honest.
           subst (λ (ds : List Deed). AreBorneOut Quiet ds) (sym (deeds_on honest told deeds are))
-          (node_borne Quiet (terms_in c me) (heard_before c me (story first.server.link) (story last.server.link)) (setting_of c task) c.measures told m (heard_told honest told deeds did heard));
-      recorded = λ honest. node_record (setting_of c task) c.measures told m deeds (deeds_on honest told deeds are);
+          (node_borne Quiet (heard_before c me (story first.server.link) (story last.server.link)) (setting_of task) c.measures told m (heard_told honest told deeds did heard));
+      recorded = λ honest. node_record (setting_of task) c.measures told m deeds (deeds_on honest told deeds are);
       within = within_on deeds last.server did;
       counted = subst (λ (x : LinkCounts). CountsAll deeds x (counts last.server.link)) listens.counted did.counted;
       goes_on = all_go_on_then view d (disks_of first.server.kept) e safely.goes_on did.goes_on;
@@ -314,14 +299,14 @@ module _ {D L K : Type 0} (view : D → DiskView) (takes fails : K → List ℕ 
       counted_all end (at, did, breaks) = (counts at.link, subst (λ (x : LinkCounts). CountsAll deeds x (counts at.link)) listens.counted did.counted, breaks.counted)
 
       moments_all : (end : TurnEnd) (breaks : BreaksAfter view takes fails faults story counts end deeds under l last.server) → AreHonest view d
-          → AlwaysRecovers view h me takes (line (setting_of c task)) deeds under d e first.server.sink breaks.0.sink
+          → AlwaysRecovers view h me takes (line (setting_of task)) deeds under d e first.server.sink breaks.0.sink
       moments_all end (at, did, breaks) honest =
           moments_on honest deeds at did under (breaks.moments (still_honest view takes fails faults story counts deeds l at did (honest_kept honest)))
 
       -- the bytes written after the deeds
-      rest_on : (end : TurnEnd) (breaks : BreaksAfter view takes fails faults story counts end deeds under l last.server) → WritesAt takes fails breaks.0.sink last.server.sink end [] (under_line (setting_of c task) under)
+      rest_on : (end : TurnEnd) (breaks : BreaksAfter view takes fails faults story counts end deeds under l last.server) → WritesAt takes fails breaks.0.sink last.server.sink end [] (under_line (setting_of task) under)
       rest_on end (at, did, breaks) =
-          subst (λ (x : Setting). WritesAt takes fails at.sink last.server.sink end [] (under_line x under)) (setting_stays view takes fails faults story counts l at did.same did.config did.log did.about ∙ setting_is) breaks.text
+          subst (λ (x : Setting). WritesAt takes fails at.sink last.server.sink end [] (under_line x under)) (setting_stays view takes fails faults story counts l at did.same did.log did.about ∙ setting_is) breaks.text
 
       adds_all : (end : TurnEnd) → BreaksAfter view takes fails faults story counts end deeds under l last.server → AreHonest view d
           → AddsAll (calls_of (setting l) deeds (running l)) (story link) (story last.server.link)
@@ -329,14 +314,14 @@ module _ {D L K : Type 0} (view : D → DiskView) (takes fails : K → List ℕ 
           subst (λ (y : Option (List Call)). AddsAll (calls_of (setting l) deeds (running l)) (story link) y) (sym breaks.told) (did.done (honest_kept honest)).calls
 
       writes_on : (end : TurnEnd) → BreaksAfter view takes fails faults story counts end deeds under l last.server
-          → Writes (λ text. takes first.server.sink text last.server.sink) (λ text. fails first.server.sink text last.server.sink × Rose (faults first.server.sink) (faults last.server.sink)) (setting_of c task) end deeds under
+          → Writes (λ text. takes first.server.sink text last.server.sink) (λ text. fails first.server.sink text last.server.sink × Rose (faults first.server.sink) (faults last.server.sink)) (setting_of task) end deeds under
       writes_on end breaks =
           by_end end (broken_cause view takes fails faults story counts deeds under end l last.server breaks)
           (subst (λ (x : Setting). WritesAt takes fails first.server.sink last.server.sink end (lines x deeds) (under_line x under)) setting_is
           (broken_text view takes fails faults story counts takes_then takes_fails deeds under end l last.server breaks)) where
             by_end : (x : TurnEnd) → HasCause view faults x under first.server.kept last.server.kept first.server.sink last.server.sink (counts link) (counts last.server.link)
-                → WritesAt takes fails first.server.sink last.server.sink x (lines (setting_of c task) deeds) (under_line (setting_of c task) under)
-                → Writes (λ text. takes first.server.sink text last.server.sink) (λ text. fails first.server.sink text last.server.sink × Rose (faults first.server.sink) (faults last.server.sink)) (setting_of c task) x deeds under
+                → WritesAt takes fails first.server.sink last.server.sink x (lines (setting_of task) deeds) (under_line (setting_of task) under)
+                → Writes (λ text. takes first.server.sink text last.server.sink) (λ text. fails first.server.sink text last.server.sink × Rose (faults first.server.sink) (faults last.server.sink)) (setting_of task) x deeds under
             by_end ends.Sink cause text = (text.0, text.1, (text.2, cause))
             by_end ends.Served cause text = text
             by_end ends.Link cause text = text
@@ -345,7 +330,7 @@ module _ {D L K : Type 0} (view : D → DiskView) (takes fails : K → List ℕ 
             by_end ends.Memory cause text = text
 
   runs_on : Runs view takes faults story counts task.turns first last
-      → (deeds : List Deed) × takes first.server.sink (lines (setting_of c task) deeds) last.server.sink × DidOn view story counts takes c task deeds d e first.server.link last.server.link first.server.sink last.server.sink
+      → (deeds : List Deed) × takes first.server.sink (lines (setting_of task) deeds) last.server.sink × DidOn view story counts takes c task deeds d e first.server.link last.server.link first.server.sink last.server.sink
   runs_on r =
       let link = r.listening.link in
       let listens = subst (λ (x : Server D L K). Listens story counts first.server x) r.listens.rest r.listens in
@@ -356,7 +341,7 @@ module _ {D L K : Type 0} (view : D → DiskView) (takes fails : K → List ℕ 
       )
 
   halts_on : (end : TurnEnd) → Halts view takes fails faults story counts task.turns end first last
-      → Stops (at_run view story counts takes fails c task d e first.server.link last.server.link first.server.sink last.server.sink) (λ text. takes first.server.sink text last.server.sink) (λ text. fails first.server.sink text last.server.sink × Rose (faults first.server.sink) (faults last.server.sink)) (setting_of c task) end
+      → Stops (at_run view story counts takes fails c task d e first.server.link last.server.link first.server.sink last.server.sink) (λ text. takes first.server.sink text last.server.sink) (λ text. fails first.server.sink text last.server.sink × Rose (faults first.server.sink) (faults last.server.sink)) (setting_of task) end
   halts_on end r =
       let link = r.listening.link in
       let listens = subst (λ (x : Server D L K). Listens story counts first.server x) r.listens.rest r.listens in
@@ -364,7 +349,7 @@ module _ {D L K : Type 0} (view : D → DiskView) (takes fails : K → List ℕ 
       let l = listening_by link in
       let follows = λ (honest : AreHonest view d). follows_adds (calls_of (setting l) r.deeds (running l)) (story link) (story last.server.link) (adds_all link listens r.deeds r.under end breaks honest) in
       let cut = λ (honest : AreHonest view d).
-      subst (λ (x : Machine). Cuts (node_deeds (setting_of c task) c.measures r.told x ++ turn_deeds (setting_of c task) r.last (machine_after (setting_of c task) c.measures r.told x)) r.deeds r.under) (begins honest)
+      subst (λ (x : Machine). Cuts (node_deeds (setting_of task) c.measures r.told x ++ turn_deeds (setting_of task) r.last (machine_after (setting_of task) c.measures r.told x)) r.deeds r.under) (begins honest)
       (subst (λ (x : Setting). Cuts (node_deeds x c.measures r.told (machine first) ++ turn_deeds x r.last (machine_after x c.measures r.told (machine first))) r.deeds r.under) setting_is (r.cut (honest_kept honest))) in (
         r.deeds,
         r.under,
@@ -376,17 +361,18 @@ module _ {D L K : Type 0} (view : D → DiskView) (takes fails : K → List ℕ 
           cut = cut;
           heard = λ honest. heard_on link listens honest r.told (follows honest) (r.heard (honest_kept honest));
           last_heard = λ honest. last_on link listens honest r.told r.last r.deeds (follows honest) (r.last_heard (honest_kept honest));
+          last_reread = λ honest. reread_on link listens honest r.told r.last (r.last_reread (honest_kept honest));
           calls = λ honest. calls_on link listens honest r.deeds (adds_all link listens r.deeds r.under end breaks honest);
           replies = λ honest. record {
-            answered = front_answered (setting_of c task) c.measures r.told r.last m r.deeds r.under (cut honest);
+            answered = front_answered (setting_of task) c.measures r.told r.last m r.deeds r.under (cut honest);
             served = served_on link listens honest r.deeds (follows honest) r.serves;
           };
           failures = λ honest.
-              front_borne Quiet (terms_in c me) (heard_before c me (story first.server.link) (story last.server.link)) (setting_of c task) c.measures r.told r.last m
+              front_borne Quiet (terms_in (setting_of task) (machine_after (setting_of task) c.measures r.told m).running) (heard_before c me (story first.server.link) (story last.server.link)) (setting_of task) c.measures r.told r.last m
               (heard_on link listens honest r.told (follows honest) (r.heard (honest_kept honest))) r.deeds (cut honest).behind
-              (all_calls_after (setting_of c task) r.told (begun (setting_of c task) c.measures m) (heard_before c me (story first.server.link) (story last.server.link))) (cut honest).front
+              (all_calls_after (setting_of task) r.told (begun (setting_of task) c.measures m) (heard_before c me (story first.server.link) (story last.server.link))) (cut honest).front
               (last_on link listens honest r.told r.last r.deeds (follows honest) (r.last_heard (honest_kept honest)));
-          recorded = λ honest. cut_record (setting_of c task) c.measures r.told r.last m r.deeds r.under (cut honest);
+          recorded = λ honest. cut_record (setting_of task) c.measures r.told r.last m r.deeds r.under (cut honest);
           within = within_all link listens r.deeds r.under end breaks;
           counted = counted_all link listens r.deeds r.under end breaks;
           goes_on = goes_on_all link listens r.deeds r.under end breaks;
@@ -421,7 +407,7 @@ module _ {D L K : Type 0} (view : D → DiskView) (takes fails : K → List ℕ 
   )
 
   pub ends_on : (end : TurnEnd) → RunEnds view takes fails faults story counts task.turns end first last
-      → NodeEnds (at_run view story counts takes fails c task d e first.server.link last.server.link first.server.sink last.server.sink) (λ text. takes first.server.sink text last.server.sink) (λ text. fails first.server.sink text last.server.sink × Rose (faults first.server.sink) (faults last.server.sink)) (setting_of c task) (Turned end)
+      → NodeEnds (at_run view story counts takes fails c task d e first.server.link last.server.link first.server.sink last.server.sink) (λ text. takes first.server.sink text last.server.sink) (λ text. fails first.server.sink text last.server.sink × Rose (faults first.server.sink) (faults last.server.sink)) (setting_of task) (Turned end)
   ends_on ends.Served r = runs_on r
   ends_on ends.Link (inl deaf) = inl (deaf_on deaf)
   ends_on ends.Link (inr r) = inr (halts_on ends.Link r)
@@ -433,7 +419,7 @@ module _ {D L K : Type 0} (view : D → DiskView) (takes fails : K → List ℕ 
 -- the end over these files, links and outputs
 abbrev pub EndsAs : {D L K : Type 0} → (D → DiskView) → (K → List ℕ → K → Type 0) → (K → List ℕ → K → Type 0) → (K → ℕ) → (L → Option (List Call)) → (L → LinkCounts) → Settings → Task → Disks D → TurnEnd → Disks D → L → L → K → K → Type 0
 EndsAs view takes fails faults story counts s task d end e l m k j =
-    NodeEnds (at_run view story counts takes fails s task d e l m k j) (λ text. takes k text j) (λ text. fails k text j × Rose (faults k) (faults j)) (setting_of s task) (Turned end)
+    NodeEnds (at_run view story counts takes fails s task d e l m k j) (λ text. takes k text j) (λ text. fails k text j × Rose (faults k) (faults j)) (setting_of task) (Turned end)
 
 -- this end for the objects given to the node and given back
 pub told_of : {D L K : Type 0} (view : D → DiskView) (takes fails : K → List ℕ → K → Type 0) (faults : K → ℕ) (story : L → Option (List Call)) (counts : L → LinkCounts)

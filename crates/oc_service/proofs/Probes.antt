@@ -6,25 +6,9 @@ use Rattle.std.specs.List.{AllByRecursion}
 use Rattle.oc_base.specs.Lawful.{IsNode}
 use Rattle.oc_probe.specs.Turns.{RotationView, peers_from, peers_of}
 use Rattle.oc_probe.specs.declared.probing.Probing.{Probing}
+use Rattle.oc_deeds.proofs.Peers.{all_peers, same_peers}
 use Rattle.oc_deeds.specs.Lawful.{IsMadeFor}
 use Rattle.oc_service.specs.OnSite.{probing_of}
-
-one_more : (me nodes id : ℕ) (own : Bool) (rest : List ℕ) → 1 ≤ id → id ≤ nodes → AllByRecursion (IsNode nodes) rest → AllByRecursion (IsNode nodes) (if own then rest else id ∷ rest)
-one_more me nodes id true rest some within all = all
-one_more me nodes id false rest some within all = ((some, within), all)
-
--- each peer of some places is a node
-all_peers : {A : Type 0} (me nodes id : ℕ) (places : List (Option A)) → 1 ≤ id → id + length places ≤ nodes + 1 → AllByRecursion (IsNode nodes) (peers_from me id places)
-all_peers me nodes id [] some within = tt
-all_peers me nodes id (None ∷ places) some within = all_peers me nodes (id + 1) places (omega (arith, some)) (omega (arith, within))
-all_peers me nodes id (Some x ∷ places) some within =
-    one_more me nodes id (id == me) (peers_from me (id + 1) places) some (omega (arith, within)) (all_peers me nodes (id + 1) places (omega (arith, some)) (omega (arith, within)))
-
--- the peers of a list are those of the same list with other addresses
-same_peers : {A B : Type 0} (f : A → B) (me id : ℕ) (places : List (Option A)) → peers_from me id (map (option_map f) places) ≡ peers_from me id places
-same_peers f me id [] = refl
-same_peers f me id (None ∷ places) = same_peers f me (id + 1) places
-same_peers f me id (Some x ∷ places) = ap (λ (ids : List ℕ). if id == me then ids else id ∷ ids) (same_peers f me (id + 1) places)
 
 made_of : {A : Type 0} (me : ℕ) (places : List (Option A)) (p : Probing) → p.gauge ≡ replicate (length places) [] → p.rotation ≡ record { coming = peers_of me places } → IsMadeFor (length places) p
 made_of me places p gauge rotation = record {

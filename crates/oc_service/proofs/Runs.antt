@@ -13,7 +13,6 @@ use Rattle.oc_io.specs.DiskView.{DiskView}
 use Rattle.oc_keep.specs.KeptView.{IsHonest, KeptView, node_of}
 use Rattle.oc_model.specs.declared.input.Input.{Input}
 use Rattle.oc_model.specs.declared.input.Input.TheVariants.{Measured}
-use Rattle.oc_routes.specs.Verdicts.{NodeTerms}
 use Rattle.oc_deeds.specs.Deeds.{Deed, Running, Says, Setting, Takes, after_all, calls_of}
 use Rattle.oc_deeds.specs.Under.{Cuts}
 use Rattle.oc_server.specs.Parts.{Stops}
@@ -22,7 +21,7 @@ use Rattle.oc_server.specs.Runs.{MayRead, ServeEnds, ServesUpTo, TurnStops, due_
 use Rattle.oc_server.specs.Scenes.{BreaksAfter, Did, running, setting}
 use Rattle.oc_deeds.specs.Settled.{AreServed, IsSettled}
 use Rattle.oc_server.specs.Settled.{deeds_until, deeds_up_to}
-use Rattle.oc_deeds.specs.Turns.{Observation}
+use Rattle.oc_deeds.specs.Turns.{Observation, terms_in}
 use Rattle.oc_deeds.specs.declared.came.Came.TheVariants as comes
 use Rattle.oc_deeds.specs.declared.ends.TurnEnd.{TurnEnd}
 use Rattle.oc_deeds.specs.declared.ends.TurnEnd.TheVariants as ends
@@ -37,8 +36,10 @@ use Rattle.oc_service.specs.Measuring.{begins_with}
 use Rattle.oc_service.specs.Running.{Halts, Listens, RunEnds, Runs, machine}
 use Rattle.oc_service.specs.WhatNodeDoes.{Machine, begins, begins_on, begun, after_turns, due_at, machine_after, node_deeds, own_measure, own_measures, turn_deeds, turns_deeds}
 use Rattle.oc_service.specs.WhatNodeGives.{ServesFrom}
-use Rattle.oc_service.specs.WhatNodeHears.{AreHeard, MayHear, all_calls_after, until}
-use Rattle.oc_service.proofs.Machines.{Made, heard_at, machine_of, made, made_deeds, reads_stay}
+use Rattle.oc_service.specs.WhatNodeHears.{AreHeard, MayHear, MayReread, all_calls_after, until}
+use Rattle.oc_deeds.specs.declared.reread.Reread.TheVariants as rereads
+use Rattle.oc_link.specs.declared.look.Look.TheVariants as looks
+use Rattle.oc_service.proofs.Machines.{Made, heard_at, machine_of, made, made_deeds}
 use Rattle.oc_service.proofs.Replies.{begins_quiet, begins_works, serves_behind, serves_front}
 use Rattle.oc_service.proofs.Stories.{Follows, follows_adds, follows_self, follows_then, until_then}
 
@@ -75,9 +76,6 @@ module _ {D L K : Type 0} (view : D → DiskView) (takes fails : K → List ℕ 
   own_is : IsHonest view old.server.kept → own ≡ own_told
   own_is honest = ap (λ (shelves : List Shelf). begins_on s old.server.config.measures old.server.kept.node.control shelves) (held honest)
 
-  abbrev terms : NodeTerms
-  terms = reads_by old.server
-
   abbrev m : Machine
   m = begun s old.server.config.measures (machine old)
 
@@ -90,9 +88,6 @@ module _ {D L K : Type 0} (view : D → DiskView) (takes fails : K → List ℕ 
 
   listening_setting : setting listening ≡ s
   listening_setting = ap (λ (x : Server D L K). setting x) listens.rest
-
-  listening_terms : reads_by listening ≡ terms
-  listening_terms = ap (λ (x : Server D L K). reads_by x) listens.rest
 
   honest_listening : IsHonest view old.server.kept → IsHonest view listening.kept
   honest_listening honest = subst (λ (k : KeptView D). IsHonest view k) (sym kept_is) honest
@@ -111,16 +106,13 @@ module _ {D L K : Type 0} (view : D → DiskView) (takes fails : K → List ℕ 
     honest_at honest = still_honest view takes fails faults story counts own listening at did (honest_listening honest)
 
     setting_at : setting at ≡ s
-    setting_at = setting_stays view takes fails faults story counts listening at did.same did.config did.log did.about ∙ listening_setting
-
-    terms_at : reads_by at ≡ terms
-    terms_at = reads_stay listening at did.same did.config ∙ listening_terms
+    setting_at = setting_stays view takes fails faults story counts listening at did.same did.log did.about ∙ listening_setting
 
     running_at : IsHonest view old.server.kept → running at ≡ after_all own (running old.server)
     running_at honest = (did.done (honest_listening honest)).after ∙ ap (λ (r : Running). after_all own r) listening_running
 
     machine_at : IsHonest view old.server.kept → machine first ≡ m
-    machine_at honest = ap (λ (r : Running). machine_of r old.pace old.probing) (running_at honest)
+    machine_at honest = ap (λ (r : Running). machine_of r old.pace old.probing old.reading) (running_at honest)
 
     works_at : old.server.works ≡ [] → (after_all own (running old.server)).works ≡ []
     works_at none = begins_works s old.server.config.measures (node_of old.server.kept) (running old.server) ∙ none
@@ -170,13 +162,12 @@ module _ {D L K : Type 0} (view : D → DiskView) (takes fails : K → List ℕ 
           follows_then (story at.link) (story last.server.link) all
           (follows_adds (calls_of (setting at) turns.deeds (running at)) (story at.link) (story last.server.link) (turns.did.done (honest_at honest)).calls) follows
 
-      heard_all : IsHonest view old.server.kept → (all : Option (List Call)) → Follows (story last.server.link) all → AreHeard s terms (until (story listening.link) all) turns.told m
+      heard_all : IsHonest view old.server.kept → (all : Option (List Call)) → Follows (story last.server.link) all → AreHeard s (until (story listening.link) all) turns.told m
       heard_all honest all follows =
-          subst (λ (calls : Option (List Call)). AreHeard s terms calls turns.told m) (calls_at honest all (follows_at honest all follows))
-          (subst (λ (x : Machine). AreHeard s terms (until (story at.link) all) turns.told x) (machine_at honest)
-          (subst (λ (x : NodeTerms). AreHeard s x (until (story at.link) all) turns.told (machine first)) terms_at
-          (subst (λ (x : Setting). AreHeard x (reads_by at) (until (story at.link) all) turns.told (machine first)) setting_at
-          (turns.heard (honest_at honest) all follows))))
+          subst (λ (calls : Option (List Call)). AreHeard s calls turns.told m) (calls_at honest all (follows_at honest all follows))
+          (subst (λ (x : Machine). AreHeard s (until (story at.link) all) turns.told x) (machine_at honest)
+          (subst (λ (x : Setting). AreHeard x (until (story at.link) all) turns.told (machine first)) setting_at
+          (turns.heard (honest_at honest) all follows)))
 
       calls_last : IsHonest view old.server.kept → (all : Option (List Call)) → Follows (story last.server.link) all
           → until (story last.server.link) all ≡ all_calls_after s turns.told m (until (story listening.link) all)
@@ -213,10 +204,7 @@ module _ {D L K : Type 0} (view : D → DiskView) (takes fails : K → List ℕ 
         honest_last honest = still_honest view takes fails faults story counts turns.deeds at last.server turns.did (honest_at honest)
 
         setting_last : setting last.server ≡ s
-        setting_last = setting_stays view takes fails faults story counts at last.server turns.did.same turns.did.config turns.did.log turns.did.about ∙ setting_at
-
-        terms_last : reads_by last.server ≡ terms
-        terms_last = reads_stay at last.server turns.did.same turns.did.config ∙ terms_at
+        setting_last = setting_stays view takes fails faults story counts at last.server turns.did.same turns.did.log turns.did.about ∙ setting_at
 
         abbrev behind : Machine
         behind = machine_after s old.server.config.measures turns.told (machine old)
@@ -241,19 +229,22 @@ module _ {D L K : Type 0} (view : D → DiskView) (takes fails : K → List ℕ 
               (follows_adds (calls_of (setting last.server) stop_deeds (running last.server)) (story last.server.link) (story x.link) (did.done (honest_last honest)).calls)
 
         last_heard : IsHonest view old.server.kept
-            → (length (all_deeds ++ stop_deeds) < length whole + 3) ⊎ MayHear terms (all_calls_after s turns.told m (until (story listening.link) (story new.server.link))) (due_at last_told behind) last_told behind
+            → (length (all_deeds ++ stop_deeds) < length whole + 3) ⊎ MayHear (terms_in s behind.running) (all_calls_after s turns.told m (until (story listening.link) (story new.server.link))) (due_at last_told behind) last_told behind
         last_heard honest = by_read (turn_stops.read (honest_last honest)) where
           heard_now : (due : Option ℕ) → MayRead story due last new.server last_told → MayHear (reads_by last.server) (until (story last.server.link) (story new.server.link)) due last_told (machine last)
           heard_now due read = heard_at view takes fails faults story counts takes_nothing takes_then due last new.server last_told (story new.server.link) (follows_self (story new.server.link)) read
 
           by_read : (length stop_deeds < 3) ⊎ MayRead story (due_in last.server last_told.before) last new.server last_told
-              → (length (all_deeds ++ stop_deeds) < length whole + 3) ⊎ MayHear terms (all_calls_after s turns.told m (until (story listening.link) (story new.server.link))) (due_at last_told behind) last_told behind
+              → (length (all_deeds ++ stop_deeds) < length whole + 3) ⊎ MayHear (terms_in s behind.running) (all_calls_after s turns.told m (until (story listening.link) (story new.server.link))) (due_at last_told behind) last_told behind
           by_read (inl short) = inl (omega (arith, length-append all_deeds stop_deeds, ap length (deeds_are honest), short))
           by_read (inr read) = inr
-              (subst (λ (calls : Option (List Call)). MayHear terms calls (due_at last_told behind) last_told behind) (calls_last honest (story new.server.link) (follows_last honest))
-              (subst (λ (x : Machine). MayHear terms (until (story last.server.link) (story new.server.link)) (due_at last_told x) last_told x) (machine_last honest)
-              (subst (λ (x : NodeTerms). MayHear x (until (story last.server.link) (story new.server.link)) (due_at last_told (machine last)) last_told (machine last)) terms_last
+              (subst (λ (calls : Option (List Call)). MayHear (terms_in s behind.running) calls (due_at last_told behind) last_told behind) (calls_last honest (story new.server.link) (follows_last honest))
+              (subst (λ (x : Machine). MayHear (terms_in s x.running) (until (story last.server.link) (story new.server.link)) (due_at last_told x) last_told x) (machine_last honest)
+              (subst (λ (x : Setting). MayHear (terms_in x (running last.server)) (until (story last.server.link) (story new.server.link)) (due_at last_told (machine last)) last_told (machine last)) setting_last
               (heard_now (due_in last.server last_told.before) read))))
+
+        last_reread : IsHonest view old.server.kept → MayReread last_told behind
+        last_reread honest = subst (λ (x : Machine). MayReread last_told x) (machine_last honest) turn_stops.again
 
         halts : IsServedSince at (turns.deeds ++ stop_deeds) (story new.server.link) → Halts view takes fails faults story counts most end old new
         halts served = record {
@@ -268,6 +259,7 @@ module _ {D L K : Type 0} (view : D → DiskView) (takes fails : K → List ℕ 
           cut = cut_all;
           heard = λ honest. heard_all honest (story new.server.link) (follows_last honest);
           last_heard = last_heard;
+          last_reread = last_reread;
           serves = serves_all (turns.deeds ++ stop_deeds) (all_deeds ++ stop_deeds) (story new.server.link) (sym (append_assoc own turns.deeds stop_deeds))
               (λ honest. follows_at honest (story new.server.link) (follows_last honest)) served;
         }
@@ -295,7 +287,7 @@ module _ {D L K : Type 0} (view : D → DiskView) (takes fails : K → List ℕ 
 
   -- a quiet observation, for the turn that did not begin
   abbrev no_told : Observation
-  no_told = record { before = 0; event = events.Quiet; bytes = []; came = comes.Nothing; now = 0; median = 0; started = 0; seconds = 0 }
+  no_told = record { before = 0; event = events.Quiet; bytes = []; came = comes.Nothing; now = 0; median = 0; started = 0; seconds = 0; look = looks.Nothing; reread = rereads.Nothing }
 
   module _ (end : TurnEnd) (new : Turns D L K) (stops : Stops view takes fails faults story counts end (begins_with old.server.config.measures) listening new.server) where
     front : IsHonest view old.server.kept → Cuts own_told stops.deeds stops.under
@@ -325,6 +317,7 @@ module _ {D L K : Type 0} (view : D → DiskView) (takes fails : K → List ℕ 
           (cuts_more own_told [] stops.deeds stops.under (front honest));
       heard = λ honest. tt;
       last_heard = λ honest. inl (omega (arith, ap length (front honest).front, length-append stops.deeds (front honest).behind, length-append own_told []));
+      last_reread = λ honest. inl refl;
       serves = λ honest none.
           serves_front s own_told (running old.server) (begins_quiet s old.server.config.measures (node_of old.server.kept)) none stops.deeds (front honest).behind (story listening.link) (story new.server.link) (front honest).front (calls_stopped honest);
     }

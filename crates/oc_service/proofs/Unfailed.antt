@@ -17,7 +17,7 @@ use Rattle.oc_service.specs.declared.running.Task.{Task}
 module _ {D L K : Type 0} (view : D → DiskView) (story : L → Option (List Call)) (counts : L → LinkCounts) (takes fails : K → List ℕ → K → Type 0) (written cut_off : List ℕ → Type 0) (c : Settings) (task : Task) (old new : Disks D) (link after : L) (first last : K)
     (honest : AreHonest view old) (files : HoldFiles view (length c.addresses) old) (sound : OneRose view old new → ⊥)
     (asked : Rose (counts link).listening (counts after).listening → ⊥) (sink : (text : List ℕ) → cut_off text → ⊥) where
-  pub unfailed : (end : NodeEnd) → NodeEnds (at_run view story counts takes fails c task old new link after first last) written cut_off (setting_of c task) end → EndsUnfailed end
+  pub unfailed : (end : NodeEnd) → NodeEnds (at_run view story counts takes fails c task old new link after first last) written cut_off (setting_of task) end → EndsUnfailed end
   unfailed (Load error) h = only_memory view (length c.addresses) old new honest files sound error h.0.0
   unfailed (Turned ends.Served) h = tt
   unfailed (Turned ends.Link) (inl h) = absurd (asked h.1.counted.listening)

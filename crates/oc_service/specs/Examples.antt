@@ -14,7 +14,10 @@ use Rattle.oc_routes.specs.Tallies.{first_tally}
 use Rattle.oc_routes.specs.declared.verdict.Verdict.TheVariants as verdicts
 use Rattle.oc_routes.specs.declared.refused.Refused.{Refused}
 use Rattle.oc_routes.specs.declared.refused.Refused.TheVariants as refusals
-use Rattle.oc_deeds.specs.Deeds.{Deed, Drops, Reads, Refuses, Running, Sees, Setting, lines}
+use Rattle.oc_deeds.specs.Deeds.{Deed, Drops, Looks, Reads, Refuses, Running, Sees, Setting, lines}
+use Rattle.oc_deeds.specs.Examples.{two_nodes}
+use Rattle.oc_deeds.specs.declared.reread.Reread.TheVariants as rereads
+use Rattle.oc_link.specs.declared.look.Look.TheVariants as looks
 use Rattle.oc_deeds.specs.Turns.{Observation, turn}
 use Rattle.oc_deeds.specs.declared.came.Came.TheVariants as comes
 use Rattle.oc_deeds.specs.declared.log.Log.TheVariants.{Inputs}
@@ -26,23 +29,19 @@ use Rattle.oc_service.specs.Failures.{AreBorneOut}
 abbrev example : Setting
 example = record {
   me = 1;
-  addresses = Some (codes "a:1") ∷ Some (codes "b:2") ∷ [];
-  names = None ∷ None ∷ [];
-  retired = false ∷ false ∷ [];
-  key = None;
   log = Inputs;
   about = record { version = codes "1.0.0"; started = 1796102400; refused = false };
 }
 
 abbrev idle : Running
-idle = record { node = new_node (record { nodes = 2; chain = 1; chunk = 4096; areas = 0 ∷ 0 ∷ [] }) 1; outbox = []; works = []; dials = []; tally = first_tally 2 }
+idle = record { node = new_node (record { nodes = 2; chain = 1; chunk = 4096; areas = 0 ∷ 0 ∷ [] }) 1; outbox = []; works = []; dials = []; config = two_nodes; tally = first_tally 2 }
 
 abbrev ticked : Pace
 ticked = record { last = Some 0; interval = 100; most = 1000; whole = false; second = None }
 
 -- the observation of a quiet turn
 abbrev quiet : Observation
-quiet = record { before = 0; event = events.Quiet; bytes = []; came = comes.Nothing; now = 5; median = 0; started = 5; seconds = 7 }
+quiet = record { before = 0; event = events.Quiet; bytes = []; came = comes.Nothing; now = 5; median = 0; started = 5; seconds = 7; look = looks.Nothing; reread = rereads.Nothing }
 
 -- the event that tells of a request on connection 8, whose bytes end in this way
 abbrev request : Coming → LinkEvent
@@ -54,7 +53,7 @@ refuses coming bytes count why = turn ticked None (told_request quiet (arrival 8
 
 pub record AreTold : Type 0 where
   -- `! source` after a read that failed, and `! write` after a reply that could not be sent
-  pub reads : refuses comings.Failed (codes "GE") 2 refusals.Source ≡ Reads 0 ∷ Sees (request comings.Failed) 100 (codes "GE") ∷ Reads 5 ∷ Refuses 8 2 (refusing refusals.Source) ∷ []
+  pub reads : refuses comings.Failed (codes "GE") 2 refusals.Source ≡ Reads 0 ∷ Sees (request comings.Failed) 100 (codes "GE") ∷ Reads 5 ∷ Refuses 8 2 (refusing refusals.Source) ∷ Looks looks.Nothing ∷ []
   pub read : AreBorneOut events.Quiet (refuses comings.Failed (codes "GE") 2 refusals.Source)
   pub sent : AreBorneOut events.Quiet (Sees (events.Gone 8 losses.Failed) 100 [] ∷ Reads 5 ∷ Drops 8 true ∷ [])
   -- a failure is not borne out by a request that ended, nor by a connection that gave way

@@ -1,5 +1,5 @@
 -- A node that was loaded from its files, or not.
-use Rattle.std.specs.Prelude.{◌≡◌, ◌≤◌, ℕ, Bool, Option, IfSome, List, [], length}
+use Rattle.std.specs.Prelude.{◌≡◌, ◌≤◌, ℕ, Bool, Option, Some, IfSome, List, [], length}
 use Rattle.std.specs.List.{AllByRecursion}
 use Rattle.oc_base.specs.declared.limits.TheConstants.{MAX_AREA}
 use Rattle.oc_config.specs.Settings.{Settings}
@@ -42,6 +42,7 @@ pub record IsLoaded {D L K : Type 0} (view : D → DiskView) (c : Settings) (tas
   pub tally : turns.server.tally ≡ first_tally (length c.addresses)
   pub pace : turns.pace ≡ first_pace (is_record task.log) (most_interval task.probes task.me)
   pub probing : turns.probing ≡ probing_at_first task.probes task.me c.addresses
+  pub reading : turns.reading ≡ Some task.text
   pub config : turns.server.config ≡ c
   pub log : turns.server.log ≡ task.log
   pub about : turns.server.about ≡ task.about

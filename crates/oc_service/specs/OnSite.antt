@@ -2,7 +2,7 @@
 use Rattle.std.specs.Prelude.{◌≡◌, ◌⊎◌, ℕ, ◌+◌, ◌<◌, Bool, true, false, Option, Some, None, List, [], ◌∷◌, ◌++◌, length, replicate, take}
 use Rattle.std.specs.List.{AllByRecursion}
 use Rattle.std.specs.Option.{option_map}
-use Rattle.oc_config.specs.Settings.{Settings, key_of}
+use Rattle.oc_config.specs.Settings.{Settings}
 use Rattle.oc_link.specs.Calls.{IsFront}
 use Rattle.oc_link.specs.Counts.{CountsFailure}
 use Rattle.oc_link.specs.Told.{AddsAll}
@@ -25,7 +25,6 @@ use Rattle.oc_probe.specs.Turns.{peers_of}
 use Rattle.oc_probe.specs.declared.probing.Probing.{Probing}
 use Rattle.oc_routes.specs.Responses.{address_of}
 use Rattle.oc_routes.specs.Sights.{about_of}
-use Rattle.oc_routes.specs.Verdicts.{NodeTerms, terms_of}
 use Rattle.oc_deeds.specs.Deeds.{Deed, Setting, calls_of, inputs_of, line, lines}
 use Rattle.oc_deeds.specs.Pace.{most_interval}
 use Rattle.oc_deeds.specs.Under.{Cuts}
@@ -34,7 +33,7 @@ use Rattle.oc_deeds.specs.Records.{is_record}
 use Rattle.oc_deeds.specs.Done.{CountsAll}
 use Rattle.oc_server.specs.Scenes.{CountsAt, WritesAt}
 use Rattle.oc_deeds.specs.Under.{Idle, Taking, Under, under_line}
-use Rattle.oc_deeds.specs.Turns.{Observation}
+use Rattle.oc_deeds.specs.Turns.{Observation, terms_in}
 use Rattle.oc_deeds.specs.Within.{IsWithin}
 use Rattle.oc_deeds.specs.declared.ends.TurnEnd.{TurnEnd}
 use Rattle.oc_deeds.specs.declared.ends.TurnEnd.TheVariants as ends
@@ -42,7 +41,7 @@ use Rattle.oc_service.specs.AtAnyMoment.{AlwaysRecovers}
 use Rattle.oc_service.specs.Failures.{AreBorneOut}
 use Rattle.oc_service.specs.WhatNodeDoes.{Machine, at_first, begins, begun, due_at, machine_after, node_deeds, turn_deeds}
 use Rattle.oc_service.specs.WhatNodeGives.{GivesReplies}
-use Rattle.oc_service.specs.WhatNodeHears.{AreHeard, MayHear, all_calls_after, until}
+use Rattle.oc_service.specs.WhatNodeHears.{AreHeard, MayHear, MayReread, all_calls_after, until}
 use Rattle.oc_service.specs.declared.running.NodeEnd.{NodeEnd}
 use Rattle.oc_service.specs.declared.running.NodeEnd.TheVariants.{Load, Turned}
 use Rattle.oc_service.specs.declared.running.Task.{Task}
@@ -53,22 +52,13 @@ use Rattle.oc_service.specs.declared.running.Task.{Task}
 abbrev pub header_of_settings : Settings → Header
 header_of_settings c = header (length c.addresses) c.chain c.chunk c.areas
 
--- the number of the node; of all nodes the addresses, the names, and whether they are retired; the
--- key of the network, the form of the log, and what is told of the program
-abbrev pub setting_of : Settings → Task → Setting
-setting_of c task = record {
+-- the number of the node, the form of the log, and what is told of the program
+abbrev pub setting_of : Task → Setting
+setting_of task = record {
   me = task.me;
-  addresses = c.addresses;
-  names = c.names;
-  retired = c.retired;
-  key = key_of c.keys;
   log = task.log;
   about = about_of task.about;
 }
-
--- the terms by which the node reads requests
-abbrev pub terms_in : Settings → ℕ → NodeTerms
-terms_in c me = terms_of me (length c.addresses) c.rules c.keys
 
 -- the state of probing at first: no rates of peers, and all other nodes that have an address in turn
 abbrev pub probing_of : ℕ → List (Option (List ℕ)) → Probing
@@ -80,13 +70,13 @@ probing_at_first false me addresses = None
 
 -- the machine of the node recovered from its files
 abbrev pub machine_on : {D : Type 0} → (D → DiskView) → Settings → Task → Disks D → Machine
-machine_on view c task d = at_first (is_record task.log) (most_interval task.probes task.me) (probing_at_first task.probes task.me c.addresses) (first_node view (header_of_settings c) task.me d)
+machine_on view c task d = at_first (is_record task.log) (most_interval task.probes task.me) (probing_at_first task.probes task.me c.addresses) task.text c (first_node view (header_of_settings c) task.me d)
 
 -- The link of the node
 
 -- the link listens, and then each deed makes its calls
 abbrev pub node_calls : Settings → Task → List Deed → Machine → List Call
-node_calls c task ds m = acts.Listen (address_of c.listens task.me) ∷ calls_of (setting_of c task) ds m.running
+node_calls c task ds m = acts.Listen (address_of c.listens task.me) ∷ calls_of (setting_of task) ds m.running
 
 -- the calls before its first turn, if the link tells them to the end
 abbrev pub heard_before : Settings → ℕ → Option (List Call) → Option (List Call) → Option (List Call)
@@ -102,18 +92,18 @@ heard_before c me old new = option_map (λ (cs : List Call). cs ++ acts.Listen (
 pub record DidOn {D L K : Type 0} (view : D → DiskView) (story : L → Option (List Call)) (counts : L → LinkCounts) (takes : K → List ℕ → K → Type 0) (c : Settings) (task : Task) (deeds : List Deed) (old new : Disks D) (link after : L) (sink written : K) : Type 0 where
   pub told : List Observation
   pub many : length told ≡ task.turns
-  pub are : AreHonest view old → deeds ≡ node_deeds (setting_of c task) c.measures told (machine_on view c task old)
+  pub are : AreHonest view old → deeds ≡ node_deeds (setting_of task) c.measures told (machine_on view c task old)
   pub heard : AreHonest view old
-      → AreHeard (setting_of c task) (terms_in c task.me) (heard_before c task.me (story link) (story after)) told (begun (setting_of c task) c.measures (machine_on view c task old))
+      → AreHeard (setting_of task) (heard_before c task.me (story link) (story after)) told (begun (setting_of task) c.measures (machine_on view c task old))
   pub calls : AreHonest view old → AddsAll (node_calls c task deeds (machine_on view c task old)) (story link) (story after)
-  pub replies : AreHonest view old → GivesReplies (setting_of c task) deeds (machine_on view c task old).running (heard_before c task.me (story link) (story after)) (story after)
+  pub replies : AreHonest view old → GivesReplies (setting_of task) deeds (machine_on view c task old).running (heard_before c task.me (story link) (story after)) (story after)
   pub failures : AreHonest view old → AreBorneOut Quiet deeds
-  pub recorded : AreHonest view old → IsRecordOf (setting_of c task) (first_node view (header_of_settings c) task.me old) deeds []
+  pub recorded : AreHonest view old → IsRecordOf (setting_of task) (first_node view (header_of_settings c) task.me old) deeds []
   pub within : AllByRecursion (IsWithin (length c.addresses) task.me) (inputs_of deeds)
   pub counted : CountsAll deeds (counts link) (counts after)
   pub goes_on : AllGoOn view old new
   pub survives : AreHonest view old → Survives view (header_of_settings c) task.me new (after_inputs (first_node view (header_of_settings c) task.me old) (inputs_of deeds))
-  pub moments : AreHonest view old → AlwaysRecovers view (header_of_settings c) task.me takes (line (setting_of c task)) deeds Idle old new sink written
+  pub moments : AreHonest view old → AlwaysRecovers view (header_of_settings c) task.me takes (line (setting_of task)) deeds Idle old new sink written
 
 -- An early end
 
@@ -148,7 +138,8 @@ CountsUntil end deeds old new = (at : LinkCounts) × CountsAll deeds old at × C
 
 -- The run ended after these deeds, a prefix of those of the machine: after whole turns, in the
 -- midst of a turn with the observation `last`, or before the first. In a turn with more deeds than
--- the asking of the link, the event was read. Each connection was given the replies to its requests
+-- the asking of the link, the event was read, and so was the configuration, if anything was done by
+-- it. Each connection was given the replies to its requests
 -- until then, and a line of a failure was written, or begun, only if the link reported one. A
 -- record has the inputs of these deeds, which are within their ranges, and perhaps the next input.
 -- At every moment the lines of a prefix of the deeds were written, and every crash leaves its node.
@@ -156,35 +147,36 @@ pub record StoppedOn {D L K : Type 0} (view : D → DiskView) (story : L → Opt
   pub told : List Observation
   pub last : Observation
   -- fewer turns than were asked for come before the last one, or the run ended before the first
-  pub few : (length told < task.turns) ⊎ (AreHonest view old → Cuts (begins (setting_of c task) c.measures (first_node view (header_of_settings c) task.me old)) deeds under)
+  pub few : (length told < task.turns) ⊎ (AreHonest view old → Cuts (begins (setting_of task) c.measures (first_node view (header_of_settings c) task.me old)) deeds under)
   pub cut : AreHonest view old
-      → Cuts (node_deeds (setting_of c task) c.measures told (machine_on view c task old) ++ turn_deeds (setting_of c task) last (machine_after (setting_of c task) c.measures told (machine_on view c task old))) deeds under
+      → Cuts (node_deeds (setting_of task) c.measures told (machine_on view c task old) ++ turn_deeds (setting_of task) last (machine_after (setting_of task) c.measures told (machine_on view c task old))) deeds under
   pub heard : AreHonest view old
-      → AreHeard (setting_of c task) (terms_in c task.me) (heard_before c task.me (story link) (story after)) told (begun (setting_of c task) c.measures (machine_on view c task old))
+      → AreHeard (setting_of task) (heard_before c task.me (story link) (story after)) told (begun (setting_of task) c.measures (machine_on view c task old))
   pub last_heard : AreHonest view old
-      → (length deeds < length (node_deeds (setting_of c task) c.measures told (machine_on view c task old)) + 3)
-      ⊎ MayHear (terms_in c task.me)
-      (all_calls_after (setting_of c task) told (begun (setting_of c task) c.measures (machine_on view c task old)) (heard_before c task.me (story link) (story after)))
-      (due_at last (machine_after (setting_of c task) c.measures told (machine_on view c task old))) last (machine_after (setting_of c task) c.measures told (machine_on view c task old))
+      → (length deeds < length (node_deeds (setting_of task) c.measures told (machine_on view c task old)) + 3)
+      ⊎ MayHear (terms_in (setting_of task) (machine_after (setting_of task) c.measures told (machine_on view c task old)).running)
+      (all_calls_after (setting_of task) told (begun (setting_of task) c.measures (machine_on view c task old)) (heard_before c task.me (story link) (story after)))
+      (due_at last (machine_after (setting_of task) c.measures told (machine_on view c task old))) last (machine_after (setting_of task) c.measures told (machine_on view c task old))
+  pub last_reread : AreHonest view old → MayReread last (machine_after (setting_of task) c.measures told (machine_on view c task old))
   pub calls : AreHonest view old → AddsAll (node_calls c task deeds (machine_on view c task old)) (story link) (story after)
-  pub replies : AreHonest view old → GivesReplies (setting_of c task) deeds (machine_on view c task old).running (heard_before c task.me (story link) (story after)) (story after)
+  pub replies : AreHonest view old → GivesReplies (setting_of task) deeds (machine_on view c task old).running (heard_before c task.me (story link) (story after)) (story after)
   pub failures : (honest : AreHonest view old) → AreBorneOut Quiet (deeds ++ take 1 (cut honest).behind)
-  pub recorded : (honest : AreHonest view old) → IsRecordOf (setting_of c task) (first_node view (header_of_settings c) task.me old) deeds (cut honest).behind
+  pub recorded : (honest : AreHonest view old) → IsRecordOf (setting_of task) (first_node view (header_of_settings c) task.me old) deeds (cut honest).behind
   pub within : AllByRecursion (IsWithin (length c.addresses) task.me) (inputs_of deeds)
   pub counted : CountsUntil end deeds (counts link) (counts after)
   pub goes_on : AllGoOn view old new
   pub leaves : AreHonest view old → LeavesBehind view (header_of_settings c) task.me new end (after_inputs (first_node view (header_of_settings c) task.me old) (inputs_of deeds)) under
   -- the output when its last deed was done; then, where the output failed, it took some prefix of the line under way, and else nothing more
   pub so_far : K
-  pub rest : WritesAt takes fails so_far written end [] (under_line (setting_of c task) under)
-  pub moments : AreHonest view old → AlwaysRecovers view (header_of_settings c) task.me takes (line (setting_of c task)) deeds under old new sink so_far
+  pub rest : WritesAt takes fails so_far written end [] (under_line (setting_of task) under)
+  pub moments : AreHonest view old → AlwaysRecovers view (header_of_settings c) task.me takes (line (setting_of task)) deeds under old new sink so_far
   pub cause : HasCauseOn view end under (after_inputs (first_node view (header_of_settings c) task.me old) (inputs_of deeds)) old new (counts link) (counts after)
 
 -- the link could not listen: nothing was done
 pub record WasDeaf {D L K : Type 0} (view : D → DiskView) (story : L → Option (List Call)) (counts : L → LinkCounts) (takes : K → List ℕ → K → Type 0) (c : Settings) (task : Task) (old new : Disks D) (link after : L) (sink written : K) : Type 0 where
   pub goes_on : AllGoOn view old new
   pub survives : AreHonest view old → Survives view (header_of_settings c) task.me new (first_node view (header_of_settings c) task.me old)
-  pub moments : AreHonest view old → AlwaysRecovers view (header_of_settings c) task.me takes (line (setting_of c task)) [] Idle old new sink written
+  pub moments : AreHonest view old → AlwaysRecovers view (header_of_settings c) task.me takes (line (setting_of task)) [] Idle old new sink written
   pub calls : story after ≡ story link
   pub counted : CountsFailure (counts link) (counts after)
 

@@ -10,21 +10,20 @@ use Rattle.oc_keep.specs.KeptView.{IsHonest, node_of}
 use Rattle.oc_routes.specs.Responses.{address_of}
 use Rattle.oc_deeds.specs.Deeds.{Deed}
 use Rattle.oc_deeds.specs.Under.{Cuts}
-use Rattle.oc_server.specs.Runs.{reads_by}
 use Rattle.oc_server.specs.Scenes.{BreaksAfter, Did, running, setting}
 use Rattle.oc_deeds.specs.Under.{Under}
-use Rattle.oc_deeds.specs.Turns.{Observation}
+use Rattle.oc_deeds.specs.Turns.{Observation, terms_in}
 use Rattle.oc_deeds.specs.declared.ends.TurnEnd.{TurnEnd}
 use Rattle.oc_deeds.specs.declared.ends.TurnEnd.TheVariants as ends
 use Rattle.oc_server.specs.declared.server.Server.{Server}
 use Rattle.oc_server.specs.declared.turns.Turns.{Turns}
 use Rattle.oc_service.specs.WhatNodeDoes.{Machine, begins, begun, due_at, machine_after, node_deeds, turn_deeds}
 use Rattle.oc_service.specs.WhatNodeGives.{ServesFrom}
-use Rattle.oc_service.specs.WhatNodeHears.{AreHeard, MayHear, all_calls_after, until}
+use Rattle.oc_service.specs.WhatNodeHears.{AreHeard, MayHear, MayReread, all_calls_after, until}
 
 -- a running node as the machine
 abbrev pub machine : {D L K : Type 0} → Turns D L K → Machine
-machine t = record { running = running t.server; pace = t.pace; probing = t.probing }
+machine t = record { running = running t.server; pace = t.pace; probing = t.probing; reading = t.reading }
 
 -- the link listens, and nothing else changed
 pub record Listens {D L K : Type 0} (story : L → Option (List Call)) (counts : L → LinkCounts) (old new : Server D L K) : Type 0 where
@@ -49,11 +48,11 @@ pub record Runs {D L K : Type 0} (view : D → DiskView) (takes : K → List ℕ
   pub did : Did view takes faults story counts deeds listening new.server
   pub are : IsHonest view old.server.kept → deeds ≡ node_deeds (setting old.server) old.server.config.measures told (machine old)
   pub heard : IsHonest view old.server.kept
-      → AreHeard (setting old.server) (reads_by old.server) (until (story listening.link) (story new.server.link)) told (begun (setting old.server) old.server.config.measures (machine old))
+      → AreHeard (setting old.server) (until (story listening.link) (story new.server.link)) told (begun (setting old.server) old.server.config.measures (machine old))
   pub serves : IsHonest view old.server.kept → old.server.works ≡ [] → ServesFrom (setting old.server) deeds (running old.server) (story listening.link) (story new.server.link)
 
 -- The node listened, and ended after these deeds: after whole turns, in the midst of one, or before
--- the first. In a turn with more deeds than the asking of the link, the event was read.
+-- the first. In a turn with more deeds than the asking of the link, the event was read; and so was the configuration, if anything was done by it.
 pub record Halts {D L K : Type 0} (view : D → DiskView) (takes fails : K → List ℕ → K → Type 0) (faults : K → ℕ) (story : L → Option (List Call)) (counts : L → LinkCounts) (most : ℕ) (end : TurnEnd) (old new : Turns D L K) : Type 0 where
   pub listening : Server D L K
   pub listens : Listens story counts old.server listening
@@ -67,12 +66,13 @@ pub record Halts {D L K : Type 0} (view : D → DiskView) (takes fails : K → L
   pub cut : IsHonest view old.server.kept
       → Cuts (node_deeds (setting old.server) old.server.config.measures told (machine old) ++ turn_deeds (setting old.server) last (machine_after (setting old.server) old.server.config.measures told (machine old))) deeds under
   pub heard : IsHonest view old.server.kept
-      → AreHeard (setting old.server) (reads_by old.server) (until (story listening.link) (story new.server.link)) told (begun (setting old.server) old.server.config.measures (machine old))
+      → AreHeard (setting old.server) (until (story listening.link) (story new.server.link)) told (begun (setting old.server) old.server.config.measures (machine old))
   pub last_heard : IsHonest view old.server.kept
       → (length deeds < length (node_deeds (setting old.server) old.server.config.measures told (machine old)) + 3)
-      ⊎ MayHear (reads_by old.server)
+      ⊎ MayHear (terms_in (setting old.server) (machine_after (setting old.server) old.server.config.measures told (machine old)).running)
       (all_calls_after (setting old.server) told (begun (setting old.server) old.server.config.measures (machine old)) (until (story listening.link) (story new.server.link)))
       (due_at last (machine_after (setting old.server) old.server.config.measures told (machine old))) last (machine_after (setting old.server) old.server.config.measures told (machine old))
+  pub last_reread : IsHonest view old.server.kept → MayReread last (machine_after (setting old.server) old.server.config.measures told (machine old))
   pub serves : IsHonest view old.server.kept → old.server.works ≡ [] → ServesFrom (setting old.server) deeds (running old.server) (story listening.link) (story new.server.link)
 
 -- the run of a loaded node

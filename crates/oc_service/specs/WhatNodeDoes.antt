@@ -1,10 +1,11 @@
 -- A node's deeds on one page: a machine whose steps are turns, given the reports of the link and
 -- the clock in each. `turn` of oc_deeds gives the deeds of a turn, and `after`, `line` and `calls`
 -- of a deed give the node after it, its line and its calls.
-use Rattle.std.specs.Prelude.{ℕ, Bool, ◌==◌, if◌then◌else◌, Option, List, [], ◌∷◌, ◌++◌}
+use Rattle.std.specs.Prelude.{ℕ, Bool, ◌==◌, if◌then◌else◌, Option, Some, List, [], ◌∷◌, ◌++◌}
 use Rattle.oc_base.specs.Groups.{shelf}
 use Rattle.oc_base.specs.declared.shelf.Shelf.{Shelf}
 use Rattle.oc_model.specs.declared.input.Input.TheVariants.{Measured}
+use Rattle.oc_config.specs.Settings.{Settings}
 use Rattle.oc_model.specs.Node.{Control, Node}
 use Rattle.oc_probe.specs.declared.probing.Probing.{Probing}
 use Rattle.oc_routes.specs.Tallies.{first_tally}
@@ -13,7 +14,8 @@ use Rattle.oc_deeds.specs.Choices.{due_index}
 use Rattle.oc_deeds.specs.Deeds.{Deed, Running, Says, Setting, Takes, after_all}
 use Rattle.oc_deeds.specs.Pace.{first_pace}
 use Rattle.oc_deeds.specs.Records.{told_ahead}
-use Rattle.oc_deeds.specs.Turns.{Observation, pace_after, probing_after, turn}
+use Rattle.oc_deeds.specs.Rereading.{last_read, probing_by}
+use Rattle.oc_deeds.specs.Turns.{Observation, dealt, pace_after, probing_after, turn}
 use Rattle.oc_deeds.specs.declared.pace.Pace.{Pace}
 use Rattle.oc_updown.specs.declared.measure_lines.Measure.{Measure}
 
@@ -22,11 +24,18 @@ pub record Machine : Type 0 where
   pub running : Running
   pub pace : Pace
   pub probing : Option Probing
+  -- the bytes of its configuration that were read last; none where the last reading failed
+  pub reading : Option (List ℕ)
 
--- the machine at first: no messages to send, no request under way, nothing counted, and no tick yet; in a record
+-- a node that goes by this configuration, with no messages to send and no request under way
+abbrev pub node_at_first : Settings → Node → Running
+node_at_first config n = record { node = n; outbox = []; works = []; dials = []; tally = first_tally n.control.nodes; config = config }
+
+-- the machine at first, nothing counted, whose configuration was read from these bytes: no tick yet; in a record
 -- ticks are whole seconds apart, otherwise they are at most this interval apart
-abbrev pub at_first : Bool → ℕ → Option Probing → Node → Machine
-at_first whole most probing n = record { running = record { node = n; outbox = []; works = []; dials = []; tally = first_tally n.control.nodes }; pace = first_pace whole most; probing = probing }
+abbrev pub at_first : Bool → ℕ → Option Probing → List ℕ → Settings → Node → Machine
+at_first whole most probing text config n =
+    record { running = node_at_first config n; pace = first_pace whole most; probing = probing; reading = Some text }
 
 -- each of the node's own measures is taken as an input
 abbrev pub own_measure : Setting → Measure → List Deed
@@ -54,11 +63,16 @@ turn_deeds s t m = turn m.pace m.probing t s m.running
 abbrev pub due_at : Observation → Machine → Option ℕ
 due_at t m = due_index m.running.works (shelf m.running.node.groups) t.before
 
+-- the configuration that it goes by when it looks for a new one
+abbrev pub config_at_look : Setting → Observation → Machine → Settings
+config_at_look s t m = (after_all (dealt m.pace m.probing t s m.running) m.running).config
+
 abbrev pub after_turn : Setting → Observation → Machine → Machine
 after_turn s t m = record {
   running = after_all (turn_deeds s t m) m.running;
   pace = pace_after (due_at t m) m.pace t m.running.node;
-  probing = probing_after (due_at t m) t m.running.dials m.probing;
+  probing = probing_by s.me (config_at_look s t m) t.reread (probing_after (due_at t m) t m.running.dials m.probing);
+  reading = last_read t.look m.reading;
 }
 
 -- turn after turn

@@ -1,12 +1,14 @@
 -- The observations of a node's turns are the reports of its link, as they were read.
-use Rattle.std.specs.Prelude.{ℕ, Option, None, Some, List, [], ◌∷◌, ◌++◌}
+use Rattle.std.specs.Prelude.{◌≡◌, ◌⊎◌, ℕ, Option, None, Some, List, [], ◌∷◌, ◌++◌}
 use Rattle.std.specs.Option.{option_map}
 use Rattle.oc_link.specs.declared.call.Call.{Call}
 use Rattle.oc_routes.specs.Verdicts.{NodeTerms}
 use Rattle.oc_deeds.specs.Deeds.{Setting, calls_of, errand_in}
 use Rattle.oc_server.specs.Runs.{IsLent, after_reading}
 use Rattle.oc_deeds.specs.Measured.{IsMeasured}
-use Rattle.oc_deeds.specs.Turns.{Means, Observation}
+use Rattle.oc_deeds.specs.Rereading.{MeansLook}
+use Rattle.oc_deeds.specs.Turns.{Means, Observation, terms_in}
+use Rattle.oc_deeds.specs.declared.reread.Reread.TheVariants as rereads
 use Rattle.oc_service.specs.WhatNodeDoes.{Machine, after_turn, due_at, turn_deeds}
 
 -- The event is that reported by the link, read by these terms. If the link tells its story, these
@@ -26,10 +28,18 @@ MayHear terms calls (Some place) t m = Unit {0}
 abbrev pub calls_after : Setting → Observation → Machine → Option (List Call) → Option (List Call)
 calls_after s t m calls = option_map (λ (cs : List Call). cs ++ calls_of s (turn_deeds s t m) m.running) calls
 
--- the events of turns one after another are those reported by the link, each after the calls of the turns before it
-abbrev pub AreHeard : Setting → NodeTerms → Option (List Call) → List Observation → Machine → Type 0
-AreHeard s terms calls [] m = Unit {0}
-AreHeard s terms calls (t ∷ ts) m = MayHear terms calls (due_at t m) t m × AreHeard s terms (calls_after s t m calls) ts (after_turn s t m)
+-- what a turn heard, and what it read of its configuration
+abbrev pub HearsAll : Setting → Option (List Call) → Observation → Machine → Type 0
+HearsAll s calls t m = MayHear (terms_in s m.running) calls (due_at t m) t m × MeansLook m.reading t.look t.reread
+
+-- the same for each of the turns
+abbrev pub AreHeard : Setting → Option (List Call) → List Observation → Machine → Type 0
+AreHeard s calls [] m = Unit {0}
+AreHeard s calls (t ∷ ts) m = HearsAll s calls t m × AreHeard s (calls_after s t m calls) ts (after_turn s t m)
+
+-- where a turn ended partway through: what the look gave was read, or nothing was done by it
+abbrev pub MayReread : Observation → Machine → Type 0
+MayReread t m = (t.reread ≡ rereads.Nothing) ⊎ MeansLook m.reading t.look t.reread
 
 -- the calls after these turns
 abbrev pub all_calls_after : Setting → List Observation → Machine → Option (List Call) → Option (List Call)

@@ -2,7 +2,8 @@
 //!
 //! [`run_node`] is the call for the layer above. It loads the node of a configuration from its
 //! three files, has its link listen, takes the measures, and makes the number of turns of its task.
-//! Its [`Site`] is given by the caller and given back.
+//! At the end of each turn it looks at the file of its configuration, and goes by what the file says
+//! then. Its [`Site`] is given by the caller and given back.
 //!
 //! `specs/WhatNodeDoes` defines the deeds of a node on one page: a machine whose steps are turns,
 //! given the reports of the link and the clock in each. The contract of [`run_node`] is that

@@ -60,8 +60,16 @@ pub(crate) fn load<D: Disk, L: Link, K: Sink>(
         Err(Memory) => return Err((site, KeepLoad::Memory)),
     };
     let Site { files, link, sink } = site;
+    let Task {
+        me,
+        turns: _,
+        probes,
+        log,
+        text,
+        about,
+    } = task;
     let seat = Seat {
-        id: task.me,
+        id: me,
         header: Header {
             sizes: Sizes {
                 nodes: nodes_of(&config),
@@ -80,15 +88,16 @@ pub(crate) fn load<D: Disk, L: Link, K: Sink>(
                 works: Works::new(alloc),
                 dials: Dials::new(alloc),
                 config,
-                about: task.about,
+                about,
                 tally,
-                log: task.log,
+                log,
                 link,
                 sink,
                 heads,
             },
-            pace: Pace::new(task.log.is_record(), most_interval(task.probes, task.me)),
+            pace: Pace::new(log.is_record(), most_interval(probes, me)),
             probing,
+            reading: Some(text),
         }),
         Err((files, error)) => Err((Site { files, link, sink }, error)),
     }

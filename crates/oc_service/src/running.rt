@@ -18,7 +18,7 @@ ghost use Rattle.oc_updown.specs.MeasureLines.{IsMeasure};
 use crate::loading::load;
 use crate::measuring::begin;
 use crate::site::Site;
-use oc_base::NodeId;
+use oc_base::{Bytes, NodeId};
 use oc_config::Config;
 use oc_deeds::{Log, TurnEnd};
 use oc_io::{Disk, Sink};
@@ -29,7 +29,7 @@ use oc_server::{Server, Turns, turns_are_in_order};
 use std::alloc::Global;
 
 /// The task of a node.
-#[derive(Clone, Copy)]
+#[derive(Drop)]
 pub struct Task {
     /// The number of the node.
     pub me: NodeId,
@@ -39,6 +39,8 @@ pub struct Task {
     pub probes: bool,
     /// The form in which the node logs its inputs.
     pub log: Log,
+    /// The bytes that its configuration was read from.
+    pub text: Bytes,
     /// What is told of the program.
     pub about: About,
 }
@@ -78,7 +80,7 @@ pub fn run_node<D: Disk, L: Link, K: Sink>(
         (at_run D.view L.story L.counts K.takes K.fails config task (disks_in site.files) (disks_in result.site.files) site.link result.site.link site.sink result.site.sink)
         (λ text. K.takes site.sink text result.site.sink)
         (λ text. K.fails site.sink text result.site.sink × Rose (K.faults site.sink) (K.faults result.site.sink))
-        (setting_of config task) result.end }
+        (setting_of task) result.end }
 
     // All turns are made, unless memory runs out or a file is full, with the files of a node on honest
     // disks, if neither a disk nor the output nor the asking of the link fails.
@@ -167,8 +169,10 @@ fn leave<D: Disk, L: Link, K: Sink>(turns: Turns<D, L, K>) -> Site<D, L, K>
         server,
         pace: _,
         probing,
+        reading,
     } = turns;
     drop(probing);
+    drop(reading);
     let Server {
         alloc: _,
         kept,

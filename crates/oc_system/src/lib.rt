@@ -1,7 +1,8 @@
 //! The edge: the real things that a program hands to the parts that are proved over any source, disk and link. They
 //! are files as disks ([`FileDisk`]), a program's input ([`Input`]), the standard streams that were closed
 //! ([`ClosedStreams`]), the sockets by which a client dials ([`SocketDialler`]), and sockets as the link of a running node
-//! ([`SocketLink`]). All numbers, times and bounds are in `limits`.
+//! ([`SocketLink`]), which looks at the file of the node's configuration, too. All numbers, times and bounds are in
+//! `limits`.
 //!
 //! The edge is trusted: each thing tells no more than the system does, of a file its size, of sockets counts and
 //! lengths alone, and no story. Each counts its failures, makes interrupted calls again, and keeps the reason why its last call
@@ -17,6 +18,7 @@
 
 mod client_connection;
 mod closed_streams;
+mod config_watch;
 mod connection;
 mod dial;
 mod extent;

@@ -1,6 +1,6 @@
 //! The limits of the sockets and files. No contract mentions them. Times are in milliseconds.
 
-use oc_base::{MAX_BODY_BYTES, MAX_HEAD_BYTES};
+use oc_base::{MAX_BODY_BYTES, MAX_HEAD_BYTES, MAX_SCHEDULE_BYTES};
 
 /// The greatest numbers of connections and of dials at one time.
 pub(crate) const PLACES: usize = 1_024;
@@ -114,3 +114,12 @@ pub(crate) const FIELD_ROOM: usize = 2_731;
 pub(crate) const PAGE: u64 = 4_096;
 
 pub(crate) const MOST_PAGES: u32 = 4_096;
+
+/// The time between two looks at the file of a configuration.
+pub(crate) const LOOK_MILLIS: u64 = 5_000;
+
+/// The number of bytes from which a configuration is not read on: more than one may have.
+pub(crate) const MOST_CONFIG: usize = MAX_SCHEDULE_BYTES + 1;
+
+/// The number of reads of such a file, each of a piece, after which it is given up.
+pub(crate) const CONFIG_READS: usize = 65_536;

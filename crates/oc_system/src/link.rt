@@ -1,6 +1,7 @@
 ghost use Rattle.std.specs.Prelude.{◌≡◌};
 ghost use Rattle.oc_link.specs.Counts.{no_counts};
 
+use crate::config_watch::ConfigWatch;
 use crate::failures::LastFailure;
 use crate::limits::FINISH_MILLIS;
 use crate::names::addresses_of;
@@ -8,11 +9,12 @@ use crate::sockets::{SocketEvent, Sockets};
 use crate::times::Watch;
 use crate::trouble::Trouble;
 use oc_io::Failed;
-use oc_link::{Coming, ConnectionId, DialId, Ending, Link, LinkCounts, LinkEvent};
+use oc_link::{Coming, ConnectionId, DialId, Ending, Link, LinkCounts, LinkEvent, Look};
 use std::alloc::Global;
 use std::collections::VecDeque;
+use std::fs::File;
 use std::net::{Net, TcpStream};
-use std::rt::Clock;
+use std::rt::{Clock, Files};
 use std::time::Duration;
 use std::{io, mem};
 
@@ -32,13 +34,21 @@ pub struct SocketLink<'a, R> {
     counts: LinkCounts,
     /// The node that waits for connections, if one runs.
     node: Option<u64>,
+    /// The file of its configuration, if it was named.
+    config: Option<ConfigWatch<'a>>,
     /// The address and the error of the last failure to listen.
     failure: LastFailure,
 }
 
-impl<'a, R: Net<Stream = TcpStream> + Clock + Eprint> SocketLink<'a, R> {
-    /// A link over the sockets of this runtime, for the node of this id if one runs.
-    pub fn new(rt: &'a R, alloc: Global, node: Option<u64>) -> SocketLink<'a, R>
+impl<'a, R: Net<Stream = TcpStream> + Clock + Eprint + Files<File = File>> SocketLink<'a, R> {
+    /// A link over the sockets of this runtime, for the node of this id if one runs, which was configured by the file at
+    /// this path if one was named.
+    pub fn new(
+        rt: &'a R,
+        alloc: Global,
+        node: Option<u64>,
+        config: Option<&'a str>,
+    ) -> SocketLink<'a, R>
         ensures counts { result.counts ≡ no_counts }
     {
         SocketLink {
@@ -51,6 +61,7 @@ impl<'a, R: Net<Stream = TcpStream> + Clock + Eprint> SocketLink<'a, R> {
             lender: None,
             counts: LinkCounts::none(),
             node,
+            config: watched(config),
             failure: LastFailure::none(alloc),
         }
     }
@@ -99,6 +110,14 @@ impl<'a, R: Net<Stream = TcpStream> + Clock + Eprint> SocketLink<'a, R> {
     }
 }
 
+/// The file of a configuration, to be looked at.
+fn watched(path: Option<&str>) -> Option<ConfigWatch<'_>> {
+    match path {
+        Some(path) => Some(ConfigWatch::new(path)),
+        None => None,
+    }
+}
+
 /// Reports on the error output the address at which a node waits for connections. A failure of the
 /// output changes nothing.
 fn announce<R: Eprint>(rt: &R, node: Option<u64>, address: &str) {
@@ -107,7 +126,7 @@ fn announce<R: Eprint>(rt: &R, node: Option<u64>, address: &str) {
     }
 }
 
-impl<R: Net<Stream = TcpStream> + Clock + Eprint> Link for SocketLink<'_, R> {
+impl<R: Net<Stream = TcpStream> + Clock + Eprint + Files<File = File>> Link for SocketLink<'_, R> {
     ghost use Rattle.std.specs.Prelude.{None};
 
     ghost story = { λ link. None };
@@ -121,6 +140,10 @@ impl<R: Net<Stream = TcpStream> + Clock + Eprint> Link for SocketLink<'_, R> {
             Ok(sockets) => {
                 self.sockets = Some(sockets);
                 announce(self.rt, self.node, address);
+                let now = self.watch.millis(self.rt);
+                if let Some(config) = &mut self.config {
+                    config.begin(now);
+                }
                 Ok(())
             }
             Err(error) => {
@@ -211,6 +234,25 @@ impl<R: Net<Stream = TcpStream> + Clock + Eprint> Link for SocketLink<'_, R> {
 
     fn millis(&mut self) -> u64 {
         self.watch.millis(self.rt)
+    }
+
+    fn look(&mut self) -> Look {
+        let now = self.watch.millis(self.rt);
+        let Some(config) = &mut self.config else {
+            return Look::Nothing;
+        };
+        let look = config.look(self.rt, self.alloc, now);
+        if let Look::Failed = &look {
+            let path = config.path();
+            let _ = eprintln!(self.rt; "overcast: input failed: {path}");
+        }
+        look
+    }
+
+    fn report(&mut self, line: &[u8]) {
+        if let Ok(text) = str::from_utf8(line) {
+            let _ = eprint!(self.rt; "{text}");
+        }
     }
 }
 

@@ -4,7 +4,7 @@
 use crate::serve::steps::{MOST_STEPS, numbers_in, small_in, split_step};
 use oc_base::Bytes;
 use oc_io::{MemDisk, MemSink};
-use oc_link::{Coming, ConnectionId, DialId, Happening, Loss, MemLink, Step};
+use oc_link::{Coming, ConnectionId, DialId, Happening, Look, Loss, MemLink, Step};
 use std::alloc::Global;
 use test_tools::{Fault, RowFields, spelled_in};
 
@@ -38,6 +38,7 @@ struct Script {
 ///   gave way.
 /// - `reply:TEXT` is the reply to dial 0, or to that of the last `dial:N`; `failed:TEXT` is a reply
 ///   on which the dial fails after these bytes.
+/// - `file:TEXT` has the look at the end of the turn before give this text as the configuration, and `away` fails that look.
 /// - `quiet` is no event, and `fails` a failure of the link. `wait:N` lets N milliseconds pass
 ///   until the next event.
 pub fn link_in(alloc: Global, scene: &str) -> Result<(MemLink, u32), Fault> {
@@ -79,6 +80,11 @@ impl Script {
             "room" => self.put(Happening::Room(self.connection())),
             "gone" => self.put(Happening::Gone(self.connection(), Loss::Failed)),
             "gave" => self.put(Happening::Gone(self.connection(), Loss::GaveWay)),
+            "file" => {
+                let text = Bytes::of(spelled_in(self.alloc, said)?);
+                self.put(Happening::Looks(Look::Text(text)))
+            }
+            "away" => self.put(Happening::Looks(Look::Failed)),
             "quiet" => self.put(Happening::Quiet),
             "fails" => self.put(Happening::Fails),
             _ => self.set(word, said),

@@ -1,6 +1,6 @@
 //! The run of a node.
 
-use oc_base::NodeId;
+use oc_base::{Bytes, NodeId};
 use oc_config::read;
 use oc_io::{Disk, Sink};
 use oc_link::Link;
@@ -31,6 +31,7 @@ pub fn run<D: Disk + Drop, L: Link + Drop, K: Sink + Drop>(
     play: Play,
     site: Site<D, L, K>,
 ) -> Result<Ran<D, L, K>, Fault> {
+    let text = Bytes::of(config.to_vec(alloc)?);
     let Ok(config) = read(alloc, config) else {
         return Err(Fault::Unready);
     };
@@ -42,6 +43,7 @@ pub fn run<D: Disk + Drop, L: Link + Drop, K: Sink + Drop>(
         turns: u64::from(play.turns),
         probes: play.probes,
         log: play.log,
+        text,
         about: ABOUT,
     };
     Ok(run_node(alloc, config, task, site))

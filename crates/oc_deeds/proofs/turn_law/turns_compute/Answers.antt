@@ -1,10 +1,11 @@
 use Rattle.std.proofs.Common.{refl}
 use Rattle.std.specs.Fmt.{digits}
+use Rattle.oc_deeds.specs.Rereading.{takes_measures}
 use Rattle.oc_deeds.specs.Sends.{sends}
 use Rattle.oc_deeds.proofs.turn_law.turns_compute.Goals as goal
 
 pub returns : goal.returns
-unfolding digits sends
+unfolding digits sends takes_measures
 returns c = record {
   gives = refl;
   lays_aside = refl;
@@ -33,4 +34,9 @@ returns c = record {
   same_second = refl;
   next_second = refl;
   quiet_turn = refl;
+  taken_over = refl;
+  taken_before = refl;
+  restarts = refl;
+  stranger = refl;
+  again = refl;
 }

@@ -36,6 +36,7 @@ returns-in-Ok-load-clause-loaded g c =
       dials = c.new-in-Ok-load.ensures;
       pace = c.new-in-Ok-load-2.ensures ∙ ap (λ (whole : Bool). first_pace whole c.most_interval.result) c.is_record.ensures ∙ ap (first_pace (is_record c.args.task.log)) c.most_interval.ensures;
       probing = c.in-Ok.ensures.first;
+      reading = refl;
       config = refl;
       log = refl;
       about = refl;

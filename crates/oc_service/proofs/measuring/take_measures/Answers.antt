@@ -32,7 +32,7 @@ returns-in_err-take_measure-clause-stops g c =
     let m = c.index-measure.result.now in
     let far = l.invariant.far in
     let stops = c.in_err-take_measure.ensures.stops in
-    let same : setting l.server ≡ setting s = setting_stays g.D.Disk.view g.K.Sink.takes g.K.Sink.fails g.K.Sink.faults g.L.Link.story g.L.Link.counts s l.server far.2.same far.2.config far.2.log far.2.about in
+    let same : setting l.server ≡ setting s = setting_stays g.D.Disk.view g.K.Sink.takes g.K.Sink.fails g.K.Sink.faults g.L.Link.story g.L.Link.counts s l.server far.2.same far.2.log far.2.about in
     let here = own_measure (setting s) m in
     let more = own_measures (setting s) (drop (suc l.place) s.config.measures) in
     let cut : IsHonest g.D.Disk.view s.kept → Cuts here stops.deeds stops.under =
@@ -54,7 +54,7 @@ measures-preserved g c =
     let m = c.index-measure.result.now in
     let far = l.invariant.far in
     let did = c.in_ok-take_measure.ensures.did in
-    let same : setting l.server ≡ setting s = setting_stays g.D.Disk.view g.K.Sink.takes g.K.Sink.fails g.K.Sink.faults g.L.Link.story g.L.Link.counts s l.server far.2.same far.2.config far.2.log far.2.about in
+    let same : setting l.server ≡ setting s = setting_stays g.D.Disk.view g.K.Sink.takes g.K.Sink.fails g.K.Sink.faults g.L.Link.story g.L.Link.counts s l.server far.2.same far.2.log far.2.about in
     record {
       serving = still_serving g.D.Disk.view g.K.Sink.takes g.K.Sink.fails g.K.Sink.faults g.L.Link.story g.L.Link.counts (own_measure (setting l.server) m) l.server t did l.invariant.serving;
       config = did.config ∙ l.invariant.config;

@@ -22,9 +22,9 @@ returns-clause-did g c =
     let me = s.kept.node.control.me in
     let is = c.take-gone.ensures.rest in
     does_one g.D.Disk.view g.K.Sink.takes g.K.Sink.fails g.K.Sink.faults g.L.Link.story g.L.Link.counts (Drops c.args.connection c.args.told) (one (Drops c.args.connection c.args.told)) s _ (λ honest. refl)
-    (did_line g.D.Disk.view g.K.Sink.takes g.K.Sink.fails g.K.Sink.faults g.L.Link.story g.L.Link.counts (Drops x c.args.told) s c.write_told.new.sink c.take-gone.new.self s.link s.tally refl c.requires.is_open refl c.in_ok-write_told.ensures.wrote c.write_told.ensures.count
+    (did_line g.D.Disk.view g.K.Sink.takes g.K.Sink.fails g.K.Sink.faults g.L.Link.story g.L.Link.counts (Drops x c.args.told) s c.write_told.new.sink c.take-gone.new.self s.link s.tally refl refl c.requires.is_open refl c.in_ok-write_told.ensures.wrote c.write_told.ensures.count
     (λ all. subst (λ (ws : List Work). AllByRecursion (IsLawfulWork nodes me) ws) (sym is) (works_without nodes me x s.works all))
-    (ap (λ (ws : List Work). record { node = node_of s.kept; outbox = s.outbox; works = ws; dials = s.dials; tally = s.tally }) is)
+    (ap (λ (ws : List Work). record { node = node_of s.kept; outbox = s.outbox; works = ws; dials = s.dials; config = s.config; tally = s.tally }) is)
     (adds-none (g.L.Link.story s.link)))
 
 pub returns-in_err-write_told-clause-breaks : goal.returns-in_err-write_told-clause-breaks

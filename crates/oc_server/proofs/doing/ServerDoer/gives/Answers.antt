@@ -29,7 +29,7 @@ returns-clause-did g c =
     let is : c.begin_rest.new.works ≡ with_content left others = c.in_ok-begin_rest.ensures.begun ∙ ap (with_content left) c.take-given.ensures.rest in
     does_one g.D.Disk.view g.K.Sink.takes g.K.Sink.fails g.K.Sink.faults g.L.Link.story g.L.Link.counts (Gives c.args.transfer c.args.now) (one (Gives c.args.transfer c.args.now)) s _ (λ honest. refl)
     (did_given g.D.Disk.view g.K.Sink.takes g.K.Sink.fails g.K.Sink.faults g.L.Link.story g.L.Link.counts g.met.K.Sink.takes_nothing (Gives p c.args.now) s c.next_piece.new.kept c.begin_rest.new.works (with_content (rest p c.args.now groups) others) c.finish.new.link c.sends.new.self (with_sent (length (piece p groups)) s.tally)
-    refl refl c.in_ok-piece.ensures.looks (c.finish.ensures.counts ∙ c.give.ensures.counts)
+    refl refl refl c.in_ok-piece.ensures.looks (c.finish.ensures.counts ∙ c.give.ensures.counts)
     (λ all. subst (λ (ws : List Work). AllByRecursion (IsLawfulWork nodes me) ws) (sym is) (works_with_content nodes me left others (works_without nodes me p.connection s.works all)))
     refl
     (λ honest. is ∙ ap (λ (x : Option Transfer). with_content x others) (c.in_ok-piece.ensures.rest honest))

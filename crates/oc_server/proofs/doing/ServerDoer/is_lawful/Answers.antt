@@ -6,3 +6,6 @@ returns-clause-lawful_works g c = λ s serving. serving.lawful.works
 
 pub returns-clause-same_me : goal.returns-clause-same_me
 returns-clause-same_me g c = λ s. refl
+
+pub returns-clause-places : goal.returns-clause-places
+returns-clause-places g c = λ s serving. serving.placed.count

@@ -23,9 +23,9 @@ returns-clause-did g c =
     let me = s.kept.node.control.me in
     let is : c.begin.new.self ≡ without_work p.connection s.works ++ works.Aside p ∷ [] = c.in_ok-begin.ensures.begun ∙ ap (λ (ws : List Work). ws ++ works.Aside p ∷ []) c.take-content.ensures.rest in
     does_one g.D.Disk.view g.K.Sink.takes g.K.Sink.fails g.K.Sink.faults g.L.Link.story g.L.Link.counts (LaysAside c.args.transfer) (one (LaysAside c.args.transfer)) s _ (λ honest. refl)
-    (did_works g.D.Disk.view g.K.Sink.takes g.K.Sink.fails g.K.Sink.faults g.L.Link.story g.L.Link.counts g.met.K.Sink.takes_nothing (LaysAside p) s c.begin.new.self s.link refl refl c.requires.is_open refl
+    (did_works g.D.Disk.view g.K.Sink.takes g.K.Sink.fails g.K.Sink.faults g.L.Link.story g.L.Link.counts g.met.K.Sink.takes_nothing (LaysAside p) s c.begin.new.self s.link refl refl refl c.requires.is_open refl
     (λ all. subst (λ (ws : List Work). AllByRecursion (IsLawfulWork nodes me) ws) (sym is) (works_with nodes me (without_work p.connection s.works) (works.Aside p) (works_without nodes me p.connection s.works all) tt))
-    (ap (λ (ws : List Work). record { node = node_of s.kept; outbox = s.outbox; works = ws; dials = s.dials; tally = s.tally }) is)
+    (ap (λ (ws : List Work). record { node = node_of s.kept; outbox = s.outbox; works = ws; dials = s.dials; config = s.config; tally = s.tally }) is)
     (adds-none (g.L.Link.story s.link)))
 
 pub returns-in_err-begin-clause-breaks : goal.returns-in_err-begin-clause-breaks

@@ -13,7 +13,7 @@ pub returns-clause-did : goal.returns-clause-did
 returns-clause-did g c =
     let s = c.args.self.now in
     done_then c.write_line.result (λ wrote. does_one g.D.Disk.view g.K.Sink.takes g.K.Sink.fails g.K.Sink.faults g.L.Link.story g.L.Link.counts (Notes c.args.why.now) (one (Notes c.args.why.now)) s _ (λ honest. refl)
-    (did_line g.D.Disk.view g.K.Sink.takes g.K.Sink.fails g.K.Sink.faults g.L.Link.story g.L.Link.counts (Notes c.args.why.now) s c.write_line.new.sink s.works s.link s.tally refl c.requires.is_open refl
+    (did_line g.D.Disk.view g.K.Sink.takes g.K.Sink.fails g.K.Sink.faults g.L.Link.story g.L.Link.counts (Notes c.args.why.now) s c.write_line.new.sink s.works s.link s.tally refl refl c.requires.is_open refl
     (subst (λ (t : List ℕ). g.K.Sink.takes s.sink t c.write_line.new.sink) (c.deref.ensures.value ∙ put_first c.new-line.result.items (note_line c.args.why.now) _ (search rules) c.in_ok-put_note.ensures) wrote) c.write_line.ensures.count (λ all. all) refl (adds-none (g.L.Link.story s.link)))) c.write_line.ensures.wrote
 
 pub returns-clause-breaks : goal.returns-clause-breaks

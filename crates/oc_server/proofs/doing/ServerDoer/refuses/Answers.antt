@@ -16,7 +16,7 @@ pub returns-clause-did : goal.returns-clause-did
 returns-clause-did g c =
     let s = c.args.self.now in
     does_one g.D.Disk.view g.K.Sink.takes g.K.Sink.fails g.K.Sink.faults g.L.Link.story g.L.Link.counts (Refuses c.args.connection c.args.count c.args.refusal) (one (Refuses c.args.connection c.args.count c.args.refusal)) s _ (λ honest. refl)
-    (did_line g.D.Disk.view g.K.Sink.takes g.K.Sink.fails g.K.Sink.faults g.L.Link.story g.L.Link.counts (Refuses c.args.connection c.args.count c.args.refusal) s c.write_line.new.sink s.works c.refuse.new.link c.count_refusal.new.tally refl c.requires.is_open c.refuse.ensures.counts
+    (did_line g.D.Disk.view g.K.Sink.takes g.K.Sink.fails g.K.Sink.faults g.L.Link.story g.L.Link.counts (Refuses c.args.connection c.args.count c.args.refusal) s c.write_line.new.sink s.works c.refuse.new.link c.count_refusal.new.tally refl refl c.requires.is_open c.refuse.ensures.counts
     (subst (λ (t : List ℕ). g.K.Sink.takes s.sink t c.write_line.new.sink) (c.deref.ensures.value ∙ put_first c.new-line.result.items (note_line (why_text c.args.refusal.why)) _ (search rules) c.in_ok-put_refusal_line.ensures) c.in_ok-write_line.ensures.wrote) c.write_line.ensures.count (λ all. all)
     (ap (λ (t : TallyView). record (running s) { tally = t }) (c.count_refusal.ensures ∙ ap (λ (text : Option (List ℕ)). with_refused_by (message_fault c.args.refusal.why) c.args.refusal.asker text s.tally) c.in_ok-reply.ensures))
     (subst (λ (reply : Option (List ℕ)). AddsAll (refuses c.args.connection c.args.count reply) (g.L.Link.story s.link) (g.L.Link.story c.refuse.new.link)) c.in_ok-reply.ensures c.refuse.ensures.calls))

@@ -39,7 +39,7 @@ returns-clause-did g c =
     does_one g.D.Disk.view g.K.Sink.takes g.K.Sink.fails g.K.Sink.faults g.L.Link.story g.L.Link.counts (Replies r response now) (replies c.args.pending c.args.now c.args.accepted.now.answer c.args.accepted.now.back) s _ (λ honest. ap (λ (x : Response). Replies r x now ∷ []) (sym (c.in_ok-response.ensures honest)))
     (did_given g.D.Disk.view g.K.Sink.takes g.K.Sink.fails g.K.Sink.faults g.L.Link.story g.L.Link.counts g.met.K.Sink.takes_nothing (Replies r response now) s c.first_piece.new.kept c.begin_rest.new.works (with_content (first_rest (transfer_for r response now) now groups) others) c.finish.new.link
     c.count_reply.new.tally (with_reply_to r.asked.operation (given_first r response now groups) s.tally)
-    refl refl c.in_ok-piece.ensures.looks (c.finish.ensures.counts ∙ c.give.ensures.counts ∙ c.take_request.ensures.counts)
+    refl refl refl c.in_ok-piece.ensures.looks (c.finish.ensures.counts ∙ c.give.ensures.counts ∙ c.take_request.ensures.counts)
     (λ all. subst (λ (ws : List Work). AllByRecursion (IsLawfulWork nodes me) ws) (sym is) (works_with_content nodes me left others (works_without nodes me r.connection s.works all)))
     refl
     (λ honest. is ∙ ap (λ (x : Option Transfer). with_content x others) (rest_is honest))

@@ -15,7 +15,7 @@ returns-clause-did g c =
     let text = told_after c.args.before s.kept.node.control c.args.answer in
     let is : c.deref.result.now ≡ text = c.deref.ensures.value ∙ c.in_ok-text.ensures ∙ ap (λ n. told_after c.args.before n.control c.args.answer) c.node.ensures in
     done_then c.write_line.result (λ wrote. does_one g.D.Disk.view g.K.Sink.takes g.K.Sink.fails g.K.Sink.faults g.L.Link.story g.L.Link.counts (Says text) (says_after c.args.before c.args.answer) s _ (λ honest. refl)
-    (did_line g.D.Disk.view g.K.Sink.takes g.K.Sink.fails g.K.Sink.faults g.L.Link.story g.L.Link.counts (Says text) s c.write_line.new.sink s.works s.link s.tally refl c.requires.is_open refl
+    (did_line g.D.Disk.view g.K.Sink.takes g.K.Sink.fails g.K.Sink.faults g.L.Link.story g.L.Link.counts (Says text) s c.write_line.new.sink s.works s.link s.tally refl refl c.requires.is_open refl
     (subst (λ (t : List ℕ). g.K.Sink.takes s.sink t c.write_line.new.sink) is wrote) c.write_line.ensures.count (λ all. all) refl (adds-none (g.L.Link.story s.link)))) c.write_line.ensures.wrote
 
 pub returns-clause-breaks : goal.returns-clause-breaks

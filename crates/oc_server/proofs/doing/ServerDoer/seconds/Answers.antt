@@ -9,4 +9,4 @@ pub returns : goal.returns
 returns g c =
     let s = c.args.self.now in
     does_one g.D.Disk.view g.K.Sink.takes g.K.Sink.fails g.K.Sink.faults g.L.Link.story g.L.Link.counts (Tells c.now.result) (one (Tells c.now.result)) s _ (λ honest. refl)
-    (did_works g.D.Disk.view g.K.Sink.takes g.K.Sink.fails g.K.Sink.faults g.L.Link.story g.L.Link.counts g.met.K.Sink.takes_nothing (Tells c.now.result) s s.works c.now.new.self refl refl c.requires.is_open c.now.ensures.counts (λ all. all) refl c.now.ensures.story)
+    (did_works g.D.Disk.view g.K.Sink.takes g.K.Sink.fails g.K.Sink.faults g.L.Link.story g.L.Link.counts g.met.K.Sink.takes_nothing (Tells c.now.result) s s.works c.now.new.self refl refl refl c.requires.is_open c.now.ensures.counts (λ all. all) refl c.now.ensures.story)

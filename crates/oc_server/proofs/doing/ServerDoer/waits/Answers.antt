@@ -17,10 +17,10 @@ pub returns-clause-did : goal.returns-clause-did
 returns-clause-did g c =
     let s = c.args.self.now in
     does_one g.D.Disk.view g.K.Sink.takes g.K.Sink.fails g.K.Sink.faults g.L.Link.story g.L.Link.counts (Waits c.args.waiting) (one (Waits c.args.waiting)) s _ (λ honest. refl)
-    (did_works g.D.Disk.view g.K.Sink.takes g.K.Sink.fails g.K.Sink.faults g.L.Link.story g.L.Link.counts g.met.K.Sink.takes_nothing (Waits c.args.waiting) s c.begin.new.self c.take.new.self refl refl c.requires.serving.is_open c.take.ensures.counts
+    (did_works g.D.Disk.view g.K.Sink.takes g.K.Sink.fails g.K.Sink.faults g.L.Link.story g.L.Link.counts g.met.K.Sink.takes_nothing (Waits c.args.waiting) s c.begin.new.self c.take.new.self refl refl refl c.requires.serving.is_open c.take.ensures.counts
     (λ all. subst (λ (ws : List Work). AllByRecursion (IsLawfulWork s.kept.node.control.nodes s.kept.node.control.me) ws) (sym c.in_ok-begin.ensures.begun)
     (works_with s.kept.node.control.nodes s.kept.node.control.me s.works (works.Waits c.args.waiting) all c.requires.waiting))
-    (ap (λ (ws : List Work). record { node = node_of s.kept; outbox = s.outbox; works = ws; dials = s.dials; tally = s.tally }) c.in_ok-begin.ensures.begun)
+    (ap (λ (ws : List Work). record { node = node_of s.kept; outbox = s.outbox; works = ws; dials = s.dials; config = s.config; tally = s.tally }) c.in_ok-begin.ensures.begun)
     c.take.ensures.story)
 
 pub returns-in_err-begin-clause-breaks : goal.returns-in_err-begin-clause-breaks

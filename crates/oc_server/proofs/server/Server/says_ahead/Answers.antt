@@ -12,7 +12,7 @@ returns-clause-did g c =
     let s = c.args.self.now in
     let text = told_ahead s.log s.kept.node.control.me c.args.input.now in
     let is : c.deref.result.now ≡ text = c.deref.ensures.value ∙ c.in_ok-line.ensures in
-    done_then c.write_line.result (λ wrote. did_line g.D.Disk.view g.K.Sink.takes g.K.Sink.fails g.K.Sink.faults g.L.Link.story g.L.Link.counts (Says text) s c.write_line.new.sink s.works s.link s.tally refl c.requires.serving.is_open refl
+    done_then c.write_line.result (λ wrote. did_line g.D.Disk.view g.K.Sink.takes g.K.Sink.fails g.K.Sink.faults g.L.Link.story g.L.Link.counts (Says text) s c.write_line.new.sink s.works s.link s.tally refl refl c.requires.serving.is_open refl
     (subst (λ (t : List ℕ). g.K.Sink.takes s.sink t c.write_line.new.sink) is wrote) c.write_line.ensures.count (λ all. all) refl (adds-none (g.L.Link.story s.link))) c.write_line.ensures.wrote
 
 pub returns-clause-breaks : goal.returns-clause-breaks

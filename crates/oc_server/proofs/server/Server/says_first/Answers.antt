@@ -13,7 +13,7 @@ returns-clause-did g c =
     let s = c.args.self.now in
     let text = told_first s.log s.kept.node.control s.kept.content.shelves in
     let is : c.deref.result.now ≡ text = c.deref.ensures.value ∙ c.in_ok-text.ensures ∙ ap₂ (λ n (shelves : List Shelf). told_first s.log n.control shelves) c.node.ensures c.shelf.ensures.shelf in
-    done_then c.write_line.result (λ wrote. did_line g.D.Disk.view g.K.Sink.takes g.K.Sink.fails g.K.Sink.faults g.L.Link.story g.L.Link.counts (Says text) s c.write_line.new.sink s.works s.link s.tally refl c.requires.serving.is_open refl
+    done_then c.write_line.result (λ wrote. did_line g.D.Disk.view g.K.Sink.takes g.K.Sink.fails g.K.Sink.faults g.L.Link.story g.L.Link.counts (Says text) s c.write_line.new.sink s.works s.link s.tally refl refl c.requires.serving.is_open refl
     (subst (λ (t : List ℕ). g.K.Sink.takes s.sink t c.write_line.new.sink) is wrote) c.write_line.ensures.count (λ all. all) refl (adds-none (g.L.Link.story s.link))) c.write_line.ensures.wrote
 
 pub returns-clause-breaks : goal.returns-clause-breaks

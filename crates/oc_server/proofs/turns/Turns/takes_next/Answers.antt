@@ -69,7 +69,7 @@ returns-clause-ready g c =
     (serving_heads g.D.Disk.view g.K.Sink.takes g.K.Sink.fails g.K.Sink.faults g.L.Link.story g.L.Link.counts c.sees.new.self c.understands.new.self heads
     (still_serving g.D.Disk.view g.K.Sink.takes g.K.Sink.fails g.K.Sink.faults g.L.Link.story g.L.Link.counts (Sees c.in_ok-happened.happened.event c.wait_for-wait.result did.0 ∷ []) t.server c.sees.new.self did.1 c.requires.serving)) in
     let part = deals t.pace t.probing c.in_ok-came.came c.millis-now.result dealt.0 dealt.1 dealt.2 in
-    ready_then t (record { server = c.deals.new.doer; pace = c.deals.new.pace; probing = c.deals.new.probing }) c.requires
+    ready_then t (record { server = c.deals.new.doer; pace = c.deals.new.pace; probing = c.deals.new.probing; reading = t.reading }) c.requires
     (does_serve g.D.Disk.view g.K.Sink.takes g.K.Sink.fails g.K.Sink.faults g.L.Link.story g.L.Link.counts part d c.deals.new.doer dealt.4 serving)
     (dealt.4.did.same.header ∙ read.same.header ∙ ap (λ s. header_of s.kept.node.control) heads ∙ did.1.same.header) c.in_ok-came.came c.millis-now.result d.dials c.deals.ensures.probing
 
@@ -79,12 +79,12 @@ returns-clause-taken g c =
     let happened = c.in_ok-happened.happened in
     let did = c.in_ok-happened.ensures.did in
     let dealt = c.in_ok-deals.ensures.did in
-    subst (λ (served : Bool). NextTaken g.D.Disk.view g.K.Sink.takes g.K.Sink.faults g.L.Link.story g.L.Link.counts c.args.before served t (record { server = c.deals.new.doer; pace = c.deals.new.pace; probing = c.deals.new.probing })) (sym c.is_something-served.ensures)
+    subst (λ (served : Bool). NextTaken g.D.Disk.view g.K.Sink.takes g.K.Sink.faults g.L.Link.story g.L.Link.counts c.args.before served t (record { server = c.deals.new.doer; pace = c.deals.new.pace; probing = c.deals.new.probing; reading = t.reading })) (sym c.is_something-served.ensures)
     (next_taken g.D.Disk.view g.K.Sink.takes g.K.Sink.fails g.K.Sink.faults g.L.Link.story g.L.Link.counts g.met.K.Sink.takes_nothing g.met.K.Sink.takes_then t c.args.before c.wait_for-wait.result happened.event did.0 c.sees.new.self
     (c.wait_for-wait.ensures ∙ ap (λ (ws : List Work). wait_for t.pace ws c.args.before) c.list.ensures) did.1
-    happened.errand (g.L.Link.lends c.sees.new.self.link) c.in_ok-came.came c.millis-now.result c.understands.new.self c.millis-now.new.self (record { server = c.deals.new.doer; pace = c.deals.new.pace; probing = c.deals.new.probing })
+    happened.errand (g.L.Link.lends c.sees.new.self.link) c.in_ok-came.came c.millis-now.result c.understands.new.self c.millis-now.new.self (record { server = c.deals.new.doer; pace = c.deals.new.pace; probing = c.deals.new.probing; reading = t.reading })
     c.in_ok-happened.ensures.told c.in_ok-happened.ensures.errand c.in_ok-came.ensures.means c.understands.ensures.same c.millis-now.ensures
-    (record { median = dealt.0; started = dealt.1; seconds = dealt.2; measured = dealt.3; does = dealt.4; pace = dealt.5; probing = c.deals.ensures.probing }))
+    (record { median = dealt.0; started = dealt.1; seconds = dealt.2; measured = dealt.3; does = dealt.4; pace = dealt.5; probing = c.deals.ensures.probing }) refl)
 
 pub returns-in_err-happened-clause-stops : goal.returns-in_err-happened-clause-stops
 returns-in_err-happened-clause-stops g c =
@@ -111,6 +111,6 @@ returns-in_err-deals-clause-stops g c =
     let dealt = c.in_err-deals.ensures.breaks in
     rw (p.1, p.2) (next_stops g.D.Disk.view g.K.Sink.takes g.K.Sink.fails g.K.Sink.faults g.L.Link.story g.L.Link.counts g.met.K.Sink.takes_nothing g.met.K.Sink.takes_then t c.args.before c.wait_for-wait.result happened.event did.0 c.sees.new.self
     (c.wait_for-wait.ensures ∙ ap (λ (ws : List Work). wait_for t.pace ws c.args.before) c.list.ensures) did.1
-    happened.errand (g.L.Link.lends c.sees.new.self.link) c.in_ok-came.came c.millis-now.result c.understands.new.self c.millis-now.new.self (record { server = c.deals.new.doer; pace = c.deals.new.pace; probing = c.deals.new.probing })
+    happened.errand (g.L.Link.lends c.sees.new.self.link) c.in_ok-came.came c.millis-now.result c.understands.new.self c.millis-now.new.self (record { server = c.deals.new.doer; pace = c.deals.new.pace; probing = c.deals.new.probing; reading = t.reading })
     c.in_ok-happened.ensures.told c.in_ok-happened.ensures.errand c.in_ok-came.ensures.means c.understands.ensures.same c.millis-now.ensures c.in_err-deals.field-0.0
     (record { median = dealt.0; started = dealt.1; seconds = dealt.2; measured = dealt.3; stops = dealt.4 }))

@@ -1,0 +1,90 @@
+use Rattle.std.proofs.Common.{◌≡◌, ℕ, IfSome, List, Option, length, Result, ap, ap₂, refl, sym, subst, ◌∙◌}
+use Rattle.std.specs.Prelude.{All}
+use Rattle.std.specs.Option.{option_map}
+use Rattle.std.proofs.lemmas.Result.{err_from_is_err_and}
+use Rattle.oc_config.specs.Settings.{Settings}
+use Rattle.oc_model.specs.Node.{Control}
+use Rattle.oc_probe.specs.declared.probing.Probing.{Probing}
+use Rattle.oc_updown.specs.MeasureLines.{IsMeasure}
+use Rattle.oc_updown.specs.declared.measure_lines.Measure.{Measure}
+use Rattle.oc_deeds.specs.Deeds.{Rereads}
+use Rattle.oc_deeds.specs.Lawful.{IsMadeFor}
+use Rattle.oc_deeds.specs.Parts.{in_turn, one}
+use Rattle.oc_deeds.specs.Rereading.{fresh, is_fresh, rotated_to, settles, takes_measures}
+use Rattle.oc_deeds.proofs.Rereading.{all_some}
+use Rattle.oc_deeds.proofs.Results.{done_then, err_then}
+use Rattle.oc_deeds.proofs.rereading.changes.Goals as goal
+
+pub reroute-requires-clause-config : goal.reroute-requires-clause-config
+reroute-requires-clause-config g c = c.requires.config.nodes.1
+
+pub reroute-requires-clause-probing : goal.reroute-requires-clause-probing
+reroute-requires-clause-probing g c = subst (λ (n : ℕ). IfSome c.args.probing.now (IsMadeFor n)) (sym c.requires.nodes) c.requires.probing
+
+pub takes_measures-requires-clause-serving : goal.takes_measures-requires-clause-serving
+takes_measures-requires-clause-serving g c = c.parts_go_on.ensures.stays_serving (one (Rereads c.args.config)) c.args.doer.now c.rereads.new.self c.rereads.ensures c.requires.serving
+
+pub takes_measures-requires-clause-lawful : goal.takes_measures-requires-clause-lawful
+takes_measures-requires-clause-lawful g c =
+    let s = c.args.doer.now in
+    let b = c.rereads.new.self in
+    let running = g.W.Doer.running s in
+    let setting = g.W.Doer.setting s in
+    let config = c.args.config in
+    let me : c.id-me.result ≡ setting.me = c.id-me.ensures ∙ ap (λ (n : Control). n.me) c.node.ensures ∙ sym (c.is_lawful.ensures.same_me s) in
+    let all = c.deref.result.now in
+    let are : all ≡ fresh setting.me running.config config =
+    c.deref.ensures.value ∙ c.in_ok-fresh.ensures ∙ ap₂ (λ (x : ℕ) (old : Settings). fresh x old config) me c.config.ensures in
+    let nodes = (g.W.Doer.running b).node.control.nodes in
+    subst (λ (ms : List Measure). All (IsMeasure nodes) ms) (sym are)
+    (subst (λ (n : ℕ). All (IsMeasure n) (fresh setting.me running.config config)) (c.requires.nodes ∙ sym (c.parts_go_on.ensures.same_nodes (one (Rereads config)) s b c.rereads.ensures))
+    (all_some (IsMeasure (length config.addresses)) (is_fresh setting.me running.config.measures) config.measures c.requires.config.measures))
+
+pub returns-clause-did : goal.returns-clause-did
+returns-clause-did g c =
+    let s = c.args.doer.now in
+    let b = c.rereads.new.self in
+    let running = g.W.Doer.running s in
+    let setting = g.W.Doer.setting s in
+    let config = c.args.config in
+    let me : c.id-me.result ≡ setting.me = c.id-me.ensures ∙ ap (λ (n : Control). n.me) c.node.ensures ∙ sym (c.is_lawful.ensures.same_me s) in
+    let all = c.deref.result.now in
+    let are : all ≡ fresh setting.me running.config config =
+    c.deref.ensures.value ∙ c.in_ok-fresh.ensures ∙ ap₂ (λ (x : ℕ) (old : Settings). fresh x old config) me c.config.ensures in
+    let q = takes_measures (fresh setting.me running.config config) in
+    done_then c.takes_measures.result (λ does. c.parts_go_on.ensures.as_same (in_turn (one (Rereads config)) q) (settles (Result.Ok config) running.config) s c.takes_measures.new.doer (λ honest. refl)
+    (c.parts_go_on.ensures.follows (one (Rereads config)) q (takes_measures all) s b c.takes_measures.new.doer c.rereads.ensures
+    (λ honest. ap (λ (ms : List Measure). takes_measures ms (g.W.Doer.setting b) (g.W.Doer.running b)) are) does)) c.takes_measures.ensures.did
+
+pub returns-clause-probing : goal.returns-clause-probing
+returns-clause-probing g c =
+    let s = c.args.doer.now in
+    let b = c.rereads.new.self in
+    let running = g.W.Doer.running s in
+    let setting = g.W.Doer.setting s in
+    let config = c.args.config in
+    let me : c.id-me.result ≡ setting.me = c.id-me.ensures ∙ ap (λ (n : Control). n.me) c.node.ensures ∙ sym (c.is_lawful.ensures.same_me s) in
+    let all = c.deref.result.now in
+    let are : all ≡ fresh setting.me running.config config =
+    c.deref.ensures.value ∙ c.in_ok-fresh.ensures ∙ ap₂ (λ (x : ℕ) (old : Settings). fresh x old config) me c.config.ensures in
+    done_then c.takes_measures.result (λ does. c.in_ok-reroute.ensures.rerouted ∙ ap (λ (x : ℕ). option_map (rotated_to x config) c.args.probing.now) me) c.takes_measures.ensures.did
+
+pub returns-clause-made : goal.returns-clause-made
+returns-clause-made g c =
+    done_then c.takes_measures.result (λ does. subst (λ (n : ℕ). IfSome c.reroute.new.probing (IsMadeFor n)) c.requires.nodes c.in_ok-reroute.ensures.made) c.takes_measures.ensures.did
+
+pub returns-clause-breaks : goal.returns-clause-breaks
+returns-clause-breaks g c =
+    let s = c.args.doer.now in
+    let b = c.rereads.new.self in
+    let running = g.W.Doer.running s in
+    let setting = g.W.Doer.setting s in
+    let config = c.args.config in
+    let me : c.id-me.result ≡ setting.me = c.id-me.ensures ∙ ap (λ (n : Control). n.me) c.node.ensures ∙ sym (c.is_lawful.ensures.same_me s) in
+    let all = c.deref.result.now in
+    let are : all ≡ fresh setting.me running.config config =
+    c.deref.ensures.value ∙ c.in_ok-fresh.ensures ∙ ap₂ (λ (x : ℕ) (old : Settings). fresh x old config) me c.config.ensures in
+    let q = takes_measures (fresh setting.me running.config config) in
+    err_then c.takes_measures.result (λ end stops. c.parts_stop.ensures.as_same end (in_turn (one (Rereads config)) q) (settles (Result.Ok config) running.config) s c.takes_measures.new.doer (λ honest. refl)
+    (c.parts_stop.ensures.follows end (one (Rereads config)) q (takes_measures all) s b c.takes_measures.new.doer c.rereads.ensures
+    (λ honest. ap (λ (ms : List Measure). takes_measures ms (g.W.Doer.setting b) (g.W.Doer.running b)) are) stops)) c.takes_measures.ensures.breaks

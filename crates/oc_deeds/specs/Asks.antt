@@ -54,7 +54,7 @@ sight_in s a = record {
   names = a.config.names;
   retired = a.config.retired;
   tally = a.tally;
-  about = s.about;
+  about = a.about;
 }
 
 abbrev pub report_for : Operation → Setting → Running → List ℕ

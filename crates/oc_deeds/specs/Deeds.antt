@@ -7,6 +7,7 @@ use Rattle.oc_link.specs.declared.call.Call.TheVariants as acts
 use Rattle.oc_link.specs.declared.event.LinkEvent.{LinkEvent}
 use Rattle.oc_link.specs.declared.event.LinkEvent.TheVariants as events
 use Rattle.oc_link.specs.declared.look.Look.{Look}
+use Rattle.oc_link.specs.declared.look.Look.TheVariants as looks
 use Rattle.oc_http.specs.Writing.{probe_text}
 use Rattle.oc_http.specs.declared.framing.Persistence.{Persistence}
 use Rattle.oc_http.specs.declared.framing.Persistence.TheVariants.{Close, Keep}
@@ -50,11 +51,10 @@ use Rattle.oc_deeds.specs.declared.work.Waiting.{Waiting}
 use Rattle.oc_deeds.specs.declared.work.Work.{Work}
 use Rattle.oc_deeds.specs.declared.work.Work.TheVariants as works
 
--- which node it is, the form of the log of inputs, and what is told of the program
+-- which node it is, and the form of the log of inputs
 pub record Setting : Type 0 where
   pub me : ℕ
   pub log : Log
-  pub about : AboutView
 
 -- the text of a dial: the request that brings the message, and nothing to a node without an address, to which a dial has failed when it begins
 abbrev pub dial_text : Option (List ℕ) → List ℕ → Message → List ℕ
@@ -62,7 +62,7 @@ dial_text key [] m = []
 dial_text key (b ∷ host) m = request_of key (b ∷ host) m
 
 -- a running node: its state, the messages that it has still to send, the works on its connections, its dials, what it counted,
--- and the configuration that it goes by
+-- the configuration that it goes by, and what is told of the program
 pub record Running : Type 0 where
   pub node : Node
   pub outbox : List Message
@@ -70,6 +70,7 @@ pub record Running : Type 0 where
   pub dials : List Dialling
   pub tally : TallyView
   pub config : Settings
+  pub about : AboutView
 
 -- the address of a node, and the key of what goes out, where the network has one
 abbrev pub address_in : Running → ℕ → List ℕ
@@ -250,6 +251,15 @@ abbrev pub errand_in : LinkEvent → List Dialling → Option Errand
 errand_in (events.Reply d coming) ds = dials.errand_of d ds
 errand_in e ds = None
 
+-- the node after its configuration was read, and was refused or not
+abbrev pub when_read : Bool → Running → Running
+when_read refused a = record a { about = record a.about { refused = refused } }
+
+-- the node after a look at the configuration's file; one that can't be read is refused
+abbrev pub when_seen : Look → Running → Running
+when_seen looks.Failed a = when_read true a
+when_seen look a = a
+
 abbrev pub after : Deed → Running → Running
 after (Sees e wait bytes) a = record a { dials = dials_after e a.dials }
 after (Takes i) a = took i (λ sends. sends) a
@@ -270,7 +280,9 @@ after (LaysAside p) a = record a { works = without_work p.connection a.works ++ 
 after (Drops c told) a = record a { works = without_work c a.works }
 after (Dials place m d) a = record a { outbox = remove a.outbox place; dials = a.dials ++ dialling d (brings m) ∷ [] }
 after (Probes peer d now) a = record a { dials = a.dials ++ dialling d (errands.Probe peer now) ∷ [] }
-after (Rereads config) a = record a { config = config }
+after (Looks look) a = when_seen look a
+after (Rereads config) a = when_read false (record a { config = config })
+after (Keeps why) a = when_read true a
 after d a = a
 
 -- The calls of a deed

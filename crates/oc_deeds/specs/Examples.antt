@@ -44,17 +44,20 @@ two_nodes = record {
   rules = [];
 }
 
+-- what is told of the program
+abbrev pub first_about : AboutView
+first_about = record { version = codes "1.0.0"; started = 1796102400; refused = false }
+
 -- node 1 of them
 abbrev example : Setting
 example = record {
   me = 1;
   log = Inputs;
-  about = record { version = codes "1.0.0"; started = 1796102400; refused = false };
 }
 
 -- node 1, new, with these messages to send
 abbrev started : List Message → Running
-started outbox = record { node = new_node (record { nodes = 2; chain = 1; chunk = 4096; areas = 0 ∷ 0 ∷ [] }) 1; outbox = outbox; works = []; dials = []; config = two_nodes; tally = first_tally 2 }
+started outbox = record { node = new_node (record { nodes = 2; chain = 1; chunk = 4096; areas = 0 ∷ 0 ∷ [] }) 1; outbox = outbox; works = []; dials = []; config = two_nodes; tally = first_tally 2; about = first_about }
 
 -- a request of a connection has come
 abbrev came : ℕ → LinkEvent

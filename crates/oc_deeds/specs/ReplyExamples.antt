@@ -9,7 +9,7 @@ use Rattle.oc_routes.specs.declared.hint.Hint.TheVariants.{Of}
 use Rattle.oc_routes.specs.declared.manner.Manner.TheVariants.{Follow}
 use Rattle.oc_routes.specs.declared.routes.Operation.TheVariants as asks
 use Rattle.oc_deeds.specs.Deeds.{Accepts, BreaksOff, Deed, Gives, Permits, Replies, Running, Setting, after_all, calls_of}
-use Rattle.oc_deeds.specs.Examples.{two_nodes}
+use Rattle.oc_deeds.specs.Examples.{first_about, two_nodes}
 use Rattle.oc_deeds.specs.Replying.{IsOrdered, replied_all}
 use Rattle.oc_deeds.specs.declared.log.Log.TheVariants.{Inputs}
 use Rattle.oc_deeds.specs.declared.work.Transfer.{Transfer}
@@ -19,7 +19,6 @@ abbrev node_one : Setting
 node_one = record {
   me = 1;
   log = Inputs;
-  about = record { version = codes "1.0.0"; started = 1796102400; refused = false };
 }
 
 abbrev holds_three : Running
@@ -30,6 +29,7 @@ holds_three = record {
   dials = [];
   config = two_nodes;
   tally = first_tally 2;
+  about = first_about;
 }
 
 -- a deed that promises a client six bytes of a group on connection 8

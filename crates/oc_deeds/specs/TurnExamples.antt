@@ -20,7 +20,7 @@ use Rattle.oc_deeds.specs.Asks.{obeys, waiting}
 use Rattle.oc_deeds.specs.Choices.{due_index, free_number, next_to_dial, wait_for}
 use Rattle.oc_deeds.specs.Deeds.{Accepts, BreaksOff, Drops, Gives, Keeps, LaysAside, Looks, Permits, Reads, Rereads, Running, Says, Sees, Setting, Takes, Tells, Waits, after_all}
 use Rattle.oc_deeds.specs.Dials.{dialling}
-use Rattle.oc_deeds.specs.Examples.{two_nodes}
+use Rattle.oc_deeds.specs.Examples.{first_about, two_nodes}
 use Rattle.oc_deeds.specs.Pace.{first_pace}
 use Rattle.oc_deeds.specs.Rereading.{MeansLook, looks_again}
 use Rattle.oc_deeds.specs.Rooms.{takes_loss, takes_room}
@@ -40,12 +40,11 @@ abbrev example : Setting
 example = record {
   me = 1;
   log = Inputs;
-  about = record { version = codes "1.0.0"; started = 1796102400; refused = false };
 }
 
 -- node 1, new, with this under way
 abbrev started : List Work → Running
-started ws = record { node = new_node (record { nodes = 2; chain = 1; chunk = 4096; areas = 0 ∷ 0 ∷ [] }) 1; outbox = []; works = ws; dials = []; config = two_nodes; tally = first_tally 2 }
+started ws = record { node = new_node (record { nodes = 2; chain = 1; chunk = 4096; areas = 0 ∷ 0 ∷ [] }) 1; outbox = []; works = ws; dials = []; config = two_nodes; tally = first_tally 2; about = first_about }
 
 -- node 1 with a group of three bytes, and with this under way
 abbrev held : List Work → Running

@@ -36,13 +36,12 @@ use Rattle.oc_server.specs.declared.server.Server.{Server}
 -- The view of a server
 
 abbrev pub running : {D L K : Type 0} → Server D L K → Running
-running s = record { node = node_of s.kept; outbox = s.outbox; works = s.works; dials = s.dials; config = s.config; tally = s.tally }
+running s = record { node = node_of s.kept; outbox = s.outbox; works = s.works; dials = s.dials; config = s.config; tally = s.tally; about = about_of s.about }
 
 abbrev pub setting : {D L K : Type 0} → Server D L K → Setting
 setting s = record {
   me = s.kept.node.control.me;
   log = s.log;
-  about = about_of s.about;
 }
 
 -- The facts between any two calls
@@ -95,7 +94,6 @@ pub record Did {D L K : Type 0} (view : D → DiskView) (takes : K → List ℕ 
   pub config : new.config ≡ config_behind deeds old.config
   pub set : IsSet old → IsSet new
   pub log : new.log ≡ old.log
-  pub about : new.about ≡ old.about
   pub goes_on : AllGoOn view (disks_of old.kept) (disks_of new.kept)
   pub no_fall : NoFall (faults old.sink) (faults new.sink)
   pub counted : CountsAll deeds (counts old.link) (counts new.link)

@@ -243,11 +243,16 @@ impl<D: Disk, L: Link, K: Sink> Doer for Server<D, L, K> {
     }
 
     fn looks(&mut self) -> Look {
-        self.link.look()
+        let look = self.link.look();
+        if let Look::Failed = &look {
+            self.about.refused = true;
+        }
+        look
     }
 
     fn rereads(&mut self, config: Config) {
         self.config = config;
+        self.about.refused = false;
         self.link.report(REREAD_LINE);
     }
 
@@ -255,6 +260,7 @@ impl<D: Disk, L: Link, K: Sink> Doer for Server<D, L, K> {
         self.kept.recovers();
         let mut line = Vec::new(self.alloc);
         put_unfit_line(&mut line, &why)?;
+        self.about.refused = true;
         self.link.report(&line);
         Ok(())
     }

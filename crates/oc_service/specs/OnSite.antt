@@ -39,7 +39,7 @@ use Rattle.oc_deeds.specs.declared.ends.TurnEnd.{TurnEnd}
 use Rattle.oc_deeds.specs.declared.ends.TurnEnd.TheVariants as ends
 use Rattle.oc_service.specs.AtAnyMoment.{AlwaysRecovers}
 use Rattle.oc_service.specs.Failures.{AreBorneOut}
-use Rattle.oc_service.specs.WhatNodeDoes.{Machine, at_first, begins, begun, due_at, machine_after, node_deeds, turn_deeds}
+use Rattle.oc_service.specs.WhatNodeDoes.{Machine, at_first, begins, begun, due_at, machine_after, node_at_first, node_deeds, turn_deeds}
 use Rattle.oc_service.specs.WhatNodeGives.{GivesReplies}
 use Rattle.oc_service.specs.WhatNodeHears.{AreHeard, MayHear, MayReread, all_calls_after, until}
 use Rattle.oc_service.specs.declared.running.NodeEnd.{NodeEnd}
@@ -52,12 +52,11 @@ use Rattle.oc_service.specs.declared.running.Task.{Task}
 abbrev pub header_of_settings : Settings → Header
 header_of_settings c = header (length c.addresses) c.chain c.chunk c.areas
 
--- the number of the node, the form of the log, and what is told of the program
+-- the number of the node, and the form of the log
 abbrev pub setting_of : Task → Setting
 setting_of task = record {
   me = task.me;
   log = task.log;
-  about = about_of task.about;
 }
 
 -- the state of probing at first: no rates of peers, and all other nodes that have an address in turn
@@ -70,7 +69,8 @@ probing_at_first false me addresses = None
 
 -- the machine of the node recovered from its files
 abbrev pub machine_on : {D : Type 0} → (D → DiskView) → Settings → Task → Disks D → Machine
-machine_on view c task d = at_first (is_record task.log) (most_interval task.probes task.me) (probing_at_first task.probes task.me c.addresses) task.text c (first_node view (header_of_settings c) task.me d)
+machine_on view c task d = at_first (is_record task.log) (most_interval task.probes task.me) (probing_at_first task.probes task.me c.addresses) task.text
+    (node_at_first c (about_of task.about) (first_node view (header_of_settings c) task.me d))
 
 -- The link of the node
 

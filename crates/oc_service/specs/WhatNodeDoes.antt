@@ -9,6 +9,7 @@ use Rattle.oc_config.specs.Settings.{Settings}
 use Rattle.oc_model.specs.Node.{Control, Node}
 use Rattle.oc_probe.specs.declared.probing.Probing.{Probing}
 use Rattle.oc_routes.specs.Tallies.{first_tally}
+use Rattle.oc_routes.specs.Sights.{AboutView}
 use Rattle.oc_deeds.specs.Brief.{told_first}
 use Rattle.oc_deeds.specs.Choices.{due_index}
 use Rattle.oc_deeds.specs.Deeds.{Deed, Running, Says, Setting, Takes, after_all}
@@ -28,14 +29,14 @@ pub record Machine : Type 0 where
   pub reading : Option (List ℕ)
 
 -- a node that goes by this configuration, with no messages to send and no request under way
-abbrev pub node_at_first : Settings → Node → Running
-node_at_first config n = record { node = n; outbox = []; works = []; dials = []; tally = first_tally n.control.nodes; config = config }
+abbrev pub node_at_first : Settings → AboutView → Node → Running
+node_at_first config about n = record { node = n; outbox = []; works = []; dials = []; tally = first_tally n.control.nodes; config = config; about = about }
 
 -- the machine at first, nothing counted, whose configuration was read from these bytes: no tick yet; in a record
 -- ticks are whole seconds apart, otherwise they are at most this interval apart
-abbrev pub at_first : Bool → ℕ → Option Probing → List ℕ → Settings → Node → Machine
-at_first whole most probing text config n =
-    record { running = node_at_first config n; pace = first_pace whole most; probing = probing; reading = Some text }
+abbrev pub at_first : Bool → ℕ → Option Probing → List ℕ → Running → Machine
+at_first whole most probing text running =
+    record { running = running; pace = first_pace whole most; probing = probing; reading = Some text }
 
 -- each of the node's own measures is taken as an input
 abbrev pub own_measure : Setting → Measure → List Deed

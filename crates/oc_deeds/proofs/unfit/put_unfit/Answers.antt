@@ -9,3 +9,6 @@ returns-in_ok-put-in-Restart c = rw c.in-Restart.is
     (λ is. is ∙ ap₂ (λ (xs ys : List ℕ). xs ++ ys) c.in_ok-put-in-Restart.ensures.ok (c.as_bytes-in-Restart.ensures.value ∙ c.word-in-Restart.ensures)
     ∙ append_assoc c.args.out.now.items (codes "config: restart ") (key_text c.in-Restart.key))
     c.put-in-Restart-2.ensures.ok)
+
+pub returns-in-Long : goal.returns-in-Long
+returns-in-Long c = rw c.in-Long.is c.put_with_number.ensures.ok

@@ -228,7 +228,7 @@ silent_by (rereads.Unfit why) s a = (tt, tt)
 silent_by (rereads.Config new) s a = silent_settled (fitting s.me a.config new) a.config s a
 
 silent_looks : (look : Look) (r : Reread) (s : Setting) (a : Running) → AreSilent (looks_again look r s a)
-silent_looks look r s a = (tt, silent_by r s a)
+silent_looks look r s a = (tt, silent_by r s (after (Looks look) a))
 
 pub turn_answers : (pace : Pace) (probing : Option Probing) (t : Observation) (s : Setting) (a : Running) → AreAnswered s (turn pace probing t s a) a
 turn_answers pace probing t s a =

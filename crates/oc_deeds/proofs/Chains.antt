@@ -50,6 +50,7 @@ config_after (deeds.Permits c) a = refl
 config_after (deeds.Waits w) a = refl
 config_after (deeds.Replies r response now) a = refl
 config_after (deeds.Refuses c count why) a = refl
+config_after (deeds.Rejects fault) a = refl
 config_after (deeds.BreaksOff c) a = refl
 config_after (deeds.Gives p now) a = refl
 config_after (deeds.LaysAside p) a = refl

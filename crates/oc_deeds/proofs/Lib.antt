@@ -10,7 +10,7 @@ pub mod Responding
 pub mod Doing
 pub mod TickDue
 pub mod Peers
-pub mod Rereading
+pub mod MeasuresTaken
 pub mod Probings
 pub mod WorksOn
 pub mod Grown

@@ -381,7 +381,7 @@ module _ (s : Setting) (recorded : s.log ≡ logs.Record) where
   leads_by (rereads.Config new) a = leads_settled (fitting s.me a.config new) a.config a
 
   leads_looks : (look : Look) (r : Reread) (a : Running) → Whole (looks_again look r s a)
-  leads_looks look r a = (None, refl, leads_by r a)
+  leads_looks look r a = (None, refl, leads_by r (after (Looks look) a))
 
   -- A turn
   pub leads_turn : (pace : Pace) (probing : Option Probing) (t : Observation) (a : Running) → Whole (turn pace probing t s a)

@@ -172,7 +172,7 @@ quiet_by (rereads.Unfit why) s a = (tt, tt)
 quiet_by (rereads.Config new) s a = quiet_settled (fitting s.me a.config new) a.config s a
 
 pub quiet_looks : (look : Look) (r : Reread) (s : Setting) (a : Running) → AllQuiet (looks_again look r s a)
-quiet_looks look r s a = (tt, quiet_by r s a)
+quiet_looks look r s a = (tt, quiet_by r s (after (Looks look) a))
 
 -- A permission, a wait, a refusal, and the end of a connection
 

@@ -251,14 +251,14 @@ abbrev pub errand_in : LinkEvent → List Dialling → Option Errand
 errand_in (events.Reply d coming) ds = dials.errand_of d ds
 errand_in e ds = None
 
--- the node after its configuration was read, and was refused or not
-abbrev pub when_read : Bool → Running → Running
-when_read refused a = record a { about = record a.about { refused = refused } }
+-- what is told of the program after its configuration was read, and was refused or not
+abbrev pub when_read : Bool → AboutView → AboutView
+when_read refused about = record about { refused = refused }
 
--- the node after a look at the configuration's file; one that can't be read is refused
-abbrev pub when_seen : Look → Running → Running
-when_seen looks.Failed a = when_read true a
-when_seen look a = a
+-- what is told of it after a look at the configuration's file; one that can't be read is refused
+abbrev pub when_seen : Look → AboutView → AboutView
+when_seen looks.Failed about = when_read true about
+when_seen look about = about
 
 abbrev pub after : Deed → Running → Running
 after (Sees e wait bytes) a = record a { dials = dials_after e a.dials }
@@ -280,9 +280,9 @@ after (LaysAside p) a = record a { works = without_work p.connection a.works ++ 
 after (Drops c told) a = record a { works = without_work c a.works }
 after (Dials place m d) a = record a { outbox = remove a.outbox place; dials = a.dials ++ dialling d (brings m) ∷ [] }
 after (Probes peer d now) a = record a { dials = a.dials ++ dialling d (errands.Probe peer now) ∷ [] }
-after (Looks look) a = when_seen look a
-after (Rereads config) a = when_read false (record a { config = config })
-after (Keeps why) a = when_read true a
+after (Looks look) a = record a { about = when_seen look a.about }
+after (Rereads config) a = record a { config = config; about = when_read false a.about }
+after (Keeps why) a = record a { about = when_read true a.about }
 after d a = a
 
 -- The calls of a deed

@@ -11,6 +11,7 @@ use Rattle.oc_model.specs.Node.{new_node}
 use Rattle.oc_model.specs.declared.input.Input.TheVariants as inputs
 use Rattle.oc_model.specs.declared.message.Body.TheVariants as bodies
 use Rattle.oc_model.specs.declared.message.Message.{Message}
+use Rattle.oc_routes.specs.Sights.{AboutView}
 use Rattle.oc_routes.specs.Tallies.{first_tally}
 use Rattle.oc_routes.specs.declared.hint.Hint.TheVariants.{Plain}
 use Rattle.oc_routes.specs.Inputs.{input_line}

@@ -99,12 +99,12 @@ takes_measures (m ∷ ms) = takes_ahead (measured_by m) >> takes_measures ms
 
 -- the new one is gone by, and its fresh measures are taken; or it is told why not
 abbrev pub settles : Result Settings Unfit → Settings → Part
-settles (Err why) old = one (Keeps why)
+settles (Err why) old s a = Keeps why ∷ []
 settles (Ok new) old s a = (one (Rereads new) >> takes_measures (fresh s.me old new)) s a
 
 abbrev pub goes_by : Reread → Part
-goes_by rereads.Nothing = nothing
-goes_by (rereads.Unfit why) = one (Keeps why)
+goes_by rereads.Nothing s a = []
+goes_by (rereads.Unfit why) s a = Keeps why ∷ []
 goes_by (rereads.Config new) s a = settles (fitting s.me a.config new) a.config s a
 
 -- The file is looked at, and what it gives is gone by.

@@ -140,5 +140,10 @@ pub record AreTurns : Type 0 where
   -- or it is not
   pub restarts : looks_again (looks.Text (codes "c")) (rereads.Config chained) example (started []) ≡ Looks (looks.Text (codes "c")) ∷ Keeps (Restart Chain) ∷ []
   pub stranger : looks_again (looks.Text (codes "c")) (rereads.Config elsewhere) example (started []) ≡ Looks (looks.Text (codes "c")) ∷ Keeps Stranger ∷ []
+  -- it is told whether the last configuration was refused, as one is that can't be read
+  pub refused : (after_all (Keeps Stranger ∷ []) (started [])).about.refused ≡ true
+  pub unread : (after_all (Looks looks.Failed ∷ []) (started [])).about.refused ≡ true
+  pub still : (after_all (Keeps Stranger ∷ Looks looks.Nothing ∷ []) (started [])).about.refused ≡ true
+  pub cleared : (after_all (Keeps Stranger ∷ Rereads measured ∷ []) (started [])).about.refused ≡ false
   -- the bytes of the last reading are passed over
   pub again : MeansLook (Some (codes "c")) (looks.Text (codes "c")) rereads.Nothing

@@ -1,6 +1,6 @@
 //! What a node does with its configuration when it was read again.
 
-ghost use Rattle.std.specs.Prelude.{◌≡◌, ◌≤◌, All, IfErr, IfOk, IfSome, OnOk, Result, filter, length, option_map};
+ghost use Rattle.std.specs.Prelude.{◌≡◌, ◌≤◌, All, IfErr, IfOk, IfSome, OnOk, Result, false, filter, length, option_map};
 ghost use Rattle.oc_base.specs.declared.limits.TheConstants.{MAX_NODES as MOST_NODES};
 ghost use Rattle.oc_config.specs.Reading.{IsConfig};
 ghost use Rattle.oc_updown.specs.MeasureLines.{IsMeasure};
@@ -15,7 +15,9 @@ use crate::reread::Reread;
 use crate::told::takes_ahead;
 use crate::unfit::Unfit;
 use oc_base::{Bytes, MAX_SCHEDULE_BYTES, Memory, NodeId};
-use oc_config::{Config, ConfigFault, Measure, Running, config_change, has_measure, read};
+use oc_config::{
+    Config, ConfigFault, Measure, Running, a_change_keeps_the_network, config_change, has_measure, read,
+};
 use oc_link::Look;
 use oc_model::Input;
 use oc_probe::{Probing, Rotation};
@@ -138,6 +140,7 @@ fn fitting(me: NodeId, old: &Config, new: Config) -> Result<Config, Unfit>
     if !is_placed(me, &new) {
         return Err(Unfit::Stranger);
     }
+    a_change_keeps_the_network();
     let changing = Running { me, recorded: true };
     match config_change(changing, old, new) {
         Ok(config) => Ok(config),

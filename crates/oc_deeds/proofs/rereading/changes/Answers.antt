@@ -11,7 +11,7 @@ use Rattle.oc_deeds.specs.Deeds.{Rereads}
 use Rattle.oc_deeds.specs.Lawful.{IsMadeFor}
 use Rattle.oc_deeds.specs.Parts.{in_turn, one}
 use Rattle.oc_deeds.specs.Rereading.{fresh, is_fresh, rotated_to, settles, takes_measures}
-use Rattle.oc_deeds.proofs.Rereading.{all_some}
+use Rattle.oc_deeds.proofs.MeasuresTaken.{all_some}
 use Rattle.oc_deeds.proofs.Results.{done_then, err_then}
 use Rattle.oc_deeds.proofs.rereading.changes.Goals as goal
 

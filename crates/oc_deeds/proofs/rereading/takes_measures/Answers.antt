@@ -6,7 +6,7 @@ use Rattle.oc_updown.specs.declared.measure_lines.Measure.{Measure}
 use Rattle.oc_deeds.specs.Parts.{in_turn, nothing}
 use Rattle.oc_deeds.specs.Rereading.{measured_by, takes_measures}
 use Rattle.oc_deeds.specs.Telling.{takes_ahead}
-use Rattle.oc_deeds.proofs.Rereading.{all_taken, none_taken, one_taken, rest_is}
+use Rattle.oc_deeds.proofs.MeasuresTaken.{all_taken, none_taken, one_taken, rest_is}
 use Rattle.oc_deeds.proofs.rereading.takes_measures.Goals as goal
 
 pub measures-init : goal.measures-init

@@ -3,7 +3,7 @@ use Rattle.std.proofs.Common.{drop}
 use Rattle.std.specs.Prelude.{All}
 use Rattle.oc_deeds.specs.Parts.{Part}
 use Rattle.oc_updown.specs.MeasureLines.{IsMeasure}
-use Rattle.oc_deeds.proofs.Rereading.{AreTaken}
+use Rattle.oc_deeds.proofs.MeasuresTaken.{AreTaken}
 use Rattle.oc_deeds.proofs.rereading.takes_measures.Given as goal
 
 abbrev pub invariant-measures : goal.invariant-measures

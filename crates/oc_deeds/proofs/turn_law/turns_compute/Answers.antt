@@ -38,5 +38,9 @@ returns c = record {
   taken_before = refl;
   restarts = refl;
   stranger = refl;
+  refused = refl;
+  unread = refl;
+  still = refl;
+  cleared = refl;
   again = refl;
 }

@@ -11,6 +11,7 @@ use Rattle.oc_io.specs.DiskView.{DiskView}
 use Rattle.oc_keep.specs.KeptView.{node_of}
 use Rattle.oc_model.specs.declared.message.Message.{Message}
 use Rattle.oc_routes.specs.Responses.{address_of}
+use Rattle.oc_routes.specs.Sights.{about_of}
 use Rattle.oc_deeds.specs.Deeds.{Dials, Probes, dial_text}
 use Rattle.oc_deeds.specs.Dials.{brings, dialling}
 use Rattle.oc_server.specs.Scenes.{Did, IsLawful}
@@ -33,11 +34,11 @@ module _ {D L K : Type 0} (view : D → DiskView) (takes fails : K → List ℕ 
       → address ≡ address_of old.config.addresses m.to → text ≡ dial_text (key_of old.config.keys) (address_of old.config.addresses m.to) m → AddsAll (acts.Dial d address text ∷ []) (story old.link) (story link) → counts link ≡ counts old.link
       → Did view takes faults story counts (Dials place m d ∷ []) old (record old { outbox = outbox; dials = ds; link = link })
   dialled takes_nothing place m d old outbox ds link address text is_open there rest begun at said made counted =
-      did_step view takes fails faults story counts (Dials place m d) old (record old { outbox = outbox; dials = ds; link = link }) refl refl refl refl refl (takes_nothing old.sink) (omega arith) counted (looks_none view old.kept is_open)
+      did_step view takes fails faults story counts (Dials place m d) old (record old { outbox = outbox; dials = ds; link = link }) refl refl refl refl (takes_nothing old.sink) (omega arith) counted (looks_none view old.kept is_open)
       lawful
       (λ honest.
-      ap (λ (ms : List Message). record { node = node_of old.kept; outbox = ms; works = old.works; dials = ds; config = old.config; tally = old.tally }) rest
-      ∙ ap (λ (x : List Dialling). record { node = node_of old.kept; outbox = remove old.outbox place; works = old.works; dials = x; config = old.config; tally = old.tally }) begun)
+      ap (λ (ms : List Message). record { node = node_of old.kept; outbox = ms; works = old.works; dials = ds; config = old.config; tally = old.tally; about = about_of old.about }) rest
+      ∙ ap (λ (x : List Dialling). record { node = node_of old.kept; outbox = remove old.outbox place; works = old.works; dials = x; config = old.config; tally = old.tally; about = about_of old.about }) begun)
       (λ honest.
       subst (λ (t : List ℕ). AddsAll (acts.Dial d (address_of old.config.addresses m.to) t ∷ []) (story old.link) (story link)) said
       (subst (λ (a : List ℕ). AddsAll (acts.Dial d a text ∷ []) (story old.link) (story link)) at made))
@@ -58,9 +59,9 @@ module _ {D L K : Type 0} (view : D → DiskView) (takes fails : K → List ℕ 
       → address ≡ address_of old.config.addresses peer → text ≡ probe_text address → AddsAll (acts.Dial d address text ∷ []) (story old.link) (story link) → counts link ≡ counts old.link
       → Did view takes faults story counts (Probes peer d now ∷ []) old (record old { dials = ds; link = link })
   probed takes_nothing peer d now old ds link address text is_open node begun at written made counted =
-      did_step view takes fails faults story counts (Probes peer d now) old (record old { dials = ds; link = link }) refl refl refl refl refl (takes_nothing old.sink) (omega arith) counted (looks_none view old.kept is_open)
+      did_step view takes fails faults story counts (Probes peer d now) old (record old { dials = ds; link = link }) refl refl refl refl (takes_nothing old.sink) (omega arith) counted (looks_none view old.kept is_open)
       (lawful_of old (record old { dials = ds; link = link }) (record { me = refl; header = refl }) (λ all. all) (λ all. all)
       (λ all. subst (λ (x : List Dialling). AllByRecursion (IsLawfulDial old.kept.node.control.nodes) x) (sym begun) (dials_with old.kept.node.control.nodes old.dials (dialling d (errands.Probe peer now)) all node)))
-      (λ honest. ap (λ (x : List Dialling). record { node = node_of old.kept; outbox = old.outbox; works = old.works; dials = x; config = old.config; tally = old.tally }) begun)
+      (λ honest. ap (λ (x : List Dialling). record { node = node_of old.kept; outbox = old.outbox; works = old.works; dials = x; config = old.config; tally = old.tally; about = about_of old.about }) begun)
       (λ honest. subst (λ (a : List ℕ). AddsAll (acts.Dial d a (probe_text a) ∷ []) (story old.link) (story link)) at
       (subst (λ (t : List ℕ). AddsAll (acts.Dial d address t ∷ []) (story old.link) (story link)) written made))

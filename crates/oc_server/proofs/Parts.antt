@@ -38,7 +38,7 @@ module _ {D L K : Type 0} (view : D → DiskView) (takes fails : K → List ℕ 
   deeds_behind : (p q : Part) (a b : Server D L K) → Does view takes faults story counts p a b → IsHonest view a.kept
       → q (setting b) (running b) ≡ q (setting a) (after_all (p (setting a) (running a)) (running a))
   deeds_behind p q a b does honest =
-      ap (λ (s : Setting). q s (running b)) (setting_stays view takes fails faults story counts a b does.did.same does.did.log does.did.about)
+      ap (λ (s : Setting). q s (running b)) (setting_stays view takes fails faults story counts a b does.did.same does.did.log)
       ∙ ap (λ (r : Running). q (setting a) r) (behind_part p a b does honest)
 
   -- one part after another, where the second was decided by the facts at its beginning

@@ -19,8 +19,6 @@ use Rattle.oc_model.specs.declared.input.Input.{Input}
 use Rattle.oc_model.specs.Node.{Header, Node}
 use Rattle.oc_model.specs.Step.{step}
 use Rattle.oc_policy.specs.declared.deciding.TheConstants.{MAX_RULES}
-use Rattle.oc_routes.specs.Sights.{about_of}
-use Rattle.oc_routes.specs.declared.about.About.{About}
 use Rattle.oc_deeds.specs.Deeds.{Deed, Running, Setting, after_all, calls_of, config_behind, inputs_of, line, lines}
 use Rattle.oc_server.specs.Looks.{Renews}
 use Rattle.oc_server.specs.Moments.{AtEachPrefix}
@@ -38,8 +36,8 @@ use Rattle.oc_server.proofs.Moments.{prefix_then}
 use Rattle.oc_server.proofs.Looking.{go_on_none, keeps_no_fall, keeps_then, looks_none, named}
 
 -- what a server is set to, by its parts
-abbrev setting_with : ℕ → Log → About → Setting
-setting_with me log about = record { me = me; log = log; about = about_of about }
+abbrev setting_with : ℕ → Log → Setting
+setting_with me log = record { me = me; log = log }
 
 -- A running node after deeds
 
@@ -65,7 +63,6 @@ module _ {D L K : Type 0} (view : D → DiskView) (takes fails : K → List ℕ 
     config = refl;
     set = λ set. set;
     log = refl;
-    about = refl;
     goes_on = go_on_none view (disks_of a.kept);
     no_fall = omega arith;
     counted = refl;
@@ -79,11 +76,9 @@ module _ {D L K : Type 0} (view : D → DiskView) (takes fails : K → List ℕ 
   -- Deeds after deeds
 
   -- which node it is, and what it writes
-  pub setting_stays : (a b : Server D L K) → IsSameNode a.kept.node.control b.kept.node.control → b.log ≡ a.log → b.about ≡ a.about → setting b ≡ setting a
-  setting_stays a b same log about =
-      ap (λ (me : ℕ). setting_with me b.log b.about) same.me
-      ∙ ap (λ (x : Log). setting_with a.kept.node.control.me x b.about) log
-      ∙ ap (λ (x : About). setting_with a.kept.node.control.me a.log x) about
+  pub setting_stays : (a b : Server D L K) → IsSameNode a.kept.node.control b.kept.node.control → b.log ≡ a.log → setting b ≡ setting a
+  setting_stays a b same log =
+      ap (λ (me : ℕ). setting_with me b.log) same.me ∙ ap (λ (x : Log). setting_with a.kept.node.control.me x) log
 
   -- the lines after lines, told of the same node
   text_then : (takes_then : (a b c : K) (x y : List ℕ) → takes a x b → takes b y c → takes a (x ++ y) c) (s other : Setting) (ds es : List Deed) (a b c : K)
@@ -100,22 +95,21 @@ module _ {D L K : Type 0} (view : D → DiskView) (takes fails : K → List ℕ 
     config = second.config ∙ ap (config_behind es) first.config ∙ sym (config_append ds es a.config);
     set = λ set. second.set (first.set set);
     log = second.log ∙ first.log;
-    about = second.about ∙ first.about;
     goes_on = all_go_on_then view (disks_of a.kept) (disks_of b.kept) (disks_of c.kept) first.goes_on second.goes_on;
     no_fall = omega (arith, first.no_fall, second.no_fall);
     counted = counts_append ds es (counts a.link) (counts b.link) (counts c.link) first.counted second.counted;
     keeps = subst (λ (is : List Input). KeepsAll view is a.kept c.kept) (sym (inputs_append ds es)) (keeps_then view (inputs_of ds) (inputs_of es) a.kept b.kept c.kept first.keeps second.keeps);
     lawful = λ lawful. second.lawful (first.lawful lawful);
-    text = text_then takes_then (setting a) (setting b) ds es a.sink b.sink c.sink (setting_stays a b first.same first.log first.about) first.text second.text;
+    text = text_then takes_then (setting a) (setting b) ds es a.sink b.sink c.sink (setting_stays a b first.same first.log) first.text second.text;
     done = λ honest. done_then (setting a) ds es (running a) (running b) (running c) (story a.link) (story b.link) (story c.link) (first.done honest)
-        (subst (λ (s : Setting). AreDone s es (running b) (running c) (story b.link) (story c.link)) (setting_stays a b first.same first.log first.about)
+        (subst (λ (s : Setting). AreDone s es (running b) (running c) (story b.link) (story c.link)) (setting_stays a b first.same first.log)
         (second.done (all_honest view (disks_of a.kept) (disks_of b.kept) first.goes_on honest)));
     moments = λ honest.
         prefix_then view (header_of a.kept.node.control) a.kept.node.control.me takes (line (setting a)) ds es (node_of a.kept) (disks_of a.kept) (disks_of b.kept) (disks_of c.kept) a.sink b.sink c.sink (first.moments honest)
         (subst (λ (n : Node). AtEachPrefix view (header_of a.kept.node.control) a.kept.node.control.me takes (line (setting a)) es n (disks_of b.kept) b.sink (disks_of c.kept) c.sink)
         (ap (λ (r : Running). r.node) (first.done honest).after ∙ nodes_behind ds (running a))
         (subst (λ (s : Setting). AtEachPrefix view (header_of a.kept.node.control) a.kept.node.control.me takes (line s) es (node_of b.kept) (disks_of b.kept) b.sink (disks_of c.kept) c.sink)
-        (setting_stays a b first.same first.log first.about)
+        (setting_stays a b first.same first.log)
         (named (λ h me. AtEachPrefix view h me takes (line (setting b)) es (node_of b.kept) (disks_of b.kept) b.sink (disks_of c.kept) c.sink) a.kept b.kept first.same
         (second.moments (all_honest view (disks_of a.kept) (disks_of b.kept) first.goes_on honest)))));
   }
@@ -192,7 +186,7 @@ module _ {D L K : Type 0} (view : D → DiskView) (takes fails : K → List ℕ 
       → WritesAt takes fails a.sink c.sink end (lines (setting a) ds) (under_line (setting a) under)
   broken_text takes_then takes_fails ds under end a c (b, did, breaks) =
       write_then takes_then takes_fails a.sink b.sink c.sink end (lines (setting a) ds) (under_line (setting a) under) did.text
-      (subst (λ (s : Setting). WritesAt takes fails b.sink c.sink end [] (under_line s under)) (setting_stays a b did.same did.log did.about) breaks.text)
+      (subst (λ (s : Setting). WritesAt takes fails b.sink c.sink end [] (under_line s under)) (setting_stays a b did.same did.log) breaks.text)
 
   cause_of : (a b c : KeptView D) (end : TurnEnd) (under : Under) (x y z : K) (p q r : LinkCounts) → AllGoOn view (disks_of a) (disks_of b) → NoFall (faults x) (faults y) → q.listening ≡ p.listening
       → HasCause view faults end under b c y z q r → HasCause view faults end under a c x z p r

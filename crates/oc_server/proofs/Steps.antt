@@ -30,7 +30,9 @@ use Rattle.oc_deeds.specs.Under.{Idle}
 use Rattle.oc_deeds.specs.declared.dials.Dialling.{Dialling}
 use Rattle.oc_deeds.specs.declared.ends.TurnEnd.{TurnEnd}
 use Rattle.oc_deeds.specs.declared.ends.TurnEnd.TheVariants as ends
+use Rattle.oc_routes.specs.Sights.{about_of}
 use Rattle.oc_routes.specs.Tallies.{TallyView}
+use Rattle.oc_routes.specs.declared.about.About.{About}
 use Rattle.oc_server.specs.declared.server.Server.{Server}
 use Rattle.oc_deeds.specs.declared.work.Transfer.{Transfer}
 use Rattle.oc_deeds.specs.declared.work.Work.{Work}
@@ -42,19 +44,18 @@ use Rattle.oc_server.proofs.Scenes.{done_none}
 module _ {D L K : Type 0} (view : D → DiskView) (takes fails : K → List ℕ → K → Type 0) (faults : K → ℕ) (story : L → Option (List Call)) (counts : L → LinkCounts) where
   -- One deed that takes no input
 
-  pub did_step : (d : Deed) (old new : Server D L K) → deed_input d ≡ None → reread_of d ≡ None → new.config ≡ old.config → new.log ≡ old.log → new.about ≡ old.about
+  pub did_step : (d : Deed) (old new : Server D L K) → deed_input d ≡ None → reread_of d ≡ None → new.config ≡ old.config → new.log ≡ old.log
       → takes old.sink (line (setting old) d) new.sink → NoFall (faults old.sink) (faults new.sink)
       → CountsAll (d ∷ []) (counts old.link) (counts new.link) → LooksOnly view old.kept new.kept → (IsLawful old → IsLawful new)
       → (IsHonest view old.kept → running new ≡ after d (running old))
       → (IsHonest view old.kept → AddsAll (calls (setting old) d (running old)) (story old.link) (story new.link))
       → Did view takes faults story counts (d ∷ []) old new
-  did_step d old new none unread config log about text few counted looks lawful is made = record {
+  did_step d old new none unread config log text few counted looks lawful is made = record {
     is_open = looks.is_open;
     same = looks.same;
     config = config ∙ ap (λ (o : Option Settings). unwrap_or o old.config) (sym unread);
     set = set_of old new looks.same config;
     log = log;
-    about = about;
     goes_on = looks.goes_on;
     no_fall = few;
     counted = counted;
@@ -79,7 +80,7 @@ module _ {D L K : Type 0} (view : D → DiskView) (takes fails : K → List ℕ 
       → record (running old) { works = ws } ≡ after d (running old) → AddsAll (calls (setting old) d (running old)) (story old.link) (story link)
       → Did view takes faults story counts (d ∷ []) old (record old { works = ws; link = link })
   did_works takes_nothing d old ws link none unread silent is_open counted lawful is made =
-      did_step d old (record old { works = ws; link = link }) none unread refl refl refl (subst (λ (t : List ℕ). takes old.sink t old.sink) (sym silent) (takes_nothing old.sink)) (omega arith)
+      did_step d old (record old { works = ws; link = link }) none unread refl refl (subst (λ (t : List ℕ). takes old.sink t old.sink) (sym silent) (takes_nothing old.sink)) (omega arith)
       counted (looks_none view old.kept is_open) (lawful_of old (record old { works = ws; link = link }) (record { me = refl; header = refl }) (λ all. all) lawful (λ all. all)) (λ honest. is) (λ honest. made)
 
   -- a deed that writes a line, and changes the works, the link and the counts
@@ -89,7 +90,7 @@ module _ {D L K : Type 0} (view : D → DiskView) (takes fails : K → List ℕ 
       → record (running old) { works = ws; tally = tally } ≡ after d (running old) → AddsAll (calls (setting old) d (running old)) (story old.link) (story link)
       → Did view takes faults story counts (d ∷ []) old (record old { sink = sink; works = ws; link = link; tally = tally })
   did_line d old sink ws link tally none unread is_open counted text few lawful is made =
-      did_step d old (record old { sink = sink; works = ws; link = link; tally = tally }) none unread refl refl refl text few counted (looks_none view old.kept is_open)
+      did_step d old (record old { sink = sink; works = ws; link = link; tally = tally }) none unread refl refl text few counted (looks_none view old.kept is_open)
       (lawful_of old (record old { sink = sink; works = ws; link = link; tally = tally }) (record { me = refl; header = refl }) (λ all. all) lawful (λ all. all)) (λ honest. is) (λ honest. made)
 
   -- a deed after a look that changes the works, the link and the counts
@@ -100,19 +101,28 @@ module _ {D L K : Type 0} (view : D → DiskView) (takes fails : K → List ℕ 
       → (IsHonest view old.kept → AddsAll (calls (setting old) d (running old)) (story old.link) (story link))
       → Did view takes faults story counts (d ∷ []) old (record old { kept = kept; works = ws; link = link; tally = tally })
   did_given takes_nothing d old kept ws left link tally counts_to none unread silent looks counted lawful behind is tallied made =
-      did_step d old (record old { kept = kept; works = ws; link = link; tally = tally }) none unread refl refl refl (subst (λ (t : List ℕ). takes old.sink t old.sink) (sym silent) (takes_nothing old.sink)) (omega arith)
+      did_step d old (record old { kept = kept; works = ws; link = link; tally = tally }) none unread refl refl (subst (λ (t : List ℕ). takes old.sink t old.sink) (sym silent) (takes_nothing old.sink)) (omega arith)
       counted looks (lawful_of old (record old { kept = kept; works = ws; link = link; tally = tally }) looks.same (λ all. all) lawful (λ all. all))
       (λ honest.
-      ap (λ (n : Node). record { node = n; outbox = old.outbox; works = ws; dials = old.dials; config = old.config; tally = tally }) (looks.node honest)
-      ∙ ap (λ (x : List Work). record { node = node_of old.kept; outbox = old.outbox; works = x; dials = old.dials; config = old.config; tally = tally }) (is honest)
-      ∙ ap (λ (t : TallyView). record { node = node_of old.kept; outbox = old.outbox; works = left; dials = old.dials; config = old.config; tally = t }) (tallied honest)
+      ap (λ (n : Node). record { node = n; outbox = old.outbox; works = ws; dials = old.dials; config = old.config; tally = tally; about = about_of old.about }) (looks.node honest)
+      ∙ ap (λ (x : List Work). record { node = node_of old.kept; outbox = old.outbox; works = x; dials = old.dials; config = old.config; tally = tally; about = about_of old.about }) (is honest)
+      ∙ ap (λ (t : TallyView). record { node = node_of old.kept; outbox = old.outbox; works = left; dials = old.dials; config = old.config; tally = t; about = about_of old.about }) (tallied honest)
       ∙ sym behind) made
+
+  -- a deed that changes what is told of the program, and the link
+  pub did_told : (takes_nothing : (k : K) → takes k [] k) (d : Deed) (old : Server D L K) (about : About) (link : L) → deed_input d ≡ None → reread_of d ≡ None → line (setting old) d ≡ []
+      → old.kept.closed ≡ false → CountsAll (d ∷ []) (counts old.link) (counts link)
+      → record (running old) { about = about_of about } ≡ after d (running old) → AddsAll (calls (setting old) d (running old)) (story old.link) (story link)
+      → Did view takes faults story counts (d ∷ []) old (record old { about = about; link = link })
+  did_told takes_nothing d old about link none unread silent is_open counted is made =
+      did_step d old (record old { about = about; link = link }) none unread refl refl (subst (λ (t : List ℕ). takes old.sink t old.sink) (sym silent) (takes_nothing old.sink)) (omega arith)
+      counted (looks_none view old.kept is_open) (lawful_of old (record old { about = about; link = link }) (record { me = refl; header = refl }) (λ all. all) (λ all. all) (λ all. all)) (λ honest. is) (λ honest. made)
 
   -- one that goes by another configuration
   pub did_reread : (takes_nothing : (k : K) → takes k [] k) (old : Server D L K) (config : Settings) (link : L) → old.kept.closed ≡ false
       → IsPlaced old.kept.node.control.nodes config.addresses → length config.rules ≤ MAX_RULES
       → AddsAll (acts.Report reread_line ∷ []) (story old.link) (story link) → counts link ≡ counts old.link
-      → Did view takes faults story counts (Rereads config ∷ []) old (record old { config = config; link = link })
+      → Did view takes faults story counts (Rereads config ∷ []) old (record old { config = config; about = record old.about { refused = false }; link = link })
   did_reread takes_nothing old config link is_open placed rules made counted = record {
     is_open = is_open;
     same = record { me = refl; header = refl };
@@ -123,7 +133,7 @@ module _ {D L K : Type 0} (view : D → DiskView) (takes fails : K → List ℕ 
     no_fall = omega arith;
     counted = counted;
     keeps = looks_none view old.kept is_open;
-    lawful = lawful_of old (record old { config = config; link = link }) (record { me = refl; header = refl }) (λ all. all) (λ all. all) (λ all. all);
+    lawful = lawful_of old (record old { config = config; about = record old.about { refused = false }; link = link }) (record { me = refl; header = refl }) (λ all. all) (λ all. all) (λ all. all);
     text = takes_nothing old.sink;
     done = λ honest. record { after = refl; calls = made };
     moments = λ honest.
@@ -141,7 +151,6 @@ module _ {D L K : Type 0} (view : D → DiskView) (takes fails : K → List ℕ 
     config = config;
     set = set_of old new looks.same config;
     log = log;
-    about = about;
     goes_on = looks.goes_on;
     no_fall = subst (λ (k : K). NoFall (faults old.sink) (faults k)) (sym sink) (omega arith);
     counted = ap counts link;
@@ -159,12 +168,13 @@ module _ {D L K : Type 0} (view : D → DiskView) (takes fails : K → List ℕ 
     where
       is_same : IsHonest view old.kept → running new ≡ running old
       is_same honest =
-          ap (λ (n : Node). record { node = n; outbox = new.outbox; works = new.works; dials = new.dials; config = new.config; tally = new.tally }) (looks.node honest)
-          ∙ ap (λ (ms : List Message). record { node = node_of old.kept; outbox = ms; works = new.works; dials = new.dials; config = new.config; tally = new.tally }) outbox
-          ∙ ap (λ (ws : List Work). record { node = node_of old.kept; outbox = old.outbox; works = ws; dials = new.dials; config = new.config; tally = new.tally }) works
-          ∙ ap (λ (ds : List Dialling). record { node = node_of old.kept; outbox = old.outbox; works = old.works; dials = ds; config = new.config; tally = new.tally }) dials
-          ∙ ap (λ (c : Settings). record { node = node_of old.kept; outbox = old.outbox; works = old.works; dials = old.dials; config = c; tally = new.tally }) config
-          ∙ ap (λ (t : TallyView). record { node = node_of old.kept; outbox = old.outbox; works = old.works; dials = old.dials; config = old.config; tally = t }) tally
+          ap (λ (n : Node). record { node = n; outbox = new.outbox; works = new.works; dials = new.dials; config = new.config; tally = new.tally; about = about_of new.about }) (looks.node honest)
+          ∙ ap (λ (ms : List Message). record { node = node_of old.kept; outbox = ms; works = new.works; dials = new.dials; config = new.config; tally = new.tally; about = about_of new.about }) outbox
+          ∙ ap (λ (ws : List Work). record { node = node_of old.kept; outbox = old.outbox; works = ws; dials = new.dials; config = new.config; tally = new.tally; about = about_of new.about }) works
+          ∙ ap (λ (ds : List Dialling). record { node = node_of old.kept; outbox = old.outbox; works = old.works; dials = ds; config = new.config; tally = new.tally; about = about_of new.about }) dials
+          ∙ ap (λ (c : Settings). record { node = node_of old.kept; outbox = old.outbox; works = old.works; dials = old.dials; config = c; tally = new.tally; about = about_of new.about }) config
+          ∙ ap (λ (t : TallyView). record { node = node_of old.kept; outbox = old.outbox; works = old.works; dials = old.dials; config = old.config; tally = t; about = about_of new.about }) tally
+          ∙ ap (λ (x : About). record (running old) { about = about_of x }) about
 
   -- A break at once
 

@@ -41,7 +41,9 @@ use Rattle.oc_deeds.specs.Sending.{AreSendable}
 use Rattle.oc_deeds.specs.declared.dials.Dialling.{Dialling}
 use Rattle.oc_deeds.specs.declared.ends.TurnEnd.{TurnEnd}
 use Rattle.oc_deeds.specs.declared.ends.TurnEnd.TheVariants as ends
+use Rattle.oc_routes.specs.Sights.{about_of}
 use Rattle.oc_routes.specs.Tallies.{TallyView, known_before}
+use Rattle.oc_routes.specs.declared.about.About.{About}
 use Rattle.oc_deeds.specs.Counted.{noted}
 use Rattle.oc_server.specs.declared.server.Server.{Server}
 use Rattle.oc_deeds.specs.declared.work.Work.{Work}
@@ -123,7 +125,6 @@ module _ {D L K : Type 0} (view : D → DiskView) (takes fails : K → List ℕ 
     config = config ∙ ap (λ (o : Option Settings). unwrap_or o old.config) (sym unread);
     set = set_of old new keeps.same config;
     log = log;
-    about = about;
     goes_on = keeps.goes_on;
     no_fall = few;
     counted = subst (λ (l : L). CountsAll (d ∷ []) (counts old.link) (counts l)) (sym link) counted;
@@ -148,13 +149,14 @@ module _ {D L K : Type 0} (view : D → DiskView) (takes fails : K → List ℕ 
       is : IsHonest view old.kept
           → running new ≡ record (running old) { node = (step (node_of old.kept) i).node; outbox = with_messages old.outbox (kept (step (node_of old.kept) i).sends); tally = counted_input i (node_of old.kept) old.tally }
       is honest =
-          ap (λ (n : Node). record { node = n; outbox = new.outbox; works = new.works; dials = new.dials; config = new.config; tally = new.tally }) (keeps.node honest)
-          ∙ ap (λ (ms : List Message). record { node = (step (node_of old.kept) i).node; outbox = ms; works = new.works; dials = new.dials; config = new.config; tally = new.tally }) outbox
-          ∙ ap (λ (o : OutcomeView). record { node = (step (node_of old.kept) i).node; outbox = with_messages old.outbox (kept o.sends); works = new.works; dials = new.dials; config = new.config; tally = new.tally }) (keeps.outcome_is honest)
-          ∙ ap (λ (ws : List Work). record { node = (step (node_of old.kept) i).node; outbox = with_messages old.outbox (kept (step (node_of old.kept) i).sends); works = ws; dials = new.dials; config = new.config; tally = new.tally }) works
-          ∙ ap (λ (ds : List Dialling). record { node = (step (node_of old.kept) i).node; outbox = with_messages old.outbox (kept (step (node_of old.kept) i).sends); works = old.works; dials = ds; config = new.config; tally = new.tally }) dials
-          ∙ ap (λ (c : Settings). record { node = (step (node_of old.kept) i).node; outbox = with_messages old.outbox (kept (step (node_of old.kept) i).sends); works = old.works; dials = old.dials; config = c; tally = new.tally }) config
-          ∙ ap (λ (t : TallyView). record { node = (step (node_of old.kept) i).node; outbox = with_messages old.outbox (kept (step (node_of old.kept) i).sends); works = old.works; dials = old.dials; config = old.config; tally = t }) (counts honest)
+          ap (λ (n : Node). record { node = n; outbox = new.outbox; works = new.works; dials = new.dials; config = new.config; tally = new.tally; about = about_of new.about }) (keeps.node honest)
+          ∙ ap (λ (ms : List Message). record { node = (step (node_of old.kept) i).node; outbox = ms; works = new.works; dials = new.dials; config = new.config; tally = new.tally; about = about_of new.about }) outbox
+          ∙ ap (λ (o : OutcomeView). record { node = (step (node_of old.kept) i).node; outbox = with_messages old.outbox (kept o.sends); works = new.works; dials = new.dials; config = new.config; tally = new.tally; about = about_of new.about }) (keeps.outcome_is honest)
+          ∙ ap (λ (ws : List Work). record { node = (step (node_of old.kept) i).node; outbox = with_messages old.outbox (kept (step (node_of old.kept) i).sends); works = ws; dials = new.dials; config = new.config; tally = new.tally; about = about_of new.about }) works
+          ∙ ap (λ (ds : List Dialling). record { node = (step (node_of old.kept) i).node; outbox = with_messages old.outbox (kept (step (node_of old.kept) i).sends); works = old.works; dials = ds; config = new.config; tally = new.tally; about = about_of new.about }) dials
+          ∙ ap (λ (c : Settings). record { node = (step (node_of old.kept) i).node; outbox = with_messages old.outbox (kept (step (node_of old.kept) i).sends); works = old.works; dials = old.dials; config = c; tally = new.tally; about = about_of new.about }) config
+          ∙ ap (λ (t : TallyView). record { node = (step (node_of old.kept) i).node; outbox = with_messages old.outbox (kept (step (node_of old.kept) i).sends); works = old.works; dials = old.dials; config = old.config; tally = t; about = about_of new.about }) (counts honest)
+          ∙ ap (λ (x : About). record { node = (step (node_of old.kept) i).node; outbox = with_messages old.outbox (kept (step (node_of old.kept) i).sends); works = old.works; dials = old.dials; config = old.config; tally = counted_input i (node_of old.kept) old.tally; about = about_of x }) about
 
       -- it was counted by the step of the input
       counts : IsHonest view old.kept → new.tally ≡ counted_input i (node_of old.kept) old.tally

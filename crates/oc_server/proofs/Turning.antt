@@ -16,7 +16,6 @@ use Rattle.oc_io.specs.DiskView.{DiskView}
 use Rattle.oc_keep.specs.KeptView.{IsHonest, node_of}
 use Rattle.oc_probe.specs.declared.probing.Probing.{Probing}
 use Rattle.oc_routes.specs.Verdicts.{NodeTerms, terms_of}
-use Rattle.oc_base.specs.declared.shelf.Shelf.{Shelf}
 use Rattle.oc_model.specs.Node.{Header}
 use Rattle.oc_deeds.specs.Choices.{due_index, wait_for}
 use Rattle.oc_deeds.specs.Deeds.{Deed, Reads, Running, Sees, after_all, after, calls_of, config_behind, dials_after, errand_in}
@@ -144,11 +143,10 @@ module _ {D L K : Type 0} (view : D → DiskView) (takes fails : K → List ℕ 
     first = record { deeds = Reads before ∷ []; did = did; are = λ honest. refl }
 
     -- the node when it was asked for due work
-    pub due_then : (lines : List Shelf) → (IsHonest view b.kept → lines ≡ shelf (node_of b.kept).groups) → IsHonest view a.kept
-        → due_in a before ≡ due_index b.works lines before
-    due_then lines held honest =
+    pub due_then : (due : Option ℕ) → (IsHonest view b.kept → due ≡ due_in b before) → IsHonest view a.kept → due_in a before ≡ due
+    due_then due is honest =
         ap (λ (r : Running). due_index r.works (shelf r.node.groups) before) (sym (did.done honest).after)
-        ∙ ap (λ (ls : List Shelf). due_index b.works ls before) (sym (held (still_honest view takes fails faults story counts (Reads before ∷ []) a b did honest)))
+        ∙ sym (is (still_honest view takes fails faults story counts (Reads before ∷ []) a b did honest))
 
     -- the deeds of a turn by the work that was due
     one_by : (due : Option ℕ) (pace : Pace) (probing : Option Probing) (t : Observation) → t.before ≡ before → (IsHonest view a.kept → due_in a before ≡ due) → IsHonest view a.kept

@@ -86,7 +86,7 @@ module _ {D L K : Type 0} (view : D → DiskView) (takes fails : K → List ℕ 
   turned_done served old new made later turned honest before behind calls settled =
       let did = turned.does.did in
       record {
-        same = setting_stays view takes fails faults story counts old.server new.server did.same did.log did.about;
+        same = setting_stays view takes fails faults story counts old.server new.server did.same did.log;
         after = (did.done honest).after;
         calls = calls;
         orderly = subst (λ (ds : List Deed). IsOrderly (setting old.server) made ds (running old.server)) (sym (turned.does.are honest))

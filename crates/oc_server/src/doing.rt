@@ -1,6 +1,9 @@
 //! The deeds of a server, on its files, its link and its output.
 
+ghost use Rattle.std.specs.Prelude.{◌≡◌};
 ghost use Rattle.oc_keep.specs.KeptView.{IsHonest};
+ghost use Rattle.oc_routes.specs.Sights.{about_of};
+ghost use Rattle.oc_deeds.specs.Deeds.{when_seen};
 ghost use Rattle.oc_server.specs.Parts.{Does, Stops};
 ghost use Rattle.oc_server.specs.Scenes.{IsServing};
 ghost use Rattle.oc_server.specs.Scenes as scenes;
@@ -10,13 +13,13 @@ use crate::dialling::{address_of, begin_dial, request_to};
 use crate::giving::{finish, first_piece, joined, next_piece, take_request, whole};
 use crate::noting::{refuse, write_line, write_told};
 use crate::server::Server;
-use crate::taking::{keep, line_of};
+use crate::taking::{count_taken, keep, line_of, prior_to};
 use oc_base::{NodeId, Shelf};
 use oc_config::Config;
-use oc_deeds::asked::{Accepted, held_back, sender_of};
+use oc_deeds::asked::{Accepted, held_back};
 use oc_deeds::brief::{Before, told_after};
 use oc_deeds::contents::{begin_rest, keeps, transfer_for};
-use oc_deeds::counting::{count_input, count_refusal, count_reply};
+use oc_deeds::counting::{count_refusal, count_reply};
 use oc_deeds::lines::put_note;
 use oc_deeds::{
     Dialling, Doer, Errand, Log, Outbox, Pending, Transfer, TurnEnd, Unfit, Waiting, Work, put_all,
@@ -27,9 +30,7 @@ use oc_io::{Disk, Sink};
 use oc_link::{ConnectionId, DialId, Ending, Link, Look};
 use oc_model::{Answer, Input};
 use oc_node::Node;
-use oc_routes::{
-    CONTINUE, KnownRows, MessageFault, Refusal, Request, put_refusal_line, refusal_reply,
-};
+use oc_routes::{About, CONTINUE, MessageFault, Refusal, Request, put_refusal_line, refusal_reply};
 use std::alloc::Global;
 
 /// The line that tells that a configuration is gone by from now on.
@@ -95,16 +96,17 @@ impl<D: Disk, L: Link, K: Sink> Doer for Server<D, L, K> {
     fn accepts(&mut self, input: Input) -> Result<Accepted, TurnEnd> {
         self.kept.recovers();
         let line = line_of(self.alloc, self.log, &self.kept, &input)?;
-        let known = KnownRows::before(self.alloc, self.kept.node().table(), &input)?;
-        let sender = sender_of(&input);
+        let prior = prior_to(self.alloc, &self.kept, &input)?;
         let outcome = keep(&mut self.kept, input)?;
         write_line(&mut self.sink, &line)?;
+        count_taken(&mut self.tally, &prior, &outcome, &self.kept);
         // The first message that goes back to the sender of a message is its reply.
-        let (back, others) = held_back(sender, outcome.sends);
+        let (back, others) = held_back(prior.sender, outcome.sends);
         put_all(&mut self.outbox, others);
-        let answer = outcome.answer;
-        count_input(&mut self.tally, sender, &known, answer, self.kept.node());
-        Ok(Accepted { answer, back })
+        Ok(Accepted {
+            answer: outcome.answer,
+            back,
+        })
     }
 
     fn says_ahead(&mut self, input: &Input) -> Result<(), TurnEnd> {
@@ -244,9 +246,7 @@ impl<D: Disk, L: Link, K: Sink> Doer for Server<D, L, K> {
 
     fn looks(&mut self) -> Look {
         let look = self.link.look();
-        if let Look::Failed = &look {
-            self.about.refused = true;
-        }
+        self.about = when_seen(self.about, &look);
         look
     }
 
@@ -278,4 +278,17 @@ impl<D: Disk, L: Link, K: Sink> Doer for Server<D, L, K> {
     fn parts_stop() {}
 
     fn is_lawful() {}
+}
+
+/// What is told of the program after a look at the configuration's file; one that can't be read is refused.
+fn when_seen(about: About, look: &Look) -> About
+    ensures { about_of result ≡ when_seen look.now (about_of about) }
+{
+    match look {
+        Look::Failed => About {
+            refused: true,
+            ..about
+        },
+        Look::Nothing | Look::Text(_) => about,
+    }
 }

@@ -6,7 +6,9 @@ ghost use Rattle.oc_model.specs.Lawful.{IsInput};
 ghost use Rattle.oc_model.specs.Step.{step};
 ghost use Rattle.oc_keep.specs.KeptView.{IsHonest, node_of};
 ghost use Rattle.oc_routes.specs.Inputs as inputs;
-ghost use Rattle.oc_deeds.specs.Deeds.{Takes, taken_line};
+ghost use Rattle.oc_routes.specs.Tallies.{known_before};
+ghost use Rattle.oc_deeds.specs.Counted.{noted};
+ghost use Rattle.oc_deeds.specs.Deeds.{Takes, sender_of, taken_line};
 ghost use Rattle.oc_deeds.specs.Records.{told_ahead};
 ghost use Rattle.oc_server.specs.Scenes as scenes;
 ghost use Rattle.oc_server.specs.Scenes.{Breaks, Did, IsServing, KeepStops, KeepsOne};
@@ -16,7 +18,7 @@ ghost use Rattle.oc_deeds.specs.Within.{BringsBytes, HasBytes};
 use crate::noting::write_line;
 use crate::sendable::sendable;
 use crate::server::Server;
-use oc_base::Memory;
+use oc_base::{Memory, NodeId};
 use oc_deeds::asked::sender_of;
 use oc_deeds::counting::count_input;
 use oc_deeds::{Log, TurnEnd, put_all};
@@ -25,7 +27,7 @@ use oc_keep::{KeepError, Kept, Outcome};
 use oc_laws_step::lawful_nodes_stay_lawful;
 use oc_link::Link;
 use oc_model::{Answer, Body, Input};
-use oc_routes::{KnownRows, put_input_line};
+use oc_routes::{KnownRows, Tally, put_input_line};
 use oc_wire::spellings_are_read;
 use std::alloc::Global;
 
@@ -41,16 +43,54 @@ impl<D: Disk, L: Link, K: Sink> Server<D, L, K> {
     {
         self.kept.recovers();
         let line = line_of(self.alloc, self.log, &self.kept, &input)?;
-        let known = KnownRows::before(self.alloc, self.kept.node().table(), &input)?;
-        let sender = sender_of(&input);
+        let prior = prior_to(self.alloc, &self.kept, &input)?;
         let outcome = keep(&mut self.kept, input)?;
         // Where the output fails, the disks have the input already.
         write_line(&mut self.sink, &line)?;
+        count_taken(&mut self.tally, &prior, &outcome, &self.kept);
         let answer = outcome.answer;
         put_all(&mut self.outbox, outcome.sends);
-        count_input(&mut self.tally, sender, &known, answer, self.kept.node());
         Ok(answer)
     }
+}
+
+/// What an input is counted by: its sender, and the rows that were known before it.
+#[derive(Drop)]
+pub(crate) struct Prior {
+    pub(crate) sender: Option<NodeId>,
+    pub(crate) known: Option<KnownRows>,
+}
+
+/// What an input is counted by, of a node that has not taken it yet.
+pub(crate) fn prior_to<D: Disk>(
+    alloc: Global,
+    kept: &Kept<D>,
+    input: &Input,
+) -> Result<Prior, Memory>
+    ensures sender { IfOk result (λ prior. prior.sender ≡ sender_of input.now) }
+    ensures known { IfOk result (λ prior. prior.known ≡ known_before input.now kept.now.node.control.kept.table) }
+{
+    let known = KnownRows::before(alloc, kept.node().table(), input)?;
+    let sender = sender_of(input);
+    Ok(Prior { sender, known })
+}
+
+/// Counts an input that a node has taken with this outcome.
+pub(crate) fn count_taken<D: Disk>(
+    tally: &mut Tally,
+    prior: &Prior,
+    outcome: &Outcome,
+    kept: &Kept<D>,
+)
+    ensures { tally.new ≡ noted prior.now.sender prior.now.known outcome.now.answer kept.now.node.control tally.old }
+{
+    count_input(
+        tally,
+        prior.sender,
+        &prior.known,
+        outcome.answer,
+        kept.node(),
+    );
 }
 
 /// The line of an input of this node that is written after its frame; none where not each input has one there.

@@ -1,6 +1,7 @@
-ghost use Rattle.std.specs.Prelude.{IfErr, IfOk, OnOk, unwrap_or};
+ghost use Rattle.std.specs.Prelude.{◌≡◌, IfErr, IfOk, OnOk, unwrap_or};
+ghost use Rattle.oc_keep.specs.KeptView.{IsHonest};
 ghost use Rattle.oc_server.specs.Lawful.{IsReady};
-ghost use Rattle.oc_server.specs.Runs.{HandleStops, Handled, LookAgainStops, LooksAgain, NextStops, NextTaken, ServeEnds, Turned, TurnStops};
+ghost use Rattle.oc_server.specs.Runs.{HandleStops, Handled, LookAgainStops, LooksAgain, NextStops, NextTaken, ServeEnds, Turned, TurnStops, due_in};
 
 use crate::server::Server;
 use oc_base::Bytes;
@@ -10,6 +11,15 @@ use oc_deeds::{Doer, Pace, TurnEnd, deals, takes_due};
 use oc_io::{Disk, Sink};
 use oc_link::Link;
 use oc_probe::Probing;
+
+impl<D: Disk, L: Link, K: Sink> Server<D, L, K> {
+    /// The index of the work that is due by itself at this time.
+    fn due_at(&self, now: u64) -> Option<usize>
+        ensures { IsHonest D.view self.now.kept → result ≡ due_in self.now now }
+    {
+        due_index(self.works.list(), self.kept.shelf(), now)
+    }
+}
 
 /// A running node turn by turn.
 #[derive(Drop)]
@@ -65,7 +75,7 @@ impl<D: Disk, L: Link, K: Sink> Turns<D, L, K> {
     {
         self.server.tidies()?;
         let before = self.server.millis();
-        match due_index(self.server.works.list(), self.server.kept.shelf(), before) {
+        match self.server.due_at(before) {
             Some(index) => {
                 takes_due(&mut self.server, &mut self.pace, index, before)?;
                 Ok(true)

@@ -16,7 +16,7 @@ use Rattle.oc_server.proofs.doing.ServerDoer.accepts.Goals as goal
 pub returns-clause-did : goal.returns-clause-did
 returns-clause-did g c =
     let s = c.args.self.now in
-    let new = record s { kept = c.keep.new.kept; sink = c.write_line.new.sink; outbox = c.put_all.new.outbox; tally = c.count_input.new.tally } in
+    let new = record s { kept = c.keep.new.kept; sink = c.write_line.new.sink; outbox = c.put_all.new.outbox; tally = c.count_taken.new.tally } in
     does_one g.D.Disk.view g.K.Sink.takes g.K.Sink.fails g.K.Sink.faults g.L.Link.story g.L.Link.counts (Accepts c.args.input) (one (Accepts c.args.input)) s new (λ honest. refl)
     (did_accept g.D.Disk.view g.K.Sink.takes g.K.Sink.fails g.K.Sink.faults g.L.Link.story g.L.Link.counts c.args.input c.in_ok-outcome.outcome s new c.requires.serving.is_open c.in_ok-outcome.ensures.kept
     (subst (λ (t : List ℕ). g.K.Sink.takes s.sink t c.write_line.new.sink) (c.deref.ensures.value ∙ c.in_ok-line.ensures) c.in_ok-write_line.ensures.wrote) c.write_line.ensures.count
@@ -28,9 +28,9 @@ returns-in_err-line-clause-breaks g c =
     rw (p.1, p.2) (accepts_stops g.D.Disk.view g.K.Sink.takes g.K.Sink.fails g.K.Sink.faults g.L.Link.story g.L.Link.counts g.met.K.Sink.takes_nothing ends.Memory c.args.input (one (Accepts c.args.input)) c.args.self.now _ c.requires.serving.is_open (λ honest. refl)
     (memory_before g.D.Disk.view g.K.Sink.takes g.K.Sink.fails g.K.Sink.faults g.L.Link.story g.L.Link.counts g.met.K.Sink.takes_nothing c.args.input c.args.self.now (c.recovers.ensures.survives c.requires.serving.is_open)))
 
-pub returns-in_err-known-clause-breaks : goal.returns-in_err-known-clause-breaks
-returns-in_err-known-clause-breaks g c =
-    let p = err_from_is_err_and c.from_residual-in_err-known.result c.from_residual-in_err-known.ensures.1 in
+pub returns-in_err-prior-clause-breaks : goal.returns-in_err-prior-clause-breaks
+returns-in_err-prior-clause-breaks g c =
+    let p = err_from_is_err_and c.from_residual-in_err-prior.result c.from_residual-in_err-prior.ensures.1 in
     rw (p.1, p.2) (accepts_stops g.D.Disk.view g.K.Sink.takes g.K.Sink.fails g.K.Sink.faults g.L.Link.story g.L.Link.counts g.met.K.Sink.takes_nothing ends.Memory c.args.input (one (Accepts c.args.input)) c.args.self.now _ c.requires.serving.is_open (λ honest. refl)
     (memory_before g.D.Disk.view g.K.Sink.takes g.K.Sink.fails g.K.Sink.faults g.L.Link.story g.L.Link.counts g.met.K.Sink.takes_nothing c.args.input c.args.self.now (c.recovers.ensures.survives c.requires.serving.is_open)))
 
@@ -51,12 +51,12 @@ returns-clause-answer g c = λ honest. ap (λ (o : OutcomeView). o.answer) (c.ou
 
 pub returns-clause-back : goal.returns-clause-back
 returns-clause-back g c = λ honest.
-    c.held_back-back.ensures.back ∙ ap (λ (x : Option ℕ). back_to x c.outcome.inside.sends.items) c.sender_of-sender.ensures
+    c.held_back-back.ensures.back ∙ ap (λ (x : Option ℕ). back_to x c.outcome.inside.sends.items) c.in_ok-prior.ensures.sender
     ∙ ap (λ (o : OutcomeView). back_to (sender_of c.args.input) o.sends) (c.outcome.view_is ∙ c.in_ok-outcome.ensures.kept.outcome_is honest)
 
 pub returns-clause-text : goal.returns-clause-text
 returns-clause-text g c =
     let nodes = c.args.self.now.kept.node.control.nodes in
     subst (λ (back : Option Message). IfSome back (λ m. HasSpelling m.body)) (sym c.held_back-back.ensures.back)
-    (back_has_text nodes c.outcome.inside.sends.items c.sender_of-sender.result
+    (back_has_text nodes c.outcome.inside.sends.items c.in_ok-prior.prior.sender
     (subst (λ (o : OutcomeView). AreSendable nodes o.sends) (sym c.outcome.view_is) c.in_ok-outcome.ensures.kept.sendable))

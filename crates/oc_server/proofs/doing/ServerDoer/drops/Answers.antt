@@ -3,6 +3,7 @@ use Rattle.std.proofs.lemmas.Result.{err_from_is_err_and}
 use Rattle.std.specs.List.{AllByRecursion}
 use Rattle.oc_link.proofs.Stories.{adds-none}
 use Rattle.oc_keep.specs.KeptView.{node_of}
+use Rattle.oc_routes.specs.Sights.{about_of}
 use Rattle.oc_deeds.specs.Deeds.{Drops, note_line}
 use Rattle.oc_deeds.specs.Lawful.{IsLawfulWork}
 use Rattle.oc_deeds.specs.declared.work.Work.{Work}
@@ -24,7 +25,7 @@ returns-clause-did g c =
     does_one g.D.Disk.view g.K.Sink.takes g.K.Sink.fails g.K.Sink.faults g.L.Link.story g.L.Link.counts (Drops c.args.connection c.args.told) (one (Drops c.args.connection c.args.told)) s _ (λ honest. refl)
     (did_line g.D.Disk.view g.K.Sink.takes g.K.Sink.fails g.K.Sink.faults g.L.Link.story g.L.Link.counts (Drops x c.args.told) s c.write_told.new.sink c.take-gone.new.self s.link s.tally refl refl c.requires.is_open refl c.in_ok-write_told.ensures.wrote c.write_told.ensures.count
     (λ all. subst (λ (ws : List Work). AllByRecursion (IsLawfulWork nodes me) ws) (sym is) (works_without nodes me x s.works all))
-    (ap (λ (ws : List Work). record { node = node_of s.kept; outbox = s.outbox; works = ws; dials = s.dials; config = s.config; tally = s.tally }) is)
+    (ap (λ (ws : List Work). record { node = node_of s.kept; outbox = s.outbox; works = ws; dials = s.dials; config = s.config; tally = s.tally; about = about_of s.about }) is)
     (adds-none (g.L.Link.story s.link)))
 
 pub returns-in_err-write_told-clause-breaks : goal.returns-in_err-write_told-clause-breaks

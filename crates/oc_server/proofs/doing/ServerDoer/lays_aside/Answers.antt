@@ -3,6 +3,7 @@ use Rattle.std.proofs.lemmas.Result.{err_from_is_err_and}
 use Rattle.std.specs.List.{AllByRecursion}
 use Rattle.oc_link.proofs.Stories.{adds-none}
 use Rattle.oc_keep.specs.KeptView.{node_of}
+use Rattle.oc_routes.specs.Sights.{about_of}
 use Rattle.oc_deeds.specs.Deeds.{LaysAside}
 use Rattle.oc_deeds.specs.Lawful.{IsLawfulWork}
 use Rattle.oc_deeds.specs.Works.{without_work}
@@ -25,7 +26,7 @@ returns-clause-did g c =
     does_one g.D.Disk.view g.K.Sink.takes g.K.Sink.fails g.K.Sink.faults g.L.Link.story g.L.Link.counts (LaysAside c.args.transfer) (one (LaysAside c.args.transfer)) s _ (λ honest. refl)
     (did_works g.D.Disk.view g.K.Sink.takes g.K.Sink.fails g.K.Sink.faults g.L.Link.story g.L.Link.counts g.met.K.Sink.takes_nothing (LaysAside p) s c.begin.new.self s.link refl refl refl c.requires.is_open refl
     (λ all. subst (λ (ws : List Work). AllByRecursion (IsLawfulWork nodes me) ws) (sym is) (works_with nodes me (without_work p.connection s.works) (works.Aside p) (works_without nodes me p.connection s.works all) tt))
-    (ap (λ (ws : List Work). record { node = node_of s.kept; outbox = s.outbox; works = ws; dials = s.dials; config = s.config; tally = s.tally }) is)
+    (ap (λ (ws : List Work). record { node = node_of s.kept; outbox = s.outbox; works = ws; dials = s.dials; config = s.config; tally = s.tally; about = about_of s.about }) is)
     (adds-none (g.L.Link.story s.link)))
 
 pub returns-in_err-begin-clause-breaks : goal.returns-in_err-begin-clause-breaks

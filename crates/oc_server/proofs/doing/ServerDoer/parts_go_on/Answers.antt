@@ -11,7 +11,7 @@ pub returns-clause-stays_honest : goal.returns-clause-stays_honest
 returns-clause-stays_honest g c = λ p a b does honest. does_honest g.D.Disk.view g.K.Sink.takes g.K.Sink.fails g.K.Sink.faults g.L.Link.story g.L.Link.counts p a b does honest
 
 pub returns-clause-stays_set : goal.returns-clause-stays_set
-returns-clause-stays_set g c = λ p a b does. setting_stays g.D.Disk.view g.K.Sink.takes g.K.Sink.fails g.K.Sink.faults g.L.Link.story g.L.Link.counts a b does.did.same does.did.log does.did.about
+returns-clause-stays_set g c = λ p a b does. setting_stays g.D.Disk.view g.K.Sink.takes g.K.Sink.fails g.K.Sink.faults g.L.Link.story g.L.Link.counts a b does.did.same does.did.log
 
 pub returns-clause-same_me : goal.returns-clause-same_me
 returns-clause-same_me g c = λ p a b does. does.did.same.me

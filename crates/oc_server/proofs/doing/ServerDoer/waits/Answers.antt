@@ -2,6 +2,7 @@ use Rattle.std.proofs.Common.{refl, ap, subst, sym, List}
 use Rattle.std.proofs.lemmas.Result.{err_from_is_err_and}
 use Rattle.std.specs.List.{AllByRecursion}
 use Rattle.oc_keep.specs.KeptView.{node_of}
+use Rattle.oc_routes.specs.Sights.{about_of}
 use Rattle.oc_deeds.specs.Deeds.{Waits}
 use Rattle.oc_deeds.specs.Lawful.{IsLawfulWork}
 use Rattle.oc_deeds.specs.declared.work.Work.{Work}
@@ -20,7 +21,7 @@ returns-clause-did g c =
     (did_works g.D.Disk.view g.K.Sink.takes g.K.Sink.fails g.K.Sink.faults g.L.Link.story g.L.Link.counts g.met.K.Sink.takes_nothing (Waits c.args.waiting) s c.begin.new.self c.take.new.self refl refl refl c.requires.serving.is_open c.take.ensures.counts
     (λ all. subst (λ (ws : List Work). AllByRecursion (IsLawfulWork s.kept.node.control.nodes s.kept.node.control.me) ws) (sym c.in_ok-begin.ensures.begun)
     (works_with s.kept.node.control.nodes s.kept.node.control.me s.works (works.Waits c.args.waiting) all c.requires.waiting))
-    (ap (λ (ws : List Work). record { node = node_of s.kept; outbox = s.outbox; works = ws; dials = s.dials; config = s.config; tally = s.tally }) c.in_ok-begin.ensures.begun)
+    (ap (λ (ws : List Work). record { node = node_of s.kept; outbox = s.outbox; works = ws; dials = s.dials; config = s.config; tally = s.tally; about = about_of s.about }) c.in_ok-begin.ensures.begun)
     c.take.ensures.story)
 
 pub returns-in_err-begin-clause-breaks : goal.returns-in_err-begin-clause-breaks

@@ -1,6 +1,7 @@
 use Rattle.std.proofs.Common.{List, refl, ap, subst, sym, arith}
 use Rattle.std.specs.List.{AllByRecursion}
 use Rattle.oc_keep.specs.KeptView.{node_of}
+use Rattle.oc_routes.specs.Sights.{about_of}
 use Rattle.oc_deeds.specs.Deeds.{Sees}
 use Rattle.oc_deeds.specs.Lawful.{IsLawfulDial}
 use Rattle.oc_deeds.specs.declared.dials.Dialling.{Dialling}
@@ -17,11 +18,11 @@ returns-in-Ok-clause-did g c =
     let told = event_bytes e (g.L.Link.lends c.next.new.self) (g.L.Link.story s.link) (g.L.Link.story c.next.new.self) c.in-Ok.ensures.story in
     let is = c.errand_in-errand.ensures.rest in (
       told.0,
-      did_step g.D.Disk.view g.K.Sink.takes g.K.Sink.fails g.K.Sink.faults g.L.Link.story g.L.Link.counts (Sees e c.args.wait told.0) s _ refl refl refl refl refl (g.met.K.Sink.takes_nothing s.sink) (omega arith)
+      did_step g.D.Disk.view g.K.Sink.takes g.K.Sink.fails g.K.Sink.faults g.L.Link.story g.L.Link.counts (Sees e c.args.wait told.0) s _ refl refl refl refl (g.met.K.Sink.takes_nothing s.sink) (omega arith)
           (g.L.Link.counts c.next.new.self, c.in-Ok.ensures.counts, refl) (looks_none g.D.Disk.view s.kept c.requires.is_open)
           (lawful_of s _ (record { me = refl; header = refl }) (λ all. all) (λ all. all)
           (λ all. subst (λ (ds : List Dialling). AllByRecursion (IsLawfulDial s.kept.node.control.nodes) ds) (sym is) (dials_seen s.kept.node.control.nodes e s.dials all)))
-          (λ honest. ap (λ (ds : List Dialling). record { node = node_of s.kept; outbox = s.outbox; works = s.works; dials = ds; config = s.config; tally = s.tally }) is) (λ honest. told.1),
+          (λ honest. ap (λ (ds : List Dialling). record { node = node_of s.kept; outbox = s.outbox; works = s.works; dials = ds; config = s.config; tally = s.tally; about = about_of s.about }) is) (λ honest. told.1),
     )
 
 pub returns-in-Err-clause-breaks : goal.returns-in-Err-clause-breaks

@@ -16,9 +16,9 @@ returns-in_err-line-clause-breaks g c =
     let p = err_from_is_err_and c.from_residual.result c.from_residual.ensures.1 in
     rw (p.1, p.2) (memory_before g.D.Disk.view g.K.Sink.takes g.K.Sink.fails g.K.Sink.faults g.L.Link.story g.L.Link.counts g.met.K.Sink.takes_nothing c.args.input c.args.self.now (c.recovers.ensures.survives c.requires.serving.is_open))
 
-pub returns-in_err-known-clause-breaks : goal.returns-in_err-known-clause-breaks
-returns-in_err-known-clause-breaks g c =
-    let p = err_from_is_err_and c.from_residual-in_err-known.result c.from_residual-in_err-known.ensures.1 in
+pub returns-in_err-prior-clause-breaks : goal.returns-in_err-prior-clause-breaks
+returns-in_err-prior-clause-breaks g c =
+    let p = err_from_is_err_and c.from_residual-in_err-prior.result c.from_residual-in_err-prior.ensures.1 in
     rw (p.1, p.2) (memory_before g.D.Disk.view g.K.Sink.takes g.K.Sink.fails g.K.Sink.faults g.L.Link.story g.L.Link.counts g.met.K.Sink.takes_nothing c.args.input c.args.self.now (c.recovers.ensures.survives c.requires.serving.is_open))
 
 pub returns-in_err-outcome-clause-breaks : goal.returns-in_err-outcome-clause-breaks

@@ -1,12 +1,10 @@
-use Rattle.std.proofs.Common.{◌≡◌, ◌∷◌, [], List, None, Some, ap, sym, slice_get, refl, ◌∙◌, arith}
+use Rattle.std.proofs.Common.{◌≡◌, ◌∷◌, [], None, Some, ap, sym, slice_get, refl, ◌∙◌, arith}
 use Rattle.std.proofs.lemmas.Result.{err_from_is_err_and}
 use Rattle.oc_keep.specs.KeptView.{IsHonest}
-use Rattle.oc_deeds.specs.Choices.{due_index}
 use Rattle.oc_deeds.specs.Deeds.{Reads}
 use Rattle.oc_server.specs.Looks.{Renews}
 use Rattle.oc_server.specs.Runs.{due_in}
 use Rattle.oc_deeds.specs.Turns.{takes_due}
-use Rattle.oc_deeds.specs.declared.work.Work.{Work}
 use Rattle.oc_server.proofs.Parts.{does_serve}
 use Rattle.oc_server.proofs.Probings.{ready_still}
 use Rattle.oc_deeds.proofs.Results.{err_then, ok_then}
@@ -42,8 +40,7 @@ returns-in_ok-takes_due-in-Some-clause-handled g c =
     let did = did_then g.D.Disk.view g.K.Sink.takes g.K.Sink.fails g.K.Sink.faults g.L.Link.story g.L.Link.counts g.met.K.Sink.takes_then [] (Reads c.millis-before.result ∷ []) t.server c.tidies.new.self c.millis-before.new.self c.in_ok-tidies.ensures.did c.millis-before.ensures in
     let is : IsHonest g.D.Disk.view t.server.kept → due_in t.server c.millis-before.result ≡ Some c.in-Some.index =
     λ honest.
-    due_then g.D.Disk.view g.K.Sink.takes g.K.Sink.fails g.K.Sink.faults g.L.Link.story g.L.Link.counts g.met.K.Sink.takes_then c.millis-before.result t.server c.millis-before.new.self c.millis-before.new.self did c.shelf.result.now c.shelf.ensures.groups honest
-    ∙ ap (λ (ws : List Work). due_index ws c.shelf.result.now c.millis-before.result) (sym c.list.ensures) ∙ sym c.due_index.ensures ∙ c.in-Some.is in
+    due_then g.D.Disk.view g.K.Sink.takes g.K.Sink.fails g.K.Sink.faults g.L.Link.story g.L.Link.counts g.met.K.Sink.takes_then c.millis-before.result t.server c.millis-before.new.self c.millis-before.new.self did c.due_at.result c.due_at.ensures honest ∙ c.in-Some.is in
     let renewed : Renews g.D.Disk.view t.server.kept c.millis-before.new.self.kept =
     still_renewed g.D.Disk.view g.K.Sink.takes g.K.Sink.fails g.K.Sink.faults g.L.Link.story g.L.Link.counts [] (Reads c.millis-before.result ∷ []) t.server c.tidies.new.self c.millis-before.new.self c.in_ok-tidies.ensures.did c.millis-before.ensures
     (λ honest ripe. omega (arith, c.in_ok-tidies.ensures.ripe ripe)) in
@@ -56,8 +53,7 @@ returns-in_err-takes_due-in-Some-clause-stops g c =
     let did = did_then g.D.Disk.view g.K.Sink.takes g.K.Sink.fails g.K.Sink.faults g.L.Link.story g.L.Link.counts g.met.K.Sink.takes_then [] (Reads c.millis-before.result ∷ []) t.server c.tidies.new.self c.millis-before.new.self c.in_ok-tidies.ensures.did c.millis-before.ensures in
     let is : IsHonest g.D.Disk.view t.server.kept → due_in t.server c.millis-before.result ≡ Some c.in-Some.index =
     λ honest.
-    due_then g.D.Disk.view g.K.Sink.takes g.K.Sink.fails g.K.Sink.faults g.L.Link.story g.L.Link.counts g.met.K.Sink.takes_then c.millis-before.result t.server c.millis-before.new.self c.millis-before.new.self did c.shelf.result.now c.shelf.ensures.groups honest
-    ∙ ap (λ (ws : List Work). due_index ws c.shelf.result.now c.millis-before.result) (sym c.list.ensures) ∙ sym c.due_index.ensures ∙ c.in-Some.is in
+    due_then g.D.Disk.view g.K.Sink.takes g.K.Sink.fails g.K.Sink.faults g.L.Link.story g.L.Link.counts g.met.K.Sink.takes_then c.millis-before.result t.server c.millis-before.new.self c.millis-before.new.self did c.due_at.result c.due_at.ensures honest ∙ c.in-Some.is in
     let p = err_from_is_err_and c.from_residual-in_err-takes_due-in-Some.result c.from_residual-in_err-takes_due-in-Some.ensures.1 in
     let stops = c.in_err-takes_due-in-Some.ensures.breaks in
     rw (p.1, p.2) (stopped_due g.D.Disk.view g.K.Sink.takes g.K.Sink.fails g.K.Sink.faults g.L.Link.story g.L.Link.counts g.met.K.Sink.takes_nothing g.met.K.Sink.takes_then t c.millis-before.result c.millis-before.new.self (record { server = c.takes_due.new.doer; pace = c.takes_due.new.pace; probing = t.probing; reading = t.reading }) did c.in-Some.index is c.in_err-takes_due-in-Some.field-0.0 stops.0 stops.1)
@@ -78,8 +74,7 @@ returns-in-None-clause-handled g c =
     let did = did_then g.D.Disk.view g.K.Sink.takes g.K.Sink.fails g.K.Sink.faults g.L.Link.story g.L.Link.counts g.met.K.Sink.takes_then [] (Reads c.millis-before.result ∷ []) t.server c.tidies.new.self c.millis-before.new.self c.in_ok-tidies.ensures.did c.millis-before.ensures in
     let is : IsHonest g.D.Disk.view t.server.kept → due_in t.server c.millis-before.result ≡ None =
     λ honest.
-    due_then g.D.Disk.view g.K.Sink.takes g.K.Sink.fails g.K.Sink.faults g.L.Link.story g.L.Link.counts g.met.K.Sink.takes_then c.millis-before.result t.server c.millis-before.new.self c.millis-before.new.self did c.shelf.result.now c.shelf.ensures.groups honest
-    ∙ ap (λ (ws : List Work). due_index ws c.shelf.result.now c.millis-before.result) (sym c.list.ensures) ∙ sym c.due_index.ensures ∙ c.in-None.is in
+    due_then g.D.Disk.view g.K.Sink.takes g.K.Sink.fails g.K.Sink.faults g.L.Link.story g.L.Link.counts g.met.K.Sink.takes_then c.millis-before.result t.server c.millis-before.new.self c.millis-before.new.self did c.due_at.result c.due_at.ensures honest ∙ c.in-None.is in
     let renewed : Renews g.D.Disk.view t.server.kept c.millis-before.new.self.kept =
     still_renewed g.D.Disk.view g.K.Sink.takes g.K.Sink.fails g.K.Sink.faults g.L.Link.story g.L.Link.counts [] (Reads c.millis-before.result ∷ []) t.server c.tidies.new.self c.millis-before.new.self c.in_ok-tidies.ensures.did c.millis-before.ensures
     (λ honest ripe. omega (arith, c.in_ok-tidies.ensures.ripe ripe)) in
@@ -91,6 +86,5 @@ returns-in-None-clause-stops g c =
     let did = did_then g.D.Disk.view g.K.Sink.takes g.K.Sink.fails g.K.Sink.faults g.L.Link.story g.L.Link.counts g.met.K.Sink.takes_then [] (Reads c.millis-before.result ∷ []) t.server c.tidies.new.self c.millis-before.new.self c.in_ok-tidies.ensures.did c.millis-before.ensures in
     let is : IsHonest g.D.Disk.view t.server.kept → due_in t.server c.millis-before.result ≡ None =
     λ honest.
-    due_then g.D.Disk.view g.K.Sink.takes g.K.Sink.fails g.K.Sink.faults g.L.Link.story g.L.Link.counts g.met.K.Sink.takes_then c.millis-before.result t.server c.millis-before.new.self c.millis-before.new.self did c.shelf.result.now c.shelf.ensures.groups honest
-    ∙ ap (λ (ws : List Work). due_index ws c.shelf.result.now c.millis-before.result) (sym c.list.ensures) ∙ sym c.due_index.ensures ∙ c.in-None.is in
+    due_then g.D.Disk.view g.K.Sink.takes g.K.Sink.fails g.K.Sink.faults g.L.Link.story g.L.Link.counts g.met.K.Sink.takes_then c.millis-before.result t.server c.millis-before.new.self c.millis-before.new.self did c.due_at.result c.due_at.ensures honest ∙ c.in-None.is in
     err_then c.takes_next.result (λ end stops. stopped_next g.D.Disk.view g.K.Sink.takes g.K.Sink.fails g.K.Sink.faults g.L.Link.story g.L.Link.counts g.met.K.Sink.takes_nothing g.met.K.Sink.takes_then t c.millis-before.result c.millis-before.new.self c.takes_next.new.self did is end stops) c.takes_next.ensures.stops

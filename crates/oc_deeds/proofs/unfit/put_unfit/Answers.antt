@@ -1,4 +1,6 @@
 use Rattle.std.proofs.Common.{◌++◌, codes, List, ℕ, ap₂, append_assoc, ◌∙◌}
+use Rattle.std.specs.Prelude.{decimal}
+use Rattle.oc_base.specs.declared.limits.TheConstants.{MAX_SCHEDULE_BYTES}
 use Rattle.oc_config.specs.Keys.{key_text}
 use Rattle.oc_deeds.proofs.Results.{done_then}
 use Rattle.oc_deeds.proofs.unfit.put_unfit.Goals as goal
@@ -11,4 +13,5 @@ returns-in_ok-put-in-Restart c = rw c.in-Restart.is
     c.put-in-Restart-2.ensures.ok)
 
 pub returns-in-Long : goal.returns-in-Long
-returns-in-Long c = rw c.in-Long.is c.put_with_number.ensures.ok
+returns-in-Long c = rw c.in-Long.is
+    (done_then c.put_with_number.result (λ is. is ∙ append_assoc c.args.out.now.items (codes "limit bytes ") (decimal MAX_SCHEDULE_BYTES)) c.put_with_number.ensures.ok)

@@ -46,7 +46,7 @@ use Rattle.oc_routes.specs.declared.tally.MessageFault.{MessageFault}
 use Rattle.oc_deeds.specs.Asks.{has_to_wait, obeys, refuses_or, responds, takes_on, takes_up, waiting}
 use Rattle.oc_deeds.specs.Brought.{comes_back, delivered_or, fault_of, input_of, input_of_reply, message_in, refused_of}
 use Rattle.oc_deeds.specs.Choices.{next_to_dial, prospect_of, wait_for}
-use Rattle.oc_deeds.specs.Deeds.{Deed, Reads, Running, Says, Sees, Setting, Takes, Tells, Waits, after, after_all, errand_in, Rejects, Rereads}
+use Rattle.oc_deeds.specs.Deeds.{Deed, Looks, Reads, Running, Says, Sees, Setting, Takes, Tells, Waits, after, after_all, errand_in, Rejects, Rereads}
 use Rattle.oc_deeds.specs.Hurries.{came_hurries}
 use Rattle.oc_deeds.specs.Pace.{has_passed, wait_until}
 use Rattle.oc_deeds.specs.Parts.{nothing, one, ◌>>◌}
@@ -354,7 +354,7 @@ plain_by (rereads.Unfit why) s a = (tt, tt)
 plain_by (rereads.Config new) s a = plain_settled (fitting s.me a.config new) a.config s a
 
 plain_looks : (look : Look) (r : Reread) (s : Setting) (a : Running) → ArePlain (looks_again look r s a)
-plain_looks look r s a = (tt, plain_by r s a)
+plain_looks look r s a = (tt, plain_by r s (after (Looks look) a))
 
 turn_plain : (terms : NodeTerms) (calls : Option (List Call)) (s : Setting) (t : Observation) (m : Machine) → MayHear terms calls (due_at t m) t m → ArePlain (turn_deeds s t m)
 turn_plain terms calls s t m heard =

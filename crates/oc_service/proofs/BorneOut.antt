@@ -52,7 +52,7 @@ use Rattle.oc_routes.specs.declared.tally.MessageFault.{MessageFault}
 use Rattle.oc_deeds.specs.Asks.{has_to_wait, obeys, refuses_or, responds, takes_on, takes_up, waiting}
 use Rattle.oc_deeds.specs.Brought.{comes_back, fault_of, input_of, refused_of}
 use Rattle.oc_deeds.specs.Choices.{due_index, next_to_dial, prospect_of, wait_for}
-use Rattle.oc_deeds.specs.Deeds.{Deed, Drops, Reads, Refuses, Running, Says, Sees, Setting, Takes, Tells, Waits, after, after_all, errand_in, Rejects, Rereads}
+use Rattle.oc_deeds.specs.Deeds.{Deed, Drops, Reads, Refuses, Running, Says, Sees, Setting, Takes, Tells, Waits, after, after_all, errand_in, Looks, Rejects, Rereads}
 use Rattle.oc_deeds.specs.Hurries.{came_hurries}
 use Rattle.oc_deeds.specs.Pace.{has_passed, wait_until}
 use Rattle.oc_deeds.specs.Parts.{nothing, one, ◌>>◌}
@@ -399,7 +399,7 @@ mild_by (rereads.Unfit why) s a = refl
 mild_by (rereads.Config new) s a = mild_settled (fitting s.me a.config new) a.config s a
 
 mild_looks : (look : Look) (r : Reread) (s : Setting) (a : Running) → all_mild (looks_again look r s a) ≡ true
-mild_looks look r s a = mild_by r s a
+mild_looks look r s a = mild_by r s (after (Looks look) a)
 
 turn_borne : (event : LinkEvent) (terms : NodeTerms) (calls : Option (List Call)) (s : Setting) (t : Observation) (m : Machine) → MayHear terms calls (due_at t m) t m → AreBorneOut event (turn_deeds s t m)
 turn_borne event terms calls s t m heard =

@@ -22,6 +22,8 @@ use Rattle.oc_deeds.specs.Sending.{AreSendable}
 use Rattle.oc_deeds.specs.declared.dials.Dialling.{Dialling}
 use Rattle.oc_deeds.specs.declared.pace.Pace.{Pace}
 use Rattle.oc_server.specs.declared.turns.Turns.{Turns}
+use Rattle.oc_routes.specs.Sights.{about_of}
+use Rattle.oc_routes.specs.declared.about.About.{About}
 use Rattle.oc_routes.specs.Tallies.{TallyView, first_tally}
 use Rattle.oc_deeds.specs.declared.work.Work.{Work}
 use Rattle.oc_service.specs.Loading.{IsLoaded}
@@ -70,12 +72,13 @@ pub loaded_machine : {D L K : Type 0} (view : D → DiskView) (c : Settings) (ta
     → machine turns ≡ machine_on view c task (disks_in site.files)
 loaded_machine view c task site turns loaded honest =
     let nodes_are : turns.server.kept.node.control.nodes ≡ length c.addresses = ap (λ (h : Header). h.nodes) loaded.node.header in
-    ap (λ (ms : List Message). machine_of (record { node = node_of turns.server.kept; outbox = ms; works = turns.server.works; dials = turns.server.dials; config = turns.server.config; tally = turns.server.tally }) turns.pace turns.probing turns.reading) loaded.outbox
-    ∙ ap (λ (ws : List Work). machine_of (record { node = node_of turns.server.kept; outbox = []; works = ws; dials = turns.server.dials; config = turns.server.config; tally = turns.server.tally }) turns.pace turns.probing turns.reading) loaded.works
-    ∙ ap (λ (ds : List Dialling). machine_of (record { node = node_of turns.server.kept; outbox = []; works = []; dials = ds; config = turns.server.config; tally = turns.server.tally }) turns.pace turns.probing turns.reading) loaded.dials
-    ∙ ap (λ (t : TallyView). machine_of (record { node = node_of turns.server.kept; outbox = []; works = []; dials = []; config = turns.server.config; tally = t }) turns.pace turns.probing turns.reading) (loaded.tally ∙ sym (ap first_tally nodes_are))
-    ∙ ap (λ (x : Settings). machine_of (node_at_first x (node_of turns.server.kept)) turns.pace turns.probing turns.reading) loaded.config
-    ∙ ap (λ (p : Pace). machine_of (node_at_first c (node_of turns.server.kept)) p turns.probing turns.reading) loaded.pace
-    ∙ ap (λ (last : Option (List ℕ)). machine_of (node_at_first c (node_of turns.server.kept)) (first_pace (is_record task.log) (most_interval task.probes task.me)) turns.probing last) loaded.reading
-    ∙ ap (λ (p : Option Probing). at_first (is_record task.log) (most_interval task.probes task.me) p task.text c (node_of turns.server.kept)) loaded.probing
-    ∙ ap (λ (n : Node). at_first (is_record task.log) (most_interval task.probes task.me) (probing_at_first task.probes task.me c.addresses) task.text c n) (loaded.node.node honest)
+    ap (λ (ms : List Message). machine_of (record { node = node_of turns.server.kept; outbox = ms; works = turns.server.works; dials = turns.server.dials; config = turns.server.config; tally = turns.server.tally; about = about_of turns.server.about }) turns.pace turns.probing turns.reading) loaded.outbox
+    ∙ ap (λ (ws : List Work). machine_of (record { node = node_of turns.server.kept; outbox = []; works = ws; dials = turns.server.dials; config = turns.server.config; tally = turns.server.tally; about = about_of turns.server.about }) turns.pace turns.probing turns.reading) loaded.works
+    ∙ ap (λ (ds : List Dialling). machine_of (record { node = node_of turns.server.kept; outbox = []; works = []; dials = ds; config = turns.server.config; tally = turns.server.tally; about = about_of turns.server.about }) turns.pace turns.probing turns.reading) loaded.dials
+    ∙ ap (λ (t : TallyView). machine_of (record { node = node_of turns.server.kept; outbox = []; works = []; dials = []; config = turns.server.config; tally = t; about = about_of turns.server.about }) turns.pace turns.probing turns.reading) (loaded.tally ∙ sym (ap first_tally nodes_are))
+    ∙ ap (λ (x : Settings). machine_of (node_at_first x (about_of turns.server.about) (node_of turns.server.kept)) turns.pace turns.probing turns.reading) loaded.config
+    ∙ ap (λ (x : About). machine_of (node_at_first c (about_of x) (node_of turns.server.kept)) turns.pace turns.probing turns.reading) loaded.about
+    ∙ ap (λ (p : Pace). machine_of (node_at_first c (about_of task.about) (node_of turns.server.kept)) p turns.probing turns.reading) loaded.pace
+    ∙ ap (λ (last : Option (List ℕ)). machine_of (node_at_first c (about_of task.about) (node_of turns.server.kept)) (first_pace (is_record task.log) (most_interval task.probes task.me)) turns.probing last) loaded.reading
+    ∙ ap (λ (p : Option Probing). at_first (is_record task.log) (most_interval task.probes task.me) p task.text (node_at_first c (about_of task.about) (node_of turns.server.kept))) loaded.probing
+    ∙ ap (λ (n : Node). at_first (is_record task.log) (most_interval task.probes task.me) (probing_at_first task.probes task.me c.addresses) task.text (node_at_first c (about_of task.about) n)) (loaded.node.node honest)

@@ -108,7 +108,7 @@ module _ {D L K : Type 0} (view : D → DiskView) (takes fails : K → List ℕ 
     honest_at honest = still_honest view takes fails faults story counts turned.does.deeds old.server at.server did honest
 
     setting_is : setting at.server ≡ setting old.server
-    setting_is = setting_stays view takes fails faults story counts old.server at.server did.same did.log did.about
+    setting_is = setting_stays view takes fails faults story counts old.server at.server did.same did.log
 
     -- the story at the end of the first turn is told where the later one is
     follows_at : IsHonest view old.server.kept → (all : Option (List Call)) → Follows (story new.server.link) all → Follows (story at.server.link) all

@@ -1,10 +1,12 @@
 -- The deeds for the measures.
-use Rattle.std.proofs.Common.{◌≡◌, ◌≢◌, ◌∙◌, ℕ, suc, ◌+◌, ◌<◌, ◌≤◌, List, [], ◌∷◌, ◌++◌, length, drop, get_or, ap, sym, eq-eqb, cond, append_assoc, append-nil, drop-cons, add-one}
+use Rattle.std.proofs.Common.{◌≡◌, ◌≢◌, ◌∙◌, ℕ, Bool, true, false, refl, suc, ◌+◌, ◌<◌, ◌≤◌, List, [], ◌∷◌, ◌++◌, length, drop, get_or, ap, sym, eq-eqb, cond, append_assoc, append-nil, drop-cons, add-one}
+use Rattle.std.specs.Prelude.{◌==◌, if◌then◌else◌}
 use Rattle.std.proofs.lemmas.List.{drop_all}
 use Rattle.std.proofs.lemmas.Bool.{ne_eqb}
+use Rattle.oc_config.specs.Settings.{Settings}
 use Rattle.oc_updown.specs.declared.measure_lines.Measure.{Measure}
 use Rattle.oc_model.specs.declared.input.Input.TheVariants.{Measured}
-use Rattle.oc_deeds.specs.Deeds.{Deed, Says, Setting, Takes}
+use Rattle.oc_deeds.specs.Deeds.{Deed, Says, Setting, Takes, config_behind}
 use Rattle.oc_deeds.specs.Records.{told_ahead}
 use Rattle.oc_service.specs.WhatNodeDoes.{own_measure, own_measures}
 
@@ -19,6 +21,14 @@ own_deeds s m is = ap (λ b. cond b (taken s m) []) (eq-eqb m.from s.me is)
 -- a measure of another node is not taken
 pub other_deeds : (s : Setting) (m : Measure) → m.from ≢ s.me → own_measure s m ≡ []
 other_deeds s m is = ap (λ b. cond b (taken s m) []) (ne_eqb m.from s.me is)
+
+-- the configuration stays, whatever is measured
+pub own_config : (s : Setting) (m : Measure) (c : Settings) → config_behind (own_measure s m) c ≡ c
+own_config s m c = by_own (m.from == s.me)
+  where
+    by_own : (b : Bool) → config_behind (if b then taken s m else []) c ≡ c
+    by_own true = refl
+    by_own false = refl
 
 -- the measures from a place on begin with the one there
 next_measure : (ms : List Measure) (i : ℕ) (m : Measure) → i < length ms → m ≡ get_or ms i m → drop i ms ≡ m ∷ drop (suc i) ms

@@ -33,8 +33,6 @@ use Rattle.oc_deeds.specs.Turns.{Observation, terms_in}
 use Rattle.oc_deeds.specs.Within.{IsWithin}
 use Rattle.oc_deeds.specs.declared.ends.TurnEnd.{TurnEnd}
 use Rattle.oc_deeds.specs.declared.ends.TurnEnd.TheVariants as ends
-use Rattle.oc_routes.specs.Sights.{about_of}
-use Rattle.oc_routes.specs.declared.about.About.{About}
 use Rattle.oc_deeds.specs.declared.log.Log.{Log}
 use Rattle.oc_server.specs.declared.server.Server.{Server}
 use Rattle.oc_server.specs.declared.turns.Turns.{Turns}
@@ -64,7 +62,7 @@ module _ {D L K : Type 0} (view : D → DiskView) (takes fails : K → List ℕ 
     (task : Task) (d : Disks D) (first last : Turns D L K)
     (loaded : IsNodeOf view (header_of_settings first.server.config) task.me d first.server.kept)
     (safely : LoadsSafely view (header_of_settings first.server.config) task.me d (disks_of first.server.kept))
-    (log : first.server.log ≡ task.log) (about : first.server.about ≡ task.about) (begins : AreHonest view d → machine first ≡ machine_on view first.server.config task d)
+    (log : first.server.log ≡ task.log) (begins : AreHonest view d → machine first ≡ machine_on view first.server.config task d)
     (recovers : last.server.kept.closed ≡ false → IsHonest view last.server.kept → NodeSurvives view last.server.kept (node_of last.server.kept))
     (full : last.server.kept.closed ≡ false → IsHonest view last.server.kept → (i : Input) → IsFullAt last.server.kept i → IsFullOn view (disks_of last.server.kept) (node_of last.server.kept) i) where
   abbrev c : Settings
@@ -89,9 +87,7 @@ module _ {D L K : Type 0} (view : D → DiskView) (takes fails : K → List ℕ 
   honest_kept honest = all_honest view d (disks_of first.server.kept) safely.goes_on honest
 
   setting_is : setting first.server ≡ setting_of task
-  setting_is = ap (λ (x : ℕ). record { me = x; log = first.server.log; about = about_of first.server.about }) loaded.id
-      ∙ ap (λ (x : Log). record { me = me; log = x; about = about_of first.server.about }) log
-      ∙ ap (λ (x : About). record { me = me; log = task.log; about = about_of x }) about
+  setting_is = ap (λ (x : ℕ). record { me = x; log = first.server.log }) loaded.id ∙ ap (λ (x : Log). record { me = me; log = x }) log
 
   -- a statement about every crash under the node's own name is one under that of the files
   named : (P : Header → ℕ → Type 0) → P (header_of first.server.kept.node.control) first.server.kept.node.control.me → P h me
@@ -306,7 +302,7 @@ module _ {D L K : Type 0} (view : D → DiskView) (takes fails : K → List ℕ 
       -- the bytes written after the deeds
       rest_on : (end : TurnEnd) (breaks : BreaksAfter view takes fails faults story counts end deeds under l last.server) → WritesAt takes fails breaks.0.sink last.server.sink end [] (under_line (setting_of task) under)
       rest_on end (at, did, breaks) =
-          subst (λ (x : Setting). WritesAt takes fails at.sink last.server.sink end [] (under_line x under)) (setting_stays view takes fails faults story counts l at did.same did.log did.about ∙ setting_is) breaks.text
+          subst (λ (x : Setting). WritesAt takes fails at.sink last.server.sink end [] (under_line x under)) (setting_stays view takes fails faults story counts l at did.same did.log ∙ setting_is) breaks.text
 
       adds_all : (end : TurnEnd) → BreaksAfter view takes fails faults story counts end deeds under l last.server → AreHonest view d
           → AddsAll (calls_of (setting l) deeds (running l)) (story link) (story last.server.link)
@@ -435,7 +431,7 @@ told_of {D} {L} {K} view takes fails faults story counts takes_nothing takes_the
     let d = disks_in site.files in
     let e = disks_of last.server.kept in
     let own = subst (λ (x : Settings). IsLoaded view x task site first) (sym loaded.config) loaded in
-    let told = ends_on view takes fails faults story counts takes_nothing takes_then takes_fails task d first last own.node own.safely own.log own.about (loaded_machine view first.server.config task site first own) recovers full end ends in
+    let told = ends_on view takes fails faults story counts takes_nothing takes_then takes_fails task d first last own.node own.safely own.log (loaded_machine view first.server.config task site first own) recovers full end ends in
     subst (λ (j : K). EndsAs view takes fails faults story counts s task d end (disks_in back.files) site.link back.link site.sink j) (sym sink)
     (subst (λ (k : K). EndsAs view takes fails faults story counts s task d end (disks_in back.files) site.link back.link k last.server.sink) loaded.sink
     (subst (λ (m : L). EndsAs view takes fails faults story counts s task d end (disks_in back.files) site.link m first.server.sink last.server.sink) (sym link)

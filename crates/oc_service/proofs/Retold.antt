@@ -81,6 +81,7 @@ module _ {D K J : Type 0} (view : D → DiskView) (takes fails : K → List ℕ 
       cut = stopped.cut;
       heard = stopped.heard;
       last_heard = stopped.last_heard;
+      last_reread = stopped.last_reread;
       calls = stopped.calls;
       replies = stopped.replies;
       failures = stopped.failures;

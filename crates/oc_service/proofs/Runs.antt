@@ -106,7 +106,7 @@ module _ {D L K : Type 0} (view : D → DiskView) (takes fails : K → List ℕ 
     honest_at honest = still_honest view takes fails faults story counts own listening at did (honest_listening honest)
 
     setting_at : setting at ≡ s
-    setting_at = setting_stays view takes fails faults story counts listening at did.same did.log did.about ∙ listening_setting
+    setting_at = setting_stays view takes fails faults story counts listening at did.same did.log ∙ listening_setting
 
     running_at : IsHonest view old.server.kept → running at ≡ after_all own (running old.server)
     running_at honest = (did.done (honest_listening honest)).after ∙ ap (λ (r : Running). after_all own r) listening_running
@@ -204,7 +204,7 @@ module _ {D L K : Type 0} (view : D → DiskView) (takes fails : K → List ℕ 
         honest_last honest = still_honest view takes fails faults story counts turns.deeds at last.server turns.did (honest_at honest)
 
         setting_last : setting last.server ≡ s
-        setting_last = setting_stays view takes fails faults story counts at last.server turns.did.same turns.did.log turns.did.about ∙ setting_at
+        setting_last = setting_stays view takes fails faults story counts at last.server turns.did.same turns.did.log ∙ setting_at
 
         abbrev behind : Machine
         behind = machine_after s old.server.config.measures turns.told (machine old)

@@ -15,7 +15,7 @@ use Rattle.oc_routes.specs.declared.verdict.Verdict.TheVariants as verdicts
 use Rattle.oc_routes.specs.declared.refused.Refused.{Refused}
 use Rattle.oc_routes.specs.declared.refused.Refused.TheVariants as refusals
 use Rattle.oc_deeds.specs.Deeds.{Deed, Drops, Looks, Reads, Refuses, Running, Sees, Setting, lines}
-use Rattle.oc_deeds.specs.Examples.{two_nodes}
+use Rattle.oc_deeds.specs.Examples.{first_about, two_nodes}
 use Rattle.oc_deeds.specs.declared.reread.Reread.TheVariants as rereads
 use Rattle.oc_link.specs.declared.look.Look.TheVariants as looks
 use Rattle.oc_deeds.specs.Turns.{Observation, turn}
@@ -30,11 +30,10 @@ abbrev example : Setting
 example = record {
   me = 1;
   log = Inputs;
-  about = record { version = codes "1.0.0"; started = 1796102400; refused = false };
 }
 
 abbrev idle : Running
-idle = record { node = new_node (record { nodes = 2; chain = 1; chunk = 4096; areas = 0 ∷ 0 ∷ [] }) 1; outbox = []; works = []; dials = []; config = two_nodes; tally = first_tally 2 }
+idle = record { node = new_node (record { nodes = 2; chain = 1; chunk = 4096; areas = 0 ∷ 0 ∷ [] }) 1; outbox = []; works = []; dials = []; config = two_nodes; tally = first_tally 2; about = first_about }
 
 abbrev ticked : Pace
 ticked = record { last = Some 0; interval = 100; most = 1000; whole = false; second = None }

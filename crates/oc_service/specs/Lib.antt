@@ -5,6 +5,7 @@ pub mod Failures
 pub mod AtAnyMoment
 pub mod Alike
 pub mod Examples
+pub mod MachineExamples
 pub mod Running
 pub mod OnSite
 pub mod Loading

@@ -21,6 +21,7 @@ ghost use Rattle.oc_deeds.specs.declared.dials.Errand.{Errand};
 ghost use Rattle.oc_deeds.specs.declared.pace.Pace.{Pace};
 ghost use Rattle.oc_service.specs.Alike.{AreAlike, told_request};
 ghost use Rattle.oc_service.specs.Examples.{AreCut, AreTold};
+ghost use Rattle.oc_service.specs.MachineExamples.{Computes};
 ghost use Rattle.oc_service.specs.Failures.{AreBorneOut, RiseForLines};
 
 use oc_routes::a_request_has_one_verdict;
@@ -30,6 +31,12 @@ use oc_routes::a_request_has_one_verdict;
 pub fn lines_of_failures_raise_counts()
     ensures counts { (deeds : List Deed) (old new : LinkCounts) → AreBorneOut Quiet deeds → CountsAll deeds old new → RiseForLines old old deeds new }
     ensures examples { AreTold }
+{}
+
+/// A node that looks at the file of its configuration goes by what it reads there, or keeps the one that it has and tells why,
+/// as computed for a node of two.
+pub fn machine_computes()
+    ensures { Computes }
 {}
 
 /// The same bytes of a request, however they are cut on their way, get the same reply and the same

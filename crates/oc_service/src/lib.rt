@@ -17,6 +17,7 @@
 //!
 //! [`lines_of_failures_raise_counts`] says the part about failures by the counts of the link, and
 //! [`the_same_bytes_are_answered_alike`] that the cuts between the bytes of a request make no difference.
+//! [`machine_computes`] is a worked example of the machine: a node that reads its configuration again.
 #![tactic(auto)]
 
 mod law;
@@ -26,7 +27,7 @@ mod probing;
 mod running;
 mod site;
 
-pub use law::{lines_of_failures_raise_counts, the_same_bytes_are_answered_alike};
+pub use law::{lines_of_failures_raise_counts, machine_computes, the_same_bytes_are_answered_alike};
 pub use oc_deeds::{Log, TurnEnd};
 pub use oc_routes::About;
 pub use running::{NodeEnd, Ran, Task, run_node};

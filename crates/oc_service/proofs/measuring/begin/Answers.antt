@@ -39,7 +39,7 @@ returns-clause-did g c =
     let first = c.in_ok-says_first.ensures.did in
     let says = Says (told_first s.log s.kept.node.control s.kept.content.shelves) in
     let same : own_measures (setting b) b.config.measures ≡ own_measures (setting s) s.config.measures =
-    ap (λ (x : Setting). own_measures x b.config.measures) (setting_stays g.D.Disk.view g.K.Sink.takes g.K.Sink.fails g.K.Sink.faults g.L.Link.story g.L.Link.counts s b first.same first.log first.about) ∙ ap (λ (x : Settings). own_measures (setting s) x.measures) first.config in
+    ap (λ (x : Setting). own_measures x b.config.measures) (setting_stays g.D.Disk.view g.K.Sink.takes g.K.Sink.fails g.K.Sink.faults g.L.Link.story g.L.Link.counts s b first.same first.log) ∙ ap (λ (x : Settings). own_measures (setting s) x.measures) first.config in
     done_then c.take_measures.result (λ did. subst (λ (ds : List Deed). Did g.D.Disk.view g.K.Sink.takes g.K.Sink.faults g.L.Link.story g.L.Link.counts (says ∷ ds) s e) same
     (did_then g.D.Disk.view g.K.Sink.takes g.K.Sink.fails g.K.Sink.faults g.L.Link.story g.L.Link.counts g.met.K.Sink.takes_then (says ∷ []) (own_measures (setting b) b.config.measures) s b e first did)) c.take_measures.ensures.did
 

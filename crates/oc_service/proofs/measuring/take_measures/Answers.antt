@@ -11,7 +11,7 @@ use Rattle.oc_server.specs.Scenes.{Did, setting}
 use Rattle.oc_service.specs.WhatNodeDoes.{own_measure, own_measures}
 use Rattle.oc_deeds.proofs.Cuts.{cuts_behind, cuts_more}
 use Rattle.oc_server.proofs.Scenes.{breaks_then, did_none, did_then, setting_stays, still_honest, still_serving}
-use Rattle.oc_service.proofs.Measured.{all_measured, measure_more, measures_here}
+use Rattle.oc_service.proofs.Measured.{all_measured, measure_more, measures_here, own_config}
 use Rattle.oc_service.proofs.measuring.take_measures.Goals as goal
 
 pub measures-init : goal.measures-init
@@ -32,7 +32,7 @@ returns-in_err-take_measure-clause-stops g c =
     let m = c.index-measure.result.now in
     let far = l.invariant.far in
     let stops = c.in_err-take_measure.ensures.stops in
-    let same : setting l.server ≡ setting s = setting_stays g.D.Disk.view g.K.Sink.takes g.K.Sink.fails g.K.Sink.faults g.L.Link.story g.L.Link.counts s l.server far.2.same far.2.log far.2.about in
+    let same : setting l.server ≡ setting s = setting_stays g.D.Disk.view g.K.Sink.takes g.K.Sink.fails g.K.Sink.faults g.L.Link.story g.L.Link.counts s l.server far.2.same far.2.log in
     let here = own_measure (setting s) m in
     let more = own_measures (setting s) (drop (suc l.place) s.config.measures) in
     let cut : IsHonest g.D.Disk.view s.kept → Cuts here stops.deeds stops.under =
@@ -54,11 +54,12 @@ measures-preserved g c =
     let m = c.index-measure.result.now in
     let far = l.invariant.far in
     let did = c.in_ok-take_measure.ensures.did in
-    let same : setting l.server ≡ setting s = setting_stays g.D.Disk.view g.K.Sink.takes g.K.Sink.fails g.K.Sink.faults g.L.Link.story g.L.Link.counts s l.server far.2.same far.2.log far.2.about in
+    let same : setting l.server ≡ setting s = setting_stays g.D.Disk.view g.K.Sink.takes g.K.Sink.fails g.K.Sink.faults g.L.Link.story g.L.Link.counts s l.server far.2.same far.2.log in
+    let stays : t.config ≡ l.server.config = did.config ∙ own_config (setting l.server) m l.server.config in
     record {
       serving = still_serving g.D.Disk.view g.K.Sink.takes g.K.Sink.fails g.K.Sink.faults g.L.Link.story g.L.Link.counts (own_measure (setting l.server) m) l.server t did l.invariant.serving;
-      config = did.config ∙ l.invariant.config;
-      lawful = subst (λ (x : Settings). All (IsMeasure t.kept.node.control.nodes) x.measures) (sym did.config)
+      config = stays ∙ l.invariant.config;
+      lawful = subst (λ (x : Settings). All (IsMeasure t.kept.node.control.nodes) x.measures) (sym stays)
           (subst (λ (h : Header). All (IsMeasure h.nodes) l.server.config.measures) (sym did.same.header) l.invariant.lawful);
       far = (
         far.0 ++ own_measure (setting s) m,

@@ -16,8 +16,8 @@ use Rattle.oc_routes.specs.Verdicts.{IsVerdict, NodeTerms, arrival}
 use Rattle.oc_routes.specs.declared.verdict.Verdict.{Verdict}
 use Rattle.oc_routes.specs.declared.verdict.Verdict.TheVariants as verdicts
 use Rattle.oc_routes.specs.Refusals.{refusal_text}
-use Rattle.oc_deeds.specs.Choices.{due_index, wait_for}
-use Rattle.oc_deeds.specs.Deeds.{Reads, Refuses, Running, Sees, Setting, after, calls_of, refuses, Deed, after_all, lines}
+use Rattle.oc_deeds.specs.Choices.{due_index}
+use Rattle.oc_deeds.specs.Deeds.{Reads, Refuses, Running, Setting, after, calls_of, refuses, Deed, after_all, lines}
 use Rattle.oc_deeds.specs.Parts.{Part}
 use Rattle.oc_deeds.specs.Rereading.{looks_again}
 use Rattle.oc_deeds.proofs.Chains.{after_append, calls_append, lines_append}

@@ -58,7 +58,7 @@ use Rattle.oc_routes.specs.declared.refused.Refused.TheVariants as refusals
 use Rattle.oc_routes.specs.declared.routes.Operation.{Operation}
 use Rattle.oc_routes.specs.declared.routes.Operation.TheVariants as asks
 use Rattle.oc_deeds.proofs.ChunksThere.{here_there, step_there}
-use Rattle.oc_deeds.proofs.Settled.{AllQuiet, IsLeft, IsOrderly, all_quiet, breaks, drops, fits_if, gives, lays, one_at_most, orderly_behind, orderly_none, orderly_then, permits, quiet_behind, refuses_request, replies_request, settled_by, waits}
+use Rattle.oc_deeds.proofs.Settled.{AllQuiet, IsLeft, IsOrderly, all_quiet, breaks, drops, fits_if, gives, lays, one_at_most, orderly_behind, orderly_none, orderly_then, permits, quiet_behind, quiet_looks, refuses_request, replies_request, settled_by, waits}
 use Rattle.oc_routes.specs.declared.tally.MessageFault.{MessageFault}
 use Rattle.oc_deeds.specs.Asks.{has_to_wait, holding_for, obeys, refuses_or, replies, report_for, responds, response_now, takes_on, takes_up, waiting}
 use Rattle.oc_deeds.specs.Brief.{told_of}

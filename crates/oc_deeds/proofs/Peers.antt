@@ -11,13 +11,11 @@ use Rattle.oc_deeds.specs.Lawful.{IsMadeFor}
 pub all_peers : {A : Type 0} (me nodes id : ℕ) (places : List (Option A)) → 1 ≤ id → id + length places ≤ nodes + 1 → AllByRecursion (IsNode nodes) (peers_from me id places)
 all_peers me nodes id [] some within = tt
 all_peers me nodes id (None ∷ places) some within = all_peers me nodes (id + 1) places (omega (arith, some)) (omega (arith, within))
-all_peers me nodes id (Some x ∷ places) some within = by_test (id == me) where
-  rest : AllByRecursion (IsNode nodes) (peers_from me (id + 1) places)
-  rest = all_peers me nodes (id + 1) places (omega (arith, some)) (omega (arith, within))
-
-  by_test : (b : Bool) → AllByRecursion (IsNode nodes) (if b then peers_from me (id + 1) places else id ∷ peers_from me (id + 1) places)
-  by_test true = rest
-  by_test false = ((some, omega (arith, within)), rest)
+all_peers me nodes id (Some x ∷ places) some within = by_test (id == me) (all_peers me nodes (id + 1) places (omega (arith, some)) (omega (arith, within)))
+  where
+    by_test : (b : Bool) → AllByRecursion (IsNode nodes) (peers_from me (id + 1) places) → AllByRecursion (IsNode nodes) (if b then peers_from me (id + 1) places else id ∷ peers_from me (id + 1) places)
+    by_test true rest = rest
+    by_test false rest = ((some, omega (arith, within)), rest)
 
 -- what is there of a list is there of what is read of it
 pub same_peers : {A B : Type 0} (f : A → B) (me id : ℕ) (places : List (Option A)) → peers_from me id (map (option_map f) places) ≡ peers_from me id places

@@ -300,6 +300,10 @@ module _ (s : Setting) (recorded : s.log ≡ logs.Record) where
   leads_brought None a = refl
   leads_brought (Some i) a = leads_in i a
 
+  leads_reply : (input : Option Input) (refused : Option MessageFault) (a : Running) → Whole (takes_reply input refused s a)
+  leads_reply input None a = leads_brought input a
+  leads_reply input (Some fault) a = (None, refl, leads_brought input (after (Rejects fault) a))
+
   leads_probe : (peer : Option ℕ) (started : ℕ) (a : Running) → Whole (probes_it peer started s a)
   leads_probe None started a = refl
   leads_probe (Some peer) started a = (None, refl, (None, refl, refl))
@@ -339,10 +343,6 @@ module _ (s : Setting) (recorded : s.log ≡ logs.Record) where
       let ds : List Deed = happens probing came now median started s a in
       let soon : Pace = quickened (came_hurries came a.node) pace in
       whole_then ds (ticks_and_sends soon now seconds s (after_all ds a)) (leads_happens probing came now median started a) (leads_end soon now seconds (after_all ds a))
-
-  leads_reply : (input : Option Input) (refused : Option MessageFault) (a : Running) → Whole (takes_reply input refused s a)
-  leads_reply input None a = leads_brought input a
-  leads_reply input (Some fault) a = (None, refl, leads_brought input (after (Rejects fault) a))
 
   -- Turns in which some work was due
 

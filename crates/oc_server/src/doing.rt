@@ -30,9 +30,7 @@ use oc_io::{Disk, Sink};
 use oc_link::{ConnectionId, DialId, Ending, Link, Look};
 use oc_model::{Answer, Input};
 use oc_node::Node;
-use oc_routes::{
-    About, CONTINUE, MessageFault, Refusal, Request, put_refusal_line, refusal_reply,
-};
+use oc_routes::{About, CONTINUE, MessageFault, Refusal, Request, put_refusal_line, refusal_reply};
 use std::alloc::Global;
 
 /// The line that tells that a configuration is gone by from now on.
@@ -101,12 +99,14 @@ impl<D: Disk, L: Link, K: Sink> Doer for Server<D, L, K> {
         let prior = prior_to(self.alloc, &self.kept, &input)?;
         let outcome = keep(&mut self.kept, input)?;
         write_line(&mut self.sink, &line)?;
+        count_taken(&mut self.tally, &prior, &outcome, &self.kept);
         // The first message that goes back to the sender of a message is its reply.
         let (back, others) = held_back(prior.sender, outcome.sends);
         put_all(&mut self.outbox, others);
-        let answer = outcome.answer;
-        count_taken(&mut self.tally, &prior, answer, &self.kept);
-        Ok(Accepted { answer, back })
+        Ok(Accepted {
+            answer: outcome.answer,
+            back,
+        })
     }
 
     fn says_ahead(&mut self, input: &Input) -> Result<(), TurnEnd> {

@@ -47,9 +47,9 @@ impl<D: Disk, L: Link, K: Sink> Server<D, L, K> {
         let outcome = keep(&mut self.kept, input)?;
         // Where the output fails, the disks have the input already.
         write_line(&mut self.sink, &line)?;
+        count_taken(&mut self.tally, &prior, &outcome, &self.kept);
         let answer = outcome.answer;
         put_all(&mut self.outbox, outcome.sends);
-        count_taken(&mut self.tally, &prior, answer, &self.kept);
         Ok(answer)
     }
 }
@@ -75,11 +75,22 @@ pub(crate) fn prior_to<D: Disk>(
     Ok(Prior { sender, known })
 }
 
-/// Counts an input with this answer that a node has taken.
-pub(crate) fn count_taken<D: Disk>(tally: &mut Tally, prior: &Prior, answer: Answer, kept: &Kept<D>)
-    ensures { tally.new ≡ noted prior.now.sender prior.now.known answer kept.now.node.control tally.old }
+/// Counts an input that a node has taken with this outcome.
+pub(crate) fn count_taken<D: Disk>(
+    tally: &mut Tally,
+    prior: &Prior,
+    outcome: &Outcome,
+    kept: &Kept<D>,
+)
+    ensures { tally.new ≡ noted prior.now.sender prior.now.known outcome.now.answer kept.now.node.control tally.old }
 {
-    count_input(tally, prior.sender, &prior.known, answer, kept.node());
+    count_input(
+        tally,
+        prior.sender,
+        &prior.known,
+        outcome.answer,
+        kept.node(),
+    );
 }
 
 /// The line of an input of this node that is written after its frame; none where not each input has one there.

@@ -10,7 +10,7 @@ use Rattle.oc_keep.specs.Files.{Disks}
 use Rattle.oc_keep.specs.Promises.{HoldFiles}
 use Rattle.oc_deeds.specs.declared.log.Log.{Log}
 use Rattle.oc_deeds.specs.declared.log.Log.TheVariants as logs
-use Rattle.oc_routes.specs.Sights.{AboutView}
+use Rattle.oc_routes.specs.declared.about.About.{About}
 use Rattle.oc_service.specs.OnSite.{NodeEnds, setting_of}
 use Rattle.oc_service.specs.declared.running.Task.{Task}
 use Rattle.oc_words.specs.declared.request.LogWord.{LogWord}
@@ -39,8 +39,8 @@ log_of Record = logs.Record
 log_of Brief = logs.Brief
 
 -- the program, which started at this second since 1970
-abbrev pub about : ℕ → AboutView
-about started = record { version = VERSION.now; started = started; refused = false }
+abbrev pub about : ℕ → About
+about started = record { version = VERSION; started = started; refused = false }
 
 -- the task of that node, whose configuration was read from these bytes
 abbrev pub task_of : Service → List ℕ → ℕ → Task

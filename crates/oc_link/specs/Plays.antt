@@ -1,5 +1,5 @@
 -- The effect of a step of a script on a link in memory.
-use Rattle.std.specs.Prelude.{◌≡◌, ℕ, ◌+◌, ◌-◌, ◌^◌, min, Bool, true, false, if◌then◌else◌, Option, None, Some, Result, Ok, Err, List, []}
+use Rattle.std.specs.Prelude.{◌≡◌, ℕ, ◌+◌, ◌-◌, ◌^◌, min, Bool, true, false, if◌then◌else◌, Option, None, Some, Result, Ok, Err, List, [], drop, slice_get}
 use Rattle.oc_io.specs.declared.fault.Failed.{Failed}
 use Rattle.oc_link.specs.declared.call.Call.TheVariants as acts
 use Rattle.oc_link.specs.declared.call.Call.{Call}
@@ -7,6 +7,8 @@ use Rattle.oc_link.specs.declared.event.Arrival.{Arrival}
 use Rattle.oc_link.specs.declared.event.Coming.{Coming}
 use Rattle.oc_link.specs.declared.event.LinkEvent.{LinkEvent}
 use Rattle.oc_link.specs.declared.event.LinkEvent.TheVariants as events
+use Rattle.oc_link.specs.declared.look.Look.{Look}
+use Rattle.oc_link.specs.declared.look.Look.TheVariants as looks
 use Rattle.oc_link.specs.declared.script.Happening.{Happening}
 use Rattle.oc_link.specs.declared.script.Happening.TheVariants as happenings
 use Rattle.oc_link.specs.declared.script.Step.{Step}
@@ -84,3 +86,28 @@ PlaysAs (Err failed) step old new = fails_at step ≡ true
 abbrev pub time_after : Result LinkEvent Failed → Option Step → ℕ → ℕ → ℕ
 time_after (Ok event) step wait time = min (time + passes_at step wait) (2 ^ 64 - 1)
 time_after (Err failed) step wait time = time
+
+-- A look
+
+-- what a look gives at a step
+abbrev pub look_in : Happening → Look
+look_in (happenings.Looks look) = look
+look_in h = looks.Nothing
+
+-- what a look gives at the next step; nothing where that is no look, and after the script
+abbrev pub look_at : Option Step → Look
+look_at None = looks.Nothing
+look_at (Some step) = look_in step.happening
+
+abbrev pub is_look : Happening → Bool
+is_look (happenings.Looks look) = true
+is_look h = false
+
+-- whether the next step is a look
+abbrev pub looks_at : Option Step → Bool
+looks_at None = false
+looks_at (Some step) = is_look step.happening
+
+-- the script after a look, by which the next step is played if it is one
+abbrev pub after_look : List Step → List Step
+after_look script = if looks_at (slice_get script 0) then drop 1 script else script

@@ -54,7 +54,8 @@ impl Model for MemLink {
 }
 
 impl MemLink {
-    /// A link that plays this script, one step at each `next`, and is quiet after it. Its clock begins at 0.
+    /// A link that plays this script, a step at each `next`, and is quiet after it. A look plays the next step, too,
+    /// if that is a look. Its clock begins at 0.
     pub fn new(alloc: Global, script: Vec<Step>) -> MemLink
         ensures { result ≡ record { script = script.items; time = 0; story = Some []; lends = []; counts = no_counts } }
     {
@@ -273,17 +274,33 @@ impl Link for MemLink {
         time
     }
 
-    fn look(&mut self) -> Look {
-        let look = look_at(self.alloc, step_at(&self.script, self.at));
-        if look.is_some() {
-            self.at = place_after(&self.script, self.at);
+    fn look(&mut self) -> Look
+        ensures story { Adds (acts.Look result) self.old.story self.new.story }
+        ensures counts { self.new.counts ≡ self.old.counts }
+
+        // What the next step of the script gives, if that is a look, which is then played.
+        ensures gives { IfTold self.new.story (λ told. result ≡ plays.look_at (slice_get self.old.script 0)) }
+        ensures plays { self.new.script ≡ plays.after_look self.old.script }
+        ensures time { self.new.time ≡ self.old.time }
+    {
+        let step = step_at(&self.script, self.at);
+        let next = if looks(step) {
+            place_after(&self.script, self.at)
+        } else {
+            self.at
+        };
+        let (given, told) = (look_at(self.alloc, step), look_at(self.alloc, step));
+        self.at = next;
+        match (given, told) {
+            (Some(look), Some(copy)) => {
+                self.calls = with_call(self.calls.take(), Call::Look(copy));
+                look
+            }
+            _ => {
+                self.calls = None;
+                Look::Nothing
+            }
         }
-        let look = look.unwrap_or(Look::Nothing);
-        match copy_of(self.alloc, &look) {
-            Some(copy) => self.calls = with_call(self.calls.take(), Call::Look(copy)),
-            None => self.calls = None,
-        }
-        look
     }
 
     fn report(&mut self, line: &[u8]) {
@@ -331,14 +348,29 @@ fn step_at(script: &[Step], at: usize) -> Option<&Step>
     script[at..].first()
 }
 
-/// What a look gives at the next step, if that is one, and there is memory for it.
-fn look_at(alloc: Global, step: Option<&Step>) -> Option<Look> {
+/// Whether the next step is a look.
+fn looks(step: Option<&Step>) -> bool
+    ensures { result ≡ plays.looks_at (option_copied step.entry) }
+{
+    match step {
+        Some(step) => match step.happening {
+            Happening::Looks(_) => true,
+            _ => false,
+        },
+        None => false,
+    }
+}
+
+/// What a look gives at the next step, if there is memory for it.
+fn look_at(alloc: Global, step: Option<&Step>) -> Option<Look>
+    ensures { IfSome result (λ look. look ≡ plays.look_at (option_copied step.entry)) }
+{
     match step {
         Some(step) => match &step.happening {
             Happening::Looks(look) => copy_of(alloc, look),
-            _ => None,
+            _ => Some(Look::Nothing),
         },
-        None => None,
+        None => Some(Look::Nothing),
     }
 }
 

@@ -3,7 +3,7 @@ use crate::ids::{ConnectionId, DialId};
 use crate::look::Look;
 use oc_base::Bytes;
 
-/// The part of a script that one `next` of a link in memory plays.
+/// The part of a script that one `next` of a link in memory plays, or one look.
 #[derive(Debug, Drop)]
 pub struct Step {
     /// The milliseconds that pass before the event.
@@ -26,6 +26,6 @@ pub enum Happening {
     Quiet,
     /// `next` fails, or a `listen` that comes before it.
     Fails,
-    /// A look that comes before it gives this. `next` answers `Quiet`.
+    /// A look gives this, if it comes when this is the next step. `next` answers `Quiet` at it.
     Looks(Look),
 }

@@ -82,6 +82,57 @@ looked_at = record (seen acting) {
   about = record about { refused = true };
 }
 
+-- the metrics of that root: its place, its counts, its groups and its outbox
+abbrev state_lines : List ℕ
+state_lines =
+    codes "# HELP overcast_up The node answers.\n# TYPE overcast_up gauge\novercast_up 1\n"
+    ++ codes "# HELP overcast_acting The node acts as root.\n# TYPE overcast_acting gauge\novercast_acting 1\n"
+    ++ codes "# HELP overcast_joined The node is joined to a parent.\n# TYPE overcast_joined gauge\novercast_joined 0\n"
+    ++ codes "# HELP overcast_listed_nodes Nodes listed beneath this node.\n# TYPE overcast_listed_nodes gauge\novercast_listed_nodes 1\n"
+    ++ codes "# HELP overcast_table_rows Rows of the table.\n# TYPE overcast_table_rows gauge\novercast_table_rows 3\n"
+    ++ codes "# HELP overcast_children Leased children.\n# TYPE overcast_children gauge\novercast_children 1\n"
+    ++ codes "# HELP overcast_clients Clients counted by this node.\n# TYPE overcast_clients gauge\novercast_clients 7\n"
+    ++ codes "# HELP overcast_certificates_waiting Certificates not acknowledged by the parent.\n# TYPE overcast_certificates_waiting gauge\novercast_certificates_waiting 0\n"
+    ++ codes "# HELP overcast_group_bytes Bytes held of a group.\n# TYPE overcast_group_bytes gauge\novercast_group_bytes{group=\"/a\"} 5\novercast_group_bytes{group=\"/b\"} 0\n"
+    ++ codes "# HELP overcast_group_sealed Whether a group is sealed.\n# TYPE overcast_group_sealed gauge\novercast_group_sealed{group=\"/a\"} 1\novercast_group_sealed{group=\"/b\"} 0\n"
+    ++ codes "# HELP overcast_outbox_messages Messages waiting to be sent.\n# TYPE overcast_outbox_messages gauge\novercast_outbox_messages 3\n"
+
+-- the nodes of its network
+abbrev node_lines : List ℕ
+node_lines =
+    codes "# HELP overcast_node_up Whether a node is listed; told by an acting node.\n# TYPE overcast_node_up gauge\n"
+    ++ codes "overcast_node_up{node=\"1\",name=\"Berlin\"} 1\novercast_node_up{node=\"2\",name=\"Oslo, 2\"} 1\n"
+    ++ codes "overcast_node_up{node=\"3\"} 0\novercast_node_up{node=\"5\",name=\"new\"} 0\n"
+    ++ codes "# HELP overcast_node_last_heard_seconds Seconds since a node was heard of.\n# TYPE overcast_node_last_heard_seconds gauge\n"
+    ++ codes "overcast_node_last_heard_seconds{node=\"2\",name=\"Oslo, 2\"} 3\novercast_node_last_heard_seconds{node=\"3\"} 1\n"
+
+-- its replies to clients
+abbrev reply_lines : List ℕ
+reply_lines =
+    codes "# HELP overcast_sent_bytes_total Bytes of replies to clients.\n# TYPE overcast_sent_bytes_total counter\novercast_sent_bytes_total 48\n"
+    ++ codes "# HELP overcast_requests_total Replies to clients.\n# TYPE overcast_requests_total counter\n"
+    ++ codes "overcast_requests_total{status=\"200\"} 1\novercast_requests_total{status=\"206\"} 0\novercast_requests_total{status=\"301\"} 0\n"
+    ++ codes "overcast_requests_total{status=\"302\"} 0\novercast_requests_total{status=\"304\"} 0\novercast_requests_total{status=\"400\"} 0\n"
+    ++ codes "overcast_requests_total{status=\"401\"} 0\novercast_requests_total{status=\"403\"} 0\novercast_requests_total{status=\"404\"} 1\n"
+    ++ codes "overcast_requests_total{status=\"405\"} 0\novercast_requests_total{status=\"409\"} 0\novercast_requests_total{status=\"411\"} 0\n"
+    ++ codes "overcast_requests_total{status=\"412\"} 0\novercast_requests_total{status=\"413\"} 0\novercast_requests_total{status=\"416\"} 0\n"
+    ++ codes "overcast_requests_total{status=\"431\"} 0\novercast_requests_total{status=\"501\"} 0\novercast_requests_total{status=\"503\"} 0\n"
+
+-- what else it counted
+abbrev other_lines : List ℕ
+other_lines =
+    codes "# HELP overcast_refused_messages_total Messages of nodes that were refused.\n# TYPE overcast_refused_messages_total counter\n"
+    ++ codes "overcast_refused_messages_total{cause=\"mac\"} 2\novercast_refused_messages_total{cause=\"message\"} 1\n"
+    ++ codes "# HELP overcast_clients_total Clients served since the start.\n# TYPE overcast_clients_total counter\novercast_clients_total 1\n"
+
+-- and the program
+abbrev program_lines : List ℕ
+program_lines =
+    codes "# HELP overcast_groups_limit The most groups that a node holds.\n# TYPE overcast_groups_limit gauge\novercast_groups_limit 64\n"
+    ++ codes "# HELP overcast_start_time_seconds When the node started, in seconds since 1970.\n# TYPE overcast_start_time_seconds gauge\novercast_start_time_seconds 1796083200\n"
+    ++ codes "# HELP overcast_build_info The version of the program.\n# TYPE overcast_build_info gauge\novercast_build_info{version=\"1.0.0\"} 1\n"
+    ++ codes "# HELP overcast_configuration_refused Whether the configuration's file was refused when it was read last.\n# TYPE overcast_configuration_refused gauge\novercast_configuration_refused 1\n"
+
 pub record AreTold : Type 0 where
   pub new_node :
       status_text (seen new_one)
@@ -112,36 +163,4 @@ pub record AreTold : Type 0 where
   pub redirected : with_answer (Redirect 2) (first_tally 5) ≡ first_tally 5
   pub nothing_new : with_news (known_before (Tick 7) (born 2 1 ∷ [])) (born 2 1 ∷ []) 7 (first_tally 5) ≡ first_tally 5
   pub no_row_to_change : known_before CheckNow (born 2 1 ∷ []) ≡ None
-  pub metrics :
-      metrics_text looked_at
-      ≡ codes "# HELP overcast_up The node answers.\n# TYPE overcast_up gauge\novercast_up 1\n"
-      ++ codes "# HELP overcast_acting The node acts as root.\n# TYPE overcast_acting gauge\novercast_acting 1\n"
-      ++ codes "# HELP overcast_joined The node is joined to a parent.\n# TYPE overcast_joined gauge\novercast_joined 0\n"
-      ++ codes "# HELP overcast_listed_nodes Nodes listed beneath this node.\n# TYPE overcast_listed_nodes gauge\novercast_listed_nodes 1\n"
-      ++ codes "# HELP overcast_table_rows Rows of the table.\n# TYPE overcast_table_rows gauge\novercast_table_rows 3\n"
-      ++ codes "# HELP overcast_children Leased children.\n# TYPE overcast_children gauge\novercast_children 1\n"
-      ++ codes "# HELP overcast_clients Clients counted by this node.\n# TYPE overcast_clients gauge\novercast_clients 7\n"
-      ++ codes "# HELP overcast_certificates_waiting Certificates not acknowledged by the parent.\n# TYPE overcast_certificates_waiting gauge\novercast_certificates_waiting 0\n"
-      ++ codes "# HELP overcast_group_bytes Bytes held of a group.\n# TYPE overcast_group_bytes gauge\novercast_group_bytes{group=\"/a\"} 5\novercast_group_bytes{group=\"/b\"} 0\n"
-      ++ codes "# HELP overcast_group_sealed Whether a group is sealed.\n# TYPE overcast_group_sealed gauge\novercast_group_sealed{group=\"/a\"} 1\novercast_group_sealed{group=\"/b\"} 0\n"
-      ++ codes "# HELP overcast_outbox_messages Messages waiting to be sent.\n# TYPE overcast_outbox_messages gauge\novercast_outbox_messages 3\n"
-      ++ codes "# HELP overcast_node_up Whether a node is listed; told by an acting node.\n# TYPE overcast_node_up gauge\n"
-      ++ codes "overcast_node_up{node=\"1\",name=\"Berlin\"} 1\novercast_node_up{node=\"2\",name=\"Oslo, 2\"} 1\n"
-      ++ codes "overcast_node_up{node=\"3\"} 0\novercast_node_up{node=\"5\",name=\"new\"} 0\n"
-      ++ codes "# HELP overcast_node_last_heard_seconds Seconds since a node was heard of.\n# TYPE overcast_node_last_heard_seconds gauge\n"
-      ++ codes "overcast_node_last_heard_seconds{node=\"2\",name=\"Oslo, 2\"} 3\novercast_node_last_heard_seconds{node=\"3\"} 1\n"
-      ++ codes "# HELP overcast_sent_bytes_total Bytes of replies to clients.\n# TYPE overcast_sent_bytes_total counter\novercast_sent_bytes_total 48\n"
-      ++ codes "# HELP overcast_requests_total Replies to clients.\n# TYPE overcast_requests_total counter\n"
-      ++ codes "overcast_requests_total{status=\"200\"} 1\novercast_requests_total{status=\"206\"} 0\novercast_requests_total{status=\"301\"} 0\n"
-      ++ codes "overcast_requests_total{status=\"302\"} 0\novercast_requests_total{status=\"304\"} 0\novercast_requests_total{status=\"400\"} 0\n"
-      ++ codes "overcast_requests_total{status=\"401\"} 0\novercast_requests_total{status=\"403\"} 0\novercast_requests_total{status=\"404\"} 1\n"
-      ++ codes "overcast_requests_total{status=\"405\"} 0\novercast_requests_total{status=\"409\"} 0\novercast_requests_total{status=\"411\"} 0\n"
-      ++ codes "overcast_requests_total{status=\"412\"} 0\novercast_requests_total{status=\"413\"} 0\novercast_requests_total{status=\"416\"} 0\n"
-      ++ codes "overcast_requests_total{status=\"431\"} 0\novercast_requests_total{status=\"501\"} 0\novercast_requests_total{status=\"503\"} 0\n"
-      ++ codes "# HELP overcast_refused_messages_total Messages of nodes that were refused.\n# TYPE overcast_refused_messages_total counter\n"
-      ++ codes "overcast_refused_messages_total{cause=\"mac\"} 2\novercast_refused_messages_total{cause=\"message\"} 1\n"
-      ++ codes "# HELP overcast_clients_total Clients served since the start.\n# TYPE overcast_clients_total counter\novercast_clients_total 1\n"
-      ++ codes "# HELP overcast_groups_limit The most groups that a node holds.\n# TYPE overcast_groups_limit gauge\novercast_groups_limit 64\n"
-      ++ codes "# HELP overcast_start_time_seconds When the node started, in seconds since 1970.\n# TYPE overcast_start_time_seconds gauge\novercast_start_time_seconds 1796083200\n"
-      ++ codes "# HELP overcast_build_info The version of the program.\n# TYPE overcast_build_info gauge\novercast_build_info{version=\"1.0.0\"} 1\n"
-      ++ codes "# HELP overcast_configuration_refused Whether the configuration's file was refused when it was read last.\n# TYPE overcast_configuration_refused gauge\novercast_configuration_refused 1\n"
+  pub metrics : metrics_text looked_at ≡ state_lines ++ node_lines ++ reply_lines ++ other_lines ++ program_lines

@@ -42,6 +42,7 @@ body { margin: 0; background: var(--paper); color: var(--ink); font: 15px/1.45 s
 header { padding: 1.4rem 0 1rem; }
 header .wide { display: flex; flex-wrap: wrap; gap: .4rem 1.2rem; align-items: center; }
 h1 { margin: 0; font-size: 1.5rem; line-height: 1.2; letter-spacing: -.01em; display: flex; align-items: center; gap: .6rem; }
+h1 span { min-width: 0; overflow-wrap: anywhere; }
 h1 svg { width: 2.3rem; height: 2.3rem; color: var(--here); flex: none; }
 .what { color: var(--quiet); flex: 1 1 16rem; }
 .asof { color: var(--quiet); font-size: .87rem; white-space: nowrap; }
@@ -57,7 +58,7 @@ body:not(.silent) #silence { display: none; }
 .counts dt { color: var(--quiet); font-size: .84rem; display: flex; align-items: center; gap: .4rem; }
 .counts dd { margin: 0; font-size: 1.6rem; line-height: 1.2; font-weight: 600; letter-spacing: -.01em; overflow-wrap: anywhere; }
 .counts dd.long { font-size: 1.05rem; line-height: 1.45; }
-.columns { display: grid; grid-template: "drawn side" auto "all side" 1fr / minmax(0, 1fr) 21rem; gap: 1.1rem; align-items: start; }
+.columns { display: grid; grid-template: "drawn side" auto "all all" auto / minmax(0, 1fr) 21rem; gap: 1.1rem; align-items: start; }
 .columns > div { display: grid; gap: 1.1rem; min-width: 0; }
 .drawn { grid-area: drawn; } .side { grid-area: side; } .all { grid-area: all; }
 section { background: var(--card); border: 1px solid var(--line); border-radius: 8px; padding: 1rem 1.1rem 1.1rem; box-shadow: var(--shade); min-width: 0; }
@@ -77,26 +78,28 @@ button:hover { border-color: var(--here); color: var(--here); }
 input { width: 9.5rem; }
 ul.tree, ul.tree ul { list-style: none; margin: 0; padding: 0; }
 ul.tree ul { margin-left: .56rem; padding-left: 1.1rem; }
-ul.tree { overflow-x: auto; padding: 3px; margin: -3px; }
 ul.tree li { position: relative; }
 ul.tree ul > li::before { content: ""; position: absolute; left: -1.1rem; top: 0; bottom: 0; border-left: 1.5px solid var(--branch); }
 ul.tree ul > li:last-child::before { bottom: auto; height: 1.02rem; border-bottom-left-radius: 5px; }
 ul.tree ul > li::after { content: ""; position: absolute; left: -1.1rem; top: 1.02rem; width: .95rem; border-top: 1.5px solid var(--branch); }
-.row { display: flex; align-items: flex-start; gap: .05rem .45rem; padding: .24rem .4rem .24rem 0; border-radius: 6px; min-height: 2.04rem; min-width: 13rem; }
+.row { display: flex; flex-wrap: wrap; align-items: flex-start; gap: .05rem .45rem; padding: .24rem .4rem .24rem 0; border-radius: 6px; min-height: 2.04rem; }
 .row b, .leaf b { font-weight: 600; }
 .row > b { line-height: 1.56rem; }
-.row > .more { line-height: 1.25; padding-top: .2rem; }
+.row > .more { line-height: 1.25; padding-top: .2rem; flex: 1 1 14rem; }
+.row > .more:empty { display: none; }
 .row > .mark { margin-top: .33rem; }
 .row .more { color: var(--quiet); font-size: .87rem; min-width: 0; overflow-wrap: anywhere; }
-.row b, .row .word, .row .leaf { white-space: nowrap; flex: none; }
+.row b, .row .word { white-space: nowrap; flex: none; }
+.row .leaf { min-width: 0; }
 .fold { border: 0; background: none; padding: 0 .25rem; color: var(--quiet); line-height: 1; border-radius: 4px; min-width: 1.5rem; min-height: 1.5rem; }
 .fold svg { width: .7rem; height: .7rem; transition: transform .12s; }
 .fold[aria-expanded=true] svg { transform: rotate(90deg); }
 .self > .row { background: var(--here-soft); padding-left: .3rem; padding-right: .7rem; display: inline-flex; max-width: 100%; }
 ul.tree li.leaves ul { display: flex; flex-wrap: wrap; gap: .3rem .35rem; margin: 0; padding: .17rem 0 .3rem; }
 ul.tree li.leaves li::before, ul.tree li.leaves li::after { content: none; }
-.leaf { display: inline-flex; align-items: center; gap: .34rem; padding: .06rem .55rem .06rem .42rem; border: 1px solid var(--line); border-radius: 999px; background: var(--up-soft); min-height: 1.7rem; }
-.leaf .more { color: var(--quiet); font-size: .84rem; }
+.leaf { display: inline-flex; flex-wrap: wrap; align-items: center; gap: 0 .34rem; max-width: 100%; padding: .06rem .55rem .06rem .42rem; border: 1px solid var(--line); border-radius: .85rem; background: var(--up-soft); min-height: 1.7rem; }
+.leaf .more { color: var(--quiet); font-size: .84rem; min-width: 0; overflow-wrap: anywhere; }
+.leaves li, .leaf .named { min-width: 0; }
 .out .leaf, .out .row { color: var(--ink); }
 .down-node { border-radius: 4px; border-style: dashed; border-color: var(--down); background: var(--down-soft); }
 .loose-node { border-radius: 4px; border-style: dotted; border-color: var(--loose); background: var(--loose-soft); }
@@ -112,15 +115,14 @@ ul.tree li.leaves li::before, ul.tree li.leaves li::after { content: none; }
 #wrong li .more { color: var(--quiet); }
 #wrong p { margin: 0; }
 .named { font-weight: 400; overflow-wrap: anywhere; }
-.row .named, .leaf .named { max-width: 21rem; overflow: hidden; text-overflow: ellipsis; white-space: nowrap; }
 .row > .named { line-height: 1.56rem; flex: 0 1 auto; min-width: 0; }
-.leaf .named { max-width: 12rem; }
 details summary { cursor: pointer; color: var(--quiet); padding: .15rem 0; }
 details[open] summary { margin-bottom: .4rem; }
 details.inner { margin-top: .7rem; border-top: 1px solid var(--line); padding-top: .5rem; }
 dl.facts dd.hint { grid-column: 1 / -1; text-align: left; color: var(--quiet); font-size: .84rem; margin-bottom: .3rem; }
 th abbr { text-decoration: underline dotted; text-underline-offset: 2px; cursor: help; }
-td.word.named { white-space: normal; min-width: 9.5rem; overflow-wrap: break-word; }
+td.word { white-space: normal; }
+td.named { min-width: 6rem; }
 #groups { max-height: 38rem; overflow: auto; }
 dl.facts { margin: 0; display: grid; grid-template-columns: auto minmax(0, 1fr); gap: .22rem .9rem; }
 dl.facts dt { color: var(--quiet); }
@@ -130,14 +132,16 @@ dl.facts dd { margin: 0; text-align: right; overflow-wrap: anywhere; }
 .group .name { font-weight: 600; overflow-wrap: anywhere; display: block; }
 .group .size { color: var(--quiet); font-size: .9rem; display: flex; flex-wrap: wrap; justify-content: space-between; gap: .1rem .7rem; }
 .seal { display: inline-flex; align-items: center; gap: .3rem; }
-.lease { display: grid; grid-template-columns: minmax(3.4rem, 6rem) minmax(2rem, 1fr) auto; gap: .1rem .6rem; align-items: center; padding: .18rem 0; font-size: .93rem; }
-.lease span:first-child { overflow: hidden; text-overflow: ellipsis; white-space: nowrap; }
+.lease { display: grid; grid-template-columns: 2.6rem minmax(1rem, 1fr) auto; gap: .1rem .6rem; align-items: center; padding: .18rem 0; font-size: .93rem; }
+.lease span:first-child { overflow-wrap: anywhere; }
+.lease.is-named span:first-child { grid-column: 1 / -1; }
+.lease.is-named { grid-template-columns: minmax(1rem, 1fr) auto; }
 .lease meter { width: 100%; height: .6rem; }
 .lease .rate { color: var(--quiet); text-align: right; min-width: 5rem; white-space: nowrap; }
 .leases { max-height: 22rem; overflow: auto; }
 .scroll { overflow-x: auto; }
 table { border-collapse: collapse; width: 100%; font-size: .92rem; }
-th, td { text-align: right; padding: .26rem .6rem; border-top: 1px solid var(--line); white-space: nowrap; }
+th, td { text-align: right; padding: .26rem .45rem; border-top: 1px solid var(--line); white-space: nowrap; }
 thead th { border-top: 0; border-bottom: 1.5px solid var(--branch); font-weight: 600; font-size: .86rem; color: var(--quiet); vertical-align: bottom; }
 tbody th { font-weight: 600; }
 .word { text-align: left; }
@@ -155,11 +159,15 @@ footer a { color: inherit; }
   ul.tree ul { margin-left: .35rem; padding-left: .75rem; }
   ul.tree ul > li::before, ul.tree ul > li::after { left: -.75rem; }
   ul.tree ul > li::after { width: .62rem; }
-  th, td { padding: .26rem .45rem; }
-  .row { flex-wrap: wrap; }
-  .row .named { max-width: 12rem; }
   .row > .more:not(.word) { flex: 1 1 100%; padding: 0 0 0 2.2rem; }
-  td.word.named { min-width: 7.5rem; }
+}
+@media screen and (max-width: 50rem) {
+  thead { display: none; }
+  table, tbody { display: block; }
+  tbody tr { display: flex; flex-wrap: wrap; gap: .05rem .9rem; padding: .35rem 0; border-top: 1px solid var(--line); }
+  tbody th, td { display: block; border: 0; padding: 0; text-align: left; min-width: 0; overflow-wrap: anywhere; }
+  td:not(.word)::before { content: attr(data-column) ' '; color: var(--quiet); }
+  td:empty, td.none { display: none; }
 }
 ul.tree ul ul ul ul ul ul ul ul { margin-left: 0; padding-left: .4rem; }
 ul.tree ul ul ul ul ul ul ul ul > li::before, ul.tree ul ul ul ul ul ul ul ul > li::after { left: -.4rem; max-width: .35rem; }
@@ -265,9 +273,9 @@ ul.tree ul ul ul ul ul ul ul ul > li::before, ul.tree ul ul ul ul ul ul ul ul > 
   const many = (n, one, more) => grouped(n) + '\u00a0' + (String(n) === '1' ? one : more);
   const sum = (list) => list.reduce((whole, n) => whole + BigInt(n), 0n);
   function size(n) {
-    const words = ['B', 'KiB', 'MiB', 'GiB', 'TiB'];
+    const words = ['B', 'KiB', 'MiB', 'GiB', 'TiB', 'PiB', 'EiB'];
     let value = Number(n), at = 0;
-    while (value >= 1024 && at < 4) { value /= 1024; at += 1; }
+    while (value >= 1023.5 && at + 1 < words.length) { value /= 1024; at += 1; }
     return (at === 0 ? value : value.toFixed(value < 10 ? 2 : value < 100 ? 1 : 0)) + '\u00a0' + words[at];
   }
   const time = (date) => date.toLocaleTimeString([], { hour: '2-digit', minute: '2-digit', second: '2-digit' });
@@ -319,10 +327,14 @@ ul.tree ul ul ul ul ul ul ul ul > li::before, ul.tree ul ul ul ul ul ul ul ul > 
   // a node in a text: its number, and its name where it has one
   const title = (seen, node) => seen.names.has(node) ? node + ' ' + seen.names.get(node) : String(node);
   const name = (seen, node) => seen.names.has(node) ? el('span', { class: 'named', title: seen.names.get(node) }, seen.names.get(node)) : '';
-  // since when nothing was heard of a node
-  const since = (row) => row.heard === null ? 'since before this node started' : 'since ' + moment(Number(row.heard)) + ', for ' + span(Number(row.heard));
+  // when a node was heard of
+  const heardOf = (row) => row.heard === null ? 'not heard of since this node started' : 'last heard of at ' + moment(Number(row.heard)) + ', ' + span(Number(row.heard)) + ' ago';
   const state = (row) => row.listed ? 'up' : row.up ? 'loose' : 'down';
   const clients = (n) => String(n) === '0' ? '' : many(n, 'client', 'clients');
+
+  // a node is out of the tree while it has no parent and does not act
+  const isOut = (s) => s.mode !== 'acting' && s.mode !== 'joined';
+  const at = (s) => s.mode === 'acting' ? 'acting as root' : s.mode === 'joined' ? 'joined to node ' + s.parent : s.mode === 'asking' ? 'out of the tree, asking node ' + s.parent + ' to be its parent' : 'idle, out of the tree';
 
   // The tree
 
@@ -361,7 +373,7 @@ ul.tree ul ul ul ul ul ul ul ul > li::before, ul.tree ul ul ul ul ul ul ul ul > 
       fold.append(arrow);
       row.append(fold);
     }
-    row.append(mark(here ? 'here' : 'up'), el('b', null, (here ? 'Node ' : '') + node), name(seen, node), el('span', { class: here ? 'more word' : 'said' }, here ? 'this node' : 'up'));
+    row.append(mark(here ? 'here' : 'up'), el('b', null, (here ? 'Node ' : '') + node), name(seen, node), el('span', { class: here ? 'more word' : 'said' }, here ? 'this node' + (isOut(seen.status) ? ', out of the tree' : '') : 'up'));
     row.append(el('span', { class: 'more', 'data-says': 'row', 'data-above': above }));
     made.append(row);
     list.append(made);
@@ -400,7 +412,7 @@ ul.tree ul ul ul ul ul ul ul ul > li::before, ul.tree ul ul ul ul ul ul ul ul > 
   function draw(seen) {
     seen.open = opens(seen);
     // the drawing is made anew only where the tree or what is unfolded is another than before
-    const shape = JSON.stringify([seen.status.node, seen.status.table.map((row) => [row.node, row.parent, row.up, row.listed]), [...seen.names], [...folds], all]);
+    const shape = JSON.stringify([seen.status.node, isOut(seen.status), seen.status.table.map((row) => [row.node, row.parent, row.up, row.listed]), [...seen.names], [...folds], all]);
     if (shape !== drawn) {
       const focused = document.activeElement && document.activeElement.dataset.fold;
       get('tree').replaceChildren();
@@ -415,7 +427,7 @@ ul.tree ul ul ul ul ul ul ul ul > li::before, ul.tree ul ul ul ul ul ul ul ul > 
       const node = Number(says.closest('[data-node]').dataset.node);
       if (says.dataset.says === 'leaf') {
         const kind = says.closest('.leaf').dataset.kind;
-        const row = seen.rows.get(node), silent = state(row) === 'down' && row.heard !== null ? ' for ' + span(Number(row.heard)) : '';
+        const row = seen.rows.get(node), silent = state(row) === 'down' && row.heard !== null ? ', heard of ' + span(Number(row.heard)) + ' ago' : '';
         put(says, [kind && kind + silent, clients(row.clients)].filter(Boolean).join(' · '));
       } else {
         const own = node === seen.status.node ? seen.status.clients : seen.rows.get(node).clients, of = seen.sizes.get(node);
@@ -459,9 +471,13 @@ ul.tree ul ul ul ul ul ul ul ul > li::before, ul.tree ul ul ul ul ul ul ul ul > 
     return [...told.map(one), ...(rest.length ? [others(rest)] : [])];
   }
   const WRONG = [
+    function outOfTree(seen) {
+      const s = seen.status;
+      return isOut(s) ? [['down', 'This node is out of the tree', s.mode === 'asking' ? 'it asks ' + title(seen, s.parent) + ' to be its parent' : 'it has no parent and does not act as root']] : [];
+    },
     function down(seen) {
       const list = seen.out.filter((row) => !row.up).sort((a, b) => (a.heard === null) - (b.heard === null) || a.heard - b.heard);
-      return lines(list, (row) => ['down', title(seen, row.node) + ' is down', since(row)],
+      return lines(list, (row) => ['down', title(seen, row.node) + ' is down', heardOf(row)],
         (rest) => ['down', many(rest.length, 'more node is', 'more nodes are') + ' down', front(rest.map((row) => row.node).sort((a, b) => a - b))]);
     },
     function cutOff(seen) {
@@ -469,7 +485,7 @@ ul.tree ul ul ul ul ul ul ul ul > li::before, ul.tree ul ul ul ul ul ul ul ul > 
       return list.length ? [['loose', many(list.length, 'node is', 'nodes are') + ' unlisted', 'no way of living nodes leads there: ' + front(list)]] : [];
     },
     function missing(seen) {
-      return lines(seen.status.missing, (it) => ['loose', title(seen, it.node) + ' is missing', 'it has an address in the configuration, and never joined'],
+      return lines(seen.status.missing, (it) => ['loose', title(seen, it.node) + ' is missing', 'it has an address in the configuration, and this node\u2019s table has no row of it'],
         (rest) => ['loose', many(rest.length, 'more node is', 'more nodes are') + ' missing', front(rest.map((it) => it.node))]);
     },
     function configuration(seen) {
@@ -513,8 +529,8 @@ ul.tree ul ul ul ul ul ul ul ul > li::before, ul.tree ul ul ul ul ul ul ul ul > 
     const s = seen.status;
     fill(get('facts'), [
       ['Name', s.name === null ? 'none' : s.name],
-      ['State', s.mode + (s.parent === null ? '' : ' ' + s.parent)],
-      ['Parent', s.parent === null ? 'none' : title(seen, s.parent)],
+      ['State', at(s)],
+      ['Parent', s.mode === 'joined' ? title(seen, s.parent) : 'none'],
       ['Above it', s.ancestors.length ? s.ancestors.map((node) => title(seen, node)).join(' ‹ ') : 'nobody'],
       ['Its own clients', grouped(s.clients)],
       ['Served since its start', grouped(s.served)],
@@ -546,7 +562,7 @@ ul.tree ul ul ul ul ul ul ul ul > li::before, ul.tree ul ul ul ul ul ul ul ul > 
     get('children').hidden = s.children.length === 0;
     if (box.dataset.key !== key) {
       box.dataset.key = key;
-      box.replaceChildren(...s.children.map((it) => el('div', { class: 'lease' }, el('span', { title: title(seen, it.node) }, title(seen, it.node)), el('meter', { min: 0, max: LEASE, low: 10, 'aria-label': 'Seconds of the lease of node ' + it.node }), el('span', { class: 'rate' }))));
+      box.replaceChildren(...s.children.map((it) => el('div', { class: seen.names.has(it.node) ? 'lease is-named' : 'lease' }, el('span', null, title(seen, it.node)), el('meter', { min: 0, max: LEASE, low: 10, 'aria-label': 'Seconds of the lease of node ' + it.node }), el('span', { class: 'rate' }))));
     }
     s.children.forEach((it, at) => {
       const [, meter, rate] = box.children[at].children, rest = left(s, it);
@@ -558,20 +574,19 @@ ul.tree ul ul ul ul ul ul ul ul > li::before, ul.tree ul ul ul ul ul ul ul ul > 
   function table(seen) {
     const s = seen.status, body = get('rows');
     put(get('caption'), 'Node ' + s.node + ', ' + at(s) + ', and each node of its table: ' + many(s.table.length, 'row', 'rows') + '. ' + (s.missing.length ? 'Missing: ' + ranges(s.missing.map((it) => it.node)) + '.' : ''));
-    const list = [[s.node, 'here', null, s.parent, s.clients, s.seq, s.number, null],
+    const list = [[s.node, 'here', null, s.mode === 'joined' ? s.parent : null, s.clients, s.seq, s.number, null],
       ...s.table.map((row) => [row.node, row.node === s.node ? 'own' : state(row), row.heard, row.parent, row.clients, row.seq, row.number, seen.children.get(row.node)])];
     while (body.children.length > list.length) body.lastChild.remove();
-    while (body.children.length < list.length) body.append(el('tr', null, el('th', { scope: 'row' }), el('td', { class: 'word named' }), el('td', { class: 'word' }), ...Array.from({ length: 7 }, () => el('td'))));
+    while (body.children.length < list.length) body.append(el('tr', null, el('th', { scope: 'row' }), el('td', { class: 'word named' }), el('td', { class: 'word' }), ...['heard of', 'parent', 'clients', 'ask', 'count', 'lease', 'rate'].map((says) => el('td', { 'data-column': says }))));
     list.forEach(([node, kind, heard, parent, served, seq, number, child], at) => {
       const cells = body.children[at].children, rest = child ? left(s, child) : null;
       put(cells[0], String(node));
       put(cells[1], seen.names.get(node) || '');
       if (cells[2].dataset.kind !== kind) { cells[2].dataset.kind = kind; cells[2].replaceChildren(mark(kind === 'own' ? 'here' : kind), ' ' + (kind === 'own' ? 'this node, by its table' : STATES[kind])); }
-      [heard === null ? '–' : span(Number(heard)) + ' ago', parent === null ? '–' : String(parent), grouped(served), grouped(seq), grouped(number), rest === null ? '–' : rest + ' s', child && String(child.rate) !== '0' ? size(child.rate) + '/s' : '–']
-        .forEach((text, k) => put(cells[k + 3], text));
+      [kind === 'here' ? '–' : heard === null ? 'not since the start' : span(Number(heard)) + ' ago', parent === null ? '–' : String(parent), grouped(served), grouped(seq), grouped(number), rest === null ? '–' : rest + ' s', child && String(child.rate) !== '0' ? size(child.rate) + '/s' : '–']
+        .forEach((text, k) => { put(cells[k + 3], text); cells[k + 3].className = text === '–' ? 'none' : ''; });
     });
   }
-  const at = (s) => s.mode === 'acting' ? 'acting as root' : s.mode === 'joined' ? 'joined to node ' + s.parent : s.mode === 'asking' ? 'asking node ' + s.parent : 'idle, out of the tree';
   function show(status) {
     const seen = read(status);
     put(get('name'), 'Node ' + title(seen, status.node));
@@ -637,7 +652,7 @@ ul.tree ul ul ul ul ul ul ul ul > li::before, ul.tree ul ul ul ul ul ul ul ul > 
     put(get('silence-since'), text[1]);
     put(get('asof'), why === null ? 'As of ' + time(last) : last ? 'Last answer ' + time(last) : 'No answer yet');
     const down = good ? good.table.filter((row) => !row.up).length : 0;
-    document.title = (why === null ? '' : 'No answer: ') + (good ? (good.name || 'Node ' + good.node) + (down ? ', ' + down + ' down' : '') + ' · ' : '') + 'Overcast';
+    document.title = (why === null ? '' : 'No answer: ') + (good ? (good.name || 'Node ' + good.node) + (isOut(good) ? ', out of the tree' : '') + (down ? ', ' + down + ' down' : '') + ' · ' : '') + 'Overcast';
   }
   async function turn() {
     const begun = Date.now(), end = new AbortController(), timer = setTimeout(() => end.abort(), 5000);

@@ -97,6 +97,8 @@ pub enum Part<'a> {
     Pieces,
     /// The bytes written on each dial.
     Dialled,
+    /// The lines told to the people who run the node.
+    Told,
 }
 
 /// The words of the outcome of a scene: these parts, one after another.
@@ -149,6 +151,7 @@ fn put_part(
         Part::Written => put_written(alloc, said, outcome),
         Part::Pieces => put_pieces(said, outcome),
         Part::Dialled => put_dialled(said, outcome),
+        Part::Told => put_told(said, outcome),
     }
 }
 
@@ -245,6 +248,17 @@ fn put_dialled(said: &mut String, outcome: &SceneEnd) -> Result<(), Fault> {
         if let Call::Dial(_, _, text) = call {
             said.push_str(" @ ")?;
             put_spelled(said, text.items())?;
+        }
+    }
+    Ok(())
+}
+
+/// Appends the lines told to the people who run the node, with a `!` before each.
+fn put_told(said: &mut String, outcome: &SceneEnd) -> Result<(), Fault> {
+    for call in calls_of(outcome)? {
+        if let Call::Report(line) = call {
+            said.push_str(" ! ")?;
+            put_spelled(said, line.items())?;
         }
     }
     Ok(())

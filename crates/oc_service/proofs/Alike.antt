@@ -16,8 +16,8 @@ use Rattle.oc_routes.specs.Verdicts.{IsVerdict, NodeTerms, arrival}
 use Rattle.oc_routes.specs.declared.verdict.Verdict.{Verdict}
 use Rattle.oc_routes.specs.declared.verdict.Verdict.TheVariants as verdicts
 use Rattle.oc_routes.specs.Refusals.{refusal_text}
-use Rattle.oc_deeds.specs.Choices.{due_index, wait_for}
-use Rattle.oc_deeds.specs.Deeds.{Reads, Running, Sees, Setting, after, calls_of, refuses, Deed, after_all, lines}
+use Rattle.oc_deeds.specs.Choices.{due_index}
+use Rattle.oc_deeds.specs.Deeds.{Reads, Refuses, Running, Setting, after, calls_of, refuses, Deed, after_all, lines}
 use Rattle.oc_deeds.specs.Parts.{Part}
 use Rattle.oc_deeds.specs.Rereading.{looks_again}
 use Rattle.oc_deeds.proofs.Chains.{after_append, calls_append, lines_append}
@@ -61,7 +61,9 @@ alike_at None pace probing t a b bytes other d count more verdicts.Permit s r = 
 alike_at None pace probing t a b bytes other d count more (verdicts.Ask request) s r = record { lines_are = refl; given_are = λ c. refl; node_is = refl }
 alike_at None pace probing t a b bytes other d count more (verdicts.Refuse why) s r = record {
   lines_are = refl;
-  given_are = λ (c : ℕ). refused_alike c d count more (refusal_text why) (calls_of s (ticks_and_sends pace t.now t.seconds s r) r);
+  given_are = λ (c : ℕ).
+      let after_it : Running = after (Refuses d count why) r in
+      refused_alike c d count more (refusal_text why) (calls_of s (ticks_and_sends pace t.now t.seconds s after_it) after_it);
   node_is = refl;
 }
 

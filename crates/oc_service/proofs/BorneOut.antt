@@ -29,11 +29,12 @@ use Rattle.oc_probe.specs.declared.fault.ProbeFault.{ProbeFault}
 use Rattle.oc_probe.specs.declared.probing.Probing.{Probing}
 use Rattle.oc_routes.specs.Askers.{asker_in, asker_of}
 use Rattle.oc_routes.specs.declared.asker.Asker.{Asker}
+use Rattle.oc_routes.specs.declared.asker.Asker.TheVariants as askers
 use Rattle.oc_routes.specs.Conditions.{unmet, unmet_at, unmet_by}
 use Rattle.oc_routes.specs.Hints.{asked_with_hint}
 use Rattle.oc_routes.specs.Macs.{is_forged}
 use Rattle.oc_routes.specs.Refusals.{refusing}
-use Rattle.oc_routes.specs.Verdicts.{IsVerdict, NodeTerms, answered, fault_met, is_none, refuse, routed, taken, unfinished, unread, verdict_for, whole, with_body}
+use Rattle.oc_routes.specs.Verdicts.{IsVerdict, NodeTerms, answered, is_none, refuse, routed, taken, unfinished, verdict_for, whole, with_body}
 use Rattle.oc_routes.specs.Waits.{holding}
 use Rattle.oc_routes.specs.declared.hint.Asked.{Asked}
 use Rattle.oc_routes.specs.declared.verdict.Request.{Request}
@@ -51,13 +52,13 @@ use Rattle.oc_routes.specs.declared.routes.Operation.TheVariants as asks
 use Rattle.oc_routes.specs.declared.tally.MessageFault.{MessageFault}
 use Rattle.oc_deeds.specs.Asks.{has_to_wait, obeys, refuses_or, responds, takes_on, takes_up, waiting}
 use Rattle.oc_deeds.specs.Brought.{comes_back, fault_of, input_of, refused_of}
-use Rattle.oc_deeds.specs.Choices.{due_index, next_to_dial, prospect_of, wait_for}
+use Rattle.oc_deeds.specs.Choices.{next_to_dial, prospect_of, wait_for}
 use Rattle.oc_deeds.specs.Deeds.{Deed, Drops, Reads, Refuses, Running, Says, Sees, Setting, Takes, Tells, Waits, after, after_all, errand_in, Looks, Rejects, Rereads}
 use Rattle.oc_deeds.specs.Hurries.{came_hurries}
 use Rattle.oc_deeds.specs.Pace.{has_passed, wait_until}
 use Rattle.oc_deeds.specs.Parts.{nothing, one, ◌>>◌}
 use Rattle.oc_deeds.specs.Records.{told_ahead}
-use Rattle.oc_deeds.specs.Rooms.{goes_on, is_told, moves, takes_room, room_for}
+use Rattle.oc_deeds.specs.Rooms.{is_told, moves, takes_room, room_for}
 use Rattle.oc_deeds.specs.Rooms as rooms
 use Rattle.oc_deeds.specs.Done.{CountsAll}
 use Rattle.oc_deeds.specs.Sends.{dials_at, dials_it, dials_next, sends}
@@ -177,12 +178,12 @@ other_fails failed asker why other = λ is. absurd (subst (λ (x : Refused). IsO
 unfinished_fails : (coming : Coming) (none : Bool) → FailsBy (has_failed coming) (unfinished coming none)
 unfinished_fails Open none = tt
 unfinished_fails Ended true = tt
-unfinished_fails Ended false = other_fails false false refusals.Ended tt
+unfinished_fails Ended false = other_fails false askers.Client refusals.Ended tt
 unfinished_fails Failed none = λ is. refl
 
 answered_fails : (failed : Bool) (head : Head) (request : Request) (input : Result (Option Input) Refused) → IsSpared input → FailsBy failed (answered head request input)
 answered_fails failed head request (Ok input) spared = tt
-answered_fails failed head request (Err why) spared = other_fails failed (is_head head.method) why spared
+answered_fails failed head request (Err why) spared = other_fails failed (asker_of head) why spared
 
 body_fails : (t : NodeTerms) (x : Arrival) (came : ℕ) (head : Head) (rest : List ℕ) (said : Asked) → FailsBy (has_failed x.coming) (with_body t x came head rest said)
 body_fails t x came head rest said = by_permit (awaits_continue head && not x.permitted)
@@ -199,7 +200,7 @@ body_fails t x came head rest said = by_permit (awaits_continue head && not x.pe
     body = take head.length rest
 
     by_mac : (b : Bool) → FailsBy (has_failed x.coming) (if b then refuse (asker_of head) refusals.Mac else answered head request (input_asked t.nodes t.me said.operation body))
-    by_mac true = other_fails (has_failed x.coming) (is_head head.method) refusals.Mac tt
+    by_mac true = other_fails (has_failed x.coming) (asker_of head) refusals.Mac tt
     by_mac false = answered_fails (has_failed x.coming) head request (input_asked t.nodes t.me said.operation body) (body_spared t.nodes t.me said.operation body)
 
     by_length : (b : Bool) → FailsBy (has_failed x.coming) (if b then unfinished x.coming false else whole t head request body)
@@ -212,7 +213,7 @@ body_fails t x came head rest said = by_permit (awaits_continue head && not x.pe
 
 routed_fails : (t : NodeTerms) (x : Arrival) (came : ℕ) (head : Head) (rest : List ℕ) (asked : Result Asked Refused) → IsSpared asked → FailsBy (has_failed x.coming) (routed t x came head rest asked)
 routed_fails t x came head rest (Ok said) spared = body_fails t x came head rest said
-routed_fails t x came head rest (Err why) spared = other_fails (has_failed x.coming) (is_head head.method) why spared
+routed_fails t x came head rest (Err why) spared = other_fails (has_failed x.coming) (asker_of head) why spared
 
 verdict_fails : (t : NodeTerms) (x : Arrival) (bytes rest : List ℕ) (answer : Result Head HttpFault) → IsDecided answer → FailsBy (has_failed x.coming) (verdict_for t x bytes rest answer)
 verdict_fails t x bytes rest (Ok head) decided = routed_fails t x (length bytes) head rest (asked_with_hint head t.rules) (head_spared head t.rules)

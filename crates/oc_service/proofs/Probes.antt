@@ -1,10 +1,10 @@
 -- The state of probing, as it is made for the addresses of nodes.
-use Rattle.std.proofs.Common.{◌≡◌, ℕ, ◌+◌, ◌≤◌, Bool, true, false, Option, Some, None, List, [], ◌∷◌, length, map, replicate, refl, ap, ap₂, ◌∙◌, sym, subst, arith, if◌then◌else◌}
-use Rattle.std.specs.Prelude.{◌==◌, option_map}
+use Rattle.std.proofs.Common.{◌≡◌, ℕ, Option, List, [], length, map, replicate, ap, ap₂, ◌∙◌, sym, subst, arith}
+use Rattle.std.specs.Prelude.{option_map}
 use Rattle.std.proofs.lemmas.List.{length-map, length-replicate}
 use Rattle.std.specs.List.{AllByRecursion}
 use Rattle.oc_base.specs.Lawful.{IsNode}
-use Rattle.oc_probe.specs.Turns.{RotationView, peers_from, peers_of}
+use Rattle.oc_probe.specs.Turns.{RotationView, peers_of}
 use Rattle.oc_probe.specs.declared.probing.Probing.{Probing}
 use Rattle.oc_deeds.proofs.Peers.{all_peers, same_peers}
 use Rattle.oc_deeds.specs.Lawful.{IsMadeFor}

@@ -1,6 +1,6 @@
 -- Worked example: a node that reads its configuration again, goes by one that it can go by, and
 -- keeps it where another one needs a new start.
-use Rattle.std.specs.Prelude.{◌≡◌, ℕ, true, false, Option, None, Some, List, [], ◌∷◌, codes}
+use Rattle.std.specs.Prelude.{◌≡◌, ℕ, true, false, None, Some, List, [], ◌∷◌, codes}
 use Rattle.oc_link.specs.declared.call.Call.TheVariants.{Dial, Look as LooksAt, Millis, Next, Report}
 use Rattle.oc_link.specs.declared.event.LinkEvent.TheVariants.{Quiet}
 use Rattle.oc_link.specs.declared.look.Look.TheVariants.{Text}

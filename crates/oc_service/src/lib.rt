@@ -27,7 +27,9 @@ mod probing;
 mod running;
 mod site;
 
-pub use law::{lines_of_failures_raise_counts, machine_computes, the_same_bytes_are_answered_alike};
+pub use law::{
+    lines_of_failures_raise_counts, machine_computes, the_same_bytes_are_answered_alike,
+};
 pub use oc_deeds::{Log, TurnEnd};
 pub use oc_routes::About;
 pub use running::{NodeEnd, Ran, Task, run_node};

@@ -1,4 +1,4 @@
-use Rattle.std.proofs.Common.{◌≡◌, ◌∙◌, ◌++◌, [], List, ℕ, drop, refl, rules, subst, suc, sym}
+use Rattle.std.proofs.Common.{◌≡◌, ◌∙◌, ◌++◌, [], List, drop, refl, rules, subst, suc, sym}
 use Rattle.std.specs.Prelude.{All}
 use Rattle.oc_updown.specs.MeasureLines.{IsMeasure}
 use Rattle.std.proofs.lemmas.Result.{err_from_is_err_and}

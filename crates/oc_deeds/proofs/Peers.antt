@@ -23,6 +23,14 @@ same_peers f me id [] = refl
 same_peers f me id (None ∷ places) = same_peers f me (id + 1) places
 same_peers f me id (Some x ∷ places) = ap (λ (ids : List ℕ). if id == me then ids else id ∷ ids) (same_peers f me (id + 1) places)
 
+-- peers in turn, from the first one on
+abbrev pub rotation_of : List ℕ → RotationView
+rotation_of ids = record { coming = ids }
+
+-- the peers are the same by what is read of the places
+pub peers_read : {A B : Type 0} (f : A → B) (me : ℕ) (places : List (Option A)) (shown : List (Option B)) → shown ≡ map (option_map f) places → peers_of me places ≡ peers_of me shown
+peers_read f me places shown is = sym (same_peers f me 1 places) ∙ ap (λ (ps : List (Option _)). peers_of me ps) (sym is)
+
 -- what is probed with other peers of as many nodes is made for them
 pub made_rerouted : {A : Type 0} (me : ℕ) (places : List (Option A)) (p : Probing) (r : RotationView) → r ≡ record { coming = peers_of me places } → IsMadeFor (length places) p → IsMadeFor (length places) (record p { rotation = r })
 made_rerouted me places p r is made = record {

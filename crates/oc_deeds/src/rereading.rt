@@ -16,7 +16,8 @@ use crate::told::takes_ahead;
 use crate::unfit::Unfit;
 use oc_base::{Bytes, MAX_SCHEDULE_BYTES, Memory, NodeId};
 use oc_config::{
-    Config, ConfigFault, Measure, Running, a_change_keeps_the_network, config_change, has_measure, read,
+    Config, ConfigFault, Measure, Running, a_change_keeps_the_network, config_change, has_measure,
+    read,
 };
 use oc_link::Look;
 use oc_model::Input;

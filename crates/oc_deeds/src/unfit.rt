@@ -1,7 +1,7 @@
 ghost use Rattle.std.specs.Prelude.{◌≡◌, ◌++◌, OnOk};
 ghost use Rattle.oc_deeds.specs.Unfit.{unfit_line, unfit_text};
 
-use oc_base::{MAX_SCHEDULE_BYTES, Memory, put, put_number};
+use oc_base::{MAX_SCHEDULE_BYTES, Memory, put, put_with_number};
 use oc_config::{ConfigFault, ConfigKey, put_fault};
 
 /// Why a configuration that was read again is not the one that a node goes by.
@@ -30,10 +30,7 @@ fn put_unfit(out: &mut Vec<u8>, why: &Unfit) -> Result<(), Memory>
     ensures { OnOk result (out.new.items ≡ out.old.items ++ unfit_text why.now) }
 {
     match why {
-        Unfit::Long => {
-            put(out, b"limit bytes ")?;
-            put_number(out, MAX_SCHEDULE_BYTES as u64)
-        }
+        Unfit::Long => put_with_number(out, b"limit bytes ", MAX_SCHEDULE_BYTES as u64),
         Unfit::Fault(fault) => {
             put(out, b"config: ")?;
             put_fault(out, fault)

@@ -1,8 +1,7 @@
-use Rattle.std.proofs.Common.{◌≡◌, ◌<◌, ◌≤◌, ℕ, suc, List, drop, length, get_or, refl, sym, ap, subst, ◌∙◌, arith, rules}
+use Rattle.std.proofs.Common.{ℕ, suc, drop, refl, sym, subst, arith}
 use Rattle.std.proofs.lemmas.Result.{err_from_is_err_and}
 use Rattle.std.specs.Prelude.{All}
 use Rattle.oc_updown.specs.MeasureLines.{IsMeasure}
-use Rattle.oc_updown.specs.declared.measure_lines.Measure.{Measure}
 use Rattle.oc_deeds.specs.Parts.{in_turn, nothing}
 use Rattle.oc_deeds.specs.Rereading.{measured_by, takes_measures}
 use Rattle.oc_deeds.specs.Telling.{takes_ahead}
@@ -26,7 +25,7 @@ measures-preserved g c =
     let s = c.args.doer.now in
     let l = c.measures in
     let new = c.takes_measure.new.doer in
-    let m = c.index-measure.result.now in
+    let m = c.index-measures-place.result in
     let far = l.invariant.far in
     let did = c.in_ok-takes_measure.ensures.did in
     record {
@@ -35,7 +34,7 @@ measures-preserved g c =
       far = (
         in_turn far.0 (takes_ahead (measured_by m)),
         c.parts_go_on.ensures.follows far.0 (takes_ahead (measured_by m)) (takes_ahead (measured_by m)) s l.doer new far.1 (λ honest. refl) did,
-        λ honest. one_taken c.args.measures.now l.place m far.0 (g.W.Doer.setting s) (g.W.Doer.running s) (search rules) (search rules) (far.2 honest),
+        λ honest. one_taken c.args.measures.now l.place m far.0 (g.W.Doer.setting s) (g.W.Doer.running s) c.measures-test.true c.index-measures-place.is (far.2 honest),
       );
     }
 
@@ -45,13 +44,13 @@ returns-in_err-takes_measure-clause-breaks g c =
     let s = c.args.doer.now in
     let l = c.measures in
     let new = c.takes_measure.new.doer in
-    let m = c.index-measure.result.now in
+    let m = c.index-measures-place.result in
     let far = l.invariant.far in
     let all = c.args.measures.now in
     let rest = takes_measures (drop (suc l.place) all) in
     rw (p.1, p.2) (c.parts_stop.ensures.as_same _ (in_turn far.0 (takes_measures (drop l.place all))) (takes_measures all) s new (λ honest. sym (far.2 honest))
     (c.parts_stop.ensures.follows _ far.0 (takes_measures (drop l.place all)) (in_turn (takes_ahead (measured_by m)) rest) s l.doer new far.1
-    (λ honest. sym (rest_is all l.place m (g.W.Doer.setting l.doer) (g.W.Doer.running l.doer) (search rules) (search rules)))
+    (λ honest. sym (rest_is all l.place m (g.W.Doer.setting l.doer) (g.W.Doer.running l.doer) c.measures-test.true c.index-measures-place.is))
     (c.parts_stop.ensures.in_first _ (takes_ahead (measured_by m)) rest l.doer new c.in_err-takes_measure.ensures.breaks)))
 
 pub returns-clause-did : goal.returns-clause-did

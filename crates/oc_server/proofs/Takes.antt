@@ -1,5 +1,5 @@
 -- One input is taken, or it is not.
-use Rattle.std.proofs.Common.{◌≡◌, ℕ, zero, suc, take, drop, IsTrue, false, true, List, Option, [], ◌∷◌, ◌++◌, Some, inl, inr, refl, sym, ap, subst, ◌∙◌}
+use Rattle.std.proofs.Common.{◌≡◌, ℕ, zero, suc, take, drop, IsTrue, false, true, List, Option, [], ◌∷◌, ◌++◌, None, Some, inl, inr, refl, sym, ap, subst, ◌∙◌}
 use Rattle.std.proofs.lemmas.List.{append-nil}
 use Rattle.std.specs.List.{AllByRecursion}
 use Rattle.oc_base.specs.declared.shelf.Shelf.{Shelf}

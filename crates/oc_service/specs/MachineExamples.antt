@@ -65,13 +65,13 @@ pub record Computes : Type 0 where
       ≡ Millis 0 ∷ Next Quiet [] ∷ Millis 5 ∷ LooksAt (Text (codes "two")) ∷ Report (codes "overcast: configuration read again\n")
       ∷ Millis 0 ∷ Next Quiet [] ∷ Millis 5 ∷ Millis 5 ∷ Dial 0 (codes "c:3") (probe_text (codes "c:3"))
       ∷ LooksAt (Text (codes "three")) ∷ Report (codes "overcast: config: restart chain\n") ∷ []
-  -- after the first turn the new configuration is gone by, and its peers are the next to probe
+  -- after the first turn the node goes by the new configuration, whose peers it probes next
   pub goes_by : after_turns example (moves ∷ []) running ≡ record running {
     running = node_at_first moved first_about node;
     probing = Some (record { gauge = [] ∷ [] ∷ []; rotation = record { coming = 2 ∷ [] } });
     reading = Some (codes "two");
   }
-  -- after the second turn it is gone by still, and the last one was refused
+  -- after the second turn it still goes by that one, and the last one was refused
   pub keeps : (after_turns example (moves ∷ restarts ∷ []) running).running
       ≡ record (node_at_first moved (record first_about { refused = true }) node) { dials = dialling 0 (errands.Probe 2 5) ∷ [] }
   -- the bytes that were refused are passed over in the next turn

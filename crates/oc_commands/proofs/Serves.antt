@@ -15,6 +15,7 @@ use Rattle.oc_keep.specs.FileError.TheVariants as causes
 use Rattle.oc_keep.specs.Errors.{cause_of}
 use Rattle.oc_keep.specs.Promises.{RefusesNode}
 use Rattle.oc_keep.specs.declared.errors.KeepLoad.{KeepLoad}
+use Rattle.oc_routes.specs.declared.about.About.{About}
 use Rattle.oc_service.specs.OnSite.{NodeEnds, at_run, setting_of}
 use Rattle.oc_service.specs.declared.running.NodeEnd.{NodeEnd}
 use Rattle.oc_service.specs.declared.running.NodeEnd.TheVariants as nodes
@@ -58,16 +59,16 @@ module _ {S D N K : Type 0} (gives fails : S → List ℕ → S → Type 0) (end
   load_has s v error causes.Memory is node h = inr refl
 
   -- the status over the files of a node
-  run_has : (s : Settings) (v : Service) (text : List ℕ) (started : ℕ) (end : NodeEnd) → HasNode s v → NodeEnds (at_run view story counts takes takes_less s (task_of v text started) d e link after sink written) output.written output.cut_off (setting_of (task_of v text started)) end
+  run_has : (s : Settings) (v : Service) (text : List ℕ) (program : About) (end : NodeEnd) → HasNode s v → NodeEnds (at_run view story counts takes takes_less s (task_of v text program) d e link after sink written) output.written output.cut_off (setting_of (task_of v text program)) end
       → OrMemory (IsStatusOver view d s v) (number_of (status_of_run end))
-  run_has s v text started (nodes.Load error) node h = load_has s v error (cause_of error) refl node h.0.0
-  run_has s v text started (nodes.Turned turns.Served) node h = inl (inr (node, λ files. inl refl))
-  run_has s v text started (nodes.Turned turns.Link) node (inl h) = absurd (waiting h.1.counted.listening)
-  run_has s v text started (nodes.Turned turns.Link) node (inr h) = absurd (waiting h.3.cause)
-  run_has s v text started (nodes.Turned turns.Disk) node h = absurd (unfailed h.3.cause)
-  run_has s v text started (nodes.Turned turns.Full) node h = inl (inr (node, λ files. inr refl))
-  run_has s v text started (nodes.Turned turns.Memory) node h = inr refl
-  run_has s v text started (nodes.Turned turns.Sink) node h = absurd (sound _ h.2.2)
+  run_has s v text program (nodes.Load error) node h = load_has s v error (cause_of error) refl node h.0.0
+  run_has s v text program (nodes.Turned turns.Served) node h = inl (inr (node, λ files. inl refl))
+  run_has s v text program (nodes.Turned turns.Link) node (inl h) = absurd (waiting h.1.counted.listening)
+  run_has s v text program (nodes.Turned turns.Link) node (inr h) = absurd (waiting h.3.cause)
+  run_has s v text program (nodes.Turned turns.Disk) node h = absurd (unfailed h.3.cause)
+  run_has s v text program (nodes.Turned turns.Full) node h = inl (inr (node, λ files. inr refl))
+  run_has s v text program (nodes.Turned turns.Memory) node h = inr refl
+  run_has s v text program (nodes.Turned turns.Sink) node h = absurd (sound _ h.2.2)
 
   -- the status by the meaning of all bytes of the input
   told : (v : Service) (said : Result Settings ConfigFault) (status : ℕ) (bytes : List ℕ) → gives old bytes new → ended new → (line : ℕ) → settings_of line bytes ≡ said → OrMemory (IsStatusOf view d v said) status
@@ -89,7 +90,7 @@ module _ {S D N K : Type 0} (gives fails : S → List ℕ → S → Type 0) (end
   service_has v services.Stranger h = let (c, read, rest) = h in told v (Ok c.config) 3 c.text read.0.0 read.0.1 read.1.line read.1.gives (inl (inl (rest.0, refl)))
   service_has v (services.Ran end) h =
       let (c, read, rest) = h in
-      told v (Ok c.config) (number_of (status_of_run end)) c.text read.0.0 read.0.1 read.1.line read.1.gives (run_has c.config v c.text rest.1 end rest.0 rest.2)
+      told v (Ok c.config) (number_of (status_of_run end)) c.text read.0.0 read.0.1 read.1.line read.1.gives (run_has c.config v c.text rest.1 end rest.0 rest.3)
 
   pub served : (error : OnError) (stage : OnStage) (dialler : OnLink) (token : Input) (asked : Option Invocation) (v : Service) (p : Paths) (end : End) → asked ≡ Some (Node v p)
       → Happened (record { asked = asked; input = at_source gives fails ended faulty old new; output = output; error = error; stage = stage; files = at_files view d e; link = dialler; token = token; node = at_node view story counts takes takes_less d e link after sink written }) end

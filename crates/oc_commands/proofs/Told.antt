@@ -291,7 +291,7 @@ module _ (i j : Input) (o p : Output) (d e : OnError) (stage : OnStage) (input :
   node_told node other tells v (services.Ran end) h =
       let (c, read, rest) = h in
       let task = task_of v c.text rest.1 in
-      (c, (input.whole _ read.0, read.1), (rest.0, rest.1, run_told (node.run c.config task) (other.run c.config task) (tells.run c.config task) (setting_of task) end rest.2))
+      (c, (input.whole _ read.0, read.1), (rest.0, rest.1, rest.2, run_told (node.run c.config task) (other.run c.config task) (tells.run c.config task) (setting_of task) end rest.3))
 
   module _ (asked : Option Invocation) (files : OnFiles) (link : OnLink) (node other : OnNode) (t u : Input) (tells : TellsNode node other) (token : TellsInput t u) where
     abbrev before : Outside

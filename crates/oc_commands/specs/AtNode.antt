@@ -10,6 +10,7 @@ use Rattle.oc_keep.specs.Files.{Disks}
 use Rattle.oc_keep.specs.Promises.{HoldFiles}
 use Rattle.oc_deeds.specs.declared.log.Log.{Log}
 use Rattle.oc_deeds.specs.declared.log.Log.TheVariants as logs
+use Rattle.oc_routes.specs.Sights.{AboutView, about_of}
 use Rattle.oc_routes.specs.declared.about.About.{About}
 use Rattle.oc_service.specs.OnSite.{NodeEnds, setting_of}
 use Rattle.oc_service.specs.declared.running.Task.{Task}
@@ -39,18 +40,23 @@ log_of Record = logs.Record
 log_of Brief = logs.Brief
 
 -- the program, which started at this second since 1970
-abbrev pub about : ℕ → About
-about started = record { version = VERSION; started = started; refused = false }
+abbrev pub about : ℕ → AboutView
+about started = record { version = VERSION.now; started = started; refused = false }
 
--- the task of that node, whose configuration was read from these bytes
-abbrev pub task_of : Service → List ℕ → ℕ → Task
-task_of v text started = record { me = v.id; turns = v.turns; probes = v.probes; log = log_of v.log; text = text; about = about started }
+-- this is what a node is told of the program, which started at some second
+abbrev pub IsStarted : About → Type 0
+IsStarted program = (started : ℕ) × (about_of program ≡ about started)
 
--- no node of the configuration has this id and an address, or the node ran; it was told when the program started
+-- the task of that node, whose configuration was read from these bytes, and which is told this of the program
+abbrev pub task_of : Service → List ℕ → About → Task
+task_of v text program = record { me = v.id; turns = v.turns; probes = v.probes; log = log_of v.log; text = text; about = program }
+
+-- no node of the configuration has this id and an address, or the node ran, and was told of the program that started
 abbrev pub RunsService : OnNode → Output → Configured → Service → ServiceEnd → Type 0
 RunsService node output c v Stranger = (HasNode c.config v → ⊥) × output.written []
 RunsService node output c v (Ran end) =
-    HasNode c.config v × (started : ℕ) × NodeEnds (node.run c.config (task_of v c.text started)) output.written output.cut_off (setting_of (task_of v c.text started)) end
+    HasNode c.config v × (program : About) × IsStarted program
+    × NodeEnds (node.run c.config (task_of v c.text program)) output.written output.cut_off (setting_of (task_of v c.text program)) end
 RunsService node output c v (Config end) = ⊥
 
 -- the effect of this end

@@ -7,6 +7,7 @@ ghost use Rattle.oc_io.specs.Faults.{NoFall};
 ghost use Rattle.oc_commands.specs.AtNode.{HappenedAtNode, IsMemberOf, IsPlacedOf, RunsService, UnlessRan, about, log_of};
 ghost use Rattle.oc_commands.specs.Ends.{status_of_service};
 ghost use Rattle.oc_commands.specs.Outside.{at_node, at_sink, at_source};
+ghost use Rattle.oc_routes.specs.Sights.{about_of};
 ghost use Rattle.oc_words.specs.Status.{number_of};
 
 use crate::configuring::{ConfigEnd, Configured, read_configured};
@@ -105,7 +106,7 @@ fn serve_config<D: Disk, L: Link, K: Sink>(
 
 /// The program, which started at this second since 1970.
 fn about(started: u64) -> About
-    ensures { result ≡ about started }
+    ensures { about_of result ≡ about started }
 {
     About {
         version: VERSION,

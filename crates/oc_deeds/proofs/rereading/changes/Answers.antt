@@ -1,10 +1,8 @@
-use Rattle.std.proofs.Common.{◌≡◌, ℕ, IfSome, List, Option, length, Result, ap, ap₂, refl, sym, subst, ◌∙◌}
+use Rattle.std.proofs.Common.{◌≡◌, ℕ, IfSome, List, length, Result, ap, ap₂, refl, sym, subst, ◌∙◌}
 use Rattle.std.specs.Prelude.{All}
 use Rattle.std.specs.Option.{option_map}
-use Rattle.std.proofs.lemmas.Result.{err_from_is_err_and}
 use Rattle.oc_config.specs.Settings.{Settings}
 use Rattle.oc_model.specs.Node.{Control}
-use Rattle.oc_probe.specs.declared.probing.Probing.{Probing}
 use Rattle.oc_updown.specs.MeasureLines.{IsMeasure}
 use Rattle.oc_updown.specs.declared.measure_lines.Measure.{Measure}
 use Rattle.oc_deeds.specs.Deeds.{Rereads}

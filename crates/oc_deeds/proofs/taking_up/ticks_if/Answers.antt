@@ -1,4 +1,4 @@
-use Rattle.std.proofs.Common.{Bool, ℕ, true, ap, sym, ◌∙◌}
+use Rattle.std.proofs.Common.{Bool, ℕ, ap, sym, ◌∙◌}
 use Rattle.oc_model.specs.declared.input.Input.TheVariants as inputs
 use Rattle.oc_deeds.specs.Telling.{takes_in}
 use Rattle.oc_deeds.specs.Turns.{ticks_if}

@@ -155,12 +155,12 @@ module _ {D L K : Type 0} (view : D → DiskView) (takes fails : K → List ℕ 
           ∙ ap (λ (ws : List Work). record { node = (step (node_of old.kept) i).node; outbox = with_messages old.outbox (kept (step (node_of old.kept) i).sends); works = ws; dials = new.dials; config = new.config; tally = new.tally; about = about_of new.about }) works
           ∙ ap (λ (ds : List Dialling). record { node = (step (node_of old.kept) i).node; outbox = with_messages old.outbox (kept (step (node_of old.kept) i).sends); works = old.works; dials = ds; config = new.config; tally = new.tally; about = about_of new.about }) dials
           ∙ ap (λ (c : Settings). record { node = (step (node_of old.kept) i).node; outbox = with_messages old.outbox (kept (step (node_of old.kept) i).sends); works = old.works; dials = old.dials; config = c; tally = new.tally; about = about_of new.about }) config
-          ∙ ap (λ (t : TallyView). record { node = (step (node_of old.kept) i).node; outbox = with_messages old.outbox (kept (step (node_of old.kept) i).sends); works = old.works; dials = old.dials; config = old.config; tally = t; about = about_of new.about }) (counts honest)
+          ∙ ap (λ (t : TallyView). record { node = (step (node_of old.kept) i).node; outbox = with_messages old.outbox (kept (step (node_of old.kept) i).sends); works = old.works; dials = old.dials; config = old.config; tally = t; about = about_of new.about }) (tallied honest)
           ∙ ap (λ (x : About). record { node = (step (node_of old.kept) i).node; outbox = with_messages old.outbox (kept (step (node_of old.kept) i).sends); works = old.works; dials = old.dials; config = old.config; tally = counted_input i (node_of old.kept) old.tally; about = about_of x }) about
 
       -- it was counted by the step of the input
-      counts : IsHonest view old.kept → new.tally ≡ counted_input i (node_of old.kept) old.tally
-      counts honest =
+      tallied : IsHonest view old.kept → new.tally ≡ counted_input i (node_of old.kept) old.tally
+      tallied honest =
           tally
           ∙ ap (λ (o : OutcomeView). noted (sender_of i) (known_before i old.kept.node.control.kept.table) o.answer new.kept.node.control old.tally) (keeps.outcome_is honest)
           ∙ ap (λ (n : Node). noted (sender_of i) (known_before i old.kept.node.control.kept.table) (step (node_of old.kept) i).answer n.control old.tally) (keeps.node honest)

@@ -33,7 +33,7 @@ returns-clause-did g c =
     (λ all. subst (λ (ws : List Work). AllByRecursion (IsLawfulWork nodes me) ws) (sym is) (works_with_content nodes me left others (works_without nodes me p.connection s.works all)))
     refl
     (λ honest. is ∙ ap (λ (x : Option Transfer). with_content x others) (c.in_ok-piece.ensures.rest honest))
-    (λ honest. c.sends.ensures ∙ ap (λ (n : ℕ). with_sent n s.tally) (c.len.ensures ∙ ap (λ (t : List ℕ). length t) (c.in_ok-piece.ensures.text honest)))
+    (λ honest. c.sends.ensures ∙ ap (λ (n : ℕ). with_sent n s.tally) (c.len.ensures ∙ sym c.deref.ensures.len ∙ ap (λ (t : List ℕ). length t) (c.deref.ensures.value ∙ c.in_ok-piece.ensures.text honest)))
     (λ honest. gave p.connection c.deref.result.now (piece p groups) p.keeps p.told left (rest p c.args.now groups) (g.L.Link.story s.link) (g.L.Link.story c.give.new.self) (g.L.Link.story c.finish.new.link)
     (c.deref.ensures.value ∙ c.in_ok-piece.ensures.text honest) (c.in_ok-piece.ensures.rest honest) c.give.ensures.story c.finish.ensures.calls))
 

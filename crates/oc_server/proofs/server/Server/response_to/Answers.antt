@@ -8,6 +8,7 @@ use Rattle.oc_routes.specs.declared.response.Response.{Response}
 use Rattle.oc_deeds.specs.Asks.{holding_in}
 use Rattle.oc_deeds.proofs.Results.{ok_then}
 use Rattle.oc_config.specs.Settings.{key_of}
+use Rattle.oc_server.proofs.Responding.{parts_same}
 use Rattle.oc_server.proofs.server.Server.response_to.Goals as goal
 
 pub returns : goal.returns
@@ -19,12 +20,9 @@ returns g c =
     let answered : (Control → ℕ → List Shelf → List (Option (List ℕ)) → List (Option (List ℕ)) → List Bool → Option (List ℕ) → Response) =
     λ n many lines addresses names retired key. response_for r.asked r.last told.answer told.back (holding_in r.asked.operation lines) addresses key
     (report_of r.asked.operation (record { node = n; shelf = lines; messages = many; addresses = addresses; names = names; retired = retired; tally = s.tally; about = about_of s.about })) in
-    let seen = c.directory_of.result in
+    let n = c.node.result.now.control in
     ok_then c.response_to.result (λ response is honest. is
-    ∙ ap (λ n. answered n.control c.len.result c.shelf.result.now _ _ _ _) c.node.ensures
-    ∙ ap (λ (many : ℕ). answered s.kept.node.control many c.shelf.result.now _ _ _ _) c.len.ensures
-    ∙ ap (λ (lines : List Shelf). answered s.kept.node.control (length s.outbox) lines _ _ _ _) (c.shelf.ensures.groups honest)
-    ∙ ap (λ (addresses : List (Option (List ℕ))). answered s.kept.node.control (length s.outbox) _ addresses _ _ _) there.addresses
-    ∙ ap (λ (names : List (Option (List ℕ))). answered s.kept.node.control (length s.outbox) _ s.config.addresses names _ _) there.names
-    ∙ ap (λ (retired : List Bool). answered s.kept.node.control (length s.outbox) _ s.config.addresses s.config.names retired _) there.retired
-    ∙ ap (λ (key : Option (List ℕ)). answered s.kept.node.control (length s.outbox) _ s.config.addresses s.config.names s.config.retired key) there.key) c.response_to.ensures
+    ∙ parts_same (answered n c.len.result c.shelf.result.now) there.addresses there.names there.retired there.key
+    ∙ ap (λ n. answered n.control c.len.result c.shelf.result.now s.config.addresses s.config.names s.config.retired (key_of s.config.keys)) c.node.ensures
+    ∙ ap (λ (many : ℕ). answered s.kept.node.control many c.shelf.result.now s.config.addresses s.config.names s.config.retired (key_of s.config.keys)) c.len.ensures
+    ∙ ap (λ (lines : List Shelf). answered s.kept.node.control (length s.outbox) lines s.config.addresses s.config.names s.config.retired (key_of s.config.keys)) (c.shelf.ensures.groups honest)) c.response_to.ensures

@@ -1,4 +1,4 @@
-use Rattle.std.proofs.Common.{◌∷◌, [], Bool, Option, IfSome, List, ℕ, ap, sym, subst, ◌∙◌}
+use Rattle.std.proofs.Common.{◌∷◌, [], Bool, Option, IfSome, List, ℕ, ap, refl, sym, subst, ◌∙◌}
 use Rattle.std.proofs.lemmas.Result.{err_from_is_err_and}
 use Rattle.oc_keep.specs.KeptView.{header_of}
 use Rattle.oc_model.specs.Node.{Header}

@@ -12,8 +12,9 @@ returns c =
           dialler = c.new-dialler.result;
           link = c.new-link.result;
           pause = tt;
+          started = c.since_1970.result;
         };
-        last = record { stage = left.stage; files = left.files; dialler = left.dialler; link = left.link; pause = tt };
+        last = record { stage = left.stage; files = left.files; dialler = left.dialler; link = left.link; pause = tt; started = left.started };
         new_dialler = c.new-dialler.ensures;
         new_link = c.new-link.ensures.counts;
         end = end;

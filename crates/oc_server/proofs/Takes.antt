@@ -146,6 +146,13 @@ module _ {D L K : Type 0} (view : D → DiskView) (takes fails : K → List ℕ 
         (subst (λ (t : List ℕ). takes old.sink t new.sink) (sym lined) text);
   }
     where
+      -- it was counted by the step of the input
+      tallied : IsHonest view old.kept → new.tally ≡ counted_input i (node_of old.kept) old.tally
+      tallied honest =
+          tally
+          ∙ ap (λ (o : OutcomeView). noted (sender_of i) (known_before i old.kept.node.control.kept.table) o.answer new.kept.node.control old.tally) (keeps.outcome_is honest)
+          ∙ ap (λ (n : Node). noted (sender_of i) (known_before i old.kept.node.control.kept.table) (step (node_of old.kept) i).answer n.control old.tally) (keeps.node honest)
+
       is : IsHonest view old.kept
           → running new ≡ record (running old) { node = (step (node_of old.kept) i).node; outbox = with_messages old.outbox (kept (step (node_of old.kept) i).sends); tally = counted_input i (node_of old.kept) old.tally }
       is honest =
@@ -157,13 +164,6 @@ module _ {D L K : Type 0} (view : D → DiskView) (takes fails : K → List ℕ 
           ∙ ap (λ (c : Settings). record { node = (step (node_of old.kept) i).node; outbox = with_messages old.outbox (kept (step (node_of old.kept) i).sends); works = old.works; dials = old.dials; config = c; tally = new.tally; about = about_of new.about }) config
           ∙ ap (λ (t : TallyView). record { node = (step (node_of old.kept) i).node; outbox = with_messages old.outbox (kept (step (node_of old.kept) i).sends); works = old.works; dials = old.dials; config = old.config; tally = t; about = about_of new.about }) (tallied honest)
           ∙ ap (λ (x : About). record { node = (step (node_of old.kept) i).node; outbox = with_messages old.outbox (kept (step (node_of old.kept) i).sends); works = old.works; dials = old.dials; config = old.config; tally = counted_input i (node_of old.kept) old.tally; about = about_of x }) about
-
-      -- it was counted by the step of the input
-      tallied : IsHonest view old.kept → new.tally ≡ counted_input i (node_of old.kept) old.tally
-      tallied honest =
-          tally
-          ∙ ap (λ (o : OutcomeView). noted (sender_of i) (known_before i old.kept.node.control.kept.table) o.answer new.kept.node.control old.tally) (keeps.outcome_is honest)
-          ∙ ap (λ (n : Node). noted (sender_of i) (known_before i old.kept.node.control.kept.table) (step (node_of old.kept) i).answer n.control old.tally) (keeps.node honest)
 
   -- all messages went to the outbox
   pub did_take : (i : Input) (outcome : OutcomeView) (old new : Server D L K) → old.kept.closed ≡ false → KeepsOne view i outcome old.kept new.kept

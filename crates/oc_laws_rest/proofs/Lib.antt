@@ -10,3 +10,7 @@ pub mod Peers
 pub mod Links
 pub mod Upward
 pub mod Roots
+pub mod Said
+pub mod Answered
+pub mod Replies
+pub mod Asks

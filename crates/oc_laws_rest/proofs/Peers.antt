@@ -46,11 +46,11 @@ use Rattle.oc_laws_rest.specs.Rounds.{is_dial}
 
 -- Messages of a step
 
-among_more : (ms ns : List Message) (m : Message) → IsAmong m ms → IsAmong m (ms ++ ns)
+pub among_more : (ms ns : List Message) (m : Message) → IsAmong m ms → IsAmong m (ms ++ ns)
 among_more [] ns m one = absurd one
 among_more (a ∷ ms) ns m one = ⊎_elim (λ e. inl e) (λ later. inr (among_more ms ns m later)) one
 
-among_last : (ms : List Message) (m : Message) → IsAmong m (ms ++ m ∷ [])
+pub among_last : (ms : List Message) (m : Message) → IsAmong m (ms ++ m ∷ [])
 among_last [] m = inl refl
 among_last (a ∷ ms) m = inr (among_last ms m)
 
@@ -82,7 +82,7 @@ filled_dials bytes (bodies.Rejoin seq) = refl
 filled_dials bytes (bodies.Fetch have) = refl
 filled_dials bytes (bodies.Chunk g start none last) = refl
 
-among_filled : (bytes : List ℕ) (ms : List Message) (m : Message) → IsAmong m ms → IsAmong (fill bytes m) (map (fill bytes) ms)
+pub among_filled : (bytes : List ℕ) (ms : List Message) (m : Message) → IsAmong m ms → IsAmong (fill bytes m) (map (fill bytes) ms)
 among_filled bytes [] m one = absurd one
 among_filled bytes (a ∷ ms) m one = ⊎_elim (λ e. inl (ap (fill bytes) e)) (λ later. inr (among_filled bytes ms m later)) one
 

@@ -83,21 +83,21 @@ module _ (h : Header) where
   tables_of : (w : World) → Reached h w → AreTables w
   tables_of w reached = of_reached AreTables (λ g events. law_after AreTables HasTable tables_law g events (tables_new g)) h w reached
 
-  reached_turns : (ts : List Turn) (w : World) → Reached h w → Reached h (after_turns w ts)
+  pub reached_turns : (ts : List Turn) (w : World) → Reached h w → Reached h (after_turns w ts)
   reached_turns [] w reached = reached
   reached_turns (t ∷ ts) w reached = reached_turns ts (after_act w (At t.node (Tick t.time))) (reached_act h w (At t.node (Tick t.time)) reached)
 
-  reached_arrived : (w : World) (k : ℕ) → Reached h w → Reached h (arrived w k)
+  pub reached_arrived : (w : World) (k : ℕ) → Reached h w → Reached h (arrived w k)
   reached_arrived w k reached = reached_act h w (arriving w k (message_at w.net k)) reached
 
   reached_arrivals : (ks : List ℕ) (w : World) → Reached h w → Reached h (after_arrivals w ks)
   reached_arrivals [] w reached = reached
   reached_arrivals (k ∷ ks) w reached = reached_arrivals ks (arrived w k) (reached_arrived w k reached)
 
-  reached_round : (w : World) (r : Round) → Reached h w → Reached h (after_round w r)
+  pub reached_round : (w : World) (r : Round) → Reached h w → Reached h (after_round w r)
   reached_round w r reached = reached_arrivals r.arrivals (after_turns w r.turns) (reached_turns r.turns w reached)
 
-  reached_rounds : (rs : List Round) (w : World) → Reached h w → Reached h (after_rounds w rs)
+  pub reached_rounds : (rs : List Round) (w : World) → Reached h w → Reached h (after_rounds w rs)
   reached_rounds [] w reached = reached
   reached_rounds (r ∷ rs) w reached = reached_rounds rs (after_round w r) (reached_round w r reached)
 

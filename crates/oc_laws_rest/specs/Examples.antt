@@ -6,7 +6,7 @@ use Rattle.oc_model.specs.ExampleRuns.{header}
 use Rattle.oc_model.specs.NextWorld.{next_world}
 use Rattle.oc_model.specs.Ready.{is_settled}
 use Rattle.oc_model.specs.World.{World, mode_of}
-use Rattle.oc_laws_rest.specs.Rounds.{Turn, Round, after_rounds, is_quiet}
+use Rattle.oc_laws_rest.specs.Rounds.{Turn, Round, after_turns, after_rounds, is_quiet}
 use Rattle.oc_laws_rest.specs.Rest.{begun}
 
 -- Worked examples of rounds, and of what is none.
@@ -69,6 +69,12 @@ pair = begun (header 2 2 (0 ∷ 0 ∷ [])) (1 ∷ 2 ∷ [])
 
 abbrev meeting : Round
 meeting = record { turns = turn 1 0 ∷ turn 2 0 ∷ []; arrivals = 1 ∷ 2 ∷ [] }
+
+-- the second member asks the source, and the answer comes in the same round
+pub record AskIsAnswered : Type 0 where
+  pub quiet : is_quiet pair (meeting ∷ []) ≡ true
+  pub asks : mode_of (after_turns pair meeting.turns) 2 ≡ Asking 1
+  pub answered : mode_of (after_rounds pair (meeting ∷ [])) 2 ≡ Joined 1
 
 abbrev bereft : World
 bereft = next_world (after_rounds pair (meeting ∷ [])) (Crash 1)

@@ -1,5 +1,6 @@
 use Rattle.std.specs.Prelude.{◌≡◌, ℕ, ◌≤◌, true, List, map}
 use Rattle.oc_model.specs.declared.event.Event.TheVariants.{Up}
+use Rattle.oc_model.specs.declared.mode.Mode.TheVariants.{Asking}
 use Rattle.oc_model.specs.Chains.{IsUp, true_line}
 use Rattle.oc_model.specs.Checking.{is_peer}
 use Rattle.oc_model.specs.ClaimsTree.{table_of, IsTold}
@@ -41,3 +42,7 @@ pub record IsLeastMember (w : World) (m : ℕ) : Type 0 where
 -- no node that is up asks a node that is down, or is joined to one
 abbrev pub PeersAreUp : World → Type 0
 PeersAreUp w = (x p : ℕ) → IsUp w x → is_peer (mode_of w x) p ≡ true → IsUp w p
+
+-- no node that is up waits for an answer to an ask
+abbrev pub NobodyAsks : World → Type 0
+NobodyAsks w = (x p : ℕ) → IsUp w x → mode_of w x ≡ Asking p → ⊥

@@ -1,10 +1,11 @@
-ghost use Rattle.oc_laws_rest.specs.Examples.{NewNetworkRests, FailuresAreTold, UntoldFailuresAreNone, ParentsAreLeft, TurnsNeedAClock};
+ghost use Rattle.oc_laws_rest.specs.Examples.{NewNetworkRests, FailuresAreTold, UntoldFailuresAreNone, AskIsAnswered, ParentsAreLeft, TurnsNeedAClock};
 
 /// Checks worked examples of rounds.
 pub fn rounds_compute()
     ensures rests { NewNetworkRests }
     ensures told { FailuresAreTold }
     ensures untold { UntoldFailuresAreNone }
+    ensures answered { AskIsAnswered }
     ensures left { ParentsAreLeft }
     ensures clock { TurnsNeedAClock }
 {}

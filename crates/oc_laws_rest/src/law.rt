@@ -8,7 +8,7 @@ ghost use Rattle.oc_model.specs.NextWorld.{world_after};
 ghost use Rattle.oc_model.specs.Node.{Header};
 ghost use Rattle.oc_model.specs.Numbers.{number_end};
 ghost use Rattle.oc_model.specs.World.{World, is_up, mode_of, new_world};
-ghost use Rattle.oc_laws_rest.specs.Rest.{IsAtRest, begun, IsOnlyMember, PeersAreUp, IsLeastMember};
+ghost use Rattle.oc_laws_rest.specs.Rest.{IsAtRest, begun, IsOnlyMember, PeersAreUp, NobodyAsks, IsLeastMember};
 ghost use Rattle.oc_laws_rest.specs.Rounds.{Round, after_rounds, is_quiet};
 
 /// A new network in which one chain member is up comes to rest by itself in two rounds, and is at rest at the
@@ -36,6 +36,14 @@ pub fn new_networks_rest()
 pub fn failures_are_noticed()
     ensures peers { (w : World) (r : Round) (rs : List Round) → is_quiet w (r ∷ rs) ≡ true → PeersAreUp (after_rounds w (r ∷ rs)) }
     ensures up { (w : World) (r : Round) (rs : List Round) (x : ℕ) → is_quiet w (r ∷ rs) ≡ true → is_up (after_rounds w (r ∷ rs)) x ≡ is_up w x }
+{}
+
+/// From the end of the first round on, in every world that events lead to and whatever messages of before still
+/// come in it, no node that is up asks: each ask of a round is answered in the round, or told as failed, and so
+/// is each ask that follows it. A node that is up is then idle, joined to a node that is up, or acts as root.
+pub fn asks_end()
+    ensures { (h : Header) (es : List Event) (r : Round) (rs : List Round) → is_quiet (world_after (new_world h) es) (r ∷ rs) ≡ true
+        → NobodyAsks (after_rounds (world_after (new_world h) es) (r ∷ rs)) }
 {}
 
 /// In every world that events lead to, and whatever messages of before still come in the first round: from the

@@ -10,6 +10,9 @@ returns-clause-told c = record { quiet = refl; root = refl; settled = refl }
 pub returns-clause-untold : goal.returns-clause-untold
 returns-clause-untold c = record { not_quiet = refl; asks = refl; not_settled = refl }
 
+pub returns-clause-answered : goal.returns-clause-answered
+returns-clause-answered c = record { quiet = refl; asks = refl; answered = refl }
+
 pub returns-clause-left : goal.returns-clause-left
 returns-clause-left c = record { met = refl; joined = refl; quiet = refl; root = refl; settled = refl }
 

@@ -1,5 +1,5 @@
 -- The answer to an ask: a yes that the asker takes, a no, or a call to ask anew.
-use Rattle.std.proofs.Common.{◌≡◌, ℕ, ◌<◌, Bool, true, false, not, ◌&&◌, ◌==◌, nat_lt, nat_le, if◌then◌else◌, Option, Some, None, List, [], ◌∷◌, ◌++◌, refl, ap, sym, subst, ◌∙◌, arith}
+use Rattle.std.proofs.Common.{◌≡◌, ℕ, Bool, true, false, not, ◌&&◌, ◌==◌, nat_lt, nat_le, if◌then◌else◌, Option, Some, None, List, [], ◌∷◌, ◌++◌, refl, sym, subst, arith}
 use Rattle.std.proofs.lemmas.Bool.{leb-false, lt-ltb}
 use Rattle.oc_base.specs.declared.cert.Cert.{Cert}
 use Rattle.oc_base.specs.declared.limits.TheConstants.{MAX_DEPTH}
@@ -14,7 +14,7 @@ use Rattle.oc_model.specs.declared.message.Body.TheVariants as bodies
 use Rattle.oc_model.specs.declared.message.Message.{Message}
 use Rattle.oc_model.specs.declared.record.Record.TheVariants as records
 use Rattle.oc_model.specs.Adopting.{is_acting, raises, raises_over, host, birth, has_lease, grants, sends_rejoin, adopts, answers_ask, asked}
-use Rattle.oc_model.specs.Adoption.{Host, precedes, precedes_any, rank_or_last, chain_refusal, rank_refusal, adoption_refusal}
+use Rattle.oc_model.specs.Adoption.{Host, precedes, precedes_any, rank_or_last, chain_refusal, adoption_refusal}
 use Rattle.oc_model.specs.Node.{Node}
 use Rattle.oc_model.specs.Numbers.{IsAmong, has, raise}
 use Rattle.oc_model.specs.Plan.{Plan, begun, write}

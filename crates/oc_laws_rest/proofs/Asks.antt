@@ -1,5 +1,5 @@
 -- Nobody asks at the end of a round.
-use Rattle.std.proofs.Common.{◌≡◌, ℕ, Bool, true, false, ◌==◌, List, [], ◌∷◌, inl, length, refl, ap, sym, subst, ◌∙◌, ⊎_elim, ne_eqb}
+use Rattle.std.proofs.Common.{◌≡◌, ℕ, true, false, ◌==◌, List, [], ◌∷◌, inl, length, sym, subst, ⊎_elim, ne_eqb}
 use Rattle.std.proofs.lemmas.Bool.{cases_eq, and_parts}
 use Rattle.oc_base.specs.Groups.{shelf}
 use Rattle.oc_model.specs.declared.input.Input.{Input}
@@ -47,7 +47,7 @@ all_free least = record {
   some = λ w x p sound e. has_number w sound x p e;
   keeps = λ w z i sound up came brought p x free. tt;
   yes = λ w k m sound past found seq r xs body asks same. tt;
-  acks = λ w m x p sound up among report. inl tt;
+  acks = λ w m x p sound up up_x among report. inl tt;
 }
 
 module _ (h : Header) where

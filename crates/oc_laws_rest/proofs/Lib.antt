@@ -14,3 +14,5 @@ pub mod Said
 pub mod Answered
 pub mod Replies
 pub mod Asks
+pub mod Leasing
+pub mod Leases

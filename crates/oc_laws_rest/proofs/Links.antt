@@ -60,13 +60,13 @@ arrived_comes w k s found comes = ap (after_act w) (ap (arriving w k) found ∙ 
 
 -- Messages of a step wait
 
-record Placed (front ms : List Message) (m : Message) : Type 0 where
-  number : ℕ
-  past : length front < number
-  low : number ≤ length (front ++ ms)
-  at : message_at (front ++ ms) number ≡ Some m
+pub record Placed (front ms : List Message) (m : Message) : Type 0 where
+  pub number : ℕ
+  pub past : length front < number
+  pub low : number ≤ length (front ++ ms)
+  pub at : message_at (front ++ ms) number ≡ Some m
 
-place : (front ms : List Message) (m : Message) → IsAmong m ms → Placed front ms m
+pub place : (front ms : List Message) (m : Message) → IsAmong m ms → Placed front ms m
 place front [] m one = absurd one
 place front (a ∷ ms) m (inl e) = record { number = suc (length front); past = omega arith; low = omega (arith, length-append front (a ∷ ms)); at = at_next front ms a ∙ ap Some e }
 place front (a ∷ ms) m (inr later) =

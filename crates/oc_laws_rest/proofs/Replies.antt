@@ -15,7 +15,6 @@ use Rattle.oc_model.specs.declared.mode.Mode.TheVariants as modes
 use Rattle.oc_model.specs.ClaimsTree.{seq_of}
 use Rattle.oc_model.specs.Node.{Node}
 use Rattle.oc_model.specs.Numbers.{IsAmong, has}
-use Rattle.oc_model.specs.Plan.{begun}
 use Rattle.oc_model.specs.Step.{step}
 use Rattle.oc_model.specs.World.{World, Process, process, node, is_up, mode_of, up_ids, message_at, delivery, acted, after_act}
 use Rattle.oc_model.specs.WorldBounds.{IsOneOf}
@@ -128,23 +127,23 @@ stands_more w v old x ms net modes.Acting s r h = tt
 abbrev StandsAs : (World → ℕ → ℕ → ℕ → Type 0) → World → ℕ → List ℕ → ℕ → Process → Type 0
 StandsAs L w old done x p = Stands L w old done x p.node.control.kept.mode p.node.control.kept.seq p.node.control.kept.rank
 
--- an input that a message brings
-abbrev pub IsBrought : Input → Type 0
-IsBrought (Delivered m) = Unit {0}
-IsBrought (Unreachable p) = Unit {0}
-IsBrought i = ⊥
+-- an input that a message brings to this node
+abbrev pub IsBrought : ℕ → Input → Type 0
+IsBrought z (Delivered m) = m.to ≡ z
+IsBrought z (Unreachable p) = Unit {0}
+IsBrought z i = ⊥
 
 abbrev pub after_input : World → ℕ → Input → World
 after_input w z i = acted w (Some (record { at = z; input = i }))
 
 -- what is known of the worlds of a round, in which messages past the first `least` arrive, and of the places that parents keep
 pub record AreKept (Good : World → Type 0) (L : World → ℕ → ℕ → ℕ → Type 0) (least : ℕ) : Type 0 where
-  pub goes : (w : World) (z : ℕ) (i : Input) → Good w → is_up w z ≡ true → HasCome (HasSent w z) i → IsBrought i → Good (after_input w z i)
+  pub goes : (w : World) (z : ℕ) (i : Input) → Good w → is_up w z ≡ true → HasCome (HasSent w z) i → IsBrought z i → Good (after_input w z i)
   pub some : (w : World) (x p : ℕ) → Good w → mode_of w x ≡ modes.Asking p → (seq_of w x == 0) ≡ false
-  pub keeps : (w : World) (z : ℕ) (i : Input) → Good w → is_up w z ≡ true → HasCome (HasSent w z) i → IsBrought i → (p x : ℕ) → L w p x (seq_of w x) → L (after_input w z i) p x (seq_of w x)
+  pub keeps : (w : World) (z : ℕ) (i : Input) → Good w → is_up w z ≡ true → HasCome (HasSent w z) i → IsBrought z i → (p x : ℕ) → L w p x (seq_of w x) → L (after_input w z i) p x (seq_of w x)
   pub yes : (w : World) (k : ℕ) (m : Message) → Good w → least < k → message_at w.net k ≡ Some m → (seq : ℕ) (r : Rank) (xs : List ℕ) → m.body ≡ bodies.Yes seq r xs → mode_of w m.to ≡ modes.Asking m.from
       → seq ≡ seq_of w m.to → L w m.from m.to (seq_of w m.to)
-  pub acks : (w : World) (m : Message) (x p : ℕ) → Good w → is_up w m.to ≡ true → IsAmong m w.net → IsReport x p (seq_of w x) m
+  pub acks : (w : World) (m : Message) (x p : ℕ) → Good w → is_up w m.to ≡ true → is_up w x ≡ true → IsAmong m w.net → IsReport x p (seq_of w x) m
       → L (after_input w m.to (Delivered m)) p x (seq_of w x) ⊎ IsAmong (record { from = p; to = x; body = bodies.Rejoin (seq_of w x) }) (step (node w m.to) (Delivered m)).sends
 
 module _ (w0 : World) where
@@ -254,7 +253,7 @@ module _ (w0 : World) where
       now_at v ms net y up keeps = now v ms net y (mode_of w y) (seq_of w y) (own_rank w y) keeps (a.stands y up)
 
       -- it changes z
-      moves : (z : ℕ) (i : Input) → is_up w z ≡ true → HasCome (HasSent w z) i → IsBrought i → IsStanding L (after_input w z i) (length w0.net) (k ∷ done) z
+      moves : (z : ℕ) (i : Input) → is_up w z ≡ true → HasCome (HasSent w z) i → IsBrought z i → IsStanding L (after_input w z i) (length w0.net) (k ∷ done) z
           → ((y : ℕ) → is_up w0 y ≡ true → (z ≡ y → ⊥) → Stands L (after_input w z i) (length w0.net) (k ∷ done) y (mode_of w y) (seq_of w y) (own_rank w y)) → Arriving (after_input w z i) (k ∷ done)
       moves z i up came brought own others =
           let turn = takes w z i up in
@@ -295,7 +294,7 @@ module _ (w0 : World) where
         turned_to = takes w s.to (Delivered s) up
 
         keeps_then : (y p : ℕ) → L w p y (seq_of w y) → L (after_input w s.to (Delivered s)) p y (seq_of w y)
-        keeps_then y p l = kept.keeps w s.to (Delivered s) a.good up among tt p y l
+        keeps_then y p l = kept.keeps w s.to (Delivered s) a.good up among refl p y l
 
         -- it is the ask of y, which is answered
         ask_comes : (y p q : ℕ) (r : Option Rank) → IsAsk y p q r s → Awaits L (after_input w s.to (Delivered s)) (length w0.net) (k ∷ done) y p q r
@@ -305,26 +304,26 @@ module _ (w0 : World) where
             sent_by_now replies.among (refl, refl, replies.answers))
 
         -- it is the check-in of y, which is acknowledged or called back
-        report_comes : (y p : ℕ) → IsReport y p (seq_of w y) s → IsKeptOr L (after_input w s.to (Delivered s)) (length w0.net) (k ∷ done) y p (seq_of w y)
-        report_comes y p is = ⊎_elim (λ l. inl l)
+        report_comes : (y p : ℕ) → is_up w0 y ≡ true → IsReport y p (seq_of w y) s → IsKeptOr L (after_input w s.to (Delivered s)) (length w0.net) (k ∷ done) y p (seq_of w y)
+        report_comes y p up_y is = ⊎_elim (λ l. inl l)
             (λ one. inr (inr (waits_sent w (after_input w s.to (Delivered s)) (length w0.net) (k ∷ done) (IsRecall y p (seq_of w y)) (record { from = p; to = y; body = bodies.Rejoin (seq_of w y) })
             (step (node w s.to) (Delivered s)).sends turned_to.net a.longer sent_by_now one (refl, refl, refl))))
-            (kept.acks w s y p a.good up among is)
+            (kept.acks w s y p a.good up (a.ups y ∙ up_y) among is)
 
-        had : (y : ℕ) (m : Mode) (r : Option Rank) → Now (after_input w s.to (Delivered s)) y m (seq_of w y) r
+        had : (y : ℕ) → is_up w0 y ≡ true → (m : Mode) (r : Option Rank) → Now (after_input w s.to (Delivered s)) y m (seq_of w y) r
             → Had y (Awaits L (after_input w s.to (Delivered s)) (length w0.net) (k ∷ done) y) (IsKeptOr L (after_input w s.to (Delivered s)) (length w0.net) (k ∷ done) y) s.from s.body m (seq_of w y) r
         unfolding Now
-        had y (modes.Asking p) r h = ⊎_elim (λ b. inl b) (λ is. ⊎_elim (λ ask. inl (ask_comes y p (seq_of w y) r ask)) (λ answer. inr (answer.0, answer.2)) is) h
-        had y (modes.Joined p) r h = ⊎_elim (λ b. inl b) (λ is. ⊎_elim (λ report. inl (report_comes y p report)) (λ recall. inr (recall.0, recall.2)) is) h
-        had y modes.Idle r h = tt
-        had y modes.Acting r h = tt
+        had y up_y (modes.Asking p) r h = ⊎_elim (λ b. inl b) (λ is. ⊎_elim (λ ask. inl (ask_comes y p (seq_of w y) r ask)) (λ answer. inr (answer.0, answer.2)) is) h
+        had y up_y (modes.Joined p) r h = ⊎_elim (λ b. inl b) (λ is. ⊎_elim (λ report. inl (report_comes y p up_y report)) (λ recall. inr (recall.0, recall.2)) is) h
+        had y up_y modes.Idle r h = tt
+        had y up_y modes.Acting r h = tt
 
-        other : (y : ℕ) → (s.to ≡ y → ⊥) → (m : Mode) (r : Option Rank) → Now (after_input w s.to (Delivered s)) y m (seq_of w y) r → Stands L (after_input w s.to (Delivered s)) (length w0.net) (k ∷ done) y m (seq_of w y) r
+        other : (y : ℕ) → is_up w0 y ≡ true → (s.to ≡ y → ⊥) → (m : Mode) (r : Option Rank) → Now (after_input w s.to (Delivered s)) y m (seq_of w y) r → Stands L (after_input w s.to (Delivered s)) (length w0.net) (k ∷ done) y m (seq_of w y) r
         unfolding Now
-        other y apart (modes.Asking p) r h = ⊎_elim (λ b. b) (λ is. ⊎_elim (λ ask. ask_comes y p (seq_of w y) r ask) (λ answer. absurd (apart answer.1)) is) h
-        other y apart (modes.Joined p) r h = ⊎_elim (λ b. b) (λ is. ⊎_elim (λ report. report_comes y p report) (λ recall. absurd (apart recall.1)) is) h
-        other y apart modes.Idle r h = tt
-        other y apart modes.Acting r h = tt
+        other y up_y apart (modes.Asking p) r h = ⊎_elim (λ b. b) (λ is. ⊎_elim (λ ask. ask_comes y p (seq_of w y) r ask) (λ answer. absurd (apart answer.1)) is) h
+        other y up_y apart (modes.Joined p) r h = ⊎_elim (λ b. b) (λ is. ⊎_elim (λ report. report_comes y p up_y report) (λ recall. absurd (apart recall.1)) is) h
+        other y up_y apart modes.Idle r h = tt
+        other y up_y apart modes.Acting r h = tt
 
         own : is_up w0 s.to ≡ true → IsStanding L (after_input w s.to (Delivered s)) (length w0.net) (k ∷ done) s.to
         own up0 =
@@ -337,13 +336,13 @@ module _ (w0 : World) where
               kept.some w s.to s.from a.good asks,
               inl (keeps_then s.to s.from (kept.yes w k s a.good past found seq r xs body asks same)),
             ))
-            (had s.to (mode_of w s.to) (own_rank w s.to) (now_at v (step (node w s.to) (Delivered s)).sends turned_to.net s.to up0 (keeps_then s.to)))))
+            (had s.to up0 (mode_of w s.to) (own_rank w s.to) (now_at v (step (node w s.to) (Delivered s)).sends turned_to.net s.to up0 (keeps_then s.to)))))
 
         comes_up : Arriving (after_input w s.to (Delivered s)) (k ∷ done)
         comes_up =
             let v : World = after_input w s.to (Delivered s) in
-            moves s.to (Delivered s) up among tt (own (sym (a.ups s.to) ∙ up))
-            (λ y up_y apart. other y apart (mode_of w y) (own_rank w y) (now_at v (step (node w s.to) (Delivered s)).sends turned_to.net y up_y (keeps_then y)))
+            moves s.to (Delivered s) up among refl (own (sym (a.ups s.to) ∙ up))
+            (λ y up_y apart. other y up_y apart (mode_of w y) (own_rank w y) (now_at v (step (node w s.to) (Delivered s)).sends turned_to.net y up_y (keeps_then y)))
 
       -- nothing that is waited for comes to a node that is down
       none_comes : is_dial s.body && not (is_up w s.to) ≡ false → is_up w s.to ≡ false → (y : ℕ) → is_up w0 y ≡ true → (m : Mode) (q : ℕ) (r : Option Rank) → Now w y m q r → Stands L w (length w0.net) (k ∷ done) y m q r

@@ -38,10 +38,10 @@ use Rattle.oc_model.proofs.Members.{all_test}
 
 -- Each message of a step is of its node, and a last ask number stays
 
-abbrev IsOwn : ℕ → Type 0 → Control → List Message → Type 0
+abbrev pub IsOwn : ℕ → Type 0 → Control → List Message → Type 0
 IsOwn x S n ms = (n.me ≡ x) × AllByRecursion (λ s. s.from ≡ x) ms × (S → n.kept.seq ≡ number_end)
 
-abbrev any_came : ℕ → Body → Type 0
+abbrev pub any_came : ℕ → Body → Type 0
 any_came p b = Unit {0}
 
 own_sent : (x : ℕ) (S : Type 0) (n : Control) (ms : List Message) (p : ℕ) (b : Body) → (n.me ≡ x) × AllByRecursion (λ s. s.from ≡ x) ms × (S → n.kept.seq ≡ number_end)
@@ -73,14 +73,14 @@ own_machine x S = record {
   starts = λ n ms h. h;
 }
 
-own_step : (x : ℕ) (S : Type 0) (n : Node) (i : Input) → IsTable n.control.kept.table → HasCome any_came i → n.control.me ≡ x → (S → n.control.kept.seq ≡ number_end)
+pub own_step : (x : ℕ) (S : Type 0) (n : Node) (i : Input) → IsTable n.control.kept.table → HasCome any_came i → n.control.me ≡ x → (S → n.control.kept.seq ≡ number_end)
     → IsOwn x S (step n i).node.control (step n i).sends
 own_step x S n i is_table came me last = walks_step any_came (IsOwn x S) (own_machine x S) n i is_table came (me, tt, last)
 
 module _ (h : Header) where
   -- Worlds that are reached
 
-  tables_of : (w : World) → Reached h w → AreTables w
+  pub tables_of : (w : World) → Reached h w → AreTables w
   tables_of w reached = of_reached AreTables (λ g events. law_after AreTables HasTable tables_law g events (tables_new g)) h w reached
 
   pub reached_turns : (ts : List Turn) (w : World) → Reached h w → Reached h (after_turns w ts)

@@ -1,5 +1,5 @@
 -- What a node that asks or is joined has sent for it: the effect of each input on that.
-use Rattle.std.proofs.Common.{◌≡◌, ℕ, ◌+◌, ◌-◌, max, Bool, true, false, not, ◌&&◌, ◌||◌, ◌==◌, nat_lt, nat_le, if◌then◌else◌, Option, Some, None, is_some, List, [], ◌∷◌, ◌++◌, ◌⊎◌, inl, inr, length, filter, map, refl, ap, sym, subst, ◌∙◌, ⊎_elim, eqb-true, eq-eqb}
+use Rattle.std.proofs.Common.{◌≡◌, ℕ, ◌+◌, ◌-◌, max, Bool, true, false, not, ◌&&◌, ◌||◌, ◌==◌, nat_lt, nat_le, if◌then◌else◌, Option, Some, None, is_some, List, [], ◌∷◌, ◌++◌, ◌⊎◌, inl, inr, length, filter, refl, ap, sym, subst, ◌∙◌, ⊎_elim, eqb-true, eq-eqb}
 use Rattle.std.proofs.lemmas.Bool.{cond_both, and_parts}
 use Rattle.oc_base.specs.declared.cert.Cert.{Cert}
 use Rattle.oc_base.specs.declared.group.Group.{Group}
@@ -38,7 +38,7 @@ use Rattle.oc_model.specs.Node.{Durable, Node}
 use Rattle.oc_model.specs.Numbers.{IsAmong, number_end, raise, capped, put_at, is_empty}
 use Rattle.oc_model.specs.Plan.{Plan, begun, write, send, answers, with_soft, with_leases, searching, ignored, is_member, rate_to}
 use Rattle.oc_model.specs.Shelves.{line_at, with_line, limit, next_behind}
-use Rattle.oc_model.specs.Step.{received, fill_body, fill, filled, bytes_wanted, step}
+use Rattle.oc_model.specs.Step.{received, filled, bytes_wanted, step}
 use Rattle.oc_model.specs.Table.{newest, is_news}
 use Rattle.oc_model.proofs.Rules.{either}
 use Rattle.oc_laws_world.proofs.WalksAsking.{asking_mode}

@@ -1,11 +1,13 @@
-use Rattle.std.specs.Prelude.{◌≡◌, ℕ, true, false, [], ◌∷◌}
+use Rattle.std.specs.Prelude.{◌≡◌, ℕ, true, false, Some, None, [], ◌∷◌}
 use Rattle.oc_model.specs.declared.event.Event.TheVariants.{Crash}
 use Rattle.oc_model.specs.declared.mode.Mode.TheVariants.{Asking, Joined, Acting}
-use Rattle.oc_model.specs.ClaimsTree.{seq_of}
+use Rattle.oc_model.specs.ClaimsTree.{table_of, seq_of}
 use Rattle.oc_model.specs.ExampleRuns.{header}
 use Rattle.oc_model.specs.NextWorld.{next_world}
+use Rattle.oc_model.specs.Numbers.{at}
 use Rattle.oc_model.specs.Ready.{is_settled}
-use Rattle.oc_model.specs.World.{World, mode_of}
+use Rattle.oc_model.specs.Table.{leased_by}
+use Rattle.oc_model.specs.World.{World, node, mode_of}
 use Rattle.oc_laws_rest.specs.Rounds.{Turn, Round, after_turns, after_rounds, is_quiet}
 use Rattle.oc_laws_rest.specs.Rest.{begun}
 
@@ -38,6 +40,13 @@ pub record NewNetworkRests : Type 0 where
   pub again : is_settled (after_rounds three (joining ∷ checking ∷ [])) ≡ true
   pub twice : is_quiet three (joining_twice ∷ []) ≡ true
   pub after_twice : is_settled (after_rounds three (joining_twice ∷ [])) ≡ true
+
+-- the source renews the leases of both in that round, at the second 19
+pub record LeasesAreRenewed : Type 0 where
+  pub quiet : is_quiet three (joining ∷ checking ∷ []) ≡ true
+  pub lease : leased_by (table_of (after_rounds three (joining ∷ checking ∷ [])) 1) 1 2 ≡ Some 1
+  pub end : at (node (after_rounds three (joining ∷ checking ∷ [])) 1).control.leases 2 None ≡ Some 49
+  pub another : at (node (after_rounds three (joining ∷ checking ∷ [])) 1).control.leases 3 None ≡ Some 49
 
 -- The source is down: the second chain member asks it, and becomes the root where the failure is told.
 

@@ -8,7 +8,7 @@ ghost use Rattle.oc_model.specs.NextWorld.{world_after};
 ghost use Rattle.oc_model.specs.Node.{Header};
 ghost use Rattle.oc_model.specs.Numbers.{number_end};
 ghost use Rattle.oc_model.specs.World.{World, is_up, mode_of, new_world};
-ghost use Rattle.oc_laws_rest.specs.Rest.{IsAtRest, begun, IsOnlyMember, PeersAreUp, NobodyAsks, IsLeastMember};
+ghost use Rattle.oc_laws_rest.specs.Rest.{IsAtRest, begun, IsOnlyMember, PeersAreUp, NobodyAsks, JoinedAreLeased, IsLeastMember};
 ghost use Rattle.oc_laws_rest.specs.Rounds.{Round, after_rounds, is_quiet};
 
 /// A new network in which one chain member is up comes to rest by itself in two rounds, and is at rest at the
@@ -44,6 +44,15 @@ pub fn failures_are_noticed()
 pub fn asks_end()
     ensures { (h : Header) (es : List Event) (r : Round) (rs : List Round) → is_quiet (world_after (new_world h) es) (r ∷ rs) ≡ true
         → NobodyAsks (after_rounds (world_after (new_world h) es) (r ∷ rs)) }
+{}
+
+/// From the end of the second round on, in every world that events lead to and whatever messages of before still
+/// come in the first one, each node that is up and joined has its place: its parent is up, and holds its lease at
+/// its ask number for thirty seconds from now, since it renewed the lease in the round. A node without such a
+/// lease was told to ask anew in the round, and is joined no more.
+pub fn joined_nodes_are_leased()
+    ensures { (h : Header) (es : List Event) (q r : Round) (rs : List Round) → is_quiet (world_after (new_world h) es) (q ∷ r ∷ rs) ≡ true
+        → JoinedAreLeased (after_rounds (world_after (new_world h) es) (q ∷ r ∷ rs)) }
 {}
 
 /// In every world that events lead to, and whatever messages of before still come in the first round: from the

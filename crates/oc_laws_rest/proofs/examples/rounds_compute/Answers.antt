@@ -4,6 +4,9 @@ use Rattle.oc_laws_rest.proofs.examples.rounds_compute.Goals as goal
 pub returns-clause-rests : goal.returns-clause-rests
 returns-clause-rests c = record { before = refl; quiet = refl; settled = refl; again = refl; twice = refl; after_twice = refl }
 
+pub returns-clause-leased : goal.returns-clause-leased
+returns-clause-leased c = record { quiet = refl; lease = refl; end = refl; another = refl }
+
 pub returns-clause-told : goal.returns-clause-told
 returns-clause-told c = record { quiet = refl; root = refl; settled = refl }
 

@@ -93,7 +93,7 @@ no_ask : (b : Body) → is_ask b ≡ false → (s : ℕ) (r : Option Rank) → b
 unfolding is_ask
 no_ask b e s r same = let clash : true ≡ false = sym (ap is_ask same) ∙ e in cc
 
-any_come : (i : Input) → HasCome (λ p b. Unit {0}) i
+pub any_come : (i : Input) → HasCome (λ p b. Unit {0}) i
 any_come (Delivered m) = tt
 any_come i = tt
 
@@ -107,14 +107,14 @@ full_lease : (w : World) (p x s : ℕ) → Full w p x s → HoldsLease w p x s
 full_lease w p x s full = subst (λ (y : ℕ). leased_by (table_of w p) y x ≡ Some s) (me_of w p) full.0
 
 module _ (h : Header) where
-  old_body : (w : World) (x z p : ℕ) (b : Body) → Reached h w → HasSent w z p b → Full w z x (seq_of w x) → IsOld x (seq_of w x) (node w z).control p b
-  old_body w x z p (bodies.Ask seq rank) reached sent full = λ here. (all_hold h w reached).asks.bound x seq z (rank, subst (λ (y : ℕ). IsAmong (record { from = y; to = z; body = bodies.Ask seq rank }) w.net) here sent)
-  old_body w x z p (bodies.CheckIn seq upto rate number clients certs) reached sent full = λ c among about.
-      known_there h w reached z x c (inr (inr (record { from = p; to = z; body = bodies.CheckIn seq upto rate number clients certs }, sent, among))) about (full_lease w z x (seq_of w x) full)
-  old_body w x z p b reached sent full = tt
+  pub old_body : (w : World) (x z p : ℕ) (b : Body) → Reached h w → HasSent w z p b → HoldsLease w z x (seq_of w x) → IsOld x (seq_of w x) (node w z).control p b
+  old_body w x z p (bodies.Ask seq rank) reached sent leased = λ here. (all_hold h w reached).asks.bound x seq z (rank, subst (λ (y : ℕ). IsAmong (record { from = y; to = z; body = bodies.Ask seq rank }) w.net) here sent)
+  old_body w x z p (bodies.CheckIn seq upto rate number clients certs) reached sent leased = λ c among about.
+      known_there h w reached z x c (inr (inr (record { from = p; to = z; body = bodies.CheckIn seq upto rate number clients certs }, sent, among))) about leased
+  old_body w x z p b reached sent leased = tt
 
   full_step : (w : World) (z : ℕ) (i : Input) (x : ℕ) → Reached h w → HasCome (HasSent w z) i → IsBrought z i → Full w z x (seq_of w x) → HasFull x (seq_of w x) (step (node w z) i).node.control
-  full_step w z (Delivered m) x reached came brought full = message_full x (seq_of w x) (node w z) m (old_body w x z m.from m.body reached came full) full
+  full_step w z (Delivered m) x reached came brought full = message_full x (seq_of w x) (node w z) m (old_body w x z m.from m.body reached came (full_lease w z x (seq_of w x) full)) full
   full_step w z (Unreachable q) x reached came brought full = failure_full x (seq_of w x) (node w z) q full
   full_step w z i x reached came brought full = absurd brought
 
@@ -321,7 +321,7 @@ module _ (h : Header) where
         let ticked : HasTicked (after_turns w0 ts) = all_tick ts w0 (record { reached = reached; later = []; net = sym (append-nil w0.net); quiet = tt }) in
         record { reached = ticked.reached; later = ticked.later; net = ticked.net; granted = none_granted (after_turns w0 ts) ticked.later ticked.quiet }
 
-    round_leases : (r : Round) → Reached h w0 → is_round (length w0.net) w0 r ≡ true → JoinedAreLeased (after_round w0 r)
+    pub round_leases : (r : Round) → Reached h w0 → is_round (length w0.net) w0 r ≡ true → JoinedAreLeased (after_round w0 r)
     round_leases r reached is x p up joined =
         let v : World = after_round w0 r in
         let answered : HasAnswered w0 IsGood Full (length w0.net) all_kept v = round_answers w0 IsGood Full (length w0.net) all_kept r is (good_turns r.turns reached) in

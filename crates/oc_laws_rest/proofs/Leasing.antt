@@ -18,7 +18,7 @@ use Rattle.oc_model.specs.Adopting.{is_acting, raises, raises_over, host, birth,
 use Rattle.oc_model.specs.Adoption.{precedes, rank_or_last, adoption_refusal}
 use Rattle.oc_model.specs.Certificates.{outranks}
 use Rattle.oc_model.specs.Checking.{merges, merges_all, acknowledges, life, checked_in}
-use Rattle.oc_model.specs.Leases.{lease_time}
+use Rattle.oc_model.specs.Leases.{lease_time, renew}
 use Rattle.oc_model.specs.Node.{Control, Node}
 use Rattle.oc_model.specs.Numbers.{IsAmong, raise, at}
 use Rattle.oc_model.specs.Plan.{Plan, begun, write}
@@ -35,7 +35,7 @@ use Rattle.oc_laws_world.proofs.Walks.{HasCome, walks_step}
 use Rattle.oc_laws_tree.proofs.CheckedIn.{number_held}
 use Rattle.oc_laws_tree.proofs.CheckIns.{dry, dry_sends}
 use Rattle.oc_laws_tree.proofs.Known.{Knows}
-use Rattle.oc_laws_tree.proofs.LeaseRules.{OfPlan, stays_took_yes, stays_took_no, stays_unreachable, stays_raises_over, stays_took_ack, stays_took_rejoin, stays_sees, stays_fetched, stays_took_chunk}
+use Rattle.oc_laws_tree.proofs.LeaseRules.{OfLeases, OfPlan, stays_took_yes, stays_took_no, stays_unreachable, stays_raises_over, stays_took_ack, stays_took_rejoin, stays_sees, stays_fetched, stays_took_chunk}
 use Rattle.oc_laws_tree.proofs.LeasesAhead.{leased_merge_other, of_merges}
 use Rattle.oc_laws_tree.proofs.Rows.{IsLiveRow, lease_row, row_lease}
 use Rattle.oc_laws_rest.proofs.Peers.{among_last}
@@ -108,21 +108,6 @@ module _ (x s : ℕ) where
       (cases_eq y x)
   all_harmless o y seq number clients certs known same c (inr among) = ⊎_elim (λ here. inr (inl (known c among here))) (λ other. inl other) (cases_eq c.subject x)
 
-  checked_in_full : (o : Plan) (y seq upto rate number clients : ℕ) (certs : List Cert) → AreKnown o.node.kept.table certs → OfPlan IsFull o → OfPlan IsFull (checked_in o y seq upto rate number clients certs)
-  checked_in_full o y seq upto rate number clients certs known h =
-      let told : List Cert = life y seq o.node.me number clients ∷ certs in
-      let merged : Plan = merges_all told o in
-      cond_both (has_lease o.node y seq) (acknowledges merged y seq upto rate) (sends_rejoin o y seq) (OfPlan IsFull)
-      (λ e.
-      let done : OfPlan IsFull merged = all_merged (λ ends clock. at ends x None ≡ Some (clock + lease_time)) told o (all_harmless o y seq number clients certs known (same e), h.0, h.1) in
-      (done.0, kept_set merged.node.leases (y - 1) (x - 1) (merged.node.soft.clock + lease_time) done.1))
-      (λ _. h) where
-        same : has_lease o.node y seq ≡ true → y ≡ x → seq ≡ s
-        same e here =
-            let held : leased_by o.node.kept.table o.node.me x ≡ Some seq = subst (λ (z : ℕ). leased_by o.node.kept.table o.node.me z ≡ Some seq) here (number_held (leased_by o.node.kept.table o.node.me y) seq e) in
-            let both : Some seq ≡ Some s = sym held ∙ h.0 in
-            cc
-
   -- a check-in of x itself renews its lease, or is answered by a call to ask anew
   pub checked_in_renews : (p : ℕ) (o : Plan) (upto rate number clients : ℕ) (certs : List Cert) → o.node.me ≡ p → 1 ≤ x → x ≤ length o.node.leases → (leased_by o.node.kept.table o.node.me x ≡ Some s → AreKnown o.node.kept.table certs)
       → OfPlan IsFull (checked_in o x s upto rate number clients certs) ⊎ IsAmong (record { from = p; to = x; body = bodies.Rejoin s }) (checked_in o x s upto rate number clients certs).sends
@@ -149,25 +134,6 @@ module _ (x s : ℕ) where
       by_fact low (inr (inl death)) = absurd cc
       by_fact low (inr (inr number)) = omega (arith, number.2)
 
-  adopts_full : (o : Plan) (y seq : ℕ) → (y ≡ x → seq ≤ s) → OfPlan IsFull o → OfPlan IsFull (adopts o y seq)
-  adopts_full o y seq old h =
-      let born : Cert = birth y seq o.node.me in
-      let entered : Plan = write o (records.Entry born) in
-      either (has_lease o.node y seq) (OfPlan IsFull) (grants o y seq) (if is_news o.node.kept.table born then grants entered y seq else sends_rejoin o y seq)
-      (h.0, kept_set o.node.leases (y - 1) (x - 1) (o.node.soft.clock + lease_time) h.1)
-      (either (is_news o.node.kept.table born) (OfPlan IsFull) (grants entered y seq) (sends_rejoin o y seq)
-      (merged_lease o.node.kept.table o.node.me born (old_birth o.node.kept.table o.node.me y seq old h.0) h.0, kept_set o.node.leases (y - 1) (x - 1) (o.node.soft.clock + lease_time) h.1)
-      h)
-
-  answers_full : (why : Option Refusal) (o : Plan) (y seq : ℕ) → (y ≡ x → seq ≤ s) → OfPlan IsFull o → OfPlan IsFull (answers_ask why o y seq)
-  answers_full None o y seq old h = adopts_full o y seq old h
-  answers_full (Some why) o y seq old h = h
-
-  asked_full : (o : Plan) (y seq : ℕ) (r : Option Rank) → (y ≡ x → seq ≤ s) → OfPlan IsFull o → OfPlan IsFull (asked o y seq r)
-  asked_full o y seq r old h =
-      let raised : Plan = raises_over o y (rank_or_last r) in
-      answers_full (adoption_refusal (host raised.node y) y r) raised y seq old (stays_raises_over IsFull o y (rank_or_last r) h)
-
   -- A message
 
   -- it has no newer ask of x, and no news of it
@@ -176,26 +142,88 @@ module _ (x s : ℕ) where
   IsOld n p (bodies.CheckIn seq upto rate number clients certs) = (c : Cert) → IsAmong c certs → c.subject ≡ x → Knows n.kept.table c
   IsOld n p b = Unit {0}
 
-  received_full : (n : Control) (ls : List Shelf) (p : ℕ) (b : Body) → IsOld n p b → OfPlan IsFull (begun n) → OfPlan IsFull (received (begun n) ls p b)
-  received_full n ls p bodies.Look old h = h
-  received_full n ls p (bodies.LookIs is_in parent rate children) old h = stays_sees IsFull (begun n) p (record { in_tree = is_in; parent = parent; rate = rate; children = children }) h
-  received_full n ls p (bodies.Ask seq rank) old h = asked_full (begun n) p seq rank old h
-  received_full n ls p (bodies.Yes seq rank ancestors) old h = stays_took_yes IsFull (begun n) p seq rank ancestors h
-  received_full n ls p (bodies.No seq why) old h = stays_took_no IsFull (begun n) p seq why h
-  received_full n ls p (bodies.CheckIn seq upto rate number clients certs) old h = checked_in_full (begun n) p seq upto rate number clients certs old h
-  received_full n ls p (bodies.CheckAck seq upto rank ancestors) old h = stays_took_ack IsFull (begun n) p seq upto rank ancestors h
-  received_full n ls p (bodies.Rejoin seq) old h = stays_took_rejoin IsFull (begun n) p seq h
-  received_full n ls p (bodies.Fetch have) old h = stays_fetched IsFull (begun n) ls p have h
-  received_full n ls p (bodies.Chunk g start bytes last) old h = stays_took_chunk IsFull (begun n) ls p g start bytes last h
+  -- what is known of lease ends stays where a lease is renewed
+  module _ (E : List (Option ℕ) → ℕ → Type 0) (renews : (ends : List (Option ℕ)) (y clock : ℕ) → E ends clock → E (renew ends y clock) clock) where
+    checked_in_leased : (o : Plan) (y seq upto rate number clients : ℕ) (certs : List Cert) → AreKnown o.node.kept.table certs → OfPlan (Leased E) o → OfPlan (Leased E) (checked_in o y seq upto rate number clients certs)
+    checked_in_leased o y seq upto rate number clients certs known h =
+        let told : List Cert = life y seq o.node.me number clients ∷ certs in
+        let merged : Plan = merges_all told o in
+        cond_both (has_lease o.node y seq) (acknowledges merged y seq upto rate) (sends_rejoin o y seq) (OfPlan (Leased E))
+        (λ e.
+        let done : OfPlan (Leased E) merged = all_merged E told o (all_harmless o y seq number clients certs known (same e), h.0, h.1) in
+        (done.0, renews merged.node.leases y merged.node.soft.clock done.1))
+        (λ _. h) where
+          same : has_lease o.node y seq ≡ true → y ≡ x → seq ≡ s
+          same e here =
+              let held : leased_by o.node.kept.table o.node.me x ≡ Some seq = subst (λ (z : ℕ). leased_by o.node.kept.table o.node.me z ≡ Some seq) here (number_held (leased_by o.node.kept.table o.node.me y) seq e) in
+              let both : Some seq ≡ Some s = sym held ∙ h.0 in
+              cc
+
+    adopts_leased : (o : Plan) (y seq : ℕ) → (y ≡ x → seq ≤ s) → OfPlan (Leased E) o → OfPlan (Leased E) (adopts o y seq)
+    adopts_leased o y seq old h =
+        let born : Cert = birth y seq o.node.me in
+        let entered : Plan = write o (records.Entry born) in
+        either (has_lease o.node y seq) (OfPlan (Leased E)) (grants o y seq) (if is_news o.node.kept.table born then grants entered y seq else sends_rejoin o y seq)
+        (h.0, renews o.node.leases y o.node.soft.clock h.1)
+        (either (is_news o.node.kept.table born) (OfPlan (Leased E)) (grants entered y seq) (sends_rejoin o y seq)
+        (merged_lease o.node.kept.table o.node.me born (old_birth o.node.kept.table o.node.me y seq old h.0) h.0, renews o.node.leases y o.node.soft.clock h.1)
+        h)
+
+    answers_leased : (why : Option Refusal) (o : Plan) (y seq : ℕ) → (y ≡ x → seq ≤ s) → OfPlan (Leased E) o → OfPlan (Leased E) (answers_ask why o y seq)
+    answers_leased None o y seq old h = adopts_leased o y seq old h
+    answers_leased (Some why) o y seq old h = h
+
+    asked_leased : (o : Plan) (y seq : ℕ) (r : Option Rank) → (y ≡ x → seq ≤ s) → OfPlan (Leased E) o → OfPlan (Leased E) (asked o y seq r)
+    asked_leased o y seq r old h =
+        let raised : Plan = raises_over o y (rank_or_last r) in
+        answers_leased (adoption_refusal (host raised.node y) y r) raised y seq old (stays_raises_over (Leased E) o y (rank_or_last r) h)
+
+    received_leased : (n : Control) (ls : List Shelf) (p : ℕ) (b : Body) → IsOld n p b → OfPlan (Leased E) (begun n) → OfPlan (Leased E) (received (begun n) ls p b)
+    received_leased n ls p bodies.Look old h = h
+    received_leased n ls p (bodies.LookIs is_in parent rate children) old h = stays_sees (Leased E) (begun n) p (record { in_tree = is_in; parent = parent; rate = rate; children = children }) h
+    received_leased n ls p (bodies.Ask seq rank) old h = asked_leased (begun n) p seq rank old h
+    received_leased n ls p (bodies.Yes seq rank ancestors) old h = stays_took_yes (Leased E) (begun n) p seq rank ancestors h
+    received_leased n ls p (bodies.No seq why) old h = stays_took_no (Leased E) (begun n) p seq why h
+    received_leased n ls p (bodies.CheckIn seq upto rate number clients certs) old h = checked_in_leased (begun n) p seq upto rate number clients certs old h
+    received_leased n ls p (bodies.CheckAck seq upto rank ancestors) old h = stays_took_ack (Leased E) (begun n) p seq upto rank ancestors h
+    received_leased n ls p (bodies.Rejoin seq) old h = stays_took_rejoin (Leased E) (begun n) p seq h
+    received_leased n ls p (bodies.Fetch have) old h = stays_fetched (Leased E) (begun n) ls p have h
+    received_leased n ls p (bodies.Chunk g start bytes last) old h = stays_took_chunk (Leased E) (begun n) ls p g start bytes last h
+
+    pub message_leased : (n : Node) (m : Message) → IsOld n.control m.from m.body → OfLeases (Leased E) n.control → OfLeases (Leased E) (step n (Delivered m)).node.control
+    message_leased n m old h = received_leased n.control (shelf n.groups) m.from m.body old h
+
+    pub failure_leased : (n : Node) (q : ℕ) → OfLeases (Leased E) n.control → OfLeases (Leased E) (step n (Unreachable q)).node.control
+    failure_leased n q h = stays_unreachable (Leased E) (begun n.control) q h
 
   abbrev pub HasFull : Control → Type 0
   HasFull n = IsFull n.me n.kept.table n.leases n.soft.clock
 
+  -- the end of the lease
+  abbrev FullEnd : List (Option ℕ) → ℕ → Type 0
+  FullEnd ends clock = at ends x None ≡ Some (clock + lease_time)
+
+  full_renews : (ends : List (Option ℕ)) (y clock : ℕ) → FullEnd ends clock → FullEnd (renew ends y clock) clock
+  full_renews ends y clock e = kept_set ends (y - 1) (x - 1) (clock + lease_time) e
+
   pub message_full : (n : Node) (m : Message) → IsOld n.control m.from m.body → HasFull n.control → HasFull (step n (Delivered m)).node.control
-  message_full n m old h = received_full n.control (shelf n.groups) m.from m.body old h
+  message_full n m old h = message_leased FullEnd full_renews n m old h
 
   pub failure_full : (n : Node) (q : ℕ) → HasFull n.control → HasFull (step n (Unreachable q)).node.control
-  failure_full n q h = stays_unreachable IsFull (begun n.control) q h
+  failure_full n q h = failure_leased FullEnd full_renews n q h
+
+  -- the node holds the lease of x at the number s
+  abbrev pub HasIt : Control → Type 0
+  HasIt n = leased_by n.kept.table n.me x ≡ Some s
+
+  abbrev AnyEnd : List (Option ℕ) → ℕ → Type 0
+  AnyEnd ends clock = Unit {0}
+
+  pub message_has : (n : Node) (m : Message) → IsOld n.control m.from m.body → HasIt n.control → HasIt (step n (Delivered m)).node.control
+  message_has n m old h = (message_leased AnyEnd (λ ends y clock e. tt) n m old (h, tt)).0
+
+  pub failure_has : (n : Node) (q : ℕ) → HasIt n.control → HasIt (step n (Unreachable q)).node.control
+  failure_has n q h = (failure_leased AnyEnd (λ ends y clock e. tt) n q (h, tt)).0
 
   -- What a yes says
 

@@ -16,3 +16,7 @@ pub mod Replies
 pub mod Asks
 pub mod Leasing
 pub mod Leases
+pub mod Unasked
+pub mod Keeping
+pub mod Holding
+pub mod Children

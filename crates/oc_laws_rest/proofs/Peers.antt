@@ -70,7 +70,7 @@ dials_more : (x : ℕ) (ms : List Message) (m : Message) (p : ℕ) → Dials x m
 dials_more x ms m p d = record { message = d.message; among = among_more ms (m ∷ []) d.message d.among; is = d.is }
 
 -- the bytes of content change no dial
-filled_dials : (bytes : List ℕ) (b : Body) → is_dial (fill_body bytes b) ≡ is_dial b
+pub filled_dials : (bytes : List ℕ) (b : Body) → is_dial (fill_body bytes b) ≡ is_dial b
 filled_dials bytes bodies.Look = refl
 filled_dials bytes (bodies.LookIs is_in parent rate children) = refl
 filled_dials bytes (bodies.Ask seq rank) = refl

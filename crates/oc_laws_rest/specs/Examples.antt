@@ -5,6 +5,7 @@ use Rattle.oc_model.specs.ClaimsTree.{table_of, seq_of}
 use Rattle.oc_model.specs.ExampleRuns.{header}
 use Rattle.oc_model.specs.NextWorld.{next_world}
 use Rattle.oc_model.specs.Numbers.{at}
+use Rattle.oc_model.specs.Plan.{is_member, rate_to}
 use Rattle.oc_model.specs.Ready.{is_settled}
 use Rattle.oc_model.specs.Table.{leased_by}
 use Rattle.oc_model.specs.World.{World, node, mode_of}
@@ -47,6 +48,14 @@ pub record LeasesAreRenewed : Type 0 where
   pub lease : leased_by (table_of (after_rounds three (joining ∷ checking ∷ [])) 1) 1 2 ≡ Some 1
   pub end : at (node (after_rounds three (joining ∷ checking ∷ [])) 1).control.leases 2 None ≡ Some 49
   pub another : at (node (after_rounds three (joining ∷ checking ∷ [])) 1).control.leases 3 None ≡ Some 49
+
+-- a node past the chain that has measured no way is joined to the source before that round and after it
+pub record ParentIsKept : Type 0 where
+  pub past : is_member (node (after_rounds three (joining ∷ [])) 2).control ≡ false
+  pub rate : rate_to (node (after_rounds three (joining ∷ [])) 2).control 1 ≡ 0
+  pub joined : mode_of (after_rounds three (joining ∷ [])) 2 ≡ Joined 1
+  pub later : mode_of (after_rounds three (joining ∷ checking ∷ [])) 2 ≡ Joined 1
+  pub seq : seq_of (after_rounds three (joining ∷ checking ∷ [])) 2 ≡ 1
 
 -- The source is down: the second chain member asks it, and becomes the root where the failure is told.
 

@@ -9,6 +9,7 @@ use Rattle.oc_model.specs.Leases.{lease_time}
 use Rattle.oc_model.specs.NextWorld.{world_after}
 use Rattle.oc_model.specs.Node.{Header}
 use Rattle.oc_model.specs.Numbers.{at}
+use Rattle.oc_model.specs.Plan.{rate_to}
 use Rattle.oc_model.specs.Ready.{HoldsLease, IsReadyUnder, IsSettled}
 use Rattle.oc_model.specs.Table.{table_line}
 use Rattle.oc_model.specs.World.{World, node, mode_of, new_world}
@@ -59,3 +60,8 @@ pub record IsChild (w : World) (p x : ℕ) : Type 0 where
 -- each node that is up and joined is such a child
 abbrev pub JoinedAreLeased : World → Type 0
 JoinedAreLeased w = (x p : ℕ) → IsUp w x → IsJoined w x p → IsChild w p x
+
+-- x is past the chain, and has measured no way
+pub record IsUnmeasured (w : World) (x : ℕ) : Type 0 where
+  pub past : IsMember w x → ⊥
+  pub rates : (y : ℕ) → rate_to (node w x).control y ≡ 0

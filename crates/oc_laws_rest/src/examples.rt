@@ -1,9 +1,10 @@
-ghost use Rattle.oc_laws_rest.specs.Examples.{NewNetworkRests, LeasesAreRenewed, FailuresAreTold, UntoldFailuresAreNone, AskIsAnswered, ParentsAreLeft, TurnsNeedAClock};
+ghost use Rattle.oc_laws_rest.specs.Examples.{NewNetworkRests, LeasesAreRenewed, ParentIsKept, FailuresAreTold, UntoldFailuresAreNone, AskIsAnswered, ParentsAreLeft, TurnsNeedAClock};
 
 /// Checks worked examples of rounds.
 pub fn rounds_compute()
     ensures rests { NewNetworkRests }
     ensures leased { LeasesAreRenewed }
+    ensures kept { ParentIsKept }
     ensures told { FailuresAreTold }
     ensures untold { UntoldFailuresAreNone }
     ensures answered { AskIsAnswered }

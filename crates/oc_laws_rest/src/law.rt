@@ -1,6 +1,6 @@
-ghost use Rattle.std.specs.Prelude.{◌≡◌, ℕ, true, List, ◌∷◌};
+ghost use Rattle.std.specs.Prelude.{◌≡◌, ℕ, true, List, ◌∷◌, ◌++◌};
 ghost use Rattle.oc_model.specs.declared.event.Event.{Event};
-ghost use Rattle.oc_model.specs.Chains.{IsUp, IsRoot};
+ghost use Rattle.oc_model.specs.Chains.{IsUp, IsJoined, IsRoot};
 ghost use Rattle.oc_model.specs.Checking.{is_peer};
 ghost use Rattle.oc_model.specs.ClaimsTree.{seq_of};
 ghost use Rattle.oc_model.specs.Lawful.{IsHeader};
@@ -8,7 +8,7 @@ ghost use Rattle.oc_model.specs.NextWorld.{world_after};
 ghost use Rattle.oc_model.specs.Node.{Header};
 ghost use Rattle.oc_model.specs.Numbers.{number_end};
 ghost use Rattle.oc_model.specs.World.{World, is_up, mode_of, new_world};
-ghost use Rattle.oc_laws_rest.specs.Rest.{IsAtRest, begun, IsOnlyMember, PeersAreUp, NobodyAsks, JoinedAreLeased, IsLeastMember};
+ghost use Rattle.oc_laws_rest.specs.Rest.{IsAtRest, begun, IsOnlyMember, PeersAreUp, NobodyAsks, JoinedAreLeased, IsUnmeasured, IsLeastMember};
 ghost use Rattle.oc_laws_rest.specs.Rounds.{Round, after_rounds, is_quiet};
 
 /// A new network in which one chain member is up comes to rest by itself in two rounds, and is at rest at the
@@ -53,6 +53,20 @@ pub fn asks_end()
 pub fn joined_nodes_are_leased()
     ensures { (h : Header) (es : List Event) (q r : Round) (rs : List Round) → is_quiet (world_after (new_world h) es) (q ∷ r ∷ rs) ≡ true
         → JoinedAreLeased (after_rounds (world_after (new_world h) es) (q ∷ r ∷ rs)) }
+{}
+
+/// From the end of the second round on, in every world that events lead to, a node past the chain that has
+/// measured no way keeps its place: if it is joined to a node at the end of a round, it is joined to that node at
+/// the end of each later one, under the same ask number. By [`joined_nodes_are_leased`] that node is up and holds
+/// its lease at each of these ends.
+pub fn nodes_keep_their_parents()
+    ensures parent { (h : Header) (es : List Event) (q r : Round) (rs more : List Round) (x p : ℕ) → is_quiet (world_after (new_world h) es) (q ∷ r ∷ rs ++ more) ≡ true
+        → IsUnmeasured (after_rounds (world_after (new_world h) es) (q ∷ r ∷ rs)) x → IsUp (after_rounds (world_after (new_world h) es) (q ∷ r ∷ rs)) x
+        → IsJoined (after_rounds (world_after (new_world h) es) (q ∷ r ∷ rs)) x p → IsJoined (after_rounds (world_after (new_world h) es) (q ∷ r ∷ rs ++ more)) x p }
+    ensures number { (h : Header) (es : List Event) (q r : Round) (rs more : List Round) (x p : ℕ) → is_quiet (world_after (new_world h) es) (q ∷ r ∷ rs ++ more) ≡ true
+        → IsUnmeasured (after_rounds (world_after (new_world h) es) (q ∷ r ∷ rs)) x → IsUp (after_rounds (world_after (new_world h) es) (q ∷ r ∷ rs)) x
+        → IsJoined (after_rounds (world_after (new_world h) es) (q ∷ r ∷ rs)) x p
+        → seq_of (after_rounds (world_after (new_world h) es) (q ∷ r ∷ rs ++ more)) x ≡ seq_of (after_rounds (world_after (new_world h) es) (q ∷ r ∷ rs)) x }
 {}
 
 /// In every world that events lead to, and whatever messages of before still come in the first round: from the

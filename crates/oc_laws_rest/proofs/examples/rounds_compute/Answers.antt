@@ -7,6 +7,9 @@ returns-clause-rests c = record { before = refl; quiet = refl; settled = refl; a
 pub returns-clause-leased : goal.returns-clause-leased
 returns-clause-leased c = record { quiet = refl; lease = refl; end = refl; another = refl }
 
+pub returns-clause-kept : goal.returns-clause-kept
+returns-clause-kept c = record { past = refl; rate = refl; joined = refl; later = refl; seq = refl }
+
 pub returns-clause-told : goal.returns-clause-told
 returns-clause-told c = record { quiet = refl; root = refl; settled = refl }
 

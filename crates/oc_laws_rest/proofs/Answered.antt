@@ -22,8 +22,7 @@ use Rattle.oc_model.specs.Step.{step}
 use Rattle.oc_model.specs.Table.{is_news}
 use Rattle.oc_model.proofs.Rules.{either, keeps_asked}
 use Rattle.oc_laws_tree.proofs.CheckIns.{dry, dry_sends}
-use Rattle.oc_laws_rest.proofs.Peers.{among_last}
-use Rattle.oc_laws_rest.proofs.Said.{Answers}
+use Rattle.oc_laws_rest.proofs.Said.{among_last, Answers}
 
 -- a host that does not refuse has a place for a child, and its rank precedes that of the asker
 adopter_precedes : (h : Host) (x : ℕ) (r : Option Rank) → adoption_refusal h x r ≡ None → (nat_lt h.rank.depth MAX_DEPTH ≡ true) × (precedes_any h.rank r ≡ true)

@@ -45,7 +45,7 @@ use Rattle.oc_model.specs.Table.{newest, is_news}
 use Rattle.oc_model.proofs.Lists.{all_append}
 use Rattle.oc_model.proofs.Rules.{either}
 use Rattle.oc_laws_rest.specs.Rounds.{is_dial}
-use Rattle.oc_laws_rest.proofs.Peers.{filled_dials}
+use Rattle.oc_laws_rest.proofs.Said.{filled_dials}
 
 -- The place without measures
 

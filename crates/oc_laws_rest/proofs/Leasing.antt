@@ -38,7 +38,7 @@ use Rattle.oc_laws_tree.proofs.Known.{Knows}
 use Rattle.oc_laws_tree.proofs.LeaseRules.{OfLeases, OfPlan, stays_took_yes, stays_took_no, stays_unreachable, stays_raises_over, stays_took_ack, stays_took_rejoin, stays_sees, stays_fetched, stays_took_chunk}
 use Rattle.oc_laws_tree.proofs.LeasesAhead.{leased_merge_other, of_merges}
 use Rattle.oc_laws_tree.proofs.Rows.{IsLiveRow, lease_row, row_lease}
-use Rattle.oc_laws_rest.proofs.Peers.{among_last}
+use Rattle.oc_laws_rest.proofs.Said.{among_last}
 use Rattle.oc_laws_rest.proofs.Rows.{renewed}
 
 -- Lease ends

@@ -333,8 +333,8 @@ module _ (w0 : World) where
             (has_stands L w v (length w0.net) (k ∷ done) s.to (step (node w s.to) (Delivered s)).sends turned_to.net a.longer sent_by_now n.control.kept.mode n.control.kept.seq n.control.kept.rank
             (step_receives s.to (Awaits L v (length w0.net) (k ∷ done) s.to) (IsKeptOr L v (length w0.net) (k ∷ done) s.to) (node w s.to) s (me_of w s.to)
             (λ seq r xs body asks same. (
-              kept.some w s.to s.from a.good asks,
-              inl (keeps_then s.to s.from (kept.yes w k s a.good past found seq r xs body asks same)),
+              λ zero. let clash : true ≡ false = sym zero ∙ kept.some w s.to s.from a.good asks in absurd cc,
+              λ _. inl (keeps_then s.to s.from (kept.yes w k s a.good past found seq r xs body asks same)),
             ))
             (had s.to up0 (mode_of w s.to) (own_rank w s.to) (now_at v (step (node w s.to) (Delivered s)).sends turned_to.net s.to up0 (keeps_then s.to)))))
 

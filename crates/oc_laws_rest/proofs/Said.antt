@@ -1,5 +1,5 @@
 -- What a node that asks or is joined has sent for it: the effect of each input on that.
-use Rattle.std.proofs.Common.{◌≡◌, ℕ, ◌+◌, ◌-◌, max, Bool, true, false, not, ◌&&◌, ◌||◌, ◌==◌, nat_lt, nat_le, if◌then◌else◌, Option, Some, None, is_some, List, [], ◌∷◌, ◌++◌, ◌⊎◌, inl, inr, length, filter, refl, ap, sym, subst, ◌∙◌, ⊎_elim, eqb-true, eq-eqb}
+use Rattle.std.proofs.Common.{◌≡◌, ℕ, ◌+◌, ◌-◌, max, Bool, true, false, not, ◌&&◌, ◌||◌, ◌==◌, nat_lt, nat_le, if◌then◌else◌, Option, Some, None, is_some, List, [], ◌∷◌, ◌++◌, ◌⊎◌, inl, inr, length, filter, map, refl, ap, sym, subst, ◌∙◌, ⊎_elim, eqb-true, eq-eqb}
 use Rattle.std.proofs.lemmas.Bool.{cond_both, and_parts}
 use Rattle.oc_base.specs.declared.cert.Cert.{Cert}
 use Rattle.oc_base.specs.declared.group.Group.{Group}
@@ -38,13 +38,38 @@ use Rattle.oc_model.specs.Node.{Durable, Node}
 use Rattle.oc_model.specs.Numbers.{IsAmong, number_end, raise, capped, put_at, is_empty}
 use Rattle.oc_model.specs.Plan.{Plan, begun, write, send, answers, with_soft, with_leases, searching, ignored, is_member, rate_to}
 use Rattle.oc_model.specs.Shelves.{line_at, with_line, limit, next_behind}
-use Rattle.oc_model.specs.Step.{received, filled, bytes_wanted, step}
+use Rattle.oc_model.specs.Step.{received, fill_body, fill, filled, bytes_wanted, step}
 use Rattle.oc_model.specs.Table.{newest, is_news}
 use Rattle.oc_model.proofs.Rules.{either}
 use Rattle.oc_laws_world.proofs.WalksAsking.{asking_mode}
-use Rattle.oc_laws_rest.proofs.Peers.{among_more, among_last, among_filled}
+use Rattle.oc_laws_rest.specs.Rounds.{is_dial}
 
 -- Messages of a step
+
+pub among_more : (ms ns : List Message) (m : Message) → IsAmong m ms → IsAmong m (ms ++ ns)
+among_more [] ns m one = absurd one
+among_more (a ∷ ms) ns m one = ⊎_elim (λ e. inl e) (λ later. inr (among_more ms ns m later)) one
+
+pub among_last : (ms : List Message) (m : Message) → IsAmong m (ms ++ m ∷ [])
+among_last [] m = inl refl
+among_last (a ∷ ms) m = inr (among_last ms m)
+
+-- the bytes of content change no dial
+pub filled_dials : (bytes : List ℕ) (b : Body) → is_dial (fill_body bytes b) ≡ is_dial b
+filled_dials bytes bodies.Look = refl
+filled_dials bytes (bodies.LookIs is_in parent rate children) = refl
+filled_dials bytes (bodies.Ask seq rank) = refl
+filled_dials bytes (bodies.Yes seq rank ancestors) = refl
+filled_dials bytes (bodies.No seq why) = refl
+filled_dials bytes (bodies.CheckIn seq upto rate number clients certs) = refl
+filled_dials bytes (bodies.CheckAck seq upto rank ancestors) = refl
+filled_dials bytes (bodies.Rejoin seq) = refl
+filled_dials bytes (bodies.Fetch have) = refl
+filled_dials bytes (bodies.Chunk g start none last) = refl
+
+pub among_filled : (bytes : List ℕ) (ms : List Message) (m : Message) → IsAmong m ms → IsAmong (fill bytes m) (map (fill bytes) ms)
+among_filled bytes [] m one = absurd one
+among_filled bytes (a ∷ ms) m one = ⊎_elim (λ e. inl (ap (fill bytes) e)) (λ later. inr (among_filled bytes ms m later)) one
 
 -- x has checked in with p under this ask number, in one of these messages
 abbrev pub HasReported : List Message → ℕ → ℕ → ℕ → Type 0
@@ -169,12 +194,19 @@ module _ (x : ℕ) (A : ℕ → ℕ → Option Rank → Type 0) (J : ℕ → ℕ
   said_ask_before : (o : Plan) (p : ℕ) → o.node.me ≡ x → IsSaid (ask_before o p)
   said_ask_before o p me = said_ask (set_tries o (Some p)) p me
 
-  -- a child whose parent has said yes
-  said_joins : (o : Plan) (p : ℕ) (r : Rank) (xs : List ℕ) → o.node.me ≡ x → (o.node.kept.seq == 0) ≡ false → J p o.node.kept.seq → IsSaid (joins o p r xs)
-  said_joins o p r xs me some given =
+  -- a yes makes x a child, unless it has no ask number
+  abbrev IsGiven : Plan → ℕ → Type 0
+  IsGiven o p = ((o.node.kept.seq == 0) ≡ true → A p o.node.kept.seq o.node.kept.rank) × ((o.node.kept.seq == 0) ≡ false → J p o.node.kept.seq)
+
+  said_joins : (o : Plan) (p : ℕ) (r : Rank) (xs : List ℕ) → o.node.me ≡ x → o.node.kept.mode ≡ modes.Asking p → IsGiven o p → IsSaid (joins o p r xs)
+  said_joins o p r xs me asking given =
       let d : Durable = o.node.kept in
-      let j : Durable = record o.node.kept { mode = modes.Joined p; rank = Some (beneath_of r); log = begun_with o.node.kept.table } in
-      (me, subst (λ (b : Bool). Has (if b then d else j).mode (if b then d else j).seq (if b then d else j).rank o.sends) (sym some) (inl given))
+      let j : Durable = record o.node.kept { mode = modes.Joined p; rank = Some (beneath_of r); log = begun_with o.node.kept.table } in (
+        me,
+        cond_both (o.node.kept.seq == 0) d j (λ (k : Durable). Has k.mode k.seq k.rank o.sends)
+            (λ e. subst (λ (m : Mode). Has m o.node.kept.seq o.node.kept.rank o.sends) (sym asking) (inl (given.0 e)))
+            (λ e. inl (given.1 e)),
+      )
 
   -- what x has before it takes this message from q: if it asks, A holds or this is the answer; if it is joined, J holds or it is told to
   -- ask anew
@@ -231,7 +263,7 @@ module _ (x : ℕ) (A : ℕ → ℕ → Option Rank → Type 0) (J : ℕ → ℕ
 
   -- what makes x a child
   abbrev Gives : Plan → ℕ → ℕ → Type 0
-  Gives o q seq = o.node.kept.mode ≡ modes.Asking q → seq ≡ o.node.kept.seq → ((o.node.kept.seq == 0) ≡ false) × J q o.node.kept.seq
+  Gives o q seq = o.node.kept.mode ≡ modes.Asking q → seq ≡ o.node.kept.seq → IsGiven o q
 
   said_took_yes : (o : Plan) (p seq : ℕ) (r : Rank) (xs : List ℕ) → o.node.me ≡ x → Gives o p seq → Had p (bodies.Yes seq r xs) o.node.kept.mode o.node.kept.seq o.node.kept.rank → IsSaid (took_yes o p seq r xs)
   said_took_yes o p seq r xs me gives had =
@@ -240,8 +272,8 @@ module _ (x : ℕ) (A : ℕ → ℕ → Option Rank → Type 0) (J : ℕ → ℕ
       let before = and_parts (is_asking o.node.kept.mode p && seq == o.node.kept.seq && nat_lt r.depth MAX_DEPTH) (precedes_any r o.node.kept.rank) e in
       let shallow = and_parts (is_asking o.node.kept.mode p && seq == o.node.kept.seq) (nat_lt r.depth MAX_DEPTH) before.0 in
       let asks = and_parts (is_asking o.node.kept.mode p) (seq == o.node.kept.seq) shallow.0 in
-      let given = gives (asking_mode o.node.kept.mode p asks.0) (eqb-true seq o.node.kept.seq asks.1) in
-      said_joins o p r xs me given.0 given.1)
+      let asking : o.node.kept.mode ≡ modes.Asking p = asking_mode o.node.kept.mode p asks.0 in
+      said_joins o p r xs me asking (gives asking (eqb-true seq o.node.kept.seq asks.1)))
       (λ e. (me, no_yes o.node.kept.mode p seq o.node.kept.seq r o.node.kept.rank xs o.sends e had))
 
   said_refused : (o : Plan) (why : Refusal) → IsSaid o → IsSaid (refused o why)

@@ -201,11 +201,11 @@ module _ (h : Header) (x p s : ℕ) (ms : List Reading) (none : AreNone ms) wher
 
 -- Rounds, one after another
 
-rounds_more : (rs more : List Round) (w : World) → after_rounds w (rs ++ more) ≡ after_rounds (after_rounds w rs) more
+pub rounds_more : (rs more : List Round) (w : World) → after_rounds w (rs ++ more) ≡ after_rounds (after_rounds w rs) more
 rounds_more [] more w = refl
 rounds_more (r ∷ rs) more w = rounds_more rs more (after_round w r)
 
-later_more : (rs more : List Round) (w : World) → are_later_rounds w (rs ++ more) ≡ true → (are_later_rounds w rs ≡ true) × (are_later_rounds (after_rounds w rs) more ≡ true)
+pub later_more : (rs more : List Round) (w : World) → are_later_rounds w (rs ++ more) ≡ true → (are_later_rounds w rs ≡ true) × (are_later_rounds (after_rounds w rs) more ≡ true)
 later_more [] more w quiet = (refl, quiet)
 later_more (r ∷ rs) more w quiet =
     let both = and_parts (is_round (length w.net) w r) (are_later_rounds (after_round w r) (rs ++ more)) quiet in

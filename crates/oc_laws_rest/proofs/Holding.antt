@@ -44,7 +44,7 @@ kept_start x now end y None ends found here = ⊎_elim
     (λ other. other ∙ here)
     (set_at ends (y - 1) (x - 1) (Some (now + lease_time)))
 
-kept_starts : (x now end : ℕ) (ys : List ℕ) (ends : List (Option ℕ)) → at ends x None ≡ Some end → at (start_each ys ends now) x None ≡ Some end
+pub kept_starts : (x now end : ℕ) (ys : List ℕ) (ends : List (Option ℕ)) → at ends x None ≡ Some end → at (start_each ys ends now) x None ≡ Some end
 kept_starts x now end [] ends here = here
 kept_starts x now end (y ∷ ys) ends here = kept_starts x now end ys (start_if (at ends y None) ends y now) (kept_start x now end y (at ends y None) ends refl here)
 

@@ -20,3 +20,7 @@ pub mod Unasked
 pub mod Keeping
 pub mod Holding
 pub mod Children
+pub mod Near
+pub mod Reigning
+pub mod Forgetting
+pub mod Forgets

@@ -1,5 +1,5 @@
 -- Whom a node asks or is joined to, it has dialled: the effect of each input on that.
-use Rattle.std.proofs.Common.{◌≡◌, ℕ, max, true, ◌==◌, Option, List, ◌⊎◌, inl, inr, refl, ap, subst, ◌∙◌, ⊎_elim, eqb-true, eq-eqb}
+use Rattle.std.proofs.Common.{◌≡◌, ℕ, max, true, Option, List, ◌⊎◌, inl, inr, refl, ap, subst, ◌∙◌, ⊎_elim, eqb-true, eq-eqb}
 use Rattle.oc_base.specs.declared.rank.Rank.{Rank}
 use Rattle.oc_model.specs.declared.input.Input.{Input}
 use Rattle.oc_model.specs.declared.input.Input.TheVariants.{Tick, Unreachable, Delivered}

@@ -108,7 +108,7 @@ module _ (h : Header) where
       pub up : is_up w m ≡ true
       pub none : (x : ℕ) → x < m → is_up w x ≡ true → ⊥
 
-    member : (w : World) → Reached h w → IsMember w m
+    pub member : (w : World) → Reached h w → IsMember w m
     member w reached = is_member_of h w m reached id within
 
     -- whom m asks or is joined to is an earlier node
@@ -279,7 +279,7 @@ module _ (h : Header) where
     -- Rounds
 
     -- m is topmost in a world in which the same nodes are up
-    topmost_on : (w v : World) → IsTopmost w → Reached h v → ((y : ℕ) → is_up v y ≡ is_up w y) → IsTopmost v
+    pub topmost_on : (w v : World) → IsTopmost w → Reached h v → ((y : ℕ) → is_up v y ≡ is_up w y) → IsTopmost v
     topmost_on w v top reached ups = record { reached = reached; up = ups m ∙ top.up; none = λ x less up. top.none x less (sym (ups x) ∙ up) }
 
     pub later_rises : (r : Round) (rs : List Round) (w : World) → IsTopmost w → PeersAreUp w → are_later_rounds w (r ∷ rs) ≡ true → IsUpward (node (after_rounds w (r ∷ rs)) m).control
@@ -292,13 +292,13 @@ module _ (h : Header) where
 -- The least chain member
 
 module _ (h : Header) (w : World) (reached : Reached h w) (m : ℕ) (least : IsLeastMember w m) where
-  abbrev its_id : IsId h m
+  abbrev pub its_id : IsId h m
   its_id = up_id h w m reached least.up
 
-  abbrev in_chain : m ≤ h.chain
+  abbrev pub in_chain : m ≤ h.chain
   in_chain = member_of h w m reached (up_id h w m reached least.up) least.member
 
-  topmost : IsTopmost h m its_id in_chain w
+  pub topmost : IsTopmost h m its_id in_chain w
   topmost = record {
     reached = reached;
     up = least.up;

@@ -121,3 +121,21 @@ pub record TurnsNeedAClock : Type 0 where
   pub joined : mode_of (after_rounds three (joining ∷ [])) 2 ≡ Joined 1
   pub seq : seq_of (after_rounds three (joining ∷ [])) 2 ≡ 1
   pub asks_anew : seq_of (after_rounds three (joining ∷ late ∷ [])) 2 ≡ 2
+
+-- A child goes down: two rounds later its lease has ended, and the lease of the other child has not.
+
+abbrev widowed : World
+widowed = next_world (after_rounds three (joining ∷ [])) (Crash 2)
+
+abbrev first : Round
+first = record { turns = turn 3 7 ∷ turn 1 19 ∷ []; arrivals = 9 ∷ 10 ∷ 11 ∷ 12 ∷ 13 ∷ [] }
+
+abbrev second : Round
+second = record { turns = turn 3 27 ∷ turn 1 38 ∷ []; arrivals = 14 ∷ 15 ∷ 16 ∷ 17 ∷ 18 ∷ [] }
+
+pub record DownAreForgotten : Type 0 where
+  pub quiet : is_quiet widowed (first ∷ second ∷ []) ≡ true
+  pub before : leased_by (table_of widowed 1) 1 2 ≡ Some 1
+  pub later : leased_by (table_of (after_rounds widowed (first ∷ [])) 1) 1 2 ≡ Some 1
+  pub forgotten : leased_by (table_of (after_rounds widowed (first ∷ second ∷ [])) 1) 1 2 ≡ None
+  pub another : leased_by (table_of (after_rounds widowed (first ∷ second ∷ [])) 1) 1 3 ≡ Some 1

@@ -65,3 +65,7 @@ JoinedAreLeased w = (x p : ℕ) → IsUp w x → IsJoined w x p → IsChild w p 
 pub record IsUnmeasured (w : World) (x : ℕ) : Type 0 where
   pub past : IsMember w x → ⊥
   pub rates : (y : ℕ) → rate_to (node w x).control y ≡ 0
+
+-- each lease that m holds is of a node that is up
+abbrev pub LeasesAreOfUp : World → ℕ → Type 0
+LeasesAreOfUp w m = (x s : ℕ) → HoldsLease w m x s → IsUp w x

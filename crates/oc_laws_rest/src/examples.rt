@@ -1,4 +1,4 @@
-ghost use Rattle.oc_laws_rest.specs.Examples.{NewNetworkRests, LeasesAreRenewed, ParentIsKept, FailuresAreTold, UntoldFailuresAreNone, AskIsAnswered, ParentsAreLeft, TurnsNeedAClock};
+ghost use Rattle.oc_laws_rest.specs.Examples.{NewNetworkRests, LeasesAreRenewed, ParentIsKept, FailuresAreTold, UntoldFailuresAreNone, AskIsAnswered, ParentsAreLeft, TurnsNeedAClock, DownAreForgotten};
 
 /// Checks worked examples of rounds.
 pub fn rounds_compute()
@@ -10,4 +10,5 @@ pub fn rounds_compute()
     ensures answered { AskIsAnswered }
     ensures left { ParentsAreLeft }
     ensures clock { TurnsNeedAClock }
+    ensures forgotten { DownAreForgotten }
 {}

@@ -1,4 +1,4 @@
-ghost use Rattle.std.specs.Prelude.{◌≡◌, ℕ, true, List, ◌∷◌, ◌++◌};
+ghost use Rattle.std.specs.Prelude.{◌≡◌, ℕ, true, List, [], ◌∷◌, ◌++◌};
 ghost use Rattle.oc_model.specs.declared.event.Event.{Event};
 ghost use Rattle.oc_model.specs.Chains.{IsUp, IsJoined, IsRoot};
 ghost use Rattle.oc_model.specs.Checking.{is_peer};
@@ -8,7 +8,7 @@ ghost use Rattle.oc_model.specs.NextWorld.{world_after};
 ghost use Rattle.oc_model.specs.Node.{Header};
 ghost use Rattle.oc_model.specs.Numbers.{number_end};
 ghost use Rattle.oc_model.specs.World.{World, is_up, mode_of, new_world};
-ghost use Rattle.oc_laws_rest.specs.Rest.{IsAtRest, begun, IsOnlyMember, PeersAreUp, NobodyAsks, JoinedAreLeased, IsUnmeasured, IsLeastMember};
+ghost use Rattle.oc_laws_rest.specs.Rest.{IsAtRest, begun, IsOnlyMember, PeersAreUp, NobodyAsks, JoinedAreLeased, IsUnmeasured, LeasesAreOfUp, IsLeastMember};
 ghost use Rattle.oc_laws_rest.specs.Rounds.{Round, after_rounds, is_quiet};
 
 /// A new network in which one chain member is up comes to rest by itself in two rounds, and is at rest at the
@@ -78,4 +78,14 @@ pub fn least_members_become_roots()
     ensures root { (h : Header) (es : List Event) (m : ℕ) (q r : Round) (rs : List Round) → IsLeastMember (world_after (new_world h) es) m
         → is_quiet (world_after (new_world h) es) (q ∷ r ∷ rs) ≡ true → (seq_of (after_rounds (world_after (new_world h) es) (q ∷ r ∷ rs)) m ≡ number_end → ⊥)
         → IsRoot (after_rounds (world_after (new_world h) es) (q ∷ r ∷ rs)) m }
+{}
+
+/// In every world that events lead to: once the least chain member that is up acts as root at the end of a round,
+/// after three more rounds each lease that it holds is of a node that is up. A node that is down sends nothing,
+/// so its lease is not renewed, and the clock of a root goes on by at least eighteen seconds in each of the
+/// last two rounds.
+pub fn roots_forget_the_down()
+    ensures { (h : Header) (es : List Event) (m : ℕ) (q : Round) (rs : List Round) (a b c : Round) → IsLeastMember (world_after (new_world h) es) m
+        → is_quiet (world_after (new_world h) es) (q ∷ rs ++ a ∷ b ∷ c ∷ []) ≡ true → IsRoot (after_rounds (world_after (new_world h) es) (q ∷ rs)) m
+        → LeasesAreOfUp (after_rounds (world_after (new_world h) es) (q ∷ rs ++ a ∷ b ∷ c ∷ [])) m }
 {}

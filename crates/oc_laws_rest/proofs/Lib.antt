@@ -10,3 +10,17 @@ pub mod Peers
 pub mod Links
 pub mod Upward
 pub mod Roots
+pub mod Said
+pub mod Answered
+pub mod Replies
+pub mod Asks
+pub mod Leasing
+pub mod Leases
+pub mod Unasked
+pub mod Keeping
+pub mod Holding
+pub mod Children
+pub mod Near
+pub mod Reigning
+pub mod Forgetting
+pub mod Forgets

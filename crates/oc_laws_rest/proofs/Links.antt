@@ -60,13 +60,13 @@ arrived_comes w k s found comes = ap (after_act w) (ap (arriving w k) found ∙ 
 
 -- Messages of a step wait
 
-record Placed (front ms : List Message) (m : Message) : Type 0 where
-  number : ℕ
-  past : length front < number
-  low : number ≤ length (front ++ ms)
-  at : message_at (front ++ ms) number ≡ Some m
+pub record Placed (front ms : List Message) (m : Message) : Type 0 where
+  pub number : ℕ
+  pub past : length front < number
+  pub low : number ≤ length (front ++ ms)
+  pub at : message_at (front ++ ms) number ≡ Some m
 
-place : (front ms : List Message) (m : Message) → IsAmong m ms → Placed front ms m
+pub place : (front ms : List Message) (m : Message) → IsAmong m ms → Placed front ms m
 place front [] m one = absurd one
 place front (a ∷ ms) m (inl e) = record { number = suc (length front); past = omega arith; low = omega (arith, length-append front (a ∷ ms)); at = at_next front ms a ∙ ap Some e }
 place front (a ∷ ms) m (inr later) =
@@ -79,18 +79,23 @@ place front (a ∷ ms) m (inr later) =
       at = subst (λ (all : List Message). message_at all rest.number ≡ Some m) same rest.at;
     }
 
-waits_dial : (w v : World) (old : ℕ) (done : List ℕ) (x p : ℕ) (ms : List Message) → v.net ≡ w.net ++ ms → old ≤ length w.net → ((k : ℕ) → IsOneOf k done → k ≤ length w.net) → Dials x ms p → Waits v old done (IsDial x p)
-waits_dial w v old done x p ms net before sent d =
-    let placed : Placed w.net ms d.message = place w.net ms d.message d.among in
+-- a message that a step sends has not arrived
+pub waits_sent : (w v : World) (old : ℕ) (done : List ℕ) (P : Message → Type 0) (m : Message) (ms : List Message) → v.net ≡ w.net ++ ms → old ≤ length w.net → ((k : ℕ) → IsOneOf k done → k ≤ length w.net)
+    → IsAmong m ms → P m → Waits v old done P
+waits_sent w v old done P m ms net before sent among is =
+    let placed : Placed w.net ms m = place w.net ms m among in
     record {
       number = placed.number;
-      message = d.message;
+      message = m;
       new = omega (arith, placed.past, before);
       sent = subst (λ (all : List Message). placed.number ≤ length all) (sym net) placed.low;
       still = λ one. let low : placed.number ≤ length w.net = sent placed.number one in absurd (omega (arith, low, placed.past));
       at = ap (λ (all : List Message). message_at all placed.number) net ∙ placed.at;
-      is = d.is;
+      is = is;
     }
+
+waits_dial : (w v : World) (old : ℕ) (done : List ℕ) (x p : ℕ) (ms : List Message) → v.net ≡ w.net ++ ms → old ≤ length w.net → ((k : ℕ) → IsOneOf k done → k ≤ length w.net) → Dials x ms p → Waits v old done (IsDial x p)
+waits_dial w v old done x p ms net before sent d = waits_sent w v old done (IsDial x p) d.message ms net before sent d.among d.is
 
 -- where the peer of x is down, a dial of x to it has not arrived
 abbrev Ties : World → ℕ → List ℕ → ℕ → Type 0

@@ -38,10 +38,10 @@ use Rattle.oc_model.proofs.Members.{all_test}
 
 -- Each message of a step is of its node, and a last ask number stays
 
-abbrev IsOwn : ℕ → Type 0 → Control → List Message → Type 0
+abbrev pub IsOwn : ℕ → Type 0 → Control → List Message → Type 0
 IsOwn x S n ms = (n.me ≡ x) × AllByRecursion (λ s. s.from ≡ x) ms × (S → n.kept.seq ≡ number_end)
 
-abbrev any_came : ℕ → Body → Type 0
+abbrev pub any_came : ℕ → Body → Type 0
 any_came p b = Unit {0}
 
 own_sent : (x : ℕ) (S : Type 0) (n : Control) (ms : List Message) (p : ℕ) (b : Body) → (n.me ≡ x) × AllByRecursion (λ s. s.from ≡ x) ms × (S → n.kept.seq ≡ number_end)
@@ -73,31 +73,31 @@ own_machine x S = record {
   starts = λ n ms h. h;
 }
 
-own_step : (x : ℕ) (S : Type 0) (n : Node) (i : Input) → IsTable n.control.kept.table → HasCome any_came i → n.control.me ≡ x → (S → n.control.kept.seq ≡ number_end)
+pub own_step : (x : ℕ) (S : Type 0) (n : Node) (i : Input) → IsTable n.control.kept.table → HasCome any_came i → n.control.me ≡ x → (S → n.control.kept.seq ≡ number_end)
     → IsOwn x S (step n i).node.control (step n i).sends
 own_step x S n i is_table came me last = walks_step any_came (IsOwn x S) (own_machine x S) n i is_table came (me, tt, last)
 
 module _ (h : Header) where
   -- Worlds that are reached
 
-  tables_of : (w : World) → Reached h w → AreTables w
+  pub tables_of : (w : World) → Reached h w → AreTables w
   tables_of w reached = of_reached AreTables (λ g events. law_after AreTables HasTable tables_law g events (tables_new g)) h w reached
 
-  reached_turns : (ts : List Turn) (w : World) → Reached h w → Reached h (after_turns w ts)
+  pub reached_turns : (ts : List Turn) (w : World) → Reached h w → Reached h (after_turns w ts)
   reached_turns [] w reached = reached
   reached_turns (t ∷ ts) w reached = reached_turns ts (after_act w (At t.node (Tick t.time))) (reached_act h w (At t.node (Tick t.time)) reached)
 
-  reached_arrived : (w : World) (k : ℕ) → Reached h w → Reached h (arrived w k)
+  pub reached_arrived : (w : World) (k : ℕ) → Reached h w → Reached h (arrived w k)
   reached_arrived w k reached = reached_act h w (arriving w k (message_at w.net k)) reached
 
   reached_arrivals : (ks : List ℕ) (w : World) → Reached h w → Reached h (after_arrivals w ks)
   reached_arrivals [] w reached = reached
   reached_arrivals (k ∷ ks) w reached = reached_arrivals ks (arrived w k) (reached_arrived w k reached)
 
-  reached_round : (w : World) (r : Round) → Reached h w → Reached h (after_round w r)
+  pub reached_round : (w : World) (r : Round) → Reached h w → Reached h (after_round w r)
   reached_round w r reached = reached_arrivals r.arrivals (after_turns w r.turns) (reached_turns r.turns w reached)
 
-  reached_rounds : (rs : List Round) (w : World) → Reached h w → Reached h (after_rounds w rs)
+  pub reached_rounds : (rs : List Round) (w : World) → Reached h w → Reached h (after_rounds w rs)
   reached_rounds [] w reached = reached
   reached_rounds (r ∷ rs) w reached = reached_rounds rs (after_round w r) (reached_round w r reached)
 
@@ -108,7 +108,7 @@ module _ (h : Header) where
       pub up : is_up w m ≡ true
       pub none : (x : ℕ) → x < m → is_up w x ≡ true → ⊥
 
-    member : (w : World) → Reached h w → IsMember w m
+    pub member : (w : World) → Reached h w → IsMember w m
     member w reached = is_member_of h w m reached id within
 
     -- whom m asks or is joined to is an earlier node
@@ -279,7 +279,7 @@ module _ (h : Header) where
     -- Rounds
 
     -- m is topmost in a world in which the same nodes are up
-    topmost_on : (w v : World) → IsTopmost w → Reached h v → ((y : ℕ) → is_up v y ≡ is_up w y) → IsTopmost v
+    pub topmost_on : (w v : World) → IsTopmost w → Reached h v → ((y : ℕ) → is_up v y ≡ is_up w y) → IsTopmost v
     topmost_on w v top reached ups = record { reached = reached; up = ups m ∙ top.up; none = λ x less up. top.none x less (sym (ups x) ∙ up) }
 
     pub later_rises : (r : Round) (rs : List Round) (w : World) → IsTopmost w → PeersAreUp w → are_later_rounds w (r ∷ rs) ≡ true → IsUpward (node (after_rounds w (r ∷ rs)) m).control
@@ -292,13 +292,13 @@ module _ (h : Header) where
 -- The least chain member
 
 module _ (h : Header) (w : World) (reached : Reached h w) (m : ℕ) (least : IsLeastMember w m) where
-  abbrev its_id : IsId h m
+  abbrev pub its_id : IsId h m
   its_id = up_id h w m reached least.up
 
-  abbrev in_chain : m ≤ h.chain
+  abbrev pub in_chain : m ≤ h.chain
   in_chain = member_of h w m reached (up_id h w m reached least.up) least.member
 
-  topmost : IsTopmost h m its_id in_chain w
+  pub topmost : IsTopmost h m its_id in_chain w
   topmost = record {
     reached = reached;
     up = least.up;

@@ -1,12 +1,15 @@
-use Rattle.std.specs.Prelude.{◌≡◌, ℕ, true, false, [], ◌∷◌}
+use Rattle.std.specs.Prelude.{◌≡◌, ℕ, true, false, Some, None, [], ◌∷◌}
 use Rattle.oc_model.specs.declared.event.Event.TheVariants.{Crash}
 use Rattle.oc_model.specs.declared.mode.Mode.TheVariants.{Asking, Joined, Acting}
-use Rattle.oc_model.specs.ClaimsTree.{seq_of}
+use Rattle.oc_model.specs.ClaimsTree.{table_of, seq_of}
 use Rattle.oc_model.specs.ExampleRuns.{header}
 use Rattle.oc_model.specs.NextWorld.{next_world}
+use Rattle.oc_model.specs.Numbers.{at}
+use Rattle.oc_model.specs.Plan.{is_member, rate_to}
 use Rattle.oc_model.specs.Ready.{is_settled}
-use Rattle.oc_model.specs.World.{World, mode_of}
-use Rattle.oc_laws_rest.specs.Rounds.{Turn, Round, after_rounds, is_quiet}
+use Rattle.oc_model.specs.Table.{leased_by}
+use Rattle.oc_model.specs.World.{World, node, mode_of}
+use Rattle.oc_laws_rest.specs.Rounds.{Turn, Round, after_turns, after_rounds, is_quiet}
 use Rattle.oc_laws_rest.specs.Rest.{begun}
 
 -- Worked examples of rounds, and of what is none.
@@ -39,6 +42,21 @@ pub record NewNetworkRests : Type 0 where
   pub twice : is_quiet three (joining_twice ∷ []) ≡ true
   pub after_twice : is_settled (after_rounds three (joining_twice ∷ [])) ≡ true
 
+-- the source renews the leases of both in that round, at the second 19
+pub record LeasesAreRenewed : Type 0 where
+  pub quiet : is_quiet three (joining ∷ checking ∷ []) ≡ true
+  pub lease : leased_by (table_of (after_rounds three (joining ∷ checking ∷ [])) 1) 1 2 ≡ Some 1
+  pub end : at (node (after_rounds three (joining ∷ checking ∷ [])) 1).control.leases 2 None ≡ Some 49
+  pub another : at (node (after_rounds three (joining ∷ checking ∷ [])) 1).control.leases 3 None ≡ Some 49
+
+-- a node past the chain that has measured no way is joined to the source before that round and after it
+pub record ParentIsKept : Type 0 where
+  pub past : is_member (node (after_rounds three (joining ∷ [])) 2).control ≡ false
+  pub rate : rate_to (node (after_rounds three (joining ∷ [])) 2).control 1 ≡ 0
+  pub joined : mode_of (after_rounds three (joining ∷ [])) 2 ≡ Joined 1
+  pub later : mode_of (after_rounds three (joining ∷ checking ∷ [])) 2 ≡ Joined 1
+  pub seq : seq_of (after_rounds three (joining ∷ checking ∷ [])) 2 ≡ 1
+
 -- The source is down: the second chain member asks it, and becomes the root where the failure is told.
 
 abbrev alone : World
@@ -70,6 +88,12 @@ pair = begun (header 2 2 (0 ∷ 0 ∷ [])) (1 ∷ 2 ∷ [])
 abbrev meeting : Round
 meeting = record { turns = turn 1 0 ∷ turn 2 0 ∷ []; arrivals = 1 ∷ 2 ∷ [] }
 
+-- the second member asks the source, and the answer comes in the same round
+pub record AskIsAnswered : Type 0 where
+  pub quiet : is_quiet pair (meeting ∷ []) ≡ true
+  pub asks : mode_of (after_turns pair meeting.turns) 2 ≡ Asking 1
+  pub answered : mode_of (after_rounds pair (meeting ∷ [])) 2 ≡ Joined 1
+
 abbrev bereft : World
 bereft = next_world (after_rounds pair (meeting ∷ [])) (Crash 1)
 
@@ -97,3 +121,21 @@ pub record TurnsNeedAClock : Type 0 where
   pub joined : mode_of (after_rounds three (joining ∷ [])) 2 ≡ Joined 1
   pub seq : seq_of (after_rounds three (joining ∷ [])) 2 ≡ 1
   pub asks_anew : seq_of (after_rounds three (joining ∷ late ∷ [])) 2 ≡ 2
+
+-- A child goes down: two rounds later its lease has ended, and the lease of the other child has not.
+
+abbrev widowed : World
+widowed = next_world (after_rounds three (joining ∷ [])) (Crash 2)
+
+abbrev first : Round
+first = record { turns = turn 3 7 ∷ turn 1 19 ∷ []; arrivals = 9 ∷ 10 ∷ 11 ∷ 12 ∷ 13 ∷ [] }
+
+abbrev second : Round
+second = record { turns = turn 3 27 ∷ turn 1 38 ∷ []; arrivals = 14 ∷ 15 ∷ 16 ∷ 17 ∷ 18 ∷ [] }
+
+pub record DownAreForgotten : Type 0 where
+  pub quiet : is_quiet widowed (first ∷ second ∷ []) ≡ true
+  pub before : leased_by (table_of widowed 1) 1 2 ≡ Some 1
+  pub later : leased_by (table_of (after_rounds widowed (first ∷ [])) 1) 1 2 ≡ Some 1
+  pub forgotten : leased_by (table_of (after_rounds widowed (first ∷ second ∷ [])) 1) 1 2 ≡ None
+  pub another : leased_by (table_of (after_rounds widowed (first ∷ second ∷ [])) 1) 1 3 ≡ Some 1

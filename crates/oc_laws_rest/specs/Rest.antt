@@ -1,14 +1,19 @@
-use Rattle.std.specs.Prelude.{◌≡◌, ℕ, ◌≤◌, true, List, map}
+use Rattle.std.specs.Prelude.{◌≡◌, ℕ, ◌+◌, ◌≤◌, true, Some, None, List, map}
 use Rattle.oc_model.specs.declared.event.Event.TheVariants.{Up}
-use Rattle.oc_model.specs.Chains.{IsUp, true_line}
+use Rattle.oc_model.specs.declared.mode.Mode.TheVariants.{Asking}
+use Rattle.oc_model.specs.Chains.{IsUp, IsJoined, true_line}
 use Rattle.oc_model.specs.Checking.{is_peer}
-use Rattle.oc_model.specs.ClaimsTree.{table_of, IsTold}
+use Rattle.oc_model.specs.ClaimsTree.{table_of, seq_of, IsTold}
 use Rattle.oc_model.specs.Heal.{IsMember}
+use Rattle.oc_model.specs.Leases.{lease_time}
 use Rattle.oc_model.specs.NextWorld.{world_after}
 use Rattle.oc_model.specs.Node.{Header}
-use Rattle.oc_model.specs.Ready.{IsReadyUnder, IsSettled}
+use Rattle.oc_model.specs.Numbers.{at}
+use Rattle.oc_model.specs.Plan.{rate_to}
+use Rattle.oc_model.specs.Ready.{HoldsLease, IsReadyUnder, IsSettled}
 use Rattle.oc_model.specs.Table.{table_line}
-use Rattle.oc_model.specs.World.{World, mode_of, new_world}
+use Rattle.oc_model.specs.World.{World, node, mode_of, new_world}
+use Rattle.oc_model.specs.WorldBounds.{clock_of}
 
 -- Rest, and new networks.
 
@@ -41,3 +46,26 @@ pub record IsLeastMember (w : World) (m : ℕ) : Type 0 where
 -- no node that is up asks a node that is down, or is joined to one
 abbrev pub PeersAreUp : World → Type 0
 PeersAreUp w = (x p : ℕ) → IsUp w x → is_peer (mode_of w x) p ≡ true → IsUp w p
+
+-- no node that is up waits for an answer to an ask
+abbrev pub NobodyAsks : World → Type 0
+NobodyAsks w = (x p : ℕ) → IsUp w x → mode_of w x ≡ Asking p → ⊥
+
+-- x is a child of p with all its time: p is up, and holds the lease of x at x's ask number until a lease's time from now
+pub record IsChild (w : World) (p x : ℕ) : Type 0 where
+  pub parent : IsUp w p
+  pub lease : HoldsLease w p x (seq_of w x)
+  pub end : at (node w p).control.leases x None ≡ Some (clock_of w p + lease_time)
+
+-- each node that is up and joined is such a child
+abbrev pub JoinedAreLeased : World → Type 0
+JoinedAreLeased w = (x p : ℕ) → IsUp w x → IsJoined w x p → IsChild w p x
+
+-- x is past the chain, and has measured no way
+pub record IsUnmeasured (w : World) (x : ℕ) : Type 0 where
+  pub past : IsMember w x → ⊥
+  pub rates : (y : ℕ) → rate_to (node w x).control y ≡ 0
+
+-- each lease that m holds is of a node that is up
+abbrev pub LeasesAreOfUp : World → ℕ → Type 0
+LeasesAreOfUp w m = (x s : ℕ) → HoldsLease w m x s → IsUp w x

@@ -1,10 +1,14 @@
-ghost use Rattle.oc_laws_rest.specs.Examples.{NewNetworkRests, FailuresAreTold, UntoldFailuresAreNone, ParentsAreLeft, TurnsNeedAClock};
+ghost use Rattle.oc_laws_rest.specs.Examples.{NewNetworkRests, LeasesAreRenewed, ParentIsKept, FailuresAreTold, UntoldFailuresAreNone, AskIsAnswered, ParentsAreLeft, TurnsNeedAClock, DownAreForgotten};
 
 /// Checks worked examples of rounds.
 pub fn rounds_compute()
     ensures rests { NewNetworkRests }
+    ensures leased { LeasesAreRenewed }
+    ensures kept { ParentIsKept }
     ensures told { FailuresAreTold }
     ensures untold { UntoldFailuresAreNone }
+    ensures answered { AskIsAnswered }
     ensures left { ParentsAreLeft }
     ensures clock { TurnsNeedAClock }
+    ensures forgotten { DownAreForgotten }
 {}

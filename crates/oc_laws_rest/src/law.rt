@@ -1,6 +1,6 @@
-ghost use Rattle.std.specs.Prelude.{◌≡◌, ℕ, true, List, ◌∷◌};
+ghost use Rattle.std.specs.Prelude.{◌≡◌, ℕ, true, List, [], ◌∷◌, ◌++◌};
 ghost use Rattle.oc_model.specs.declared.event.Event.{Event};
-ghost use Rattle.oc_model.specs.Chains.{IsUp, IsRoot};
+ghost use Rattle.oc_model.specs.Chains.{IsUp, IsJoined, IsRoot};
 ghost use Rattle.oc_model.specs.Checking.{is_peer};
 ghost use Rattle.oc_model.specs.ClaimsTree.{seq_of};
 ghost use Rattle.oc_model.specs.Lawful.{IsHeader};
@@ -8,7 +8,7 @@ ghost use Rattle.oc_model.specs.NextWorld.{world_after};
 ghost use Rattle.oc_model.specs.Node.{Header};
 ghost use Rattle.oc_model.specs.Numbers.{number_end};
 ghost use Rattle.oc_model.specs.World.{World, is_up, mode_of, new_world};
-ghost use Rattle.oc_laws_rest.specs.Rest.{IsAtRest, begun, IsOnlyMember, PeersAreUp, IsLeastMember};
+ghost use Rattle.oc_laws_rest.specs.Rest.{IsAtRest, begun, IsOnlyMember, PeersAreUp, NobodyAsks, JoinedAreLeased, IsUnmeasured, LeasesAreOfUp, IsLeastMember};
 ghost use Rattle.oc_laws_rest.specs.Rounds.{Round, after_rounds, is_quiet};
 
 /// A new network in which one chain member is up comes to rest by itself in two rounds, and is at rest at the
@@ -38,6 +38,37 @@ pub fn failures_are_noticed()
     ensures up { (w : World) (r : Round) (rs : List Round) (x : ℕ) → is_quiet w (r ∷ rs) ≡ true → is_up (after_rounds w (r ∷ rs)) x ≡ is_up w x }
 {}
 
+/// From the end of the first round on, in every world that events lead to and whatever messages of before still
+/// come in it, no node that is up asks: each ask of a round is answered in the round, or told as failed, and so
+/// is each ask that follows it. A node that is up is then idle, joined to a node that is up, or acts as root.
+pub fn asks_end()
+    ensures { (h : Header) (es : List Event) (r : Round) (rs : List Round) → is_quiet (world_after (new_world h) es) (r ∷ rs) ≡ true
+        → NobodyAsks (after_rounds (world_after (new_world h) es) (r ∷ rs)) }
+{}
+
+/// From the end of the second round on, in every world that events lead to and whatever messages of before still
+/// come in the first one, each node that is up and joined has its place: its parent is up, and holds its lease at
+/// its ask number for thirty seconds from now, since it renewed the lease in the round. A node without such a
+/// lease was told to ask anew in the round, and is joined no more.
+pub fn joined_nodes_are_leased()
+    ensures { (h : Header) (es : List Event) (q r : Round) (rs : List Round) → is_quiet (world_after (new_world h) es) (q ∷ r ∷ rs) ≡ true
+        → JoinedAreLeased (after_rounds (world_after (new_world h) es) (q ∷ r ∷ rs)) }
+{}
+
+/// From the end of the second round on, in every world that events lead to, a node past the chain that has
+/// measured no way keeps its place: if it is joined to a node at the end of a round, it is joined to that node at
+/// the end of each later one, under the same ask number. By [`joined_nodes_are_leased`] that node is up and holds
+/// its lease at each of these ends.
+pub fn nodes_keep_their_parents()
+    ensures parent { (h : Header) (es : List Event) (q r : Round) (rs more : List Round) (x p : ℕ) → is_quiet (world_after (new_world h) es) (q ∷ r ∷ rs ++ more) ≡ true
+        → IsUnmeasured (after_rounds (world_after (new_world h) es) (q ∷ r ∷ rs)) x → IsUp (after_rounds (world_after (new_world h) es) (q ∷ r ∷ rs)) x
+        → IsJoined (after_rounds (world_after (new_world h) es) (q ∷ r ∷ rs)) x p → IsJoined (after_rounds (world_after (new_world h) es) (q ∷ r ∷ rs ++ more)) x p }
+    ensures number { (h : Header) (es : List Event) (q r : Round) (rs more : List Round) (x p : ℕ) → is_quiet (world_after (new_world h) es) (q ∷ r ∷ rs ++ more) ≡ true
+        → IsUnmeasured (after_rounds (world_after (new_world h) es) (q ∷ r ∷ rs)) x → IsUp (after_rounds (world_after (new_world h) es) (q ∷ r ∷ rs)) x
+        → IsJoined (after_rounds (world_after (new_world h) es) (q ∷ r ∷ rs)) x p
+        → seq_of (after_rounds (world_after (new_world h) es) (q ∷ r ∷ rs ++ more)) x ≡ seq_of (after_rounds (world_after (new_world h) es) (q ∷ r ∷ rs)) x }
+{}
+
 /// In every world that events lead to, and whatever messages of before still come in the first round: from the
 /// end of the first round on the least chain member that is up neither asks a node nor is joined to one, and
 /// from the end of the second round on it acts as root, unless it has used up its ask numbers.
@@ -47,4 +78,14 @@ pub fn least_members_become_roots()
     ensures root { (h : Header) (es : List Event) (m : ℕ) (q r : Round) (rs : List Round) → IsLeastMember (world_after (new_world h) es) m
         → is_quiet (world_after (new_world h) es) (q ∷ r ∷ rs) ≡ true → (seq_of (after_rounds (world_after (new_world h) es) (q ∷ r ∷ rs)) m ≡ number_end → ⊥)
         → IsRoot (after_rounds (world_after (new_world h) es) (q ∷ r ∷ rs)) m }
+{}
+
+/// In every world that events lead to: once the least chain member that is up acts as root at the end of a round,
+/// after three more rounds each lease that it holds is of a node that is up. A node that is down sends nothing,
+/// so its lease is not renewed, and the clock of a root goes on by at least eighteen seconds in each of the
+/// last two rounds.
+pub fn roots_forget_the_down()
+    ensures { (h : Header) (es : List Event) (m : ℕ) (q : Round) (rs : List Round) (a b c : Round) → IsLeastMember (world_after (new_world h) es) m
+        → is_quiet (world_after (new_world h) es) (q ∷ rs ++ a ∷ b ∷ c ∷ []) ≡ true → IsRoot (after_rounds (world_after (new_world h) es) (q ∷ rs)) m
+        → LeasesAreOfUp (after_rounds (world_after (new_world h) es) (q ∷ rs ++ a ∷ b ∷ c ∷ [])) m }
 {}

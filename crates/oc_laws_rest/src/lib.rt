@@ -7,12 +7,16 @@
 //!
 //! Proved whole is the law for a new network in which one chain member is up: [`new_networks_rest`]. Of its way
 //! for any other world, with several chain members up, with nodes that have places, ranks or leases from before,
-//! with content, and with measures, two parts are proved: [`failures_are_noticed`], which holds of any world,
-//! and [`least_members_become_roots`], which holds of every world that events lead to.
+//! with content, and with measures, six parts are proved: [`failures_are_noticed`], which holds of any world,
+//! and [`asks_end`], [`joined_nodes_are_leased`], [`nodes_keep_their_parents`],
+//! [`least_members_become_roots`] and [`roots_forget_the_down`], which hold of every world that events lead to.
 #![tactic(auto)]
 
 mod examples;
 mod law;
 
 pub use examples::rounds_compute;
-pub use law::{failures_are_noticed, least_members_become_roots, new_networks_rest};
+pub use law::{
+    asks_end, failures_are_noticed, joined_nodes_are_leased, least_members_become_roots,
+    new_networks_rest, nodes_keep_their_parents, roots_forget_the_down,
+};

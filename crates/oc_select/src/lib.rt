@@ -1,0 +1,21 @@
+//! What a request selects of a content: all of it, a part, or nothing. No socket, no route and no head is read here.
+#![tactic(auto)]
+
+mod conditions;
+mod content;
+mod media;
+mod naming;
+mod range;
+mod ranges;
+mod scanning;
+mod selecting;
+mod selection;
+mod selectors;
+mod texts;
+
+pub use content::{Content, Source, change_at};
+pub use media::media_type;
+pub use selecting::select;
+pub use selection::Selection;
+pub use selectors::{RequestLine, Selectors, Values};
+pub use texts::{put_change, put_no_range, put_part, put_tag};

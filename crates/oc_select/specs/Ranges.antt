@@ -1,7 +1,7 @@
 -- Ranges of bytes (RFC 9110, section 14), and the parts of a content that they are.
-use Rattle.std.specs.Prelude.{ℕ, ◌+◌, ◌-◌, ◌≤◌, Bool, ◌&&◌, ◌==◌, nat_lt, nat_le, min, if◌then◌else◌, Option, Some, None, option_and_then, List, [], ◌∷◌, length, take, drop, codes}
+use Rattle.std.specs.Prelude.{ℕ, ◌+◌, ◌-◌, ◌≤◌, Bool, ◌&&◌, ◌==◌, nat_lt, nat_le, min, if◌then◌else◌, Option, Some, None, option_and_then, List, [], ◌∷◌, length, codes}
 use Rattle.std.specs.Char.{is_ascii_digit}
-use Rattle.std.specs.List.{list_all, slice_split}
+use Rattle.std.specs.List.{list_all, slice_split, before_first, after_first}
 use Rattle.std.specs.Str.{byte, str_eq_ignore_ascii_case}
 use Rattle.std.specs.Str.Parse.{digits_value}
 use Rattle.oc_select.specs.Values.{only_of}
@@ -34,19 +34,26 @@ last (Some count) = Some (Last count)
 
 -- the range with these texts before and after its `-`
 abbrev pub range_of : List ℕ → List ℕ → Option Range
-range_of [] after = last (number_in after)
-range_of before [] = from (number_in before)
-range_of before after = between (number_in before) (number_in after)
+range_of before after =
+    if length before == 0 then last (number_in after)
+    else if length after == 0 then from (number_in before)
+    else between (number_in before) (number_in after)
+
+-- the range with these parts, which `-` separates
+abbrev pub range_of_parts : List (List ℕ) → Option Range
+range_of_parts [] = None
+range_of_parts (part ∷ []) = None
+range_of_parts (before ∷ after ∷ []) = range_of before after
+range_of_parts (before ∷ after ∷ third ∷ more) = None
 
 -- the one range that a text spells: `a-b`, `a-` or `-n`
-abbrev pub range_in_parts : List (List ℕ) → Option Range
-range_in_parts (before ∷ after ∷ []) = range_of before after
-range_in_parts parts = None
+abbrev pub range_spelled : List ℕ → Option Range
+range_spelled text = range_of_parts (slice_split (λ b. b == byte "-") text)
 
--- the range that a value of Range asks for, which is `bytes=` in any case, and one range
+-- the range that a value of Range asks for, which is `bytes`, in any case, `=` and one range
 abbrev pub range_in : List ℕ → Option Range
 range_in value =
-    if str_eq_ignore_ascii_case (take 6 value) (codes "bytes=") then range_in_parts (slice_split (λ b. b == byte "-") (drop 6 value))
+    if str_eq_ignore_ascii_case (before_first (λ b. b == byte "=") value) (codes "bytes") then range_spelled (after_first (λ b. b == byte "=") value)
     else None
 
 -- the range that the Range field asks for, where there is just one field

@@ -1,7 +1,7 @@
 -- What the members of a list say of a tag, one after another.
-use Rattle.std.specs.Prelude.{ℕ, Bool, true, false, not, ◌&&◌, ◌||◌, ◌==◌, suc, if◌then◌else◌, Option, Some, None, List, [], ◌∷◌, codes}
-use Rattle.std.specs.Str.{byte, bytes_eq}
-use Rattle.oc_select.specs.Tags.{is_tag}
+use Rattle.std.specs.Prelude.{ℕ, suc, Bool, true, false, ◌||◌, if◌then◌else◌, Option, Some, None, List, [], ◌∷◌, codes}
+use Rattle.std.specs.Str.{bytes_eq}
+use Rattle.oc_select.specs.Tags.{is_tag, is_separator, quoted_after}
 use Rattle.oc_select.specs.Naming.{is_same}
 use Rattle.oc_select.specs.declared.naming.Comparison.{Comparison}
 use Rattle.oc_select.specs.declared.naming.Naming.{Naming}
@@ -37,5 +37,4 @@ concluded Wrong = namings.Nothing
 abbrev pub comma_from : ℕ → Bool → List ℕ → Option ℕ
 comma_from at quoted [] = None
 comma_from at quoted (b ∷ rest) =
-    if b == byte "," && not quoted then Some at
-    else comma_from (suc at) (if b == byte "\"" then not quoted else quoted) rest
+    if is_separator quoted b then Some at else comma_from (suc at) (quoted_after quoted b) rest

@@ -1,7 +1,7 @@
 -- Entity tags (RFC 9110, section 8.8.3), and lists of them.
-use Rattle.std.specs.Prelude.{ℕ, Bool, false, not, ◌&&◌, ◌||◌, ◌==◌, nat_le, if◌then◌else◌, List, [], ◌∷◌, ◌++◌, ◌-◌, length, take, drop, codes, decimal, filter, map}
+use Rattle.std.specs.Prelude.{ℕ, Bool, false, not, ◌&&◌, ◌||◌, ◌==◌, nat_le, if◌then◌else◌, List, [], ◌∷◌, ◌++◌, ◌-◌, length, take, drop, codes, decimal}
 use Rattle.std.specs.Fmt.{digits}
-use Rattle.std.specs.List.{list_all, flat_map}
+use Rattle.std.specs.List.{list_all, flat_map, onto_first}
 use Rattle.std.specs.Str.{byte, bytes_eq}
 use Rattle.httparse.specs.Grammar.{trim_ows}
 use Rattle.oc_select.specs.declared.content.Content.{Content}
@@ -39,21 +39,28 @@ is_quoted text =
 abbrev pub is_tag : List ℕ → Bool
 is_tag member = is_quoted (without_mark member)
 
--- the parts with one more byte before the first
-abbrev pub begun_with : ℕ → List (List ℕ) → List (List ℕ)
-begun_with b [] = (b ∷ []) ∷ []
-begun_with b (part ∷ more) = (b ∷ part) ∷ more
+-- whether a place is within quotes, after one more byte
+abbrev pub quoted_after : Bool → ℕ → Bool
+quoted_after quoted b = if b == byte "\"" then not quoted else quoted
+
+-- a comma that is not within quotes
+abbrev pub is_separator : Bool → ℕ → Bool
+is_separator quoted b = b == byte "," && not quoted
 
 -- the parts of a list, which its commas separate, apart from commas within quotes
 abbrev pub parts : Bool → List ℕ → List (List ℕ)
 parts quoted [] = [] ∷ []
 parts quoted (b ∷ rest) =
-    if b == byte "," && not quoted then [] ∷ parts false rest
-    else begun_with b (parts (if b == byte "\"" then not quoted else quoted) rest)
+    if is_separator quoted b then [] ∷ parts false rest
+    else onto_first b (parts (quoted_after quoted b) rest)
 
--- the members of a list: its parts without the spaces and tabs at both ends, apart from empty ones
+-- the member that a part is, without the spaces and tabs at both ends; an empty part is none
+abbrev pub member_of : List ℕ → List (List ℕ)
+member_of part = if length (trim_ows part) == 0 then [] else trim_ows part ∷ []
+
+-- the members of a list
 abbrev pub members_in : List ℕ → List (List ℕ)
-members_in value = filter (λ member. not (length member == 0)) (map trim_ows (parts false value))
+members_in value = flat_map member_of (parts false value)
 
 -- the members of the fields of a name, which are one list
 abbrev pub members : List (List ℕ) → List (List ℕ)

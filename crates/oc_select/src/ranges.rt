@@ -1,17 +1,17 @@
 //! Ranges of bytes.
 
 ghost use Rattle.std.specs.Prelude.{◌≡◌, ◌-◌, IfSome, min, option_map};
-ghost use Rattle.oc_select.specs.Ranges.{IsInOrder, number_in, part_of, range_asked, range_in, range_of};
+ghost use Rattle.oc_select.specs.Ranges.{IsInOrder, number_in, part_of, range_asked, range_in, range_of, range_spelled};
 ghost use Rattle.oc_select.specs.Values.{only_of};
 ghost use Rattle.oc_select.specs.declared.selection.Selection.TheVariants.{Part};
 
 use crate::range::Range;
 use crate::selection::Selection;
 use oc_base::words::{are_digits, value_of};
-use oc_base::{Text, cut};
+use oc_base::{Text, cut, cut_at_first};
 
-/// What begins the value of a Range field, in any case.
-const UNIT: &[u8] = b"bytes=";
+/// The unit of ranges, which is written in any case.
+const UNIT: &[u8] = b"bytes";
 
 /// The greatest number of digits of a number in a range: each number of so many fits.
 const MAX_DIGITS: usize = 19;
@@ -34,20 +34,29 @@ pub(crate) fn range_asked(values: &[Text]) -> Option<Range>
     range_in(only(values)?)
 }
 
-/// The range that a value of Range asks for; `None` where it is not `bytes=` and exactly one range.
+/// The range that a value of Range asks for; `None` where it is not `bytes`, `=` and exactly one range.
 fn range_in(value: &[u8]) -> Option<Range>
     ensures asked { result ≡ range_in value.now }
     ensures in_order { IfSome result IsInOrder }
 {
-    let unit = value.get(..UNIT.len())?;
+    let (unit, range) = cut_at_first(value, b'=');
     if !unit.eq_ignore_ascii_case(UNIT) {
         return None;
     }
-    let (before, rest) = cut(&value[UNIT.len()..], b'-');
-    let (after, more) = cut(rest?, b'-');
-    if more.is_some() {
+    range_spelled(range)
+}
+
+/// The one range that a text spells.
+fn range_spelled(text: &[u8]) -> Option<Range>
+    ensures asked { result ≡ range_spelled text.now }
+    ensures in_order { IfSome result IsInOrder }
+{
+    let (before, Some(rest)) = cut(text, b'-') else {
         return None;
-    }
+    };
+    let (after, None) = cut(rest, b'-') else {
+        return None;
+    };
     range_of(before, after)
 }
 

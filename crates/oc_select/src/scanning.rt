@@ -2,7 +2,7 @@
 
 ghost use Rattle.std.specs.Prelude.{◌≡◌, ◌∷◌, [], ◌<◌, false, length, reverse, IfNone, IfSome};
 ghost use Rattle.httparse.specs.Grammar.{skip_ows, trim_ows};
-ghost use Rattle.oc_select.specs.Tags.{is_quoted, is_tag, is_tag_byte, members_in, parts, without_mark};
+ghost use Rattle.oc_select.specs.Tags.{is_quoted, is_separator, is_tag, is_tag_byte, member_of, members_in, parts, quoted_after, without_mark};
 ghost use Rattle.oc_select.specs.Naming.{is_same, naming};
 ghost use Rattle.oc_select.specs.Scanning.{comma_from, concluded, heard, heard_all, tag_heard};
 
@@ -48,22 +48,30 @@ fn conclusion(said: Heard) -> Naming
 }
 
 /// What was heard, with the members of one more value.
-fn after_value(how: Comparison, tag: &[u8], said: Heard, value: &[u8]) -> Heard
-    ensures { result ≡ heard_all how tag.now said (members_in value.now) }
+fn after_value(how: Comparison, tag: &[u8], before: Heard, value: &[u8]) -> Heard
+    ensures { result ≡ heard_all how tag.now before (members_in value.now) }
 {
-    let mut said = said;
+    let mut said = before;
     let mut rest = value;
     'parts: loop {
         let (part, others) = cut_part(rest);
-        let member = trim(part);
-        if !member.is_empty() {
-            said = after_member(how, tag, said, member);
-        }
+        said = after_part(how, tag, said, part);
         match others {
             Some(others) => rest = others,
             None => return said,
         }
     }
+}
+
+/// What was heard, with the member that one more part is, if it is one.
+fn after_part(how: Comparison, tag: &[u8], said: Heard, part: &[u8]) -> Heard
+    ensures { result ≡ heard_all how tag.now said (member_of part.now) }
+{
+    let member = trim(part);
+    if member.is_empty() {
+        return said;
+    }
+    after_member(how, tag, said, member)
 }
 
 /// What was heard, with one more member.
@@ -149,16 +157,28 @@ fn place_of_comma(list: &[u8]) -> Option<usize>
     ensures place { result ≡ comma_from 0 false list.now }
     ensures within { IfSome result (λ at. at < length list.now) }
 {
-    let mut is_quoted = false;
+    let mut quoted = false;
     for (at, byte) in list.iter().enumerate() {
-        if *byte == b',' && !is_quoted {
+        if is_separator(quoted, *byte) {
             return Some(at);
         }
-        if *byte == b'"' {
-            is_quoted = !is_quoted;
-        }
+        quoted = quoted_after(quoted, *byte);
     }
     None
+}
+
+/// Whether a byte is a comma that is not within quotes.
+fn is_separator(quoted: bool, byte: u8) -> bool
+    ensures { result ≡ is_separator quoted byte }
+{
+    byte == b',' && !quoted
+}
+
+/// Whether a place is within quotes, after one more byte.
+fn quoted_after(quoted: bool, byte: u8) -> bool
+    ensures { result ≡ quoted_after quoted byte }
+{
+    if byte == b'"' { !quoted } else { quoted }
 }
 
 /// The bytes without spaces and tabs at the start.

@@ -7,3 +7,5 @@ pub mod Ranges
 pub mod Selecting
 pub mod Texts
 pub mod Media
+pub mod Meaning
+pub mod Examples

@@ -3,6 +3,7 @@
 
 mod conditions;
 mod content;
+mod law;
 mod media;
 mod naming;
 mod range;
@@ -14,6 +15,11 @@ mod selectors;
 mod texts;
 
 pub use content::{Content, Source, change_at};
+pub use law::{
+    a_part_is_the_one_that_is_asked_for, a_part_is_within_its_content,
+    a_plain_request_is_given_all, a_tag_tells_the_bytes, examples_compute,
+    what_was_not_modified_is_known,
+};
 pub use media::media_type;
 pub use selecting::select;
 pub use selection::Selection;

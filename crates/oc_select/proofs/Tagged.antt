@@ -46,7 +46,8 @@ dash h = cc
 
 -- what has no dash has none inside
 none_inside : (a xs bytes : List ℕ) → HasNoDash bytes → bytes ≡ a ++ 45 ∷ xs → ⊥
-none_inside a xs [] all h = elim a [ [] ↦ cc | c ∷ cs ↦ cc ]
+none_inside [] xs [] all h = cc
+none_inside (c ∷ a) xs [] all h = cc
 none_inside [] xs (b ∷ bytes) all h =
     let first : b ≡ 45 = cc in
     dash (sym (ap (λ (c : ℕ). eqb c 45) first) ∙ all.0)

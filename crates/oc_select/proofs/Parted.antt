@@ -1,30 +1,24 @@
 -- What a separator cuts has at least one part.
-use Rattle.std.proofs.Common.{◌≡◌, ℕ, Bool, List, [], ◌∷◌, Option, Some, None, refl, sym, ap, ◌∙◌, inl, inr}
+use Rattle.std.proofs.Common.{◌≡◌, ℕ, Bool, List, [], ◌∷◌, Some, refl, sym, ap, ◌∙◌, inl, inr}
 use Rattle.std.specs.List.{slice_split, onto_first}
 use Rattle.std.proofs.lemmas.Bool.{cases_Bool}
 use Rattle.std.proofs.lemmas.List.Splits.{slice_split-cons_yes, slice_split-cons_no}
 use Rattle.oc_select.specs.Media.{last_of, last_of_several}
-use Rattle.oc_select.specs.Ranges.{range_of_parts}
-use Rattle.oc_select.specs.declared.range.Range.{Range}
 
 first_part : (p : ℕ → Bool) (xs : List ℕ) → (part : List ℕ) × (more : List (List ℕ)) × (slice_split p xs ≡ part ∷ more)
 first_part p [] = ([], [], refl)
 first_part p (x ∷ xs) = elim (cases_Bool (p x)) [
-  | inl yes ↦ ([], slice_split p xs, slice_split-cons_yes p x xs yes)
+  | inl passes ↦ ([], slice_split p xs, slice_split-cons_yes p x xs passes)
   | inr other ↦
       let rest = first_part p xs in
       (x ∷ rest.0, rest.1, slice_split-cons_no p x xs other ∙ ap (λ (ps : List (List ℕ)). onto_first x ps) rest.2)
 ]
 
--- three parts are no range
-pub no_third : (p : ℕ → Bool) (before after xs : List ℕ) → range_of_parts (before ∷ after ∷ slice_split p xs) ≡ None
-no_third p before after xs = ap (λ (ps : List (List ℕ)). range_of_parts (before ∷ after ∷ ps)) (first_part p xs).2
-
 -- the last part is one of those after the first
 pub last_after : (p : ℕ → Bool) (part xs : List ℕ) → last_of (part ∷ slice_split p xs) ≡ last_of (slice_split p xs)
 last_after p part xs =
     let rest = first_part p xs in
-    ap (λ (ps : List (List ℕ)). last_of (part ∷ ps)) rest.2 ∙ sym (ap last_of rest.2)
+    ap (λ (ps : List (List ℕ)). last_of (part ∷ ps)) rest.2 ∙ sym (ap (λ (ps : List (List ℕ)). last_of ps) rest.2)
 
 pub several_after : (p : ℕ → Bool) (part xs : List ℕ) → last_of_several (part ∷ slice_split p xs) ≡ Some (last_of (slice_split p xs))
 several_after p part xs =

@@ -1,5 +1,5 @@
 -- What members say one after another is what they say together.
-use Rattle.std.proofs.Common.{◌≡◌, ℕ, Bool, true, false, cond, List, [], ◌∷◌, ◌++◌, refl, sym, ap, ◌∙◌, subst, inl, inr}
+use Rattle.std.proofs.Common.{◌≡◌, ℕ, Bool, true, false, cond, List, [], ◌∷◌, ◌++◌, length, arith, refl, sym, ap, ◌∙◌, subst, inl, inr}
 use Rattle.std.specs.Prelude.{◌&&◌, ◌||◌, codes}
 use Rattle.std.specs.List.{list_all, list_any, flat_map}
 use Rattle.std.specs.Str.{bytes_eq}
@@ -83,3 +83,7 @@ pub part_last : (how : Comparison) (tag : List ℕ) (h : Heard) (value part : Li
     → heard_all how tag h (member_of part) ≡ heard_all how tag h (members_in value)
 part_last how tag h value part cut =
     sym (heard_all-append how tag h (member_of part) []) ∙ sym (ap (λ (ps : List (List ℕ)). heard_all how tag h (flat_map member_of ps)) cut)
+
+pub none_left : (xs : List (List ℕ)) → length xs ≡ 0 → xs ≡ []
+none_left [] h = refl
+none_left (x ∷ xs) h = absurd (omega arith)

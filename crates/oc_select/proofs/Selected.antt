@@ -142,7 +142,7 @@ known_from false false length range h = absurd (never length range h)
 found_in : (p : List ℕ → Bool) (xs : List (List ℕ)) → list_any p xs ≡ true → (x : List ℕ) × Contains xs x × (p x ≡ true)
 found_in p [] h = cc
 found_in p (x ∷ xs) h = elim (cases_Bool (p x)) [
-  | inl yes ↦ (x, (0, omega arith, refl), yes)
+  | inl passes ↦ (x, (0, omega arith, refl), passes)
   | inr other ↦
       let rest = found_in p xs (sym (ap (λ (t : Bool). t || list_any p xs) other) ∙ h) in
       (rest.0, (suc rest.1.0, omega (arith, rest.1.1), rest.1.2), rest.2)
@@ -206,7 +206,10 @@ no_date_until : (change : Option HttpDate) → is_until change None ≡ false
 no_date_until None = refl
 no_date_until (Some date) = refl
 
-no_range : (t : Bool) → cond t (None {A = Range}) None ≡ None
+abbrev no_range_at_all : Option Range
+no_range_at_all = None
+
+no_range : (t : Bool) → cond t no_range_at_all no_range_at_all ≡ no_range_at_all
 no_range true = refl
 no_range false = refl
 

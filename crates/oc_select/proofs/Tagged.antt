@@ -4,10 +4,10 @@ use Rattle.std.specs.Prelude.{decimal, codes}
 use Rattle.std.specs.Fmt.{digits, digits_onto, digit_glyph}
 use Rattle.std.specs.List.{AllByRecursion}
 use Rattle.std.specs.Str.Parse.{digits_value}
-use Rattle.std.proofs.lemmas.Bool.{eq-eqb}
+use Rattle.std.proofs.Math.Nat.{mod-lt}
 use Rattle.std.proofs.lemmas.Bool.Decides.{nat_tests, eqb_tells}
 use Rattle.std.proofs.lemmas.Fmt.{decimal_injective, digits_is_IsNumeral}
-use Rattle.std.proofs.lemmas.List.{append_cancel_right}
+use Rattle.std.proofs.lemmas.List.{append_assoc, append_cancel_right}
 use Rattle.oc_select.specs.Tags.{hexadecimal, tag_name, tag_of}
 use Rattle.oc_select.specs.Meaning.{IsContent, IsSource, bytes_in, bytes_of}
 use Rattle.oc_select.specs.declared.content.Content.{Content}
@@ -24,6 +24,7 @@ glyph d below = grind (arith, nat_tests)
 onto : (base : ℕ) → 0 < base → base ≤ 16 → (k n : ℕ) (acc : List ℕ) → HasNoDash acc → HasNoDash (digits_onto k base false n acc)
 onto base low high zero n acc all = all
 onto base low high (suc k) n acc all =
+    let below : n % base < base = mod-lt n low in
     let first = glyph (n % base) (omega arith) in
     elim (eqb_tells (n / base) 0) [
       | inl last ↦ rw (last.0) (first, all)
@@ -73,16 +74,21 @@ hexadecimal_value n small = (digits_is_IsNumeral 16 false (omega arith) (omega a
 hexadecimal_injective : (m n : ℕ) → m < 2 ^ 64 → n < 2 ^ 64 → hexadecimal m ≡ hexadecimal n → m ≡ n
 hexadecimal_injective m n p q h = sym (hexadecimal_value m p) ∙ ap (digits_value 16) h ∙ hexadecimal_value n q
 
+-- the name of a file's tag, from its first dash
+regroup : (a b c : List ℕ) → a ++ codes "-" ++ b ++ codes "-" ++ c ≡ a ++ 45 ∷ (b ++ 45 ∷ c)
+regroup a b c = append_assoc (a ++ codes "-" ++ b) (codes "-") c ∙ append_assoc (a ++ codes "-") b (45 ∷ c) ∙ append_assoc a (codes "-") (b ++ 45 ∷ c)
+
 same_bytes : (group : List ℕ → List ℕ) (path : List ℕ) (m n : ℕ) (a b : Source) → m < 2 ^ 64 → n < 2 ^ 64 → IsSource a → IsSource b → tag_name m a ≡ tag_name n b
     → bytes_in group path m a ≡ bytes_in group path n b
 same_bytes group path m n (Group is_open) (Group is_open_too) p q x y h = ap (λ (l : ℕ). take l (group path)) (decimal_injective m n p q h)
 same_bytes group path m n (Group is_open) (File at name changed) p q x y h =
-    absurd (none_inside (hexadecimal at) (hexadecimal n ++ codes "-" ++ hexadecimal name) (decimal m) (decimal_without m) h)
+    absurd (none_inside (hexadecimal at) (hexadecimal n ++ 45 ∷ hexadecimal name) (decimal m) (decimal_without m) (h ∙ regroup (hexadecimal at) (hexadecimal n) (hexadecimal name)))
 same_bytes group path m n (File at name changed) (Group is_open) p q x y h =
-    absurd (none_inside (hexadecimal at) (hexadecimal m ++ codes "-" ++ hexadecimal name) (decimal n) (decimal_without n) (sym h))
+    absurd (none_inside (hexadecimal at) (hexadecimal m ++ 45 ∷ hexadecimal name) (decimal n) (decimal_without n) (sym h ∙ regroup (hexadecimal at) (hexadecimal m) (hexadecimal name)))
 same_bytes group path m n (File at name changed) (File at_too name_too changed_too) p q x y h =
-    let first = split_dash (hexadecimal at) (hexadecimal at_too) (hexadecimal m ++ codes "-" ++ hexadecimal name) (hexadecimal n ++ codes "-" ++ hexadecimal name_too)
-    (hexadecimal_without at) (hexadecimal_without at_too) h in
+    let whole : hexadecimal at ++ 45 ∷ (hexadecimal m ++ 45 ∷ hexadecimal name) ≡ hexadecimal at_too ++ 45 ∷ (hexadecimal n ++ 45 ∷ hexadecimal name_too) =
+    sym (regroup (hexadecimal at) (hexadecimal m) (hexadecimal name)) ∙ h ∙ regroup (hexadecimal at_too) (hexadecimal n) (hexadecimal name_too) in
+    let first = split_dash (hexadecimal at) (hexadecimal at_too) (hexadecimal m ++ 45 ∷ hexadecimal name) (hexadecimal n ++ 45 ∷ hexadecimal name_too) (hexadecimal_without at) (hexadecimal_without at_too) whole in
     let second = split_dash (hexadecimal m) (hexadecimal n) (hexadecimal name) (hexadecimal name_too) (hexadecimal_without m) (hexadecimal_without n) first.1 in
     let places : at ≡ at_too = hexadecimal_injective at at_too x.0 y.0 first.0 in
     let lengths : m ≡ n = hexadecimal_injective m n p q second.0 in

@@ -1,7 +1,7 @@
 -- Ranges of bytes (RFC 9110, section 14), and the parts of a content that they are.
-use Rattle.std.specs.Prelude.{ℕ, ◌+◌, ◌-◌, ◌≤◌, Bool, ◌&&◌, ◌==◌, nat_lt, nat_le, min, if◌then◌else◌, Option, Some, None, option_and_then, List, [], ◌∷◌, length, codes}
+use Rattle.std.specs.Prelude.{ℕ, ◌+◌, ◌-◌, ◌≤◌, Bool, ◌&&◌, ◌==◌, nat_lt, nat_le, min, if◌then◌else◌, Option, Some, None, option_and_then, is_none, List, length, codes, position}
 use Rattle.std.specs.Char.{is_ascii_digit}
-use Rattle.std.specs.List.{list_all, slice_split, before_first, after_first}
+use Rattle.std.specs.List.{list_all, before_first, after_first}
 use Rattle.std.specs.Str.{byte, str_eq_ignore_ascii_case}
 use Rattle.std.specs.Str.Parse.{digits_value}
 use Rattle.oc_select.specs.Values.{only_of}
@@ -39,16 +39,11 @@ range_of before after =
     else if length after == 0 then from (number_in before)
     else between (number_in before) (number_in after)
 
--- the range with these parts, which `-` separates
-abbrev pub range_of_parts : List (List ℕ) → Option Range
-range_of_parts [] = None
-range_of_parts (part ∷ []) = None
-range_of_parts (before ∷ after ∷ []) = range_of before after
-range_of_parts (before ∷ after ∷ third ∷ more) = None
-
 -- the one range that a text spells: `a-b`, `a-` or `-n`
 abbrev pub range_spelled : List ℕ → Option Range
-range_spelled text = range_of_parts (slice_split (λ b. b == byte "-") text)
+range_spelled text =
+    if is_none (position (λ b. b == byte "-") text) then None
+    else range_of (before_first (λ b. b == byte "-") text) (after_first (λ b. b == byte "-") text)
 
 -- the range that a value of Range asks for, which is `bytes`, in any case, `=` and one range
 abbrev pub range_in : List ℕ → Option Range

@@ -1,5 +1,5 @@
 -- Entity tags (RFC 9110, section 8.8.3), and lists of them.
-use Rattle.std.specs.Prelude.{ℕ, Bool, false, not, ◌&&◌, ◌||◌, ◌==◌, nat_le, if◌then◌else◌, List, [], ◌∷◌, ◌++◌, ◌-◌, length, take, drop, codes, decimal}
+use Rattle.std.specs.Prelude.{ℕ, Bool, false, not, ◌&&◌, ◌||◌, ◌==◌, nat_le, if◌then◌else◌, List, [], ◌∷◌, ◌++◌, ◌-◌, length, take, drop, slice_index, codes, decimal}
 use Rattle.std.specs.Fmt.{digits}
 use Rattle.std.specs.List.{list_all, flat_map, onto_first}
 use Rattle.std.specs.Str.{byte, bytes_eq}
@@ -32,7 +32,7 @@ without_mark tag = if bytes_eq (take 2 tag) (codes "W/") then drop 2 tag else ta
 -- bytes between two quotes
 abbrev pub is_quoted : List ℕ → Bool
 is_quoted text =
-    nat_le 2 (length text) && bytes_eq (take 1 text) (codes "\"") && bytes_eq (drop (length text - 1) text) (codes "\"")
+    nat_le 2 (length text) && slice_index text 0 == byte "\"" && slice_index text (length text - 1) == byte "\""
     && list_all is_tag_byte (take (length text - 2) (drop 1 text))
 
 -- a tag, weak or strong

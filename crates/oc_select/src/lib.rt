@@ -1,6 +1,7 @@
 //! What a request selects of a content: all of it, a part, or nothing. No socket, no route and no head is read here.
 #![tactic(auto)]
 
+mod alike;
 mod conditions;
 mod content;
 mod law;

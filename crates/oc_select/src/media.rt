@@ -3,6 +3,7 @@
 ghost use Rattle.std.specs.Prelude.{◌≡◌, map, option_map};
 ghost use Rattle.oc_select.specs.Media.{ending, last_part, media_type, type_in};
 
+use crate::alike::is_alike;
 use oc_base::cut;
 
 /// The media type of bytes of which nothing more is known.
@@ -87,7 +88,7 @@ fn type_in(rows: &'static [(&'static [u8], &'static str)], ending: &[u8]) -> &'s
 {
     let mut rest = rows;
     while let [row, others @ ..] = rest {
-        if row.0.eq_ignore_ascii_case(ending) {
+        if is_alike(row.0, ending) {
             return row.1;
         }
         rest = others;

@@ -1,5 +1,5 @@
 /// What a list of tags says of a content.
-#[derive(Clone, Copy, Debug, PartialEq, Eq)]
+#[derive(Clone, Copy)]
 pub enum Naming {
     /// Nothing: it has no tag, or is not spelled as a list of tags.
     Nothing,
@@ -10,7 +10,7 @@ pub enum Naming {
 }
 
 /// How two tags are compared (RFC 9110, section 8.8.3.2).
-#[derive(Clone, Copy, Debug, PartialEq, Eq)]
+#[derive(Clone, Copy)]
 pub enum Comparison {
     /// They are the same, and none is weak.
     Strong,

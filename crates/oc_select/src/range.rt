@@ -1,5 +1,5 @@
 /// A range of bytes that a client asks for (RFC 9110, section 14.1.2).
-#[derive(Clone, Copy, Debug, PartialEq, Eq)]
+#[derive(Clone, Copy)]
 pub enum Range {
     /// From the first place to the last, both included.
     Between { first: u64, last: u64 },

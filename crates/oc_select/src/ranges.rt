@@ -5,10 +5,11 @@ ghost use Rattle.oc_select.specs.Ranges.{IsInOrder, number_in, part_of, range_as
 ghost use Rattle.oc_select.specs.Values.{only_of};
 ghost use Rattle.oc_select.specs.declared.selection.Selection.TheVariants.{Part};
 
+use crate::alike::is_alike;
 use crate::range::Range;
 use crate::selection::Selection;
 use oc_base::words::{are_digits, value_of};
-use oc_base::{Text, cut, cut_at_first};
+use oc_base::{Text, cut_at_first, place_of};
 
 /// The unit of ranges, which is written in any case.
 const UNIT: &[u8] = b"bytes";
@@ -40,7 +41,7 @@ fn range_in(value: &[u8]) -> Option<Range>
     ensures in_order { IfSome result IsInOrder }
 {
     let (unit, range) = cut_at_first(value, b'=');
-    if !unit.eq_ignore_ascii_case(UNIT) {
+    if !is_alike(unit, UNIT) {
         return None;
     }
     range_spelled(range)
@@ -51,12 +52,10 @@ fn range_spelled(text: &[u8]) -> Option<Range>
     ensures asked { result ≡ range_spelled text.now }
     ensures in_order { IfSome result IsInOrder }
 {
-    let (before, Some(rest)) = cut(text, b'-') else {
+    if place_of(text, b'-').is_none() {
         return None;
-    };
-    let (after, None) = cut(rest, b'-') else {
-        return None;
-    };
+    }
+    let (before, after) = cut_at_first(text, b'-');
     range_of(before, after)
 }
 

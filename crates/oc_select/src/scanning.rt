@@ -1,6 +1,7 @@
 //! Lists of entity tags, member by member.
 
 ghost use Rattle.std.specs.Prelude.{◌≡◌, ◌∷◌, [], ◌<◌, false, length, reverse, IfNone, IfSome};
+ghost use Rattle.std.specs.List.{list_all};
 ghost use Rattle.httparse.specs.Grammar.{skip_ows, trim_ows};
 ghost use Rattle.oc_select.specs.Tags.{is_quoted, is_separator, is_tag, is_tag_byte, member_of, members_in, parts, quoted_after, without_mark};
 ghost use Rattle.oc_select.specs.Naming.{is_same, naming};
@@ -127,13 +128,20 @@ fn is_quoted(text: &[u8]) -> bool
     ensures { result ≡ is_quoted text.now }
 {
     match text {
-        [b'"', inside @ .., b'"'] => inside.iter().all(|byte| may_be_inside(*byte)),
+        [b'"', inside @ .., b'"'] => are_tag_bytes(inside),
         _ => false,
     }
 }
 
+/// Whether each byte may be between the quotes of a tag.
+fn are_tag_bytes(bytes: &[u8]) -> bool
+    ensures { result ≡ list_all is_tag_byte bytes.now }
+{
+    bytes.iter().all(|byte| is_tag_byte(*byte))
+}
+
 /// Whether a byte may be between the quotes of a tag.
-fn may_be_inside(byte: u8) -> bool
+fn is_tag_byte(byte: u8) -> bool
     ensures { result ≡ is_tag_byte byte }
 {
     byte == b'!' || (35 <= byte && byte <= 126) || 128 <= byte

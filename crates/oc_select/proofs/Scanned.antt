@@ -6,7 +6,7 @@ use Rattle.std.specs.Str.{bytes_eq}
 use Rattle.std.proofs.lemmas.Bool.{cases_Bool}
 use Rattle.std.proofs.lemmas.Slice.Eq.{bytes_eq-Decides}
 use Rattle.oc_select.specs.Tags.{is_tag, members, members_in, member_of, parts}
-use Rattle.oc_select.specs.Naming.{is_same, said, naming}
+use Rattle.oc_select.specs.Naming.{is_same, said}
 use Rattle.oc_select.specs.Scanning.{heard, heard_all, tag_heard, concluded}
 use Rattle.oc_select.specs.declared.naming.Comparison.{Comparison}
 use Rattle.oc_select.specs.declared.naming.Naming.{Naming}

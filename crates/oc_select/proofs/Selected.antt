@@ -1,15 +1,14 @@
 -- What a selection says of the request.
-use Rattle.std.proofs.Common.{◌≡◌, ℕ, zero, suc, ◌+◌, ◌-◌, ◌<◌, ◌≤◌, min, Bool, true, false, cond, List, [], ◌∷◌, length, Option, Some, None, refl, sym, ap, ◌∙◌, subst, inl, inr, ◌⊎◌, arith}
+use Rattle.std.proofs.Common.{◌≡◌, ℕ, zero, suc, ◌+◌, ◌-◌, ◌<◌, ◌≤◌, min, Bool, true, false, cond, List, [], ◌∷◌, length, Option, Some, None, refl, sym, ap, ◌∙◌, inl, inr, ◌⊎◌, arith}
 use Rattle.std.specs.Prelude.{◌&&◌, ◌||◌, ◌==◌, nat_lt, not, codes}
 use Rattle.std.specs.List.{list_all, list_any, Contains}
-use Rattle.std.specs.Str.{bytes_eq}
 use Rattle.std.proofs.lemmas.Bool.{cases_Bool, and_parts, ltb-true, leb-true}
 use Rattle.std.proofs.lemmas.Slice.Eq.{bytes_eq-Decides}
 use Rattle.httpdate.specs.Date.{unix_secs}
 use Rattle.httpdate.specs.declared.date.HttpDate.{HttpDate}
 use Rattle.oc_select.specs.Values.{are_there}
 use Rattle.oc_select.specs.Tags.{tag_of, is_tag, members, without_mark}
-use Rattle.oc_select.specs.Naming.{is_any, is_same, said, said_by, naming}
+use Rattle.oc_select.specs.Naming.{is_any, is_same, said, naming}
 use Rattle.oc_select.specs.Conditions.{change_of, date_in, is_after, is_current, is_known, is_named, is_refused, is_until}
 use Rattle.oc_select.specs.Ranges.{part_of, range_asked}
 use Rattle.oc_select.specs.Selecting.{has_ranges, part_or_whole, range_for, selection}
@@ -17,8 +16,7 @@ use Rattle.oc_select.specs.Meaning.{IsNamed, IsNoYounger}
 use Rattle.oc_select.specs.declared.content.Content.{Content}
 use Rattle.oc_select.specs.declared.content.Source.{Source}
 use Rattle.oc_select.specs.declared.content.Source.TheVariants.{Group, File}
-use Rattle.oc_select.specs.declared.naming.Comparison.{Comparison}
-use Rattle.oc_select.specs.declared.naming.Comparison.TheVariants.{Strong, Weak}
+use Rattle.oc_select.specs.declared.naming.Comparison.TheVariants.{Weak}
 use Rattle.oc_select.specs.declared.naming.Naming.{Naming}
 use Rattle.oc_select.specs.declared.naming.Naming.TheVariants.{Nothing, Named, Other}
 use Rattle.oc_select.specs.declared.range.Range.{Range}

@@ -11,7 +11,6 @@ use Rattle.oc_select.specs.declared.content.Source.TheVariants.{Group, File}
 use Rattle.oc_select.specs.declared.naming.Comparison.TheVariants.{Strong, Weak}
 use Rattle.oc_select.specs.declared.naming.Naming.TheVariants.{Nothing, Named, Other}
 use Rattle.oc_select.specs.declared.range.Range.TheVariants.{Between, From, Last}
-use Rattle.oc_select.specs.declared.selection.Selection.{Selection}
 use Rattle.oc_select.specs.declared.selection.Selection.TheVariants.{Whole, Part, NotModified, PreconditionFailed, Unsatisfiable}
 use Rattle.oc_select.specs.declared.selectors.RequestLine.{RequestLine}
 use Rattle.oc_select.specs.declared.selectors.Selectors.{Selectors}

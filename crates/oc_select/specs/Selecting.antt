@@ -1,6 +1,5 @@
 -- What a request selects of a content (RFC 9110, section 13.2.2).
-use Rattle.std.specs.Prelude.{ℕ, Bool, not, ◌&&◌, if◌then◌else◌, true, false, Option, Some, None, List}
-use Rattle.httpdate.specs.declared.date.HttpDate.{HttpDate}
+use Rattle.std.specs.Prelude.{ℕ, Bool, not, ◌&&◌, if◌then◌else◌, Option, Some, None, List}
 use Rattle.oc_select.specs.Tags.{tag_of}
 use Rattle.oc_select.specs.Conditions.{change_of, is_refused, is_known, is_current}
 use Rattle.oc_select.specs.Ranges.{range_asked, part_of}

@@ -1,5 +1,5 @@
 -- The texts of the fields of a reply.
-use Rattle.std.specs.Prelude.{ℕ, ◌+◌, ◌-◌, Bool, true, false, if◌then◌else◌, List, ◌++◌, codes, decimal}
+use Rattle.std.specs.Prelude.{ℕ, ◌+◌, ◌-◌, if◌then◌else◌, List, ◌++◌, codes, decimal}
 use Rattle.oc_select.specs.declared.content.Content.{Content}
 use Rattle.oc_select.specs.declared.content.Source.{Source}
 use Rattle.oc_select.specs.declared.content.Source.TheVariants.{Group, File}

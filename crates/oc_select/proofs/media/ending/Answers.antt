@@ -1,4 +1,4 @@
-use Rattle.std.proofs.Common.{◌≡◌, ◌==◌, Some, ap, sym, ◌∙◌, List, ℕ}
+use Rattle.std.proofs.Common.{◌==◌, Some, ap, sym, ◌∙◌, List, ℕ}
 use Rattle.oc_select.specs.Media.{last_of_several}
 use Rattle.oc_select.proofs.Parted.{several_after}
 use Rattle.oc_select.proofs.media.ending.Goals as goal

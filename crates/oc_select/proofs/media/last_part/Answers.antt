@@ -1,4 +1,4 @@
-use Rattle.std.proofs.Common.{◌≡◌, ◌==◌, ap, sym, ◌∙◌, List, ℕ}
+use Rattle.std.proofs.Common.{◌==◌, ap, sym, ◌∙◌, List, ℕ}
 use Rattle.oc_select.specs.Media.{last_of}
 use Rattle.oc_select.proofs.Parted.{last_after}
 use Rattle.oc_select.proofs.media.last_part.Goals as goal

@@ -1,4 +1,4 @@
-use Rattle.std.proofs.Common.{◌≡◌, Option, List, ℕ, ap, ◌∙◌}
+use Rattle.std.proofs.Common.{Option, List, ℕ, ap, ◌∙◌}
 use Rattle.oc_select.specs.Media.{ending, type_of}
 use Rattle.oc_select.proofs.media.media_type.Goals as goal
 

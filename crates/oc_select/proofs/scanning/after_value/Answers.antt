@@ -1,4 +1,4 @@
-use Rattle.std.proofs.Common.{◌≡◌, List, ℕ, ap, ◌∙◌}
+use Rattle.std.proofs.Common.{ap, ◌∙◌}
 use Rattle.oc_select.specs.Tags.{members_in}
 use Rattle.oc_select.specs.Scanning.{heard_all}
 use Rattle.oc_select.specs.declared.scanning.Heard.{Heard}

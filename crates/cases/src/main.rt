@@ -28,6 +28,7 @@ fn play(rt: &HostRuntime) -> io::Result<()> {
     node_cases::decisions::play(rt)?;
     wire_cases::wire::play(rt)?;
     folder_cases::play(rt)?;
+    select_cases::play(rt)?;
     serve_cases::connections::play(rt)?;
     wire_cases::service::play(rt)?;
     node_cases::node::play(rt)?;

@@ -1,0 +1,11 @@
+pub mod Values
+pub mod Tags
+pub mod Naming
+pub mod Scanning
+pub mod Conditions
+pub mod Ranges
+pub mod Selecting
+pub mod Texts
+pub mod Media
+pub mod Meaning
+pub mod Examples

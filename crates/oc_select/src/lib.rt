@@ -18,7 +18,7 @@ mod texts;
 pub use content::{Content, Source, change_at};
 pub use law::{
     a_part_is_the_one_that_is_asked_for, a_part_is_within_its_content,
-    a_plain_request_is_given_all, a_tag_tells_the_bytes, examples_compute,
+    a_plain_request_is_given_all, a_tag_tells_the_bytes, examples_compute, what_was_given_is_known,
     what_was_not_modified_is_known,
 };
 pub use media::media_type;

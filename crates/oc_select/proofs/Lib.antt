@@ -4,3 +4,4 @@ pub mod Parted
 pub mod Numbers
 pub mod Tagged
 pub mod Selected
+pub mod Given

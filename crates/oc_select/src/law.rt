@@ -1,11 +1,16 @@
-ghost use Rattle.std.specs.Prelude.{◌≡◌, ℕ, ◌+◌, ◌<◌, ◌≤◌, ◌⊎◌, List, [], true, Some};
+ghost use Rattle.std.specs.Prelude.{◌≡◌, ℕ, ◌+◌, ◌<◌, ◌≤◌, ◌⊎◌, List, [], ◌∷◌, true, Some};
 ghost use Rattle.oc_select.specs.Tags.{tag_of};
-ghost use Rattle.oc_select.specs.Conditions.{change_of};
+ghost use Rattle.httpdate.specs.Date.{date_text, unix_secs};
+ghost use Rattle.httpdate.specs.declared.date.HttpDate.{HttpDate};
+ghost use Rattle.oc_select.specs.Naming.{naming};
+ghost use Rattle.oc_select.specs.Conditions.{change_of, date_in};
 ghost use Rattle.oc_select.specs.Ranges.{part_of, range_asked};
 ghost use Rattle.oc_select.specs.Selecting.{selection};
 ghost use Rattle.oc_select.specs.Meaning.{IsContent, IsNamed, IsNoYounger, bytes_of};
 ghost use Rattle.oc_select.specs.Examples.{AreTags, AreRanges, AreOrders, AreTexts, AreTypes};
 ghost use Rattle.oc_select.specs.declared.content.Content.{Content};
+ghost use Rattle.oc_select.specs.declared.naming.Comparison.TheVariants.{Weak};
+ghost use Rattle.oc_select.specs.declared.naming.Naming.TheVariants.{Named};
 ghost use Rattle.oc_select.specs.declared.range.Range.{Range};
 ghost use Rattle.oc_select.specs.declared.selection.Selection.TheVariants.{NotModified, Part, Unsatisfiable, Whole};
 ghost use Rattle.oc_select.specs.declared.selectors.RequestLine.{RequestLine};
@@ -37,6 +42,13 @@ pub fn what_was_not_modified_is_known()
 pub fn a_tag_tells_the_bytes()
     ensures { (group : List ℕ → List ℕ) (path : List ℕ) (a b : Content) → IsContent a → IsContent b → tag_of a ≡ tag_of b
         → bytes_of group path a ≡ bytes_of group path b }
+{}
+
+/// What a client was given is known when it sends it back: the tag of a content names it in a list of tags, and the text of
+/// its last change is the date of its second.
+pub fn what_was_given_is_known()
+    ensures tag { (content : Content) → naming Weak (tag_of content) (tag_of content ∷ []) ≡ Named }
+    ensures date { (change : HttpDate) → date_in (date_text change ∷ []) ≡ Some (unix_secs change) }
 {}
 
 /// A request with none of the fields is given all.

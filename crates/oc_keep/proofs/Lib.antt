@@ -17,3 +17,4 @@ pub mod Settled
 pub mod Tidied
 pub mod Complete
 pub mod Safely
+pub mod Areas

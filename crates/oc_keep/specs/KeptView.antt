@@ -15,6 +15,7 @@ use Rattle.oc_model.specs.Plan.{Plan}
 use Rattle.oc_model.specs.Records.{folded}
 use Rattle.oc_model.specs.Snapshot.{snapshot}
 use Rattle.oc_model.specs.Step.{piece_of, plan}
+use Rattle.oc_node.specs.Areas.{with_areas}
 use Rattle.oc_node.specs.NodeView.{IsReached, NodeView}
 use Rattle.oc_io.specs.DiskView.{DiskView}
 use Rattle.oc_record.specs.Spelling.{records_bytes}
@@ -38,9 +39,17 @@ header nodes chain chunk areas = record { nodes = nodes; chain = chain; chunk = 
 abbrev pub kept_of : {D : Type 0} → NodeView → StoreView D → ContentView D → Bool → KeptView D
 kept_of node store content closed = record { node = node; store = store; content = content; closed = closed }
 
+-- the node that goes by these areas from now on
+abbrev pub going_by : {D : Type 0} → List ℕ → KeptView D → KeptView D
+going_by areas k = record k { node = record k.node { control = with_areas areas k.node.control } }
+
 -- the network that a node belongs to
 abbrev pub header_of : Control → Header
 header_of n = record { nodes = n.nodes; chain = n.chain; chunk = n.chunk; areas = n.areas }
+
+-- the same network, whatever its areas
+abbrev pub sizes_of : Control → Header
+sizes_of n = record { nodes = n.nodes; chain = n.chain; chunk = n.chunk; areas = [] }
 
 -- the disks of the node's files
 abbrev pub disks_of : {D : Type 0} → KeptView D → Disks D

@@ -13,7 +13,7 @@ use Rattle.oc_store.specs.Promises.{HasGood, RefusesFiles}
 use Rattle.oc_keep.specs.declared.errors.KeepLoad.{KeepLoad}
 use Rattle.oc_keep.specs.declared.errors.KeepLoad.TheVariants as loads
 use Rattle.oc_keep.specs.Files.{Disks, AreHonest, AllGoOn, AlwaysLeaves, IsLeft, MayLeave, OneRose, Survives, recovered}
-use Rattle.oc_keep.specs.KeptView.{KeptView, disks_of, header_of, node_of}
+use Rattle.oc_keep.specs.KeptView.{KeptView, disks_of, header_of, node_of, sizes_of}
 use Rattle.oc_keep.specs.Writing.{KeepsStore}
 
 -- Loading
@@ -62,6 +62,11 @@ RefusesNode view nodes d e loads.Memory = Unit {0}
 pub record IsSameNode (old new : Control) : Type 0 where
   pub me : new.me ≡ old.me
   pub header : header_of new ≡ header_of old
+
+-- the node keeps its id and its network, whatever its areas
+pub record IsSameSeat (old new : Control) : Type 0 where
+  pub me : new.me ≡ old.me
+  pub header : sizes_of new ≡ sizes_of old
 
 -- a call that wrote nothing: the node and the contents of its disks are as they were, and all room is still there
 pub record ChangesNothing {D : Type 0} (view : D → DiskView) (old new : KeptView D) : Type 0 where

@@ -1,12 +1,13 @@
 ghost use Rattle.std.specs.Prelude.{◌≡◌, ◌≢◌, ◌↔◌, ◌⊎◌, ◌&&◌, if◌then◌else◌, ℕ, ◌+◌, ◌-◌, ◌<◌, ◌≤◌, ◌^◌, false, true, length, take, drop, None, IsTrue, IsOk, IsErrOf, OnOk, OnErr, IfOk, IfErr};
+ghost use Rattle.std.specs.List.{AllByRecursion};
 ghost use Rattle.oc_base.specs.Groups.{bytes_of, shelf};
 ghost use Rattle.oc_base.specs.Lawful.{IsNode};
 ghost use Rattle.oc_base.specs.Shelves.{held_of};
 ghost use Rattle.oc_base.specs.Stops.{is_kept_new};
-ghost use Rattle.oc_base.specs.declared.limits.TheConstants.{DUE_BYTES, MAX_LOG_LENGTH};
+ghost use Rattle.oc_base.specs.declared.limits.TheConstants.{DUE_BYTES, MAX_AREA, MAX_LOG_LENGTH};
 ghost use Rattle.oc_keep.specs.Errors.{IsOutOfMemory};
-ghost use Rattle.oc_keep.specs.Files.{AllGoOn, AreReliable, SameAsEither, disks_in, SameDurable, Survives, disks};
-ghost use Rattle.oc_keep.specs.KeptView.{AtAnyMoment, IsFullAt, IsFullOn, IsHonest, IsKept, IsRipe, NodeSurvives, disks_of, header_of, node_of};
+ghost use Rattle.oc_keep.specs.Files.{AllGoOn, AreHonest, AreReliable, SameAsEither, disks_in, SameDurable, Survives, disks};
+ghost use Rattle.oc_keep.specs.KeptView.{AtAnyMoment, IsFullAt, IsFullOn, IsHonest, IsKept, IsRipe, NodeSurvives, disks_of, going_by, header_of, node_of};
 ghost use Rattle.oc_keep.specs.Promises.{ChangesNothing, Closes, HoldFiles, IsNodeOf, IsSameNode, IsTurnedOver, LeavesFiles, LoadsSafely, RefusesNode};
 ghost use Rattle.oc_keep.specs.ReadyView.{AreLeftAs, CanCommit, CanStopWrite, IsFullToWrite, OthersStay, is_written, outcome_of, told_of};
 ghost use Rattle.oc_laws_step.specs.LawfulNode.{IsLawfulNode};
@@ -77,12 +78,43 @@ impl<D: Disk> Kept<D> {
         ensures works { IfErr result (λ refused. AreReliable D.view (disks_in files)
             → HoldFiles D.view seat.header.nodes (disks_in files) → IsOutOfMemory refused.1) }
     {
+        let ids = seat.nodes();
+        Kept::load_among(alloc, files, seat, ids)
+    }
+
+    /// Loads a node whose files may tell of the nodes up to this id, of more that its network has room for: a file that tells
+    /// of a later one is refused. All else is as with [`Kept::load`].
+    pub fn load_among(
+        alloc: Global,
+        files: Files<D>,
+        seat: Seat,
+        ids: u32,
+    ) -> Result<Kept<D>, (Files<D>, KeepLoad)>
+        requires header { IsHeader seat.header }
+        requires id { IsNode seat.header.nodes seat.id }
+        requires ids { ids ≤ seat.header.nodes }
+
+        // The node is the one that the files recover, and every crash now leaves it.
+        ensures loaded { IfOk result (λ kept. IsNodeOf D.view seat.header seat.id (disks_in files) kept) }
+        ensures files { IfOk result (λ _. AreHonest D.view (disks_in files) → HoldFiles D.view ids (disks_in files)) }
+
+        // A crash at any moment leaves what a crash at the start would have left.
+        ensures safely { IfOk result (λ kept. LoadsSafely D.view seat.header seat.id (disks_in files) (disks_of kept)) }
+        ensures safely_err { IfErr result (λ refused. LoadsSafely D.view seat.header seat.id (disks_in files) (disks_in refused.0)) }
+
+        // The causes of a refusal.
+        ensures refuses { IfErr result (λ refused. RefusesNode D.view ids (disks_in files) (disks_in refused.0) refused.1) }
+
+        // The files of a node on reliable disks are loaded.
+        ensures works { IfErr result (λ refused. AreReliable D.view (disks_in files)
+            → HoldFiles D.view ids (disks_in files) → IsOutOfMemory refused.1) }
+    {
         let Files {
             control,
             alternate,
             content,
         } = files;
-        let (store, list) = match Store::load(alloc, control, alternate, seat.nodes()) {
+        let (store, list) = match Store::load(alloc, control, alternate, ids) {
             Ok(loaded) => loaded,
             Err((control, alternate, error)) => {
                 return Err((
@@ -337,6 +369,15 @@ impl<D: Disk> Kept<D> {
         ensures { result.now ≡ self.now.node }
     {
         &self.node
+    }
+
+    /// Goes by these areas of the nodes from now on. The files tell no areas, and nothing is written.
+    pub fn set_areas(&mut self, areas: Vec<u8>)
+        requires many { length areas.items ≡ self.old.node.control.nodes }
+        requires bytes { AllByRecursion (λ a. a ≤ MAX_AREA) areas.items }
+        ensures { self.new ≡ going_by areas.items self.old }
+    {
+        self.node.set_areas(areas);
     }
 
     /// The invariant between any two calls: the node is one that inputs and starts lead to, its change log is

@@ -1,7 +1,8 @@
 //! A node on its three files: nothing that was acknowledged is lost.
 //!
 //! A [`Kept`] is a node with its two control files and its content file. [`Kept::load`] makes the node that
-//! [`Files`] recover, and starts it. [`Kept::take`] takes one input: all memory first, then at most one frame of
+//! [`Files`] recover, and starts it; [`Kept::load_among`] makes one whose files may tell of fewer nodes than its network
+//! has room for, so that more may come while it runs. [`Kept::take`] takes one input: all memory first, then at most one frame of
 //! one file, then the change of the node, and only then the messages. [`Kept::tidy`] puts a snapshot in the place
 //! of all control records, where the current file is long. [`status_of`] is the status of the node that a replay
 //! and `check` show.

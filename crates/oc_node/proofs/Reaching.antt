@@ -4,7 +4,7 @@ use Rattle.std.specs.List.{AllByRecursion}
 use Rattle.std.proofs.lemmas.List.{length-replicate}
 use Rattle.oc_base.specs.Lawful.{IsNode}
 use Rattle.oc_base.specs.Shelves.{IsShelf}
-use Rattle.oc_base.specs.declared.limits.TheConstants.{MAX_LOG_LENGTH, MAX_FRAME_RECORDS}
+use Rattle.oc_base.specs.declared.limits.TheConstants.{MAX_AREA, MAX_LOG_LENGTH, MAX_FRAME_RECORDS}
 use Rattle.oc_base.specs.declared.shelf.Shelf.{Shelf}
 use Rattle.oc_model.specs.declared.input.Input.{Input}
 use Rattle.oc_model.specs.declared.record.Record.{Record}
@@ -21,6 +21,7 @@ use Rattle.oc_laws_step.specs.Sound.{IsSound}
 use Rattle.oc_laws_step.proofs.LawfulSteps.{lawful_fits, lawful_new, lawful_planned}
 use Rattle.oc_laws_step.proofs.Soundness.{sound_new, sound_planned}
 use Rattle.oc_laws_step.proofs.Steps.{writes}
+use Rattle.oc_node.specs.Areas.{with_areas}
 use Rattle.oc_state.specs.DurableView.{IsKept, brought_by}
 use Rattle.oc_state.proofs.Folding.{brought_most}
 use Rattle.oc_step.specs.Applying.{CanApply, HaveRoom}
@@ -51,6 +52,34 @@ reached_with n d reached kept = record {
   me = reached.me;
   sound = record { kept = kept.sound; leases = reached.sound.leases; rates = reached.sound.rates; counts = reached.sound.counts };
   lawful = record { few = reached.lawful.few; among = reached.lawful.among; me = reached.lawful.me; chain = reached.lawful.chain; chunk = reached.lawful.chunk; kept = kept.lawful; soft = reached.lawful.soft; rates = reached.lawful.rates };
+}
+
+-- a reached node with other areas within their range, as many as there are nodes
+pub reached_areas : (areas : List ℕ) (n : Control) → IsReached n → length areas ≡ n.nodes → AllByRecursion (λ a. a ≤ MAX_AREA) areas → IsReached (with_areas areas n)
+reached_areas areas n reached many bytes = record {
+  header = record {
+    some = reached.header.some;
+    few = reached.header.few;
+    chain = reached.header.chain;
+    short = reached.header.short;
+    within = reached.header.within;
+    chunk = reached.header.chunk;
+    fits = reached.header.fits;
+    areas = many;
+    bytes = bytes;
+  };
+  me = reached.me;
+  sound = record { kept = reached.sound.kept; leases = reached.sound.leases; rates = reached.sound.rates; counts = reached.sound.counts };
+  lawful = record {
+    few = reached.lawful.few;
+    among = reached.lawful.among;
+    me = reached.lawful.me;
+    chain = reached.lawful.chain;
+    chunk = reached.lawful.chunk;
+    kept = reached.lawful.kept;
+    soft = reached.lawful.soft;
+    rates = reached.lawful.rates;
+  };
 }
 
 -- the node after a step

@@ -8,13 +8,14 @@ ghost use Rattle.oc_model.specs.Lawful.{AreRecords, IsHeader, IsInput};
 ghost use Rattle.oc_model.specs.Records.{folded};
 ghost use Rattle.oc_model.specs.Snapshot.{snapshot};
 ghost use Rattle.oc_model.specs.Step.{plan, step};
+ghost use Rattle.oc_node.specs.Areas.{with_areas};
 ghost use Rattle.oc_node.specs.Planning.{IsPlanFor};
 ghost use Rattle.oc_state.specs.DurableView.{brought_by};
 ghost use Rattle.oc_step.specs.Applying.{CanApply, IsStepOf};
 ghost use Rattle.oc_step.specs.Planned.{IsWanting, control_after, planned};
 ghost use Rattle.oc_state.specs.ListUpdates.{IsListUpdate};
 ghost use Rattle.oc_base.specs.Lawful.{IsCount, IsNode};
-ghost use Rattle.oc_base.specs.declared.limits.TheConstants.{MAX_BASE_ACKED, MAX_LOG_LENGTH};
+ghost use Rattle.oc_base.specs.declared.limits.TheConstants.{MAX_AREA, MAX_BASE_ACKED, MAX_LOG_LENGTH};
 ghost use Rattle.oc_model.specs.Node.{new_control, new_durable, Durable as State, Node as Whole};
 ghost use Rattle.oc_model.specs.Looking.{parent_of};
 ghost use Rattle.oc_step.specs.NodeView.{IsReached};
@@ -119,6 +120,15 @@ impl Node {
     {
         self.durable.recover(list)?;
         Ok(())
+    }
+
+    /// Goes by these areas of the nodes from now on.
+    pub fn set_areas(&mut self, areas: Vec<u8>)
+        requires many { length areas.items ≡ self.old.control.nodes }
+        requires bytes { AllByRecursion (λ a. a ≤ MAX_AREA) areas.items }
+        ensures { self.new ≡ record self.old { control = with_areas areas.items self.old.control } }
+    {
+        self.areas = areas;
     }
 
     /// Makes the plan of the step for this input, with the shelf of the groups that the node holds. It takes
@@ -245,6 +255,13 @@ impl Node {
         ensures { result ≡ self.now.control.chunk }
     {
         self.chunk
+    }
+
+    /// The area of each node, by its number.
+    pub fn areas(&self) -> &[u8]
+        ensures { result.now ≡ self.now.control.areas }
+    {
+        &self.areas
     }
 
     /// The second at which the lease of each child ends, by its number, if it is set.

@@ -11,3 +11,4 @@ pub mod MovesAsking
 pub mod Moving
 pub mod CalmSteps
 pub mod Frames
+pub mod MoreNodes

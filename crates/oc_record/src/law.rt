@@ -1,5 +1,5 @@
 ghost use Rattle.std.specs.List.{AllByRecursion};
-ghost use Rattle.std.specs.Prelude.{◌≡◌, ℕ, ◌<◌, ◌^◌, List, [], ◌∷◌};
+ghost use Rattle.std.specs.Prelude.{◌≡◌, ℕ, ◌<◌, ◌≤◌, ◌^◌, Ok, List, [], ◌∷◌};
 ghost use Rattle.oc_base.specs.Codes.{AreDistinct};
 ghost use Rattle.oc_model.specs.declared.record.Record.{Record};
 ghost use Rattle.oc_record.specs.Examples.{first_ask, first_ask_record, old_entry, old_entry_record};
@@ -35,6 +35,11 @@ pub fn spellings_are_read()
     ensures spelled { (nodes : ℕ) (list : List Record) → AreRecords nodes list → HaveSpellings list }
     ensures read { (nodes : ℕ) (list : List Record) → nodes < 2 ^ 32 → AreRecords nodes list
         → decoded nodes (records_bytes list) ≡ Ok list }
+{}
+
+/// Records that are read in a network are read in one of more nodes, too.
+pub fn records_are_read_among_more_nodes()
+    ensures { (few many : ℕ) (bytes : List ℕ) (list : List Record) → few ≤ many → decoded few bytes ≡ Ok list → decoded many bytes ≡ Ok list }
 {}
 
 /// Worked examples of reading give the expected records, as a computation checks.

@@ -36,7 +36,7 @@ pub use encoding::encode;
 pub use fault::RecordFault;
 pub use law::{
     codes_are_distinct, examples_are_read, least_lengths_are_exact, no_two_lists_have_one_spelling,
-    spellings_are_read,
+    records_are_read_among_more_nodes, spellings_are_read,
 };
 pub use oc_base::IdList;
 pub use oc_model::Record;

@@ -1,9 +1,9 @@
-ghost use Rattle.std.specs.Prelude.{◌≡◌, ℕ, ◌^◌, ◌<◌, List, [], ◌∷◌, ◌++◌, Ok, None, get_or};
+ghost use Rattle.std.specs.Prelude.{◌≡◌, ℕ, ◌^◌, ◌<◌, ◌≤◌, List, [], ◌∷◌, ◌++◌, Ok, None, get_or};
 ghost use Rattle.oc_model.specs.declared.record.Record.{Record};
 ghost use Rattle.oc_record.specs.Spelling.{records_bytes};
 ghost use Rattle.oc_model.specs.Lawful.{AreRecords};
 ghost use Rattle.oc_record.specs.Reading.{decoded};
-ghost use Rattle.oc_store.specs.ControlFiles.{records_in, records_of, first_bad, generation_in, begun_generation};
+ghost use Rattle.oc_store.specs.ControlFiles.{records_in, records_of, recovered, first_bad, generation_in, begun_generation, IsGood};
 
 use oc_record::spellings_are_read;
 
@@ -19,6 +19,13 @@ pub fn frames_add_their_records()
 {
     spellings_are_read();
 }
+
+/// Control files of a network are those of one of more nodes, and recover the same records.
+pub fn files_are_those_of_more_nodes()
+    ensures good { (few many : ℕ) (file : List ℕ) → few ≤ many → IsGood few file → IsGood many file }
+    ensures records { (few many : ℕ) (file alternate : List ℕ) → few ≤ many → IsGood few file → IsGood few alternate
+        → recovered many file alternate ≡ recovered few file alternate }
+{}
 
 /// The generation of a body is that of the snapshot that begins its records, and 0 if none does.
 pub fn generations_are_of_snapshots()

@@ -25,7 +25,9 @@ mod store;
 mod turning;
 
 pub use errors::{Side, StoreError};
-pub use law::{frames_add_their_records, generations_are_of_snapshots};
+pub use law::{
+    files_are_those_of_more_nodes, frames_add_their_records, generations_are_of_snapshots,
+};
 pub use oc_journal::{AppendError, FileError, Frame, RestartError};
 pub use oc_record::Record;
 pub use store::Store;

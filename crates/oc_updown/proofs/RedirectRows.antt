@@ -1,5 +1,5 @@
 -- The nodes of a table, and those past the chain.
-use Rattle.std.proofs.Common.{◌≡◌, ℕ, zero, suc, ◌+◌, ◌-◌, ◌<◌, ◌≤◌, Bool, true, false, not, ◌&&◌, ◌==◌, nat_lt, if◌then◌else◌, Option, Some, None, List, [], ◌∷◌, length, map, refl, ap, sym, ◌∙◌, arith, ne_eqb}
+use Rattle.std.proofs.Common.{◌≡◌, ℕ, zero, suc, ◌+◌, ◌-◌, ◌<◌, ◌≤◌, Bool, true, false, not, ◌&&◌, ◌==◌, nat_lt, if◌then◌else◌, Option, Some, None, List, [], ◌∷◌, length, map, take, drop, replicate, refl, ap, sym, ◌∙◌, arith, ne_eqb, length-take}
 use Rattle.std.specs.Prelude.{filter}
 use Rattle.std.specs.List.{range_with_len}
 use Rattle.std.proofs.lemmas.Bool.Decides.{nat_tests}
@@ -8,6 +8,7 @@ use Rattle.oc_model.specs.Table.{newest, live_parent, reaches, is_listed}
 use Rattle.oc_model.specs.Selected.{servers}
 use Rattle.oc_model.proofs.Walks.{walk_ends}
 use Rattle.oc_updown.specs.TableView.{AreRowsFrom, AreRows, entries_of}
+use Rattle.oc_updown.proofs.Entries.{no_entries_past}
 use Rattle.oc_updown.proofs.Lists.{filter_taken, filter_left, filter_either}
 
 -- the rows from a node on have no certificate of a node before it
@@ -65,11 +66,36 @@ some_past chain a (suc n) h = by_test (λ near. some_past chain (a + 1) n near) 
       filter_left (λ x. nat_lt chain x) a (range_with_len (a + 1) n) e ∙ rest (omega arith) ∙ ap (λ (m : ℕ). range_with_len (chain + 1) m) all
 
 -- the servers are the listed ones of the nodes past the chain
-pub servers_are : (rows : List (Option Cert)) (me chain : ℕ) → AreRows rows → servers (entries_of rows) me chain ≡ filter (is_listed (entries_of rows) me) (range_with_len (chain + 1) (length rows - chain))
-servers_are rows me chain fit =
+servers_are : (nodes : ℕ) (rows : List (Option Cert)) (me chain : ℕ) → AreRowsFrom nodes 1 rows → servers (entries_of rows) me chain ≡ filter (is_listed (entries_of rows) me) (range_with_len (chain + 1) (length rows - chain))
+servers_are nodes rows me chain fit =
     let t = entries_of rows in
     let n = length rows in
     let all : 1 + n - (chain + 1) ≡ n - chain = omega arith in
-    ap (λ (xs : List ℕ). filter (λ x. nat_lt chain x) xs) (filter_rows n 1 rows (is_listed t me) fit (λ y le e. unlisted t me y e))
+    ap (λ (xs : List ℕ). filter (λ x. nat_lt chain x) xs) (filter_rows nodes 1 rows (is_listed t me) fit (λ y le e. unlisted t me y e))
     ∙ filter_either (λ x. nat_lt chain x) (is_listed t me) (range_with_len 1 n)
     ∙ ap (λ (xs : List ℕ). filter (is_listed t me) xs) (some_past chain 1 n (omega arith) ∙ ap (λ (m : ℕ). range_with_len (chain + 1) m) all)
+
+-- rows from the first one on
+front_rows : (nodes x k : ℕ) (rows : List (Option Cert)) → AreRowsFrom nodes x rows → AreRowsFrom nodes x (take k rows)
+front_rows nodes x zero rows fit = tt
+front_rows nodes x (suc k) [] fit = tt
+front_rows nodes x (suc k) (None ∷ rows) fit = front_rows nodes (x + 1) k rows fit
+front_rows nodes x (suc k) (Some c ∷ rows) fit = (fit.0, fit.1, front_rows nodes (x + 1) k rows fit.2)
+
+-- they have all entries, where the others have none
+front_entries : (k : ℕ) (rows : List (Option Cert)) → entries_of (drop k rows) ≡ [] → entries_of rows ≡ entries_of (take k rows)
+front_entries zero rows none = none
+front_entries (suc k) [] none = refl
+front_entries (suc k) (None ∷ rows) none = front_entries k rows none
+front_entries (suc k) (Some c ∷ rows) none = ap (λ (es : List Cert). c ∷ es) (front_entries k rows none)
+
+-- no server is past the rows in use
+pub servers_used : (rows : List (Option Cert)) (me chain used n : ℕ) (blank : Option Cert) → AreRows rows → used ≤ length rows → drop used rows ≡ replicate n blank → blank ≡ None
+    → servers (entries_of rows) me chain ≡ filter (is_listed (entries_of rows) me) (range_with_len (chain + 1) (used - chain))
+servers_used rows me chain used n blank fit within rest unused =
+    let cut : entries_of rows ≡ entries_of (take used rows) = front_entries used rows (no_entries_past rows used used n blank (omega arith) rest unused) in
+    let many : length (take used rows) ≡ used = omega (arith, length-take used rows, within) in
+    ap (λ (t : List Cert). servers t me chain) cut
+    ∙ servers_are (length rows) (take used rows) me chain (front_rows (length rows) 1 used rows fit)
+    ∙ ap (λ (m : ℕ). filter (is_listed (entries_of (take used rows)) me) (range_with_len (chain + 1) (m - chain))) many
+    ∙ ap (λ (t : List Cert). filter (is_listed t me) (range_with_len (chain + 1) (used - chain))) (sym cut)

@@ -10,8 +10,8 @@ use oc_base::{NodeId, Slots};
 /// the fewest clients, and of several the one with the least id. `areas` and `counts` have a value for
 /// each node, by its number.
 ///
-/// Each node is looked at once, and the table is walked for a node only if the node would be the best
-/// so far.
+/// Each node with a row in use is looked at once, and the table is walked for a node only if the node would be the
+/// best so far.
 pub fn select(
     table: &Table,
     me: NodeId,
@@ -24,7 +24,7 @@ pub fn select(
     requires counts { length counts.now.items ≡ table.now.nodes }
     ensures { result ≡ selected table.now.entries me chain areas.now counts.now.items area }
 {
-    let nodes = table.rows().len() as u32;
+    let nodes = table.rows().used() as u32;
     let preference = Preference {
         areas,
         counts,

@@ -7,7 +7,7 @@ use Rattle.oc_model.specs.Table.{is_listed}
 use Rattle.oc_model.specs.Selected.{servers}
 use Rattle.oc_updown.specs.Better.{is_better, best_of, with_rest}
 use Rattle.oc_updown.proofs.FreestServer.{freest_best}
-use Rattle.oc_updown.proofs.RedirectRows.{servers_are}
+use Rattle.oc_updown.proofs.RedirectRows.{servers_used}
 use Rattle.oc_updown.proofs.Steps.{state, after_better, after_failed, after_worse, next_node, no_node, rest_none, behind_more}
 use Rattle.oc_updown.proofs.selecting.select.Goals as goal
 use Rattle.oc_updown.proofs.selecting.select.Goals.{then-beats+then-is_listed, else-beats, else-beats-via-then-beats+else-is_listed, else-beats-via-else-beats}
@@ -21,7 +21,7 @@ loop-before-preserved c =
     let areas = c.args.areas.now in
     let counts = c.args.counts.now.items in
     let area = c.args.area in
-    let n = c.len-nodes.result in
+    let n = c.used-nodes.result in
     let i = c.loop-before.before in
     let best = c.loop-before.best in
     let new = c.if-beats.best in
@@ -53,13 +53,12 @@ returns c =
     let area = c.args.area in
     let better = is_better areas counts area in
     let rows = c.rows.result.now.items in
-    let n = c.len-nodes.result in
+    let n = c.used-nodes.result in
     let i = c.loop-before.before in
     let best = c.loop-before.best in
     let all : servers t me chain ≡ filter (is_listed t me) (range_with_len (chain + 1) (n - chain)) =
-    subst (λ (t : List Cert). servers t me chain ≡ filter (is_listed t me) (range_with_len (chain + 1) (n - chain))) c.rows.ensures.entries (
-    subst (λ (n : ℕ). servers (entries_of rows) me chain ≡ filter (is_listed (entries_of rows) me) (range_with_len (chain + 1) (n - chain))) (sym c.len-nodes.ensures) (servers_are rows me chain c.rows.ensures.rows.0)
-    ) in
+    subst (λ (t : List Cert). servers t me chain ≡ filter (is_listed t me) (range_with_len (chain + 1) (n - chain))) c.rows.ensures.entries
+    (servers_used rows me chain n _ _ c.rows.ensures.rows.0 c.used-nodes.ensures.within c.used-nodes.ensures.rest c.rows.ensures.rows.1) in
     sym (rest_none better best)
     ∙ ap (λ (xs : List ℕ). with_rest better best (best_of better (filter (is_listed t me) xs))) (sym (no_node n i c.loop-before-test.false))
     ∙ c.loop-before.invariant.best

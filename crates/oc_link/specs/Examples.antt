@@ -1,5 +1,5 @@
 -- Worked examples of stories.
-use Rattle.std.specs.Prelude.{◌≡◌, ℕ, Bool, true, false, Some, List, [], ◌∷◌, refl}
+use Rattle.std.specs.Prelude.{◌≡◌, ℕ, Bool, true, false, Some, List, [], ◌∷◌, ◌++◌, refl}
 use Rattle.oc_link.specs.declared.call.Call.{Call}
 use Rattle.oc_link.specs.declared.call.Call.TheVariants as acts
 use Rattle.oc_link.specs.declared.event.Coming.TheVariants as comings
@@ -65,6 +65,10 @@ two_at_once-held = refl
 
 pub two_at_once-next : may (asks 2 false) two_at_once ≡ true
 two_at_once-next = refl
+
+-- the second one came before the first reply was sent in full, which may still be lost
+pub two_at_once-lost : may (events.Gone 7 losses.Failed) (two_at_once ++ acts.Next (asks 2 false) [] ∷ []) ≡ true
+two_at_once-lost = refl
 
 pub two_at_once-first : may (asks 1 false) two_at_once ≡ false
 two_at_once-first = refl

@@ -15,10 +15,6 @@ use Rattle.oc_link.specs.Dials.{is_dialling}
 abbrev pub untouched : Standing
 untouched = record { phase = phases.Awaiting; number = 1; fed = false; watched = false }
 
--- the state after a request came: the bytes given before were sent
-abbrev pub after_request : Standing → Standing
-after_request s = record s { watched = false }
-
 -- the state after an event that tells of room: no bytes were given since
 abbrev pub after_room : Standing → Standing
 after_room s = record s { fed = false }
@@ -29,7 +25,7 @@ after_loss s = record s { phase = phases.Gone; watched = false }
 
 -- the state of the connection c after an event
 abbrev pub sees : ℕ → LinkEvent → Standing → Standing
-sees c (events.Request a) s = if a.connection == c then after_request s else s
+sees c (events.Request a) s = s
 sees c (events.Room d) s = if d == c then after_room s else s
 sees c (events.Gone d loss) s = if d == c then after_loss s else s
 sees c (events.Reply d coming) s = s
@@ -43,13 +39,13 @@ after_take s = record s { phase = phases.Answering; fed = false }
 abbrev pub after_give : Standing → Standing
 after_give s = record s { fed = true }
 
--- the state after the reply was given in full
+-- the state after the reply was given in full; a connection that was watched stays so, since bytes of a reply before may not have been sent yet
 abbrev pub after_finish : Ending → Standing → Standing
 after_finish e s = record {
   phase = if e.keeps then phases.Awaiting else phases.Whole;
   number = if e.keeps then counted s.number else s.number;
   fed = false;
-  watched = e.watched;
+  watched = e.watched || s.watched;
 }
 
 -- the state after the connection was broken off

@@ -36,6 +36,7 @@ pub enum Call {
 pub struct Ending {
     /// Whether the connection stays open for the next request; otherwise it ends once all bytes are sent.
     pub keeps: bool,
-    /// Whether `LinkEvent::Gone` tells if the reply could not be sent in full.
+    /// Whether `LinkEvent::Gone` tells if the reply could not be sent in full. It may tell so after further requests of the
+    /// connection, since bytes of several replies may be on their way.
     pub watched: bool,
 }

@@ -28,7 +28,7 @@ pub struct Standing {
     /// Whether the connection was given bytes since its request was awaited or taken, or since
     /// there was room.
     pub fed: bool,
-    /// Whether an event tells if the connection's bytes can't be sent.
+    /// Whether an event tells if the connection's bytes can't be sent: those of its last reply, or of one before.
     pub watched: bool,
 }
 
@@ -117,12 +117,6 @@ impl Standing {
         ensures { result ≡ sees connection event self }
     {
         match event {
-            LinkEvent::Request(arrival) => Standing {
-                phase: self.phase,
-                number: self.number,
-                fed: self.fed,
-                watched: self.watched && arrival.connection != connection,
-            },
             LinkEvent::Room(of) => Standing {
                 phase: self.phase,
                 number: self.number,
@@ -149,14 +143,14 @@ impl Standing {
                 phase: Phase::Awaiting,
                 number: self.number.saturating_add(1),
                 fed: false,
-                watched: ending.watched,
+                watched: ending.watched || self.watched,
             }
         } else {
             Standing {
                 phase: Phase::Whole,
                 number: self.number,
                 fed: false,
-                watched: ending.watched,
+                watched: ending.watched || self.watched,
             }
         }
     }

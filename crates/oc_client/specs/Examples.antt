@@ -13,12 +13,12 @@ use Rattle.oc_client.specs.declared.put_end.PutEnd.TheVariants as ends
 
 -- the requests
 pub record AreTexts : Type 0 where
-  pub ask : ask_lines (codes "/news/a") None (codes "h:80") None ≡ codes "HEAD /news/a?here HTTP/1.1\r\nHost: h:80\r\nConnection: close\r\n\r\n"
-  pub lets_in : ask_lines (codes "/a") None (codes "h") (Some (codes "xyz")) ≡ codes "HEAD /a?here HTTP/1.1\r\nHost: h\r\nAuthorization: Bearer xyz\r\nConnection: close\r\n\r\n"
+  pub ask : ask_lines (codes "/news/a") None (codes "h:80") None ≡ codes "HEAD /news/a?here HTTP/1.1\r\nHost: h:80\r\n\r\n"
+  pub lets_in : ask_lines (codes "/a") None (codes "h") (Some (codes "xyz")) ≡ codes "HEAD /a?here HTTP/1.1\r\nHost: h\r\nAuthorization: Bearer xyz\r\n\r\n"
   pub piece : publish_lines (codes "/news/a") (Some (codes "4")) (codes "h") None 12 (bytes (codes "xyz"))
-      ≡ codes "POST /news/a?at=12&area=4 HTTP/1.1\r\nHost: h\r\nContent-Type: application/octet-stream\r\nContent-Length: 3\r\nConnection: close\r\n\r\nxyz"
+      ≡ codes "POST /news/a?at=12&area=4 HTTP/1.1\r\nHost: h\r\nContent-Type: application/octet-stream\r\nContent-Length: 3\r\n\r\nxyz"
   pub seals : publish_lines (codes "/a") None (codes "h") None 15 seal
-      ≡ codes "POST /a?seal&at=15 HTTP/1.1\r\nHost: h\r\nContent-Type: application/octet-stream\r\nContent-Length: 0\r\nConnection: close\r\n\r\n"
+      ≡ codes "POST /a?seal&at=15 HTTP/1.1\r\nHost: h\r\nContent-Type: application/octet-stream\r\nContent-Length: 0\r\n\r\n"
 
 -- the answers in replies
 pub record AreAnswers : Type 0 where

@@ -40,13 +40,13 @@ place_query seals at area = seal_part seals ++ codes "at=" ++ decimal at ++ area
 -- a query for the length of the group at a path, for an area
 abbrev pub ask_lines : List ℕ → Option (List ℕ) → List ℕ → Option (List ℕ) → List ℕ
 ask_lines path area host token =
-    codes "HEAD " ++ path ++ codes "?here" ++ area_text area ++ codes " HTTP/1.1\r\n" ++ from_lines host token ++ codes "Connection: close\r\n\r\n"
+    codes "HEAD " ++ path ++ codes "?here" ++ area_text area ++ codes " HTTP/1.1\r\n" ++ from_lines host token ++ codes "\r\n"
 
 -- the head of a request with a load
 abbrev pub publish_lines : List ℕ → Option (List ℕ) → List ℕ → Option (List ℕ) → ℕ → Load → List ℕ
 publish_lines path area host token at load =
     codes "POST " ++ path ++ codes "?" ++ place_query load.seals at area ++ codes " HTTP/1.1\r\n" ++ from_lines host token
-    ++ codes "Content-Type: application/octet-stream\r\nContent-Length: " ++ decimal (length load.piece) ++ codes "\r\nConnection: close\r\n\r\n" ++ load.piece
+    ++ codes "Content-Type: application/octet-stream\r\nContent-Length: " ++ decimal (length load.piece) ++ codes "\r\n\r\n" ++ load.piece
 
 -- the target of a publishing, and its token
 pub record Goal : Type 0 where

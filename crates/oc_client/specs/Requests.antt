@@ -8,18 +8,10 @@ abbrev pub authorization_line : Option (List ℕ) → List ℕ
 authorization_line None = []
 authorization_line (Some token) = codes "Authorization: Bearer " ++ token ++ line_end
 
--- a GET of a path with a query, with these last lines
-abbrev pub get_lines : List ℕ → List ℕ → List ℕ → Option (List ℕ) → List ℕ → List ℕ
-get_lines path query host token last =
-    codes "GET " ++ path ++ query ++ codes " HTTP/1.1\r\nHost: " ++ host ++ codes "\r\n" ++ authorization_line token ++ last
-
--- the lines of a request whose connection is closed after the reply
-abbrev pub close_lines : List ℕ
-close_lines = codes "Connection: close\r\n\r\n"
-
--- the lines of a request whose connection is kept
-abbrev pub keep_lines : List ℕ
-keep_lines = codes "\r\n"
+-- a GET of a path with a query
+abbrev pub get_lines : List ℕ → List ℕ → List ℕ → Option (List ℕ) → List ℕ
+get_lines path query host token =
+    codes "GET " ++ path ++ query ++ codes " HTTP/1.1\r\nHost: " ++ host ++ codes "\r\n" ++ authorization_line token ++ codes "\r\n"
 
 -- `&` and more of a query, where there is more
 abbrev pub more_text : Option (List ℕ) → List ℕ

@@ -2,7 +2,7 @@
 use Rattle.std.specs.Prelude.{◌≡◌, ℕ, Bool, true, false, not, ◌&&◌, Option, Some, None, option_map, string_bytes, List}
 use Rattle.oc_client.specs.Addresses.{host_of, dial_address}
 use Rattle.oc_client.specs.FetchOptions.{FetchOptions}
-use Rattle.oc_client.specs.Requests.{get_lines, close_lines, keep_lines, query_from, news_query, from_at, knowledge_at}
+use Rattle.oc_client.specs.Requests.{get_lines, query_from, news_query, from_at, knowledge_at}
 use Rattle.oc_client.specs.Turns.{Turn}
 use Rattle.oc_client.specs.declared.client_state.ClientState.{ClientState}
 use Rattle.oc_client.specs.declared.wish.Wish as asked
@@ -28,12 +28,12 @@ from_of (news manner area) = manner.from
 -- the request for the content of a URL
 abbrev pub whole_request : FetchOptions → ClientState → List ℕ
 whole_request manner state =
-    get_lines state.target.path (query_from (from_at state.led manner.from) state.target.query) (host_of state.target) manner.token close_lines
+    get_lines state.target.path (query_from (from_at state.led manner.from) state.target.query) (host_of state.target) manner.token
 
 -- the request for the news of a group
 abbrev pub news_request : FetchOptions → Option (List ℕ) → ClientState → List ℕ
 news_request manner area state =
-    get_lines state.target.path (news_query state.start area (knowledge_at state.led state.target.query)) (host_of state.target) manner.token keep_lines
+    get_lines state.target.path (news_query state.start area (knowledge_at state.led state.target.query)) (host_of state.target) manner.token
 
 -- the request of a client at a state
 abbrev pub request_of : Wish → ClientState → List ℕ

@@ -75,9 +75,7 @@ impl<'a> Job<'a> {
         let path = self.target.url().path();
         let area = self.area.as_str();
         let lines = self.lines.as_str();
-        let text = format!(in self.alloc;
-            "HEAD {path}?here{area} HTTP/1.1\r\n{lines}Connection: close\r\n\r\n"
-        )?;
+        let text = format!(in self.alloc; "HEAD {path}?here{area} HTTP/1.1\r\n{lines}\r\n")?;
         Ok(text.into_bytes())
     }
 
@@ -89,7 +87,7 @@ impl<'a> Job<'a> {
         let lines = self.lines.as_str();
         let count = load.piece.items().len();
         let head = format!(in self.alloc;
-            "POST {path}?{query} HTTP/1.1\r\n{lines}Content-Type: application/octet-stream\r\nContent-Length: {count}\r\nConnection: close\r\n\r\n"
+            "POST {path}?{query} HTTP/1.1\r\n{lines}Content-Type: application/octet-stream\r\nContent-Length: {count}\r\n\r\n"
         )?;
         let mut text = head.into_bytes();
         text.extend_from_slice(load.piece.items())?;

@@ -63,7 +63,7 @@ fn write_whole(
     let host = state.target.host();
     let authorization = authorization_line(alloc, manner.shown_token())?;
     let text = format!(in alloc;
-        "GET {path}{query} HTTP/1.1\r\nHost: {host}\r\n{authorization}Connection: close\r\n\r\n"
+        "GET {path}{query} HTTP/1.1\r\nHost: {host}\r\n{authorization}\r\n"
     )?;
     Ok(text.into_bytes())
 }

@@ -15,28 +15,28 @@ joined_more parts i d inside =
     ∙ (sym (joined-append (take i parts) (get_or parts i d ∷ [])) ∙ ap joined (sym (take_more parts i d inside)))
 
 -- a request in parts, of which some are several texts
-pub request_joined : (first name end type count close host digits m1 m2 m3 mac body one two three : List ℕ) → one ≡ first ++ name → two ≡ end ++ type ++ count → three ≡ end ++ close → m1 ++ m2 ++ m3 ≡ mac →
-    one ++ (host ++ (two ++ (digits ++ (three ++ (m1 ++ (m2 ++ (m3 ++ (end ++ (body ++ []))))))))) ≡ (first ++ (name ++ host ++ end) ++ type ++ (count ++ digits ++ end) ++ close ++ (mac ++ end)) ++ body
-request_joined first name end type count close host digits m1 m2 m3 mac body one two three a b c d = rw (a, b, c, ← d) (simp (append_assoc, append-nil))
+pub request_joined : (first name end type count host digits m1 m2 m3 mac body one two : List ℕ) → one ≡ first ++ name → two ≡ end ++ type ++ count → m1 ++ m2 ++ m3 ≡ mac →
+    one ++ (host ++ (two ++ (digits ++ (end ++ (m1 ++ (m2 ++ (m3 ++ (end ++ (body ++ []))))))))) ≡ (first ++ (name ++ host ++ end) ++ type ++ (count ++ digits ++ end) ++ (mac ++ end)) ++ body
+request_joined first name end type count host digits m1 m2 m3 mac body one two a b c = rw (a, b, ← c) (simp (append_assoc, append-nil))
 
 -- a download's request in parts
-pub get_joined : (get path mark query version name host end close target two three : List ℕ) → two ≡ version ++ name → three ≡ end ++ close ++ end → target ≡ mark ++ query →
-    get ++ (path ++ (mark ++ (query ++ (two ++ (host ++ (three ++ [])))))) ≡ get ++ (path ++ target) ++ version ++ (name ++ host ++ end) ++ close ++ end
-get_joined get path mark query version name host end close target two three a b c = rw (a, b, c) (simp (append_assoc, append-nil))
+pub get_joined : (get path mark query version name host end target two three : List ℕ) → two ≡ version ++ name → three ≡ end ++ end → target ≡ mark ++ query →
+    get ++ (path ++ (mark ++ (query ++ (two ++ (host ++ (three ++ [])))))) ≡ get ++ (path ++ target) ++ version ++ (name ++ host ++ end) ++ end
+get_joined get path mark query version name host end target two three a b c = rw (a, b, c) (simp (append_assoc, append-nil))
 
 -- a request that follows a group, in parts
-pub follow_joined : (get path start digits follow mark area version name host end close target two three : List ℕ) → two ≡ version ++ name → three ≡ end ++ close ++ end → target ≡ mark ++ area →
-    get ++ (path ++ (start ++ (digits ++ (follow ++ (mark ++ (area ++ (two ++ (host ++ (three ++ []))))))))) ≡ get ++ (path ++ start ++ digits ++ follow ++ target) ++ version ++ (name ++ host ++ end) ++ close ++ end
-follow_joined get path start digits follow mark area version name host end close target two three a b c = rw (a, b, c) (simp (append_assoc, append-nil))
+pub follow_joined : (get path start digits follow mark area version name host end target two three : List ℕ) → two ≡ version ++ name → three ≡ end ++ end → target ≡ mark ++ area →
+    get ++ (path ++ (start ++ (digits ++ (follow ++ (mark ++ (area ++ (two ++ (host ++ (three ++ []))))))))) ≡ get ++ (path ++ start ++ digits ++ follow ++ target) ++ version ++ (name ++ host ++ end) ++ end
+follow_joined get path start digits follow mark area version name host end target two three a b c = rw (a, b, c) (simp (append_assoc, append-nil))
 
 -- a reply's head in parts
-head_joined : (v d s n e l1 l2 l3 a h r1 r2 r3 t q1 q2 q3 g1 g2 g3 c1 c2 c3 k m1 m2 m3 : List ℕ) →
-    v ++ (d ++ ((s ++ n ++ e) ++ (l1 ++ (l2 ++ (l3 ++ (a ++ (h ++ (r1 ++ (r2 ++ (r3 ++ (t ++ (q1 ++ (q2 ++ (q3 ++ (g1 ++ (g2 ++ (g3 ++ (c1 ++ (c2 ++ (c3 ++ (k ++ (m1 ++ (m2 ++ (m3 ++ (e ++ []))))))))))))))))))))))))) ≡ (v ++ d ++ s ++ n ++ e) ++ (l1 ++ l2 ++ l3) ++ a ++ h ++ (r1 ++ r2 ++ r3) ++ t ++ (q1 ++ q2 ++ q3) ++ (g1 ++ g2 ++ g3) ++ (c1 ++ c2 ++ c3) ++ k ++ ((m1 ++ m2 ++ m3) ++ e)
-head_joined v d s n e l1 l2 l3 a h r1 r2 r3 t q1 q2 q3 g1 g2 g3 c1 c2 c3 k m1 m2 m3 = simp (append_assoc, append-nil)
+head_joined : (v d s n e l1 l2 l3 a h r1 r2 r3 t1 t2 t3 q1 q2 q3 w1 w2 w3 x g1 g2 g3 c1 c2 c3 k m1 m2 m3 : List ℕ) →
+    v ++ (d ++ ((s ++ n ++ e) ++ (l1 ++ (l2 ++ (l3 ++ (a ++ (h ++ (r1 ++ (r2 ++ (r3 ++ (t1 ++ (t2 ++ (t3 ++ (q1 ++ (q2 ++ (q3 ++ (w1 ++ (w2 ++ (w3 ++ (x ++ (g1 ++ (g2 ++ (g3 ++ (c1 ++ (c2 ++ (c3 ++ (k ++ (m1 ++ (m2 ++ (m3 ++ (e ++ []))))))))))))))))))))))))))))))) ≡ (v ++ d ++ s ++ n ++ e) ++ (l1 ++ l2 ++ l3) ++ a ++ h ++ (r1 ++ r2 ++ r3) ++ (t1 ++ t2 ++ t3) ++ (q1 ++ q2 ++ q3) ++ (w1 ++ w2 ++ w3) ++ x ++ (g1 ++ g2 ++ g3) ++ (c1 ++ c2 ++ c3) ++ k ++ ((m1 ++ m2 ++ m3) ++ e)
+head_joined v d s n e l1 l2 l3 a h r1 r2 r3 t1 t2 t3 q1 q2 q3 w1 w2 w3 x g1 g2 g3 c1 c2 c3 k m1 m2 m3 = simp (append_assoc, append-nil)
 
 -- a reply's head in the lines that the parts make
-pub head_is : (v d s p e l1 l2 l3 a h r1 r2 r3 t q1 q2 q3 g1 g2 g3 c1 c2 c3 k m1 m2 m3 number phrase location allow challenge rule type range group content connection mac : List ℕ) →
-    d ≡ number → p ≡ s ++ phrase ++ e → l1 ++ l2 ++ l3 ≡ location → a ≡ allow → h ≡ challenge → r1 ++ r2 ++ r3 ≡ rule → t ≡ type → q1 ++ q2 ++ q3 ≡ range → g1 ++ g2 ++ g3 ≡ group → c1 ++ c2 ++ c3 ≡ content → k ≡ connection → m1 ++ m2 ++ m3 ≡ mac →
-    v ++ (d ++ (p ++ (l1 ++ (l2 ++ (l3 ++ (a ++ (h ++ (r1 ++ (r2 ++ (r3 ++ (t ++ (q1 ++ (q2 ++ (q3 ++ (g1 ++ (g2 ++ (g3 ++ (c1 ++ (c2 ++ (c3 ++ (k ++ (m1 ++ (m2 ++ (m3 ++ (e ++ []))))))))))))))))))))))))) ≡ (v ++ number ++ s ++ phrase ++ e) ++ location ++ allow ++ challenge ++ rule ++ type ++ range ++ group ++ content ++ connection ++ (mac ++ e)
-head_is v d s p e l1 l2 l3 a h r1 r2 r3 t q1 q2 q3 g1 g2 g3 c1 c2 c3 k m1 m2 m3 number phrase location allow challenge rule type range group content connection mac e1 e2 e3 e4 e5 e6 e7 e8 e9 e10 e11 e12 =
-    rw e2 (head_joined v d s phrase e l1 l2 l3 a h r1 r2 r3 t q1 q2 q3 g1 g2 g3 c1 c2 c3 k m1 m2 m3 ∙ rw (e1, e3, e4, e5, e6, e7, e8, e9, e10, e11, e12))
+pub head_is : (v d s p e l1 l2 l3 a h r1 r2 r3 t1 t2 t3 q1 q2 q3 w1 w2 w3 x g1 g2 g3 c1 c2 c3 k m1 m2 m3 number phrase location allow challenge rule type range tag accepts group content connection mac : List ℕ) →
+    d ≡ number → p ≡ s ++ phrase ++ e → l1 ++ l2 ++ l3 ≡ location → a ≡ allow → h ≡ challenge → r1 ++ r2 ++ r3 ≡ rule → t1 ++ t2 ++ t3 ≡ type → q1 ++ q2 ++ q3 ≡ range → w1 ++ w2 ++ w3 ≡ tag → x ≡ accepts → g1 ++ g2 ++ g3 ≡ group → c1 ++ c2 ++ c3 ≡ content → k ≡ connection → m1 ++ m2 ++ m3 ≡ mac →
+    v ++ (d ++ (p ++ (l1 ++ (l2 ++ (l3 ++ (a ++ (h ++ (r1 ++ (r2 ++ (r3 ++ (t1 ++ (t2 ++ (t3 ++ (q1 ++ (q2 ++ (q3 ++ (w1 ++ (w2 ++ (w3 ++ (x ++ (g1 ++ (g2 ++ (g3 ++ (c1 ++ (c2 ++ (c3 ++ (k ++ (m1 ++ (m2 ++ (m3 ++ (e ++ []))))))))))))))))))))))))))))))) ≡ (v ++ number ++ s ++ phrase ++ e) ++ location ++ allow ++ challenge ++ rule ++ type ++ range ++ tag ++ accepts ++ group ++ content ++ connection ++ (mac ++ e)
+head_is v d s p e l1 l2 l3 a h r1 r2 r3 t1 t2 t3 q1 q2 q3 w1 w2 w3 x g1 g2 g3 c1 c2 c3 k m1 m2 m3 number phrase location allow challenge rule type range tag accepts group content connection mac e1 e2 e3 e4 e5 e6 e7 e8 e9 e10 e11 e12 e13 e14 =
+    rw e2 (head_joined v d s phrase e l1 l2 l3 a h r1 r2 r3 t1 t2 t3 q1 q2 q3 w1 w2 w3 x g1 g2 g3 c1 c2 c3 k m1 m2 m3 ∙ rw (e1, e3, e4, e5, e6, e7, e8, e9, e10, e11, e12, e13, e14))

@@ -46,7 +46,7 @@ head_with mac host digits = record {
   target = codes "/!overcast";
   minor = 1;
   line_end = crlf;
-  fields = written_field (codes "Host") host ∷ written_field (codes "Content-Type") (codes "application/octet-stream") ∷ written_field (codes "Content-Length") digits ∷ written_field (codes "Connection") (codes "close") ∷ mac_fields mac;
+  fields = written_field (codes "Host") host ∷ written_field (codes "Content-Type") (codes "application/octet-stream") ∷ written_field (codes "Content-Length") digits ∷ mac_fields mac;
   last = crlf;
 }
 
@@ -58,15 +58,15 @@ mac_named (Some mac) = (codes "Overcast-Mac", mac) ∷ []
 -- the names and values of all fields
 abbrev fields_with : Option (List ℕ) → List ℕ → List ℕ → List Named
 fields_with mac host digits =
-    (codes "Host", host) ∷ (codes "Content-Type", codes "application/octet-stream") ∷ (codes "Content-Length", digits) ∷ (codes "Connection", codes "close") ∷ mac_named mac
+    (codes "Host", host) ∷ (codes "Content-Type", codes "application/octet-stream") ∷ (codes "Content-Length", digits) ∷ mac_named mac
 
 -- the written text, with the host and the digits between texts
-shape_of_text : (host digits end kind length close mac : List ℕ) → ((((host ++ end) ++ kind) ++ ((length ++ digits) ++ end)) ++ close) ++ (mac ++ end) ≡ host ++ ((end ++ (kind ++ length)) ++ (digits ++ (end ++ (close ++ (mac ++ end)))))
-shape_of_text host digits end kind length close mac = simp append_assoc
+shape_of_text : (host digits end kind length mac : List ℕ) → (((host ++ end) ++ kind) ++ ((length ++ digits) ++ end)) ++ (mac ++ end) ≡ host ++ ((end ++ (kind ++ length)) ++ (digits ++ (end ++ (mac ++ end))))
+shape_of_text host digits end kind length mac = simp append_assoc
 
 -- the text that the grammar prints, in the same parts
-shape_of_print : (host digits end middle close mac : List ℕ) → (((host ++ end) ++ (middle ++ ((digits ++ end) ++ (close ++ mac)))) ++ end) ++ [] ≡ host ++ ((end ++ middle) ++ (digits ++ (end ++ (close ++ (mac ++ end)))))
-shape_of_print host digits end middle close mac = simp (append_assoc, append-nil)
+shape_of_print : (host digits end middle mac : List ℕ) → (((host ++ end) ++ (middle ++ ((digits ++ end) ++ mac))) ++ end) ++ [] ≡ host ++ ((end ++ middle) ++ (digits ++ (end ++ (mac ++ end))))
+shape_of_print host digits end middle mac = simp (append_assoc, append-nil)
 
 -- the texts
 abbrev opening : List ℕ
@@ -75,14 +75,11 @@ opening = codes "POST /!overcast HTTP/1.1\r\nHost: "
 abbrev length_name : List ℕ
 length_name = codes "Content-Length: "
 
-abbrev closing : List ℕ
-closing = codes "Connection: close\r\n"
-
 abbrev parts_of_text : Option (List ℕ) → List ℕ → List ℕ → List ℕ
-parts_of_text mac host digits = opening ++ (host ++ ((line_end ++ (type_line ++ length_name)) ++ (digits ++ (line_end ++ (closing ++ (mac_line mac ++ line_end))))))
+parts_of_text mac host digits = opening ++ (host ++ ((line_end ++ (type_line ++ length_name)) ++ (digits ++ (line_end ++ (mac_line mac ++ line_end)))))
 
 written-parts : (mac : Option (List ℕ)) (host : List ℕ) (count : ℕ) → request_head_with mac host count ≡ parts_of_text mac host (decimal count)
-written-parts mac host count = ap (λ (x : List ℕ). opening ++ x) (shape_of_text host (decimal count) line_end type_line length_name closing (mac_line mac))
+written-parts mac host count = ap (λ (x : List ℕ). opening ++ x) (shape_of_text host (decimal count) line_end type_line length_name (mac_line mac))
 
 -- the line of the MAC
 mac_printed : (mac : Option (List ℕ)) → flat_map print_field (mac_fields mac) ≡ mac_line mac
@@ -93,8 +90,8 @@ mac_printed (Some mac) = append-nil (mac_line (Some mac))
 printed-parts : (mac : Option (List ℕ)) (host digits : List ℕ) → print_request (head_with mac host digits) ++ [] ≡ parts_of_text mac host digits
 unfolding httparse_on_literals
 printed-parts mac host digits =
-    ap (λ (x : List ℕ). opening ++ x) (shape_of_print host digits line_end (type_line ++ length_name) closing (flat_map print_field (mac_fields mac)))
-    ∙ ap (λ (x : List ℕ). opening ++ (host ++ ((line_end ++ (type_line ++ length_name)) ++ (digits ++ (line_end ++ (closing ++ (x ++ line_end))))))) (mac_printed mac)
+    ap (λ (x : List ℕ). opening ++ x) (shape_of_print host digits line_end (type_line ++ length_name) (flat_map print_field (mac_fields mac)))
+    ∙ ap (λ (x : List ℕ). opening ++ (host ++ ((line_end ++ (type_line ++ length_name)) ++ (digits ++ (line_end ++ (x ++ line_end)))))) (mac_printed mac)
 
 -- the text of the head is the text that is written
 text_with : (mac : Option (List ℕ)) (host : List ℕ) (count : ℕ) → request_head_with mac host count ≡ print_request (head_with mac host (decimal count)) ++ []
@@ -146,10 +143,7 @@ good_head mac host digits good hosts numbers =
         good_field (codes "Content-Type") (codes "application/octet-stream") refl refl,
         (
           good_field (codes "Content-Length") digits refl (list_all-weaker is_ascii_digit is_value_byte digit_value_byte digits numbers),
-          (
-            good_field (codes "Connection") (codes "close") refl refl,
-            good_mac mac good,
-          ),
+          good_mac mac good,
         ),
       ),
     ) in
@@ -174,7 +168,7 @@ found_fields mac host digits good hosts numbers =
     let first = trim_ows-visible is_host_byte host_visible host hosts in
     let third = trim_ows-visible is_ascii_digit digit_visible digits numbers in
     let last = found_mac mac good in
-    λ i. (codes "Host", first i) ∷ (codes "Content-Type", codes "application/octet-stream") ∷ (codes "Content-Length", third i) ∷ (codes "Connection", codes "close") ∷ last i
+    λ i. (codes "Host", first i) ∷ (codes "Content-Type", codes "application/octet-stream") ∷ (codes "Content-Length", third i) ∷ last i
 
 -- the path of messages has no escape
 plain_path : decoded message_path ≡ Some message_path
@@ -205,7 +199,7 @@ short_head : (mac : Option (List ℕ)) (host : List ℕ) (count : ℕ) → IfSom
 short_head mac host count made good few =
     let fits : count < 2 ^ 64 = omega (arith, few) in
     let digits = length-decimal-le 20 count (omega arith) (omega arith) fits in
-    let behind = line_end ++ (closing ++ (mac_line mac ++ line_end)) in
+    let behind = line_end ++ (mac_line mac ++ line_end) in
     let middle = line_end ++ (type_line ++ length_name) in
     omega (arith, short_mac mac made, length-append (mac_line mac) line_end, ap length (written-parts mac host count), length-append opening (host ++ (middle ++ (decimal count ++ behind))), length-append host (middle ++ (decimal count ++ behind)), length-append middle (decimal count ++ behind), length-append (decimal count) behind, good.most, digits)
 

@@ -1,6 +1,7 @@
 -- Answers to the bytes that are left of a source, where these bytes are known.
-use Rattle.std.specs.Prelude.{◌≡◌, ℕ, true, false, Option, Some, None, Result, Ok, Err, List, [], ◌++◌, ⊤}
+use Rattle.std.specs.Prelude.{◌≡◌, ℕ, false, Option, Some, None, Result, Ok, Err, List, [], ◌++◌, ⊤}
 use Rattle.httparse.specs.Grammar.{ReadsRequest, ReadsResponse}
+use Rattle.oc_select.specs.Values.{no_selectors}
 use Rattle.oc_http.specs.Paths.{message_path}
 use Rattle.oc_http.specs.Requests.{read_request}
 use Rattle.oc_http.specs.Responses.{read_reply_head}
@@ -46,8 +47,9 @@ written_head mac count = record {
   length = count;
   expects = false;
   minor = 1;
-  closes = true;
+  closes = false;
   has_authorization = false;
   authorization = None;
   mac = mac;
+  selectors = no_selectors;
 }

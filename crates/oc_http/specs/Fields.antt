@@ -6,6 +6,8 @@ use Rattle.std.specs.Str.{byte, str_eq_ignore_ascii_case}
 use Rattle.std.specs.Str.Parse.{digits_value}
 use Rattle.httparse.specs.Grammar.{Field, trim_ows}
 use Rattle.httparse.specs.Spans.{name_and_value}
+use Rattle.oc_select.specs.declared.selectors.Selectors.{Selectors}
+pub use Rattle.oc_select.specs.Values.{is_present, only_of}
 
 -- a field: its name, and its value without the spaces and tabs at both ends
 abbrev pub Named : Type 0
@@ -24,11 +26,6 @@ abbrev pub values : List ℕ → List Named → List (List ℕ)
 values name [] = []
 values name (field ∷ fields) = if is_alike field.0 name then field.1 ∷ values name fields else values name fields
 
--- presence of the field
-abbrev pub is_present : List (List ℕ) → Bool
-is_present [] = false
-is_present (value ∷ more) = true
-
 -- presence of the field more than once
 abbrev pub is_repeated : List (List ℕ) → Bool
 is_repeated [] = false
@@ -38,12 +35,6 @@ is_repeated (value ∷ more) = is_present more
 abbrev pub first_of : List (List ℕ) → Option (List ℕ)
 first_of [] = None
 first_of (value ∷ more) = Some value
-
--- the value of the field, where there is just one
-abbrev pub only_of : List (List ℕ) → Option (List ℕ)
-only_of [] = None
-only_of (value ∷ []) = Some value
-only_of (value ∷ second ∷ more) = None
 
 -- a single field, whose value is this text in upper or lower case
 abbrev pub is_only : List ℕ → List (List ℕ) → Bool
@@ -114,3 +105,14 @@ lists_close value = list_any (λ part. is_alike (trim_ows part) (codes "close"))
 -- fields with a Connection field that lists `close`
 abbrev pub closes : List Named → Bool
 closes fields = list_any lists_close (connections fields)
+
+-- the fields that say on what conditions a content is asked for, and which part of it
+abbrev pub selectors_of : List Named → Selectors
+selectors_of fields = record {
+  if_match = values (codes "if-match") fields;
+  if_none_match = values (codes "if-none-match") fields;
+  if_modified_since = values (codes "if-modified-since") fields;
+  if_unmodified_since = values (codes "if-unmodified-since") fields;
+  if_range = values (codes "if-range") fields;
+  range = values (codes "range") fields;
+}

@@ -4,7 +4,7 @@ use Rattle.std.specs.Str.{bytes_eq}
 use Rattle.httparse.specs.Grammar.{RequestHead}
 use Rattle.oc_base.specs.Steps.{◌>>=◌}
 use Rattle.oc_base.specs.declared.limits.TheConstants.{MAX_FIELDS, MAX_BODY_BYTES}
-use Rattle.oc_http.specs.Fields.{Named, named, is_present, is_only, is_unusable, length_of, only_of, hosts, codings, lengths, expectations, authorizations, macs, closes, has_host_fault}
+use Rattle.oc_http.specs.Fields.{Named, named, is_present, is_only, is_unusable, length_of, only_of, hosts, codings, lengths, expectations, authorizations, macs, closes, has_host_fault, selectors_of}
 use Rattle.oc_http.specs.Escapes.{decoded}
 use Rattle.oc_http.specs.Targets.{path_of, query_of}
 use Rattle.oc_http.specs.Lengths.{fault_or, checked_length}
@@ -79,6 +79,7 @@ head_of method target minor fields = record {
   has_authorization = is_present (authorizations fields);
   authorization = only_of (authorizations fields);
   mac = only_of (macs fields);
+  selectors = selectors_of fields;
 }
 
 -- the head that these parts give, or its first fault

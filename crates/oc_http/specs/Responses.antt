@@ -1,5 +1,5 @@
 -- The head of a response, its faults, and the length of its body.
-use Rattle.std.specs.Prelude.{◌≡◌, ℕ, ◌≤◌, Bool, false, not, ◌&&◌, ◌==◌, nat_lt, if◌then◌else◌, Option, Some, None, unwrap_or, Result, List, length, codes}
+use Rattle.std.specs.Prelude.{◌≡◌, ℕ, ◌≤◌, Bool, false, not, ◌&&◌, ◌||◌, ◌==◌, nat_lt, if◌then◌else◌, Option, Some, None, unwrap_or, Result, List, length, codes}
 use Rattle.httparse.specs.Grammar.{ResponseHead, status_code}
 use Rattle.oc_base.specs.declared.limits.TheConstants.{MAX_FIELDS, MAX_BODY_BYTES}
 use Rattle.oc_http.specs.Fields.{Named, named, is_present, is_only, is_unusable, length_of, number_of, first_of, only_of, codings, lengths, locations, group_lengths, macs, closes}
@@ -59,9 +59,13 @@ abbrev pub read_reply_start : ResponseHead → Result ReplyHead HttpFault
 read_reply_start head =
     fault_or (reply_head_of (status_code head) (named head.fields)) (reply_fault (named head.fields))
 
--- the length of the body in bytes; none where it goes to the end of the source; a 204 has no body
+-- a response with this status has no body, whatever its head tells
+abbrev pub has_no_body : ℕ → Bool
+has_no_body status = status == 204 || status == 304
+
+-- the length of the body in bytes; none where it goes to the end of the source
 abbrev pub body_length : ReplyHead → Option ℕ
-body_length head = if head.status == 204 then Some 0 else head.length
+body_length head = if has_no_body head.status then Some 0 else head.length
 
 -- a body of the length that is told, or without one a body of at most `MAX_BODY_BYTES`
 abbrev pub IsLong : Option ℕ → List ℕ → Type 0
@@ -77,6 +81,8 @@ reply_of head body = record {
   body = body;
   rule = None;
   content_range = None;
+  etag = None;
+  accepts_ranges = false;
   group_length = head.group_length;
   mac = head.mac;
 }

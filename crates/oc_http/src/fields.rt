@@ -1,16 +1,20 @@
 //! The fields of a head.
 
 ghost use Rattle.std.specs.List.{AllByRecursion};
-ghost use Rattle.std.specs.Prelude.{◌≡◌, [], ◌∷◌, ◌<◌, map, length, IfSome, IfNone, nat_lt, option_map};
+ghost use Rattle.std.specs.Prelude.{◌≡◌, [], ◌∷◌, ◌<◌, map, length, IfOk, IfSome, IfNone, nat_lt, option_map};
 ghost use Rattle.httparse.specs.Spans.{header_bytes, IsHeaderWithin};
 ghost use Rattle.oc_base.specs.declared.limits.TheConstants.{MAX_FIELDS};
-ghost use Rattle.oc_http.specs.Fields.{values, closes, only_of, is_only, is_present, hosts, has_host_fault};
+ghost use Rattle.oc_http.specs.Fields.{values, closes, only_of, is_only, is_present, hosts, has_host_fault, selectors_of};
 ghost use Rattle.oc_http.specs.Found.{IsFound};
 
 use crate::field_match::FieldMatch;
-use crate::text::{is_alike, lists_close};
+use crate::text::lists_close;
+use crate::texts::copy;
 use httparse::spans::HeaderSpan;
-use oc_base::MAX_FIELDS;
+use oc_base::{MAX_FIELDS, Memory};
+use oc_select::text::is_alike;
+use oc_select::{Selectors, Values};
+use std::alloc::Global;
 use std::marker::Model;
 
 /// The fields of a head, which lie in its bytes. Contracts see it as the list of their names and values.
@@ -58,7 +62,7 @@ impl<'a> Fields<'a> {
         let bytes = self.bytes;
         let mut rest = self.spans;
         'fields: while let Some((span, spans)) = rest.split_first() {
-            if is_alike(span.name.of(bytes), name) {
+            if is_alike(span.name.of(bytes), name.as_bytes()) {
                 return Some((span.value.of(bytes), Fields { bytes, spans }));
             }
             rest = spans;
@@ -89,6 +93,36 @@ impl<'a> Fields<'a> {
         }
     }
 
+    /// The values of the fields of a name, in upper or lower case.
+    pub fn all(&self, alloc: Global, name: &str) -> Result<Values, Memory>
+        ensures { IfOk result (λ all. all ≡ values name.now self.now) }
+    {
+        let mut items = Vec::new(alloc);
+        let mut fields = Fields {
+            bytes: self.bytes,
+            spans: self.spans,
+        };
+        'fields: while let Some((value, rest)) = fields.next(name) {
+            items.push(copy(alloc, value)?)?;
+            fields = rest;
+        }
+        Ok(Values::of(items))
+    }
+
+    /// The fields that say on what conditions a content is asked for, and which part of it.
+    pub fn selectors(&self, alloc: Global) -> Result<Selectors, Memory>
+        ensures { IfOk result (λ selectors. selectors ≡ selectors_of self.now) }
+    {
+        Ok(Selectors {
+            if_match: self.all(alloc, "if-match")?,
+            if_none_match: self.all(alloc, "if-none-match")?,
+            if_modified_since: self.all(alloc, "if-modified-since")?,
+            if_unmodified_since: self.all(alloc, "if-unmodified-since")?,
+            if_range: self.all(alloc, "if-range")?,
+            range: self.all(alloc, "range")?,
+        })
+    }
+
     /// Whether some Connection field lists `close`.
     pub fn closes(&self) -> bool
         ensures { result ≡ closes self.now }
@@ -111,7 +145,7 @@ impl<'a> Fields<'a> {
         ensures { result ≡ is_only text.now (values name.now self.now) }
     {
         match self.find(name) {
-            FieldMatch::One(value) => is_alike(value, text),
+            FieldMatch::One(value) => is_alike(value, text.as_bytes()),
             FieldMatch::Absent | FieldMatch::Several(_) => false,
         }
     }

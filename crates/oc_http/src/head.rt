@@ -1,4 +1,5 @@
 use oc_base::Text;
+use oc_select::Selectors;
 
 /// The method of a request, as far as it matters here.
 #[derive(Clone, Copy, PartialEq, Eq)]
@@ -32,4 +33,6 @@ pub struct Head {
     pub authorization: Option<Text>,
     /// The value of the Overcast-Mac field, where there is just one.
     pub mac: Option<Text>,
+    /// The fields that say on what conditions a content is asked for, and which part of it.
+    pub selectors: Selectors,
 }

@@ -83,6 +83,8 @@ impl HeadReader {
             body: Bytes::of(body),
             rule: None,
             content_range: None,
+            etag: None,
+            accepts_ranges: false,
             group_length: head.group_length,
             mac: head.mac,
         })

@@ -44,7 +44,7 @@ mod writing_replies;
 mod writing_requests;
 
 pub use byte::take_byte;
-pub use content_type::ContentType;
+pub use content_type::{ContentType, MediaType};
 pub use escapes::put_path;
 pub use fault::HttpFault;
 pub use field_match::FieldMatch;
@@ -64,7 +64,5 @@ pub use requests::begins_with_head;
 pub use responses::body_length;
 pub use target::path_and_query;
 pub use text::length_of;
-pub use writing_replies::{
-    write_reply_head, write_response, write_response_head, write_response_to_head,
-};
+pub use writing_replies::{write_reply_head, write_response, write_response_to_head};
 pub use writing_requests::{write_follow, write_get, write_probe, write_request};

@@ -52,7 +52,7 @@ pub fn read_response_head<S: Source>(alloc: Global, source: &mut S) -> Result<Re
 }
 
 /// A response with its body, which without a Content-Length goes to the end of the source (RFC 9112,
-/// section 6.3). Its `content_type` and its `rule` are `None`.
+/// section 6.3). Of its fields it tells Location, Overcast-Length and Overcast-Mac alone.
 pub fn read_response<S: Source>(alloc: Global, source: &mut S) -> Result<Reply, HttpFault>
     ensures read { IfOk result (λ reply. (head body : List ℕ) × S.gives source.old (head ++ body) source.new
         × SaysReply head body (S.ended source.new) reply) }

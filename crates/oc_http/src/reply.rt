@@ -13,9 +13,13 @@ pub struct Reply {
     pub body: Bytes,
     /// The number of the access rule that denied the request.
     pub rule: Option<u32>,
-    /// The length in bytes of a content that ends before the asked part begins: the number in the Content-Range of a 416
-    /// (RFC 9110, section 14.4).
-    pub content_range: Option<u64>,
+    /// The value of Content-Range (RFC 9110, section 14.4): the part of a 206, or the length of a content that has no byte
+    /// of the asked part.
+    pub content_range: Option<Text>,
+    /// The value of ETag, the tag of the content with its quotes (RFC 9110, section 8.8.3).
+    pub etag: Option<Text>,
+    /// A client may ask for parts of the content (RFC 9110, section 14.3).
+    pub accepts_ranges: bool,
     /// The length of a group in bytes: the number in the Overcast-Length field, where there is just one.
     pub group_length: Option<u64>,
     /// The MAC of the body: the value of the Overcast-Mac field, where there is just one.

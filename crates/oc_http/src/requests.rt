@@ -50,6 +50,7 @@ fn read_parts(
     let has_authorization = fields.is_present("authorization");
     let authorization = copy_some(alloc, fields.only("authorization"))?;
     let mac = copy_some(alloc, fields.only("overcast-mac"))?;
+    let selectors = fields.selectors(alloc)?;
     Ok(Head {
         method,
         path,
@@ -61,6 +62,7 @@ fn read_parts(
         has_authorization,
         authorization,
         mac,
+        selectors,
     })
 }
 

@@ -5,7 +5,7 @@ ghost use Rattle.httparse.specs.Grammar.{ReadsResponse, ResponseHead};
 ghost use Rattle.oc_http.specs.Fields.{first_of, locations, length_of, lengths, number_of, group_lengths, is_present, codings};
 ghost use Rattle.oc_http.specs.Lengths.{fault_or};
 ghost use Rattle.oc_http.specs.Gives.{Gives};
-ghost use Rattle.oc_http.specs.Responses.{is_chunked, reply_head_fault, reply_head_of, read_reply_head, whole_fault, body_length};
+ghost use Rattle.oc_http.specs.Responses.{is_chunked, reply_head_fault, reply_head_of, read_reply_head, whole_fault, has_no_body, body_length};
 ghost use Rattle.oc_http.specs.Lines.{IsResponseTaken};
 
 use crate::fault::HttpFault;
@@ -45,15 +45,23 @@ pub(crate) fn whole_fault(head: &ReplyHead) -> Option<HttpFault>
     }
 }
 
-/// The length of the body in bytes, `None` where it goes to the end of the source (RFC 9112, section 6.3). A 204 has none.
+/// The length of the body in bytes, `None` where it goes to the end of the source (RFC 9112, section 6.3). A 204 and a 304
+/// have none.
 pub fn body_length(head: &ReplyHead) -> Option<u64>
     ensures { result ≡ body_length head.now }
 {
-    if head.status == 204 {
+    if has_no_body(head.status) {
         Some(0)
     } else {
         head.length
     }
+}
+
+/// Whether a response with this status has no body, whatever its head tells (RFC 9110, sections 15.3.5 and 15.4.5).
+pub(crate) fn has_no_body(status: u16) -> bool
+    ensures { result ≡ has_no_body status }
+{
+    status == 204 || status == 304
 }
 
 /// The head that a status and fields give, or their first fault, for a reader that understands chunks.

@@ -3,8 +3,8 @@
 ghost use Rattle.std.specs.Prelude.{◌≡◌};
 ghost use Rattle.oc_http.specs.Targets.{is_absolute, from_slash, origin_form, path_of, query_of};
 
-use crate::text::is_alike;
 use oc_base::{cut_at_first, place_of};
+use oc_select::text::is_alike;
 
 /// The beginning of a target that has scheme and authority, in upper or lower case.
 const SCHEME: &str = "http://";
@@ -30,7 +30,7 @@ fn origin_form(target: &[u8]) -> &[u8]
 fn is_absolute(target: &[u8]) -> bool
     ensures { result ≡ is_absolute target.now }
 {
-    target.len() >= SCHEME.len() && is_alike(&target[..SCHEME.len()], SCHEME)
+    target.len() >= SCHEME.len() && is_alike(&target[..SCHEME.len()], SCHEME.as_bytes())
 }
 
 /// The bytes from the first slash on, or a slash where there is none.

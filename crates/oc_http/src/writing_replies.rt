@@ -2,48 +2,46 @@
 
 ghost use Rattle.std.specs.Prelude.{◌≡◌, IfOk};
 ghost use Rattle.oc_http.specs.Parts.{line_text};
-ghost use Rattle.oc_http.specs.Writing.{HasPhrase, phrase_text, head_text, to_head_text, response_text, location_line, allow_line, challenge_line, rule_line, content_type_line, content_range_line, group_length_line, content_line, connection_line, mac_line};
-ghost use Rattle.oc_http.specs.declared.framing.Framing.TheVariants.{Length as OfLength};
-ghost use Rattle.oc_http.specs.declared.framing.Persistence.TheVariants.{Close as Closing};
+ghost use Rattle.oc_http.specs.Writing.{HasPhrase, phrase_text, head_text, to_head_text, response_text, text_line, location_line, allow_line, challenge_line, rule_line, type_name, content_type_line, accept_ranges_line, group_length_line, content_line, connection_line};
 
 use crate::content_type::ContentType;
-use crate::field_line::{FieldLine, field_line, mac_line, no_line};
+use crate::field_line::{FieldLine, field_line, no_line};
 use crate::framing::{Framing, Persistence};
 use crate::reply::Reply;
+use crate::responses::has_no_body;
 use crate::texts::join;
 use itoa::Buffer;
 use oc_base::{Memory, Text};
 use std::alloc::Global;
 
-/// A reply with its body, which ends the connection.
-pub fn write_response(alloc: Global, reply: &Reply) -> Result<Vec<u8>, Memory>
+/// A reply with its body.
+pub fn write_response(
+    alloc: Global,
+    reply: &Reply,
+    connection: Persistence,
+) -> Result<Vec<u8>, Memory>
     requires { HasPhrase reply.now.status }
-    ensures { IfOk result (λ text. text.items ≡ response_text reply.now) }
+    ensures { IfOk result (λ text. text.items ≡ response_text reply.now connection) }
 {
-    let mut out = write_response_to_head(alloc, reply)?;
+    let mut out = write_response_to_head(alloc, reply, connection)?;
     out.extend_from_slice(reply.body.items())?;
     Ok(out)
 }
 
 /// The same reply to HEAD: its head, with the length of the body, and no body (RFC 9110, section 9.3.2).
-pub fn write_response_to_head(alloc: Global, reply: &Reply) -> Result<Vec<u8>, Memory>
+pub fn write_response_to_head(
+    alloc: Global,
+    reply: &Reply,
+    connection: Persistence,
+) -> Result<Vec<u8>, Memory>
     requires { HasPhrase reply.now.status }
-    ensures { IfOk result (λ text. text.items ≡ to_head_text reply.now) }
+    ensures { IfOk result (λ text. text.items ≡ to_head_text reply.now connection) }
 {
-    write_response_head(alloc, reply, reply.body.items().len() as u64)
+    let length = reply.body.items().len() as u64;
+    write_reply_head(alloc, reply, Framing::Length(length), connection)
 }
 
-/// The head of a reply with a content of this length in bytes, which ends the connection. A reply whose content is sent
-/// in pieces begins with it.
-pub fn write_response_head(alloc: Global, reply: &Reply, length: u64) -> Result<Vec<u8>, Memory>
-    requires { HasPhrase reply.now.status }
-    ensures { IfOk result (λ text. text.items ≡ head_text reply.now (OfLength length) Closing) }
-{
-    write_reply_head(alloc, reply, Framing::Length(length), Persistence::Close)
-}
-
-/// The head of a reply whose content may be chunked and whose connection may be kept, as those to a
-/// client that follows a group.
+/// The head of a reply whose content is told by the framing, as those with which a content begins that is sent in pieces.
 pub fn write_reply_head(
     alloc: Global,
     reply: &Reply,
@@ -55,16 +53,17 @@ pub fn write_reply_head(
 {
     let mut status = Buffer::new();
     let mut rule = Buffer::new();
-    let mut content_range = Buffer::new();
     let mut group_length = Buffer::new();
     let mut length = Buffer::new();
     let status = status.format(reply.status);
     let location = location_line(reply.status, &reply.location);
     let rule = rule_line(reply.rule, &mut rule);
-    let content_range = content_range_line(reply.content_range, &mut content_range);
+    let content_type = content_type_line(&reply.content_type);
+    let content_range = text_line(b"Content-Range: ", &reply.content_range);
+    let etag = text_line(b"ETag: ", &reply.etag);
     let group_length = group_length_line(reply.group_length, &mut group_length);
     let content = content_line(reply.status, framing, &mut length);
-    let mac = body_mac_line(&reply.mac);
+    let mac = text_line(b"Overcast-Mac: ", &reply.mac);
     join(
         alloc,
         &[
@@ -79,10 +78,16 @@ pub fn write_reply_head(
             rule.name,
             rule.value,
             rule.end,
-            content_type_line(reply.content_type),
+            content_type.name,
+            content_type.value,
+            content_type.end,
             content_range.name,
             content_range.value,
             content_range.end,
+            etag.name,
+            etag.value,
+            etag.end,
+            accept_ranges_line(reply.accepts_ranges),
             group_length.name,
             group_length.value,
             group_length.end,
@@ -106,7 +111,9 @@ fn phrase_of<'a>(status: u16) -> &'a str
     match status {
         200 => " OK\r\n",
         204 => " No Content\r\n",
+        206 => " Partial Content\r\n",
         302 => " Found\r\n",
+        304 => " Not Modified\r\n",
         400 => " Bad Request\r\n",
         401 => " Unauthorized\r\n",
         403 => " Forbidden\r\n",
@@ -114,6 +121,7 @@ fn phrase_of<'a>(status: u16) -> &'a str
         405 => " Method Not Allowed\r\n",
         409 => " Conflict\r\n",
         411 => " Length Required\r\n",
+        412 => " Precondition Failed\r\n",
         413 => " Content Too Large\r\n",
         416 => " Range Not Satisfiable\r\n",
         431 => " Request Header Fields Too Large\r\n",
@@ -176,26 +184,47 @@ fn rule_line(rule: Option<u32>, digits: &mut Buffer) -> FieldLine<'_>
 }
 
 /// `Content-Type`, where it is given.
-fn content_type_line<'a>(content_type: Option<ContentType>) -> &'a [u8]
-    ensures { result.now ≡ content_type_line content_type }
+fn content_type_line(content_type: &Option<ContentType>) -> FieldLine<'_>
+    ensures { line_text result ≡ content_type_line content_type.now }
 {
     match content_type {
-        None => b"",
-        Some(ContentType::Octets) => b"Content-Type: application/octet-stream\r\n",
-        Some(ContentType::Json) => b"Content-Type: application/json\r\n",
-        Some(ContentType::Metrics) => b"Content-Type: text/plain; version=0.0.4\r\n",
-        Some(ContentType::Html) => b"Content-Type: text/html; charset=utf-8\r\n",
-        Some(ContentType::Text) => b"Content-Type: text/plain; charset=utf-8\r\n",
+        Some(content_type) => field_line(b"Content-Type: ", type_name(content_type).as_bytes()),
+        None => no_line(),
     }
 }
 
-/// `Content-Range`, where a content ends before the asked part begins.
-fn content_range_line(length: Option<u64>, digits: &mut Buffer) -> FieldLine<'_>
-    ensures { line_text result ≡ content_range_line length }
+/// The name of a type of content.
+fn type_name<'a>(content_type: &'a ContentType) -> &'a str
+    ensures { result.now ≡ type_name content_type.now }
 {
-    match length {
-        Some(count) => field_line(b"Content-Range: bytes */", digits.format(count).as_bytes()),
+    match content_type {
+        ContentType::Octets => "application/octet-stream",
+        ContentType::Json => "application/json",
+        ContentType::Metrics => "text/plain; version=0.0.4",
+        ContentType::Html => "text/html; charset=utf-8",
+        ContentType::Text => "text/plain; charset=utf-8",
+        ContentType::Media(media_type) => media_type.name(),
+    }
+}
+
+/// A field with this text as its value, where there is one.
+fn text_line<'a>(name: &'a [u8], text: &'a Option<Text>) -> FieldLine<'a>
+    ensures { line_text result ≡ text_line name.now text.now }
+{
+    match text {
+        Some(text) => field_line(name, text.items()),
         None => no_line(),
+    }
+}
+
+/// `Accept-Ranges`, where a client may ask for parts of the content.
+fn accept_ranges_line<'a>(accepts: bool) -> &'a [u8]
+    ensures { result.now ≡ accept_ranges_line accepts }
+{
+    if accepts {
+        b"Accept-Ranges: bytes\r\n"
+    } else {
+        b""
     }
 }
 
@@ -209,21 +238,11 @@ fn group_length_line(length: Option<u64>, digits: &mut Buffer) -> FieldLine<'_>
     }
 }
 
-/// `Overcast-Mac`, where the MAC of the body is told.
-fn body_mac_line(mac: &Option<Text>) -> FieldLine<'_>
-    ensures { line_text result ≡ mac_line mac.now }
-{
-    match mac {
-        Some(mac) => mac_line(Some(mac.items())),
-        None => no_line(),
-    }
-}
-
-/// The line that tells the end of the content, except for a 204.
+/// The line that tells the end of the content, where there is a content.
 fn content_line(status: u16, framing: Framing, digits: &mut Buffer) -> FieldLine<'_>
     ensures { line_text result ≡ content_line status framing }
 {
-    if status == 204 {
+    if has_no_body(status) {
         return no_line();
     }
     match framing {

@@ -31,7 +31,7 @@ pub fn write_request<'a>(
             host.as_bytes(),
             b"\r\nContent-Type: application/octet-stream\r\nContent-Length: ",
             length.as_bytes(),
-            b"\r\nConnection: close\r\n",
+            b"\r\n",
             mac.name,
             mac.value,
             mac.end,
@@ -61,7 +61,7 @@ pub fn write_get(
             query,
             b" HTTP/1.1\r\nHost: ",
             host.as_bytes(),
-            b"\r\nConnection: close\r\n\r\n",
+            b"\r\n\r\n",
         ],
     )
 }
@@ -73,8 +73,8 @@ pub fn write_probe(alloc: Global, address: &str) -> Result<Vec<u8>, Memory>
     write_get(alloc, PROBE_PATH, None, address)
 }
 
-/// The request of a download that follows a group: a GET from byte `start` on, which keeps the
-/// connection. `area` is the area in the URL, as it is written there.
+/// The request of a download that follows a group: a GET from byte `start` on. `area` is the area in the URL, as it is
+/// written there.
 pub fn write_follow<'a>(
     alloc: Global,
     path: &'a str,

@@ -6,7 +6,7 @@ use Rattle.std.proofs.lemmas.Bool.{cases_Bool, and_parts, ltb-true, leb-true}
 use Rattle.std.proofs.lemmas.Slice.Eq.{bytes_eq-Decides}
 use Rattle.httpdate.specs.Date.{unix_secs}
 use Rattle.httpdate.specs.declared.date.HttpDate.{HttpDate}
-use Rattle.oc_select.specs.Values.{are_there}
+use Rattle.oc_select.specs.Values.{is_present, no_selectors}
 use Rattle.oc_select.specs.Tags.{tag_of, is_tag, members, without_mark}
 use Rattle.oc_select.specs.Naming.{is_any, is_same, said, naming}
 use Rattle.oc_select.specs.Conditions.{change_of, date_in, is_after, is_current, is_known, is_named, is_refused, is_until}
@@ -181,7 +181,7 @@ no_younger None second h = cc
 no_younger (Some date) None h = cc
 no_younger (Some date) (Some n) h = (date, n, refl, refl, leb-true (unix_secs date) n h)
 
-known : (tag : List ℕ) (change : Option HttpDate) (tags dates : List (List ℕ)) → cond (are_there tags) (is_named (naming Weak tag tags)) (is_until change (date_in dates)) ≡ true
+known : (tag : List ℕ) (change : Option HttpDate) (tags dates : List (List ℕ)) → cond (is_present tags) (is_named (naming Weak tag tags)) (is_until change (date_in dates)) ≡ true
     → IsNamed tag tags ⊎ ((tags ≡ []) × IsNoYounger change dates)
 known tag change [] dates h = inr (refl, no_younger change (date_in dates) h)
 known tag change (value ∷ more) dates h = inl (named_member tag (members (value ∷ more)) (from_is_named (naming Weak tag (value ∷ more)) h))
@@ -218,7 +218,7 @@ plain_by false false length None p q r = refl
 plain_by false false length (Some r) p q e = cc
 
 pub plain : (content : Content) (line : RequestLine)
-    → selection content line (record { if_match = []; if_none_match = []; if_modified_since = []; if_unmodified_since = []; if_range = []; range = [] }) ≡ Whole
+    → selection content line no_selectors ≡ Whole
 plain content line =
     let change = change_of content.source in
     plain_by (is_after change None) (is_until change None) content.length (cond (has_ranges content.source line && true) None None)

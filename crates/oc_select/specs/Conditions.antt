@@ -3,7 +3,7 @@ use Rattle.std.specs.Prelude.{ℕ, Bool, true, false, nat_lt, nat_le, if◌then�
 use Rattle.std.specs.Str.{bytes_eq}
 use Rattle.httpdate.specs.Date.{unix_secs, date_text, parse_secs}
 use Rattle.httpdate.specs.declared.date.HttpDate.{HttpDate}
-use Rattle.oc_select.specs.Values.{are_there, only_of}
+use Rattle.oc_select.specs.Values.{is_present, only_of}
 use Rattle.oc_select.specs.Naming.{naming}
 use Rattle.oc_select.specs.declared.content.Source.{Source}
 use Rattle.oc_select.specs.declared.content.Source.TheVariants.{Group, File}
@@ -46,13 +46,13 @@ is_named Other = false
 -- If-Match names other contents; or there is no such field, and the content has changed after If-Unmodified-Since
 abbrev pub is_refused : List ℕ → Option HttpDate → Selectors → Bool
 is_refused tag change s =
-    if are_there s.if_match then is_other (naming Strong tag s.if_match)
+    if is_present s.if_match then is_other (naming Strong tag s.if_match)
     else is_after change (date_in s.if_unmodified_since)
 
 -- If-None-Match names the content; or there is no such field, and the content has not changed after If-Modified-Since
 abbrev pub is_known : List ℕ → Option HttpDate → Selectors → Bool
 is_known tag change s =
-    if are_there s.if_none_match then is_named (naming Weak tag s.if_none_match)
+    if is_present s.if_none_match then is_named (naming Weak tag s.if_none_match)
     else is_until change (date_in s.if_modified_since)
 
 -- a value that is exactly the text of the last change

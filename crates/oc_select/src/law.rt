@@ -6,6 +6,7 @@ ghost use Rattle.oc_select.specs.Naming.{naming};
 ghost use Rattle.oc_select.specs.Conditions.{change_of, date_in};
 ghost use Rattle.oc_select.specs.Ranges.{part_of, range_asked};
 ghost use Rattle.oc_select.specs.Selecting.{selection};
+ghost use Rattle.oc_select.specs.Values.{no_selectors};
 ghost use Rattle.oc_select.specs.Meaning.{IsContent, IsNamed, IsNoYounger, bytes_of};
 ghost use Rattle.oc_select.specs.Examples.{AreTags, AreRanges, AreOrders, AreTexts, AreTypes};
 ghost use Rattle.oc_select.specs.declared.content.Content.{Content};
@@ -54,7 +55,7 @@ pub fn what_was_given_is_known()
 /// A request with none of the fields is given all.
 pub fn a_plain_request_is_given_all()
     ensures { (content : Content) (line : RequestLine)
-        → selection content line (record { if_match = []; if_none_match = []; if_modified_since = []; if_unmodified_since = []; if_range = []; range = [] }) ≡ Whole }
+        → selection content line no_selectors ≡ Whole }
 {}
 
 /// Worked examples compute from the definitions.

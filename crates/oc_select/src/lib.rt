@@ -19,7 +19,6 @@
 //! ([`what_was_given_is_known`]); a request with none of the fields is given all ([`a_plain_request_is_given_all`]).
 #![tactic(auto)]
 
-mod alike;
 mod conditions;
 mod content;
 mod law;
@@ -31,6 +30,7 @@ mod scanning;
 mod selecting;
 mod selection;
 mod selectors;
+pub mod text;
 mod texts;
 
 pub use content::{Content, Source, change_at};

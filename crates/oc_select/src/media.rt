@@ -3,7 +3,7 @@
 ghost use Rattle.std.specs.Prelude.{◌≡◌, map, option_map};
 ghost use Rattle.oc_select.specs.Media.{ending, last_part, media_type, type_in};
 
-use crate::alike::is_alike;
+use crate::text::is_alike;
 use oc_base::cut;
 
 /// The media type of bytes of which nothing more is known.

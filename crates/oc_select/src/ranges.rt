@@ -5,9 +5,9 @@ ghost use Rattle.oc_select.specs.Ranges.{IsInOrder, number_in, part_of, range_as
 ghost use Rattle.oc_select.specs.Values.{only_of};
 ghost use Rattle.oc_select.specs.declared.selection.Selection.TheVariants.{Part};
 
-use crate::alike::is_alike;
 use crate::range::Range;
 use crate::selection::Selection;
+use crate::text::is_alike;
 use oc_base::words::{are_digits, value_of};
 use oc_base::{Text, cut_at_first, place_of};
 

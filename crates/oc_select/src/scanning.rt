@@ -1,14 +1,13 @@
 //! Lists of entity tags, member by member.
 
-ghost use Rattle.std.specs.Prelude.{◌≡◌, ◌∷◌, [], ◌<◌, false, length, reverse, IfNone, IfSome};
+ghost use Rattle.std.specs.Prelude.{◌≡◌, ◌∷◌, [], ◌<◌, false, length, IfNone, IfSome};
 ghost use Rattle.std.specs.List.{list_all};
-ghost use Rattle.httparse.specs.Grammar.{skip_ows, trim_ows};
 ghost use Rattle.oc_select.specs.Tags.{is_quoted, is_separator, is_tag, is_tag_byte, member_of, members_in, parts, quoted_after, without_mark};
 ghost use Rattle.oc_select.specs.Naming.{is_same, naming};
 ghost use Rattle.oc_select.specs.Scanning.{comma_from, concluded, heard, heard_all, tag_heard};
 
 use crate::naming::{Comparison, Naming};
-use httparse::is_space_or_tab;
+use crate::text::trim;
 use oc_base::Text;
 
 /// What the members of a list said of a tag, as far as they were looked at.
@@ -187,38 +186,4 @@ fn quoted_after(quoted: bool, byte: u8) -> bool
     ensures { result ≡ quoted_after quoted byte }
 {
     if byte == b'"' { !quoted } else { quoted }
-}
-
-/// The bytes without spaces and tabs at the start.
-fn trim_start(bytes: &[u8]) -> &[u8]
-    ensures { result.now ≡ skip_ows bytes.now }
-{
-    let mut rest = bytes;
-    while let [first, others @ ..] = rest
-        && is_space_or_tab(*first)
-    {
-        rest = others;
-    }
-    rest
-}
-
-/// The bytes without spaces and tabs at the end.
-fn trim_end(bytes: &[u8]) -> &[u8]
-    ensures { result.now ≡ reverse (skip_ows (reverse bytes.now)) }
-{
-    let mut rest = bytes;
-    while let [before @ .., last] = rest
-        && is_space_or_tab(*last)
-    {
-        rest = before;
-    }
-    rest
-}
-
-/// The bytes without spaces and tabs at both ends (RFC 9110, section 5.6.3).
-#[tactic(auto, unfolding(httparse::specs::Grammar::trim_ows))]
-fn trim(bytes: &[u8]) -> &[u8]
-    ensures { result.now ≡ trim_ows bytes.now }
-{
-    trim_end(trim_start(bytes))
 }

@@ -1,4 +1,5 @@
 use oc_base::Text;
+use std::alloc::Global;
 use std::marker::Model;
 
 /// The values of the fields of one name, in the order in which they came. Contracts see the list of them.
@@ -16,7 +17,14 @@ impl Model for Values {
 }
 
 impl Values {
-    ghost use Rattle.std.specs.Prelude.{◌≡◌};
+    ghost use Rattle.std.specs.Prelude.{◌≡◌, []};
+
+    /// The values of a name that no field has. No memory is taken.
+    pub fn none(alloc: Global) -> Values
+        ensures { result ≡ [] }
+    {
+        Values::of(Vec::new(alloc))
+    }
 
     pub fn of(items: Vec<Text>) -> Values
         ensures { result ≡ items.items }
@@ -41,6 +49,25 @@ pub struct Selectors {
     pub if_unmodified_since: Values,
     pub if_range: Values,
     pub range: Values,
+}
+
+impl Selectors {
+    ghost use Rattle.std.specs.Prelude.{◌≡◌};
+    ghost use Rattle.oc_select.specs.Values.{no_selectors};
+
+    /// None of the fields. No memory is taken.
+    pub fn none(alloc: Global) -> Selectors
+        ensures { result ≡ no_selectors }
+    {
+        Selectors {
+            if_match: Values::none(alloc),
+            if_none_match: Values::none(alloc),
+            if_modified_since: Values::none(alloc),
+            if_unmodified_since: Values::none(alloc),
+            if_range: Values::none(alloc),
+            range: Values::none(alloc),
+        }
+    }
 }
 
 /// What else of a request tells whether its Range field counts.

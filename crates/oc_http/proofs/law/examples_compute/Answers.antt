@@ -14,11 +14,11 @@ returns-clause-replies c = record { none = refl; chunked = refl; refused = refl;
 
 pub returns-clause-parts : goal.returns-clause-parts
 unfolding httparse_on_literals digits
-returns-clause-parts c = record { path = refl; query = refl; no_query = refl; absolute = refl; authority = refl; other_scheme = refl; zeros = refl; greatest = refl; closes_last = refl; closes_not = refl; waits = refl; waits_not = refl; chunked = refl; no_mac = refl; mac = refl; two_macs = refl; token = refl; group_length = refl; no_group_length = refl; two_group_lengths = refl }
+returns-clause-parts c = record { path = refl; query = refl; no_query = refl; absolute = refl; authority = refl; other_scheme = refl; zeros = refl; greatest = refl; closes_last = refl; closes_not = refl; waits = refl; waits_not = refl; chunked = refl; no_mac = refl; mac = refl; two_macs = refl; token = refl; selectors = refl; no_body = refl; body = refl; group_length = refl; no_group_length = refl; two_group_lengths = refl }
 
 pub returns-clause-texts : goal.returns-clause-texts
 unfolding httparse_on_literals digits
-returns-clause-texts c = record { request = refl; request_with_mac = refl; get = refl; probe = refl; follow = refl; redirect = refl; content = refl; no_content = refl; method = refl; denied = refl; elsewhere = refl; unknown = refl; past_the_end = refl; to_head = refl; page = refl; message = refl; kept = refl }
+returns-clause-texts c = record { request = refl; request_with_mac = refl; get = refl; probe = refl; follow = refl; redirect = refl; content = refl; no_content = refl; method = refl; denied = refl; elsewhere = refl; unknown = refl; past_the_end = refl; to_head = refl; page = refl; message = refl; whole = refl; part = refl; not_modified = refl; changed = refl; kept = refl }
 
 pub returns-clause-paths : goal.returns-clause-paths
 unfolding httparse_on_literals percent_encoding_on_literals digits

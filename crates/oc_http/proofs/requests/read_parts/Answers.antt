@@ -22,4 +22,4 @@ returns c =
     let head = head_of c.args.method.now c.args.target.now c.args.minor c.args.fields.now in
     let said = fault_or-ok _ head _ _ (c.in_ok-length.ensures ∙ length_is c.method_of-method.result c.args.minor c.args.fields.now) in
     let texts = c.in_ok-path.ensures in
-    subst (λ (v : Method). fault_or head (head_fault v c.args.minor c.args.fields.now) ≡ Ok head) c.method_of-method.ensures said.1 ∙ ap Ok (rw (texts.0, texts.1, c.method_of-method.ensures, c.expects.ensures, c.closes.ensures, c.is_present-has_authorization.ensures, c.in_ok-authorization.ensures, c.in_ok-mac.ensures, c.only.ensures, c.only-2.ensures, ← said.0) refl)
+    subst (λ (v : Method). fault_or head (head_fault v c.args.minor c.args.fields.now) ≡ Ok head) c.method_of-method.ensures said.1 ∙ ap Ok (rw (texts.0, texts.1, c.method_of-method.ensures, c.expects.ensures, c.closes.ensures, c.is_present-has_authorization.ensures, c.in_ok-authorization.ensures, c.in_ok-mac.ensures, c.in_ok-selectors.ensures, c.only.ensures, c.only-2.ensures, ← said.0) refl)

@@ -1,7 +1,7 @@
 -- the rest and the whole are the same without spaces at the end
 use Rattle.std.proofs.Common.{◌≡◌, length, reverse}
 use Rattle.httparse.specs.Grammar.{skip_ows}
-use Rattle.oc_select.proofs.scanning.trim_end.Given as goal
+use Rattle.oc_select.proofs.text.trim_end.Given as goal
 
 abbrev pub invariant-loop-rest : goal.invariant-loop-rest
 invariant-loop-rest l = skip_ows (reverse l.rest) ≡ skip_ows (reverse l.bytes)

@@ -14,13 +14,15 @@ use Rattle.oc_http.proofs.OneAnswer.{one_answer}
 use Rattle.oc_http.specs.declared.fault.HttpFault.{HttpFault}
 use Rattle.oc_http.specs.declared.fault.HttpFault.TheVariants.{Source, Ended, Head as NoHead, HeadLong, Fields, Host, Coding, Length, BodyLong, Memory}
 use Rattle.oc_http.specs.declared.head.Head.{Head}
-use Rattle.oc_routes.specs.Askers.{asker_in}
-use Rattle.oc_routes.specs.Connections.{awaits_continue, is_last}
+use Rattle.oc_routes.specs.Askers.{asker_in, asker_of}
+use Rattle.oc_routes.specs.Connections.{awaits_continue, is_last, kept_after_head}
 use Rattle.oc_routes.specs.declared.refused.Refused.{Refused}
 use Rattle.oc_routes.specs.declared.refused.Refused.TheVariants as refusals
 use Rattle.oc_routes.specs.Hints.{asked_with_hint}
+use Rattle.oc_routes.specs.Selections.{line_of, selectors_for}
 use Rattle.oc_routes.specs.Verdicts.{IsVerdict, NodeTerms, arrival, after_head, refuse, routed, taken, unfinished, verdict_for, whole, with_body}
 use Rattle.oc_routes.specs.declared.hint.Asked.{Asked}
+use Rattle.oc_routes.specs.declared.verdict.Request.{Request}
 use Rattle.oc_routes.specs.declared.verdict.Verdict.{Verdict}
 use Rattle.oc_routes.specs.declared.verdict.Verdict.TheVariants.{Wait, Permit}
 
@@ -69,6 +71,17 @@ by_tests false true later done done_later shortened v stays same is decided = ab
 by_tests false false true done done_later shortened v stays same is decided = let no : true ≡ false = stays refl in absurd (false≢true (sym no))
 by_tests false false false done done_later shortened v stays same is decided = is ∙ same refl
 
+-- a whole request, whose head has this many bytes
+abbrev asks_of : Head → ℕ → Asked → ℕ → Request
+asks_of head number said front = record {
+  count = front + head.length;
+  asked = said;
+  line = line_of head;
+  selectors = selectors_for said.operation head.selectors;
+  input = None;
+  last = is_last head number;
+}
+
 body_more : (t : NodeTerms) (c number : ℕ) (permitted : Bool) (coming : Coming) (came : ℕ) (head : Head) (rest more : List ℕ) (said : Asked) (v : Verdict)
     → v ≡ with_body t (arrival c number permitted comings.Open) came head rest said → (v ≡ Wait → ⊥)
     → v ≡ with_body t (arrival c number permitted coming) (came + length more) head (rest ++ more) said
@@ -80,18 +93,20 @@ body_more t c number permitted coming came head rest more said v is decided =
     let few : head.length ≤ length rest = ltb-false (length rest) head.length long in
     let body : take head.length (rest ++ more) ≡ take head.length rest = take-append-le head.length rest more few in
     let count : came - length rest ≡ (came + length more) - length (rest ++ more) = omega (arith, length-append rest more) in
-    ap (λ (n : ℕ). whole t head (record { count = n + head.length; asked = said; input = None; last = is_last head number }) (take head.length rest)) count
-    ∙ ap (λ (b : List ℕ). whole t head (record { count = ((came + length more) - length (rest ++ more)) + head.length; asked = said; input = None; last = is_last head number }) b) (sym body))
+    ap (λ (n : ℕ). whole t head (asks_of head number said n) (take head.length rest)) count
+    ∙ ap (λ (b : List ℕ). whole t head (asks_of head number said ((came + length more) - length (rest ++ more))) b) (sym body))
     is decided
   where
     request : ℕ → List ℕ → Verdict
-    request n left = whole t head (record { count = n - length left + head.length; asked = said; input = None; last = is_last head number }) (take head.length left)
+    request n left = whole t head (asks_of head number said (n - length left)) (take head.length left)
 
 routed_more : (t : NodeTerms) (c number : ℕ) (permitted : Bool) (coming : Coming) (came : ℕ) (head : Head) (rest more : List ℕ) (asked : Result Asked Refused) (v : Verdict)
     → v ≡ routed t (arrival c number permitted comings.Open) came head rest asked → (v ≡ Wait → ⊥)
     → v ≡ routed t (arrival c number permitted coming) (came + length more) head (rest ++ more) asked
 routed_more t c number permitted coming came head rest more (Ok said) v is decided = body_more t c number permitted coming came head rest more said v is decided
-routed_more t c number permitted coming came head rest more (Err why) v is decided = is
+routed_more t c number permitted coming came head rest more (Err why) v is decided =
+    let count : came - length rest ≡ (came + length more) - length (rest ++ more) = omega (arith, length-append rest more) in
+    is ∙ ap (λ (n : ℕ). refuse (asker_of head) (kept_after_head head number n) why) count
 
 -- the bytes that were taken are those that are taken with more bytes
 taken_more : (left rest more : List ℕ) (answer : Result Head HttpFault) → AnswersRequest left rest answer → taken left rest ≡ taken (left ++ more) (rest ++ more)
@@ -105,15 +120,15 @@ verdict_more : (t : NodeTerms) (c number : ℕ) (permitted : Bool) (coming : Com
 verdict_more t c number permitted coming bytes rest more (Ok head) v same is decided =
     routed_more t c number permitted coming (length bytes) head rest more (asked_with_hint head t.rules) v is decided
     ∙ ap (λ (n : ℕ). after_head t (arrival c number permitted coming) n head (rest ++ more)) (sym (length-append bytes more))
-verdict_more t c number permitted coming bytes rest more (Err Source) v same is decided = is ∙ ap (λ (x : List ℕ). refuse (asker_in x) refusals.Source) same
+verdict_more t c number permitted coming bytes rest more (Err Source) v same is decided = is ∙ ap (λ (x : List ℕ). refuse (asker_in x) None refusals.Source) same
 verdict_more t c number permitted coming bytes rest more (Err Ended) v same is decided = absurd (decided is)
-verdict_more t c number permitted coming bytes rest more (Err NoHead) v same is decided = is ∙ ap (λ (x : List ℕ). refuse (asker_in x) refusals.Head) same
-verdict_more t c number permitted coming bytes rest more (Err HeadLong) v same is decided = is ∙ ap (λ (x : List ℕ). refuse (asker_in x) refusals.HeadLong) same
-verdict_more t c number permitted coming bytes rest more (Err Fields) v same is decided = is ∙ ap (λ (x : List ℕ). refuse (asker_in x) refusals.Fields) same
-verdict_more t c number permitted coming bytes rest more (Err Host) v same is decided = is ∙ ap (λ (x : List ℕ). refuse (asker_in x) refusals.Host) same
-verdict_more t c number permitted coming bytes rest more (Err (Coding both)) v same is decided = is ∙ ap (λ (x : List ℕ). refuse (asker_in x) (refusals.Coding both)) same
-verdict_more t c number permitted coming bytes rest more (Err (Length missing)) v same is decided = is ∙ ap (λ (x : List ℕ). refuse (asker_in x) (refusals.Length missing)) same
-verdict_more t c number permitted coming bytes rest more (Err BodyLong) v same is decided = is ∙ ap (λ (x : List ℕ). refuse (asker_in x) refusals.BodyLong) same
+verdict_more t c number permitted coming bytes rest more (Err NoHead) v same is decided = is ∙ ap (λ (x : List ℕ). refuse (asker_in x) None refusals.Head) same
+verdict_more t c number permitted coming bytes rest more (Err HeadLong) v same is decided = is ∙ ap (λ (x : List ℕ). refuse (asker_in x) None refusals.HeadLong) same
+verdict_more t c number permitted coming bytes rest more (Err Fields) v same is decided = is ∙ ap (λ (x : List ℕ). refuse (asker_in x) None refusals.Fields) same
+verdict_more t c number permitted coming bytes rest more (Err Host) v same is decided = is ∙ ap (λ (x : List ℕ). refuse (asker_in x) None refusals.Host) same
+verdict_more t c number permitted coming bytes rest more (Err (Coding both)) v same is decided = is ∙ ap (λ (x : List ℕ). refuse (asker_in x) None (refusals.Coding both)) same
+verdict_more t c number permitted coming bytes rest more (Err (Length missing)) v same is decided = is ∙ ap (λ (x : List ℕ). refuse (asker_in x) None (refusals.Length missing)) same
+verdict_more t c number permitted coming bytes rest more (Err BodyLong) v same is decided = is ∙ ap (λ (x : List ℕ). refuse (asker_in x) None refusals.BodyLong) same
 verdict_more t c number permitted coming bytes rest more (Err Memory) v same is decided = is
 
 -- bytes with another verdict than to wait are no mere part of a request

@@ -15,6 +15,8 @@ pub mod Chunks
 pub mod Cuts
 pub mod PastEnds
 pub mod PieceLaws
+pub mod SelectionLaws
+pub mod Settling
 pub mod Sendings
 pub mod SparedReplies
 pub mod Unread

@@ -1,5 +1,5 @@
 -- The lines of refusals are plain lines.
-use Rattle.std.proofs.Common.{◌≡◌, ℕ, ◌+◌, ◌<◌, ◌≤◌, ◌^◌, Bool, true, false, not, ◌&&◌, ◌||◌, ◌==◌, if◌then◌else◌, inl, inr, Option, None, IfSome, List, [], ◌∷◌, ◌++◌, length, decimal, codes, refl, sym, ap, ◌∙◌, append_assoc, length-append, arith}
+use Rattle.std.proofs.Common.{◌≡◌, ℕ, ◌+◌, ◌<◌, ◌≤◌, ◌^◌, Bool, true, false, not, ◌&&◌, ◌||◌, ◌==◌, if◌then◌else◌, inl, inr, IfSome, List, [], ◌∷◌, ◌++◌, length, decimal, codes, refl, sym, ap, ◌∙◌, append_assoc, length-append, arith}
 use Rattle.std.specs.Prelude.{nat_le, nat_lt}
 use Rattle.std.specs.Char.{is_ascii_digit}
 use Rattle.std.specs.List.{list_all}
@@ -16,7 +16,7 @@ use Rattle.oc_model.specs.declared.answer.Answer.TheVariants as answers
 use Rattle.oc_routes.specs.Lines.{IsCounted, IsTellable}
 use Rattle.oc_routes.specs.PlainNames.{is_plain}
 use Rattle.oc_routes.specs.Publish.{IsPublishAnswer, publish_status}
-use Rattle.oc_routes.specs.Reasons.{bytes_text, no_group_line, nowhere_line, past_line, publish_line, refused_line, seal_line, source_url}
+use Rattle.oc_routes.specs.Reasons.{bytes_text, condition_line, no_group_line, nowhere_line, past_line, publish_line, range_line, refused_line, seal_line, source_url}
 use Rattle.oc_routes.specs.Refusals.{status_of}
 use Rattle.oc_routes.specs.Seal.{IsSealAnswer, seal_status}
 use Rattle.oc_routes.specs.declared.refused.Refused.{Refused}
@@ -221,3 +221,19 @@ pub past_is : (n : ℕ) → n < 2 ^ 64 → IsPlainLine (past_line n)
 past_is n fits =
     twice (codes "the group has ") (bytes_text n) (codes ", and is sealed: start=") (codes " is the last start") n fits refl
     (record { short = omega arith; shown = refl }) (bytes_shown n fits) (record { short = omega arith; shown = refl }) (record { short = omega arith; shown = refl })
+
+pub condition_is : IsPlainLine condition_line
+condition_is = alone (codes "the group is not what If-Match names: ask for it without this field") refl refl refl
+
+pub range_is : (n : ℕ) → n < 2 ^ 64 → IsPlainLine (range_line n)
+range_is n fits =
+    let behind : List ℕ = codes ", and none of them is in the range: ask for one that begins before its end" in
+    let front = together 20 26 (codes "the group has ") (bytes_text n) (record { short = omega arith; shown = refl }) (bytes_shown n fits) in
+    let part = together 46 100 (codes "the group has " ++ bytes_text n) behind front (record { short = omega arith; shown = refl }) in
+    record {
+      line = codes "the group has " ++ bytes_text n ++ behind;
+      some = omega (arith, length-append (codes "the group has ") (bytes_text n ++ behind));
+      most = omega (arith, part.short);
+      shown = part.shown;
+      ended = sym (append_assoc (codes "the group has " ++ bytes_text n) behind (10 ∷ []));
+    }

@@ -1,8 +1,6 @@
 -- A message that is taken came with its MAC.
 use Rattle.std.proofs.Common.{◌≡◌, ℕ, ◌-◌, ◌+◌, Bool, true, false, Option, Some, None, Result, Ok, Err, List, length, take, refl, sym, ap, ◌∙◌, subst, if◌then◌else◌}
 use Rattle.std.specs.Prelude.{not, ◌&&◌, nat_lt}
-use Rattle.std.specs.Str.{bytes_eq}
-use Rattle.std.proofs.lemmas.Slice.Eq.{bytes_eq-Decides}
 use Rattle.oc_link.specs.declared.event.Arrival.{Arrival}
 use Rattle.oc_link.specs.declared.event.Coming.{Coming}
 use Rattle.oc_link.specs.declared.event.Coming.TheVariants.{Open, Ended, Failed}
@@ -14,7 +12,8 @@ use Rattle.oc_model.specs.declared.input.Input.{Input}
 use Rattle.oc_policy.specs.Keys.{Keyring}
 use Rattle.oc_routes.specs.Askers.{asker_in, asker_of}
 use Rattle.oc_routes.specs.declared.asker.Asker.{Asker}
-use Rattle.oc_routes.specs.Connections.{awaits_continue, is_last}
+use Rattle.oc_routes.specs.Connections.{awaits_continue, is_last, kept_after}
+use Rattle.oc_routes.specs.Selections.{line_of, selectors_for}
 use Rattle.oc_routes.specs.Routes.{input_asked}
 use Rattle.oc_routes.specs.declared.fault.RouteFault.{RouteFault}
 use Rattle.oc_routes.specs.declared.fault.RouteFault.TheVariants as faults
@@ -66,7 +65,7 @@ unfinished_no Failed none q e = cc
 -- a whole request that is answered is not forged
 whole_mac : (t : NodeTerms) (ring : Keyring) (head : Head) (q r : Request) (body : List ℕ) → t.keys ≡ Some ring → q.asked.operation ≡ asks.Message
     → (forged : Bool) → is_forged t.keys r.asked.operation head.mac body ≡ forged
-    → Ask q ≡ (if forged then refuse (asker_of head) refusals.Mac else answered head r (input_asked t.nodes t.me r.asked.operation body))
+    → Ask q ≡ (if forged then refuse (asker_of head) (kept_after r.last r.count) refusals.Mac else answered head r (input_asked t.nodes t.me r.asked.operation body))
     → HasMac ring head.mac body
 whole_mac t ring head q r body has asks_message true is e = cc
 whole_mac t ring head q r body has asks_message false is e =
@@ -90,7 +89,14 @@ routed_mac t ring a came head rest (Ok said) q has asks_message e =
     (come_whole a.coming q (whole t head request (take head.length rest)) (awaits_continue head && not a.permitted) (nat_lt (length rest) head.length) e)
   where
     request : Request
-    request = record { count = came - length rest + head.length; asked = said; input = None; last = is_last head a.number }
+    request = record {
+      count = came - length rest + head.length;
+      asked = said;
+      line = line_of head;
+      selectors = selectors_for said.operation head.selectors;
+      input = None;
+      last = is_last head a.number;
+    }
 
 -- a message that is taken came with its MAC under one of the keys
 pub have_mac : (t : NodeTerms) (a : Arrival) (ring : Keyring) (bytes : List ℕ) (q : Request) → t.keys ≡ Some ring → q.asked.operation ≡ asks.Message → IsVerdict t a bytes (Ask q) → HaveMac ring bytes
@@ -145,7 +151,7 @@ answered_message head r (Err why) e = let same : why ≡ refusals.Message = cc i
 
 whole_refused : (t : NodeTerms) (ring : Keyring) (head : Head) (r : Request) (body : List ℕ) → t.keys ≡ Some ring
     → (forged : Bool) → is_forged t.keys r.asked.operation head.mac body ≡ forged
-    → SaysMessage (if forged then refuse (asker_of head) refusals.Mac else answered head r (input_asked t.nodes t.me r.asked.operation body))
+    → SaysMessage (if forged then refuse (asker_of head) (kept_after r.last r.count) refusals.Mac else answered head r (input_asked t.nodes t.me r.asked.operation body))
     → HasMac ring head.mac body
 whole_refused t ring head r body has true is e = cc
 whole_refused t ring head r body has false is e =
@@ -170,11 +176,18 @@ routed_refused t ring a came head rest (Ok said) has spared e =
     (refused_whole a.coming (whole t head request (take head.length rest)) (awaits_continue head && not a.permitted) (nat_lt (length rest) head.length) e)
   where
     request : Request
-    request = record { count = came - length rest + head.length; asked = said; input = None; last = is_last head a.number }
+    request = record {
+      count = came - length rest + head.length;
+      asked = said;
+      line = line_of head;
+      selectors = selectors_for said.operation head.selectors;
+      input = None;
+      last = is_last head a.number;
+    }
 
 -- a body that is read as a message came with its MAC under one of the keys, also where it is no message
-pub read_mac : (t : NodeTerms) (a : Arrival) (ring : Keyring) (bytes : List ℕ) (asker : Asker) → t.keys ≡ Some ring → IsVerdict t a bytes (refuse asker refusals.Message) → HaveMac ring bytes
-read_mac t a ring bytes asker has x = by_answer x.answer x.answers (ap why_of x.verdict)
+pub read_mac : (t : NodeTerms) (a : Arrival) (ring : Keyring) (bytes : List ℕ) (asker : Asker) (kept : Option ℕ) → t.keys ≡ Some ring → IsVerdict t a bytes (refuse asker kept refusals.Message) → HaveMac ring bytes
+read_mac t a ring bytes asker kept has x = by_answer x.answer x.answers (ap why_of x.verdict)
   where
     by_answer : (answer : Result Head HttpFault) → AnswersRequest bytes x.rest answer → SaysMessage (verdict_for t a bytes x.rest answer) → HaveMac ring bytes
     by_answer (Ok head) took e = record {

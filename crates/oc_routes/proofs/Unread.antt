@@ -48,8 +48,8 @@ ended_verdict left old new t a fault bytes none (Err e) stopped met from is_it i
 
 -- the bytes are refused, by whether those that were taken begin a HEAD
 pub refused_verdict : {S : Type 0} (left : S → List ℕ) (old new : S) (t : NodeTerms) (a : Arrival) (fault : HttpFault) (why : Refused) (bytes : List ℕ) (v : Verdict) → Stopped left old new fault → fault_met fault ≡ Some (faults.Refused why)
-    → bytes ≡ left old → v ≡ refuse (asker_in (taken bytes (left new))) why → IsVerdict t a bytes v
+    → bytes ≡ left old → v ≡ refuse (asker_in (taken bytes (left new))) None why → IsVerdict t a bytes v
 refused_verdict left old new t a fault why bytes v stopped met from is =
     subst (λ (x : List ℕ). IsVerdict t a x v) (sym from)
     (unread_verdict left old new t a fault v stopped (λ (e : fault_met fault ≡ Some faults.Memory). cc)
-    (is ∙ ap (λ (x : List ℕ). refuse (asker_in (taken x (left new))) why) from ∙ ap (unread a.coming (is_none (left old)) (asker_in (taken (left old) (left new)))) (sym met)))
+    (is ∙ ap (λ (x : List ℕ). refuse (asker_in (taken x (left new))) None why) from ∙ ap (unread a.coming (is_none (left old)) (asker_in (taken (left old) (left new)))) (sym met)))

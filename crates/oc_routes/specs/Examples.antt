@@ -13,7 +13,10 @@ use Rattle.oc_policy.specs.Keys.{mac_digits}
 use Rattle.oc_policy.specs.declared.rule.Action.TheVariants.{Get, Post}
 use Rattle.oc_policy.specs.declared.rule.Rule.{Rule}
 use Rattle.oc_wire.specs.Spelling.{spelling}
-use Rattle.oc_routes.specs.Connections.{is_last, awaits_continue}
+use Rattle.oc_select.specs.Values.{no_selectors}
+use Rattle.oc_select.specs.declared.selection.Selection.{Selection}
+use Rattle.oc_select.specs.declared.selection.Selection.TheVariants as selections
+use Rattle.oc_routes.specs.Connections.{is_last, awaits_continue, kept_after_head}
 use Rattle.oc_routes.specs.Inputs.{input_line}
 use Rattle.oc_routes.specs.Refusals.{refusal_line, refusal_text, refusing}
 use Rattle.oc_routes.specs.Replies.{others, reply_to}
@@ -33,7 +36,7 @@ use Rattle.oc_routes.specs.declared.response.Response.{Response}
 
 -- the head of a request of version 1.1 with no body
 abbrev head : Method → List ℕ → List ℕ → Head
-head method path query = record { method = method; path = Some path; query = query; length = 0; expects = false; minor = 1; closes = false; has_authorization = false; authorization = None; mac = None }
+head method path query = record { method = method; path = Some path; query = query; length = 0; expects = false; minor = 1; closes = false; has_authorization = false; authorization = None; mac = None; selectors = no_selectors }
 
 -- the operation of a request without access rules
 abbrev asks_for : Method → List ℕ → List ℕ → Operation → Type 0
@@ -152,7 +155,15 @@ closes = codes "Connection: close"
 abbrev octets : List ℕ
 octets = codes "Content-Type: application/octet-stream"
 
+-- the tag of the whole content, and that parts of it may be asked for
+abbrev pub nine : List (List ℕ)
+nine = codes "ETag: \"9\"" ∷ codes "Accept-Ranges: bytes" ∷ []
+
 -- a reply of this status line whose body is a line, with these lines before the length
+abbrev pub tells : List ℕ → List (List ℕ) → List ℕ → List ℕ
+tells status more line = lines (status ∷ more ++ (codes "Content-Length: " ++ decimal (length line)) ∷ []) ++ line
+
+-- the same reply where it ends the connection
 abbrev pub says : List ℕ → List (List ℕ) → List ℕ → List ℕ
 says status more line = lines (status ∷ more ++ (codes "Content-Length: " ++ decimal (length line)) ∷ closes ∷ []) ++ line
 
@@ -166,19 +177,24 @@ holds held sealed = record { there = true; held = held; sealed = sealed }
 -- the answer to a request without a hint, where the node holds nine bytes of its group
 abbrev answers_to : Operation → Answer → Bool → Bool → Option (List ℕ) → Response
 answers_to wanted answer sealed last key =
-    response_for (record { operation = wanted; hint = Plain }) last answer None (holds 9 sealed) (Some (codes "h:1") ∷ Some (codes "h:2") ∷ []) key []
+    response_for (record { operation = wanted; hint = Plain; selection = selections.Whole }) last answer None (holds 9 sealed) (Some (codes "h:1") ∷ Some (codes "h:2") ∷ []) key []
 
 abbrev answered : Operation → Answer → Bool → Bool → Response → Type 0
 answered wanted answer sealed last response = answers_to wanted answer sealed last None ≡ response
 
--- a whole reply that ends the connection
-abbrev ends_with : List ℕ → Response
-ends_with text = record { text = text; content = None; connection = Close }
+-- the answer to a GET of group `/a` with this selection, where the node holds nine bytes of it
+abbrev selects : Selection → Manner → Bool → Response
+selects selection manner sealed =
+    response_for (record { operation = operations.Client (codes "/a") 0 0 manner; hint = Plain; selection = selection }) false (answers.Serve 9) None (holds 9 sealed) [] None []
+
+-- a whole reply after which the connection is kept
+abbrev keeps : List ℕ → Response
+keeps text = record { text = text; content = None; connection = Keep }
 
 -- the answer to a request for a report
 abbrev told : Report → Manner → Response → Type 0
 told report manner response =
-    response_for (record { operation = operations.Report report manner; hint = Plain }) false answers.Ok None (holds 0 false) [] None (codes "it") ≡ response
+    response_for (record { operation = operations.Report report manner; hint = Plain; selection = selections.Whole }) false answers.Ok None (holds 0 false) [] None (codes "it") ≡ response
 
 pub record AreAnswered : Type 0 where
   pub message : input_asked 3 1 operations.Message rejoin_bytes ≡ Ok (Some (inputs.Delivered rejoin))
@@ -192,48 +208,50 @@ pub record AreAnswered : Type 0 where
   pub unauthorized_line : refusal_line (refusals.Denied 12 true) ≡ codes "! denied 12\n"
   pub at_line : refusal_line (refusals.At 1099511627776) ≡ codes "! at 1099511627776\n"
   pub mac_line : refusal_line refusals.Mac ≡ codes "! mac\n"
-  pub at_reply : refusal_text (refusing (refusals.At 325))
+  pub at_reply : refusal_text (refusing None (refusals.At 325))
       ≡ Some (says (codes "HTTP/1.1 409 Conflict") (plain_text ∷ codes "Overcast-Length: 325" ∷ []) (codes "the group has 325 bytes: at=325 appends\n"))
-  pub at_reply_of_a_byte : refusal_text (refusing (refusals.At 1))
+  pub at_reply_of_a_byte : refusal_text (refusing None (refusals.At 1))
       ≡ Some (says (codes "HTTP/1.1 409 Conflict") (plain_text ∷ codes "Overcast-Length: 1" ∷ []) (codes "the group has 1 byte: at=1 appends\n"))
-  pub mac_reply : refusal_text (refusing refusals.Mac)
+  pub mac_reply : refusal_text (refusing None refusals.Mac)
       ≡ Some (says (codes "HTTP/1.1 403 Forbidden") (plain_text ∷ []) (codes "the message has not the MAC of this network's key: give all nodes the same key\n"))
-  pub denied_reply : refusal_text (refusing (refusals.Denied 1 false))
+  pub denied_reply : refusal_text (refusing None (refusals.Denied 1 false))
       ≡ Some (says (codes "HTTP/1.1 403 Forbidden") (codes "Overcast-Rule: 1" ∷ plain_text ∷ []) (codes "access rule 1 denies this: ask who runs this node\n"))
-  pub unauthorized_reply : refusal_text (refusing (refusals.Denied 1 true))
+  pub unauthorized_reply : refusal_text (refusing None (refusals.Denied 1 true))
       ≡ Some (says (codes "HTTP/1.1 401 Unauthorized") (codes "WWW-Authenticate: Bearer" ∷ codes "Overcast-Rule: 1" ∷ plain_text ∷ [])
       (codes "access rule 1 denies this without a token: send the field Authorization: Bearer TOKEN\n"))
-  pub method_reply : refusal_text (refusing refusals.Method)
+  pub method_reply : refusal_text (refusing None refusals.Method)
       ≡ Some (says (codes "HTTP/1.1 405 Method Not Allowed") (codes "Allow: GET, HEAD, POST" ∷ plain_text ∷ []) (codes "there is no such method here: use GET, HEAD or POST\n"))
-  pub head_reply : refusal_text (record { why = refusals.Host; asker = askers.HeadAlone })
+  pub head_reply : refusal_text (record { why = refusals.Host; asker = askers.HeadAlone; kept = None })
       ≡ Some (lines (codes "HTTP/1.1 400 Bad Request" ∷ plain_text ∷ codes "Content-Length: 48" ∷ closes ∷ []))
-  pub no_reply : refusal_text (refusing refusals.Ended) ≡ None
+  pub kept_reply : refusal_text (refusing (Some 40) refusals.Body)
+      ≡ Some (tells (codes "HTTP/1.1 400 Bad Request") (plain_text ∷ []) (codes "a request to seal has no body: publish first, then seal\n"))
+  pub no_reply : refusal_text (refusing None refusals.Ended) ≡ None
   pub reply : reply_to (look_at 3 ∷ rejoin ∷ look_at 2 ∷ look_at 2 ∷ []) 2 ≡ Some (look_at 2)
   pub others : others (look_at 3 ∷ rejoin ∷ look_at 2 ∷ look_at 2 ∷ []) 2 ≡ look_at 3 ∷ rejoin ∷ look_at 2 ∷ []
   pub redirected : answered (operations.Client (codes "/a") 0 2 Once) (answers.Redirect 2) false false
-      (record { text = lines (codes "HTTP/1.1 302 Found" ∷ codes "Location: http://h:2/a?start=2&known" ∷ codes "Content-Length: 0" ∷ closes ∷ []); content = None; connection = Close })
+      (record { text = lines (codes "HTTP/1.1 302 Found" ∷ codes "Location: http://h:2/a?start=2&known" ∷ codes "Content-Length: 0" ∷ []); content = None; connection = Keep })
   pub follower_redirected : answered (operations.Client (codes "/a") 0 0 Follow) (answers.Redirect 1) false false
-      (record { text = lines (codes "HTTP/1.1 302 Found" ∷ codes "Location: http://h:1/a?known&follow" ∷ codes "Content-Length: 0" ∷ closes ∷ []); content = None; connection = Close })
+      (record { text = lines (codes "HTTP/1.1 302 Found" ∷ codes "Location: http://h:1/a?known&follow" ∷ codes "Content-Length: 0" ∷ []); content = None; connection = Keep })
   pub redirected_of_a_sealed_group : answered (operations.Client (codes "/a") 0 0 Once) (answers.Redirect 2) true false
-      (ends_with (lines (codes "HTTP/1.1 302 Found" ∷ codes "Location: http://h:2/a?of=9" ∷ codes "Content-Length: 0" ∷ closes ∷ [])))
+      (keeps (lines (codes "HTTP/1.1 302 Found" ∷ codes "Location: http://h:2/a?of=9" ∷ codes "Content-Length: 0" ∷ [])))
   pub past_its_end : answered (operations.Client (codes "/a") 0 10 Once) (answers.Serve 0) true false
-      (ends_with (says (codes "HTTP/1.1 416 Range Not Satisfiable") (plain_text ∷ codes "Content-Range: bytes */9" ∷ []) (codes "the group has 9 bytes, and is sealed: start=9 is the last start\n")))
+      (keeps (tells (codes "HTTP/1.1 416 Range Not Satisfiable") (plain_text ∷ codes "Content-Range: bytes */9" ∷ []) (codes "the group has 9 bytes, and is sealed: start=9 is the last start\n")))
   pub head_past_its_end : answered (operations.Client (codes "/a") 0 10 HeadAlone) (answers.Serve 0) true false
-      (ends_with (lines (codes "HTTP/1.1 416 Range Not Satisfiable" ∷ plain_text ∷ codes "Content-Range: bytes */9" ∷ codes "Content-Length: 64" ∷ closes ∷ [])))
+      (keeps (lines (codes "HTTP/1.1 416 Range Not Satisfiable" ∷ plain_text ∷ codes "Content-Range: bytes */9" ∷ codes "Content-Length: 64" ∷ [])))
   pub at_its_end : answered (operations.Client (codes "/a") 0 9 Once) (answers.Serve 0) true false
-      (record { text = lines (codes "HTTP/1.1 200 OK" ∷ octets ∷ codes "Content-Length: 0" ∷ closes ∷ []); content = Some (record { start = 9; count = 0; chunked = false }); connection = Close })
+      (record { text = lines (codes "HTTP/1.1 200 OK" ∷ octets ∷ nine ++ codes "Content-Length: 0" ∷ []); content = Some (record { start = 9; count = 0; chunked = false }); connection = Keep })
   pub past_the_end_of_an_open_group : answered (operations.Client (codes "/a") 0 10 Once) (answers.Serve 0) false false
-      (record { text = lines (codes "HTTP/1.1 200 OK" ∷ octets ∷ codes "Content-Length: 0" ∷ closes ∷ []); content = Some (record { start = 10; count = 0; chunked = false }); connection = Close })
+      (record { text = lines (codes "HTTP/1.1 200 OK" ∷ octets ∷ nine ++ codes "Content-Length: 0" ∷ []); content = Some (record { start = 10; count = 0; chunked = false }); connection = Keep })
   pub not_the_source : answered (operations.Publish (codes "/a") None) answers.NotSource false false
-      (ends_with (says (codes "HTTP/1.1 403 Forbidden") (plain_text ∷ []) (codes "this node is not the source: publish at the source, http://h:1/a\n")))
-  pub no_address_of_the_source : response_for (record { operation = operations.Seal (codes "/a") None; hint = Plain }) false answers.NotSource None (holds 9 false) (None ∷ []) None []
-      ≡ ends_with (says (codes "HTTP/1.1 403 Forbidden") (plain_text ∷ []) (codes "this node is not the source: seal at the source\n"))
+      (keeps (tells (codes "HTTP/1.1 403 Forbidden") (plain_text ∷ []) (codes "this node is not the source: publish at the source, http://h:1/a\n")))
+  pub no_address_of_the_source : response_for (record { operation = operations.Seal (codes "/a") None; hint = Plain; selection = selections.Whole }) false answers.NotSource None (holds 9 false) (None ∷ []) None []
+      ≡ keeps (tells (codes "HTTP/1.1 403 Forbidden") (plain_text ∷ []) (codes "this node is not the source: seal at the source\n"))
   pub no_group_to_seal : answered (operations.Seal (codes "/a") None) answers.NoGroup false false
-      (ends_with (says (codes "HTTP/1.1 404 Not Found") (plain_text ∷ []) (codes "there is no such group: publish it first\n")))
+      (keeps (tells (codes "HTTP/1.1 404 Not Found") (plain_text ∷ []) (codes "there is no such group: publish it first\n")))
   pub served : answered (operations.Client (codes "/a") 0 2 Once) (answers.Serve 3) false false
-      (record { text = lines (codes "HTTP/1.1 200 OK" ∷ octets ∷ codes "Content-Length: 3" ∷ closes ∷ []); content = Some (record { start = 2; count = 3; chunked = false }); connection = Close })
+      (record { text = lines (codes "HTTP/1.1 200 OK" ∷ octets ∷ nine ++ codes "Content-Length: 3" ∷ []); content = Some (record { start = 2; count = 3; chunked = false }); connection = Keep })
   pub head_alone : answered (operations.Client (codes "/a") 0 2 HeadAlone) (answers.Serve 3) false false
-      (record { text = lines (codes "HTTP/1.1 200 OK" ∷ octets ∷ codes "Content-Length: 3" ∷ closes ∷ []); content = None; connection = Close })
+      (record { text = lines (codes "HTTP/1.1 200 OK" ∷ octets ∷ nine ++ codes "Content-Length: 3" ∷ []); content = None; connection = Keep })
   pub followed : answered (operations.Client (codes "/a") 0 0 Follow) (answers.Serve 2) false false
       (record { text = lines (codes "HTTP/1.1 200 OK" ∷ octets ∷ codes "Transfer-Encoding: chunked" ∷ []); content = Some (record { start = 0; count = 2; chunked = true }); connection = Keep })
   pub sealed : answered (operations.Client (codes "/a") 0 2 Follow) (answers.Serve 0) true false
@@ -241,22 +259,44 @@ pub record AreAnswered : Type 0 where
   pub last_of_its_connection : answered (operations.Client (codes "/a") 0 0 Follow) (answers.Serve 2) false true
       (record { text = lines (codes "HTTP/1.1 200 OK" ∷ octets ∷ codes "Transfer-Encoding: chunked" ∷ closes ∷ []); content = Some (record { start = 0; count = 2; chunked = true }); connection = Close })
   pub not_held : answered (operations.Client (codes "/b") 0 0 Follow) answers.NoGroup false false
-      (ends_with (says (codes "HTTP/1.1 404 Not Found") (plain_text ∷ []) (codes "there is no such group here: look at /-/status for the names of groups\n")))
+      (keeps (tells (codes "HTTP/1.1 404 Not Found") (plain_text ∷ []) (codes "there is no such group here: look at /-/status for the names of groups\n")))
   pub nothing_back : answered operations.Message answers.Ok false false
-      (record { text = lines (codes "HTTP/1.1 204 No Content" ∷ closes ∷ []); content = None; connection = Close })
-  pub message_with_a_mac : response_for (record { operation = operations.Message; hint = Plain }) false answers.Ok (Some rejoin) (holds 0 false) [] (Some (codes "key")) []
-      ≡ record { text = lines (codes "HTTP/1.1 200 OK" ∷ octets ∷ codes "Content-Length: 17" ∷ closes ∷ (codes "Overcast-Mac: " ++ mac_digits (codes "key") (spelling rejoin)) ∷ []) ++ spelling rejoin; content = None; connection = Close }
+      (record { text = lines (codes "HTTP/1.1 204 No Content" ∷ []); content = None; connection = Keep })
+  pub message_with_a_mac : response_for (record { operation = operations.Message; hint = Plain; selection = selections.Whole }) false answers.Ok (Some rejoin) (holds 0 false) [] (Some (codes "key")) []
+      ≡ record { text = lines (codes "HTTP/1.1 200 OK" ∷ octets ∷ codes "Content-Length: 17" ∷ (codes "Overcast-Mac: " ++ mac_digits (codes "key") (spelling rejoin)) ∷ []) ++ spelling rejoin; content = None; connection = Keep }
   pub nothing_back_needs_none : answers_to operations.Message answers.Ok false false (Some (codes "key"))
-      ≡ record { text = lines (codes "HTTP/1.1 204 No Content" ∷ closes ∷ []); content = None; connection = Close }
+      ≡ record { text = lines (codes "HTTP/1.1 204 No Content" ∷ []); content = None; connection = Keep }
   pub status : told reports.Status Once
-      (record { text = lines (codes "HTTP/1.1 200 OK" ∷ codes "Content-Type: application/json" ∷ codes "Content-Length: 2" ∷ closes ∷ []) ++ codes "it"; content = None; connection = Close })
+      (record { text = lines (codes "HTTP/1.1 200 OK" ∷ codes "Content-Type: application/json" ∷ codes "Content-Length: 2" ∷ []) ++ codes "it"; content = None; connection = Keep })
   pub metrics_head : told reports.Metrics HeadAlone
-      (record { text = lines (codes "HTTP/1.1 200 OK" ∷ codes "Content-Type: text/plain; version=0.0.4" ∷ codes "Content-Length: 2" ∷ closes ∷ []); content = None; connection = Close })
+      (record { text = lines (codes "HTTP/1.1 200 OK" ∷ codes "Content-Type: text/plain; version=0.0.4" ∷ codes "Content-Length: 2" ∷ []); content = None; connection = Keep })
   pub page_followed : told reports.Page Follow
       (record { text = lines (codes "HTTP/1.1 200 OK" ∷ codes "Content-Type: text/html; charset=utf-8" ∷ codes "Content-Length: 2" ∷ []) ++ codes "it"; content = None; connection = Keep })
   pub probe_head : answered (operations.Probe HeadAlone) answers.Ok false false
-      (record { text = lines (codes "HTTP/1.1 200 OK" ∷ octets ∷ codes "Content-Length: 10240" ∷ closes ∷ []); content = None; connection = Close })
-  pub fifteenth : is_last (head methods.Get (codes "/a") []) 15 ≡ false
-  pub sixteenth : is_last (head methods.Get (codes "/a") []) 16 ≡ true
+      (record { text = lines (codes "HTTP/1.1 200 OK" ∷ octets ∷ codes "Content-Length: 10240" ∷ []); content = None; connection = Keep })
+  pub selected_whole : selects selections.Whole Once true
+      ≡ record { text = lines (codes "HTTP/1.1 200 OK" ∷ octets ∷ nine ++ codes "Content-Length: 9" ∷ []); content = Some (record { start = 0; count = 9; chunked = false }); connection = Keep }
+  pub selected_part : selects (selections.Part 2 5) Once true
+      ≡ record { text = lines (codes "HTTP/1.1 206 Partial Content" ∷ octets ∷ codes "Content-Range: bytes 2-6/9" ∷ nine ++ codes "Content-Length: 5" ∷ []); content = Some (record { start = 2; count = 5; chunked = false }); connection = Keep }
+  pub selected_part_of_an_open_group : selects (selections.Part 8 1) Once false
+      ≡ record { text = lines (codes "HTTP/1.1 206 Partial Content" ∷ octets ∷ codes "Content-Range: bytes 8-8/*" ∷ nine ++ codes "Content-Length: 1" ∷ []); content = Some (record { start = 8; count = 1; chunked = false }); connection = Keep }
+  pub selected_none : selects selections.Unsatisfiable Once false
+      ≡ keeps (tells (codes "HTTP/1.1 416 Range Not Satisfiable") (plain_text ∷ codes "Content-Range: bytes */9" ∷ []) (codes "the group has 9 bytes, and none of them is in the range: ask for one that begins before its end\n"))
+  pub known : selects selections.NotModified Once true ≡ keeps (lines (codes "HTTP/1.1 304 Not Modified" ∷ codes "ETag: \"9\"" ∷ []))
+  pub known_to_a_head : selects selections.NotModified HeadAlone false ≡ keeps (lines (codes "HTTP/1.1 304 Not Modified" ∷ codes "ETag: \"9\"" ∷ []))
+  pub refused_condition : selects selections.PreconditionFailed Once true
+      ≡ keeps (tells (codes "HTTP/1.1 412 Precondition Failed") (plain_text ∷ []) (codes "the group is not what If-Match names: ask for it without this field\n"))
+  pub refused_condition_of_a_head : selects selections.PreconditionFailed HeadAlone true
+      ≡ keeps (lines (codes "HTTP/1.1 412 Precondition Failed" ∷ plain_text ∷ codes "Content-Length: 68" ∷ []))
+  pub part_sent_on : response_for (record { operation = operations.Client (codes "/a") 0 0 Once; hint = Plain; selection = selections.Part 2 5 }) false (answers.Redirect 1) None (holds 9 true) (Some (codes "h:1") ∷ []) None []
+      ≡ keeps (lines (codes "HTTP/1.1 302 Found" ∷ codes "Location: http://h:1/a?of=9" ∷ codes "Content-Length: 0" ∷ []))
+  pub film : response_for (record { operation = operations.Client (codes "/a/b.MP4") 0 0 Follow; hint = Plain; selection = selections.Whole }) false (answers.Serve 9) None (holds 9 true) [] None []
+      ≡ record { text = lines (codes "HTTP/1.1 200 OK" ∷ codes "Content-Type: video/mp4" ∷ codes "Content-Length: 9" ∷ []); content = Some (record { start = 0; count = 9; chunked = false }); connection = Keep }
+  pub not_last : is_last (head methods.Get (codes "/a") []) 999 ≡ false
+  pub thousandth : is_last (head methods.Get (codes "/a") []) 1000 ≡ true
+  pub of_version_1_0 : is_last (record (head methods.Get (codes "/a") []) { minor = 0 }) 1 ≡ true
   pub closing : is_last (record (head methods.Get (codes "/a") []) { closes = true }) 1 ≡ true
   pub nothing_to_continue : awaits_continue (record (head methods.Post (codes "/a") []) { expects = true }) ≡ false
+  pub kept_without_a_body : kept_after_head (head methods.Other (codes "/a") []) 3 40 ≡ Some 40
+  pub closed_by_a_body : kept_after_head (record (head methods.Other (codes "/a") []) { length = 1 }) 3 40 ≡ None
+  pub closed_by_the_last : kept_after_head (head methods.Other (codes "/a") []) 1000 40 ≡ None

@@ -6,6 +6,7 @@ use Rattle.oc_http.specs.declared.head.Head.{Head}
 use Rattle.oc_http.specs.declared.head.Method.{Method}
 use Rattle.oc_http.specs.declared.head.Method.TheVariants as methods
 use Rattle.oc_policy.specs.declared.rule.Rule.{Rule}
+use Rattle.oc_select.specs.declared.selection.Selection.TheVariants.{Whole}
 use Rattle.oc_routes.specs.Queries.{first_value, has_part, number_told}
 use Rattle.oc_routes.specs.Routes.{asked}
 use Rattle.oc_routes.specs.declared.routes.Operation.{Operation}
@@ -33,11 +34,11 @@ hint_in query =
 
 -- the hint of a query for a group, which is looked at before the access rules; that of a report is looked at as well, and tells nothing
 abbrev pub with_hint : Result Operation Refused → Result Hint Refused → Result Asked Refused
-with_hint (Ok (asks.Client group area start manner)) (Ok hint) = Ok (record { operation = asks.Client group area start manner; hint = hint })
+with_hint (Ok (asks.Client group area start manner)) (Ok hint) = Ok (record { operation = asks.Client group area start manner; hint = hint; selection = Whole })
 with_hint (Ok (asks.Client group area start manner)) (Err why) = Err why
-with_hint (Ok (asks.Report report manner)) (Ok hint) = Ok (record { operation = asks.Report report manner; hint = Plain })
+with_hint (Ok (asks.Report report manner)) (Ok hint) = Ok (record { operation = asks.Report report manner; hint = Plain; selection = Whole })
 with_hint (Ok (asks.Report report manner)) (Err why) = Err why
-with_hint (Ok other) told = Ok (record { operation = other; hint = Plain })
+with_hint (Ok other) told = Ok (record { operation = other; hint = Plain; selection = Whole })
 with_hint (Err (refusals.Denied rule needs_token)) (Ok hint) = Err (refusals.Denied rule needs_token)
 with_hint (Err (refusals.Denied rule needs_token)) (Err why) = Err why
 with_hint (Err other) told = Err other

@@ -38,3 +38,4 @@ pub mod Stillness
 pub mod Verdicts
 pub mod Waits
 pub mod Conditions
+pub mod Selections

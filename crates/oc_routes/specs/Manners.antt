@@ -1,7 +1,5 @@
 -- The manners in which a content is asked for, and their effects.
-use Rattle.std.specs.Prelude.{ℕ, Bool, false, ◌&&◌, ◌==◌, if◌then◌else◌, Option, Some, None, List, []}
-use Rattle.oc_http.specs.declared.framing.Persistence.{Persistence}
-use Rattle.oc_http.specs.declared.framing.Persistence.TheVariants.{Close, Keep}
+use Rattle.std.specs.Prelude.{ℕ, Bool, ◌&&◌, ◌==◌, if◌then◌else◌, Option, Some, None, List, []}
 use Rattle.oc_http.specs.declared.head.Method.{Method}
 use Rattle.oc_http.specs.declared.head.Method.TheVariants as methods
 use Rattle.oc_routes.specs.declared.manner.Manner.{Manner}
@@ -21,8 +19,3 @@ content_for manner content = Some content
 abbrev pub body_for : Manner → List ℕ → List ℕ
 body_for HeadAlone text = []
 body_for manner text = text
-
--- the connection is kept for a client that follows a group, unless its request is the last
-abbrev pub connection_for : Manner → Bool → Persistence
-connection_for Follow false = Keep
-connection_for manner last = Close

@@ -1,5 +1,5 @@
 -- A POST of `/!overcast`: its body is a message to this node, and the message back to the sender is its reply.
-use Rattle.std.specs.Prelude.{ℕ, ◌==◌, if◌then◌else◌, Option, Some, None, Result, Ok, Err, List}
+use Rattle.std.specs.Prelude.{ℕ, Bool, ◌==◌, if◌then◌else◌, Option, Some, None, Result, Ok, Err, List}
 use Rattle.oc_model.specs.declared.input.Input.{Input}
 use Rattle.oc_model.specs.declared.input.Input.TheVariants as inputs
 use Rattle.oc_model.specs.declared.message.Message.{Message}
@@ -17,6 +17,6 @@ delivered me (Ok message) = if message.to == me then Ok (Some (inputs.Delivered 
 delivered me (Err fault) = Err refusals.Message
 
 -- the answer to a message: the reply to its sender, with its MAC, or nothing
-abbrev pub message_response : Option (List ℕ) → Option Message → Response
-message_response key None = status_alone 204
-message_response key (Some message) = whole (record (typed (spelling message)) { mac = mac_for key (spelling message) })
+abbrev pub message_response : Option (List ℕ) → Option Message → Bool → Response
+message_response key None last = status_alone 204 last
+message_response key (Some message) last = whole (record (typed (spelling message)) { mac = mac_for key (spelling message) }) last

@@ -4,7 +4,7 @@ use Rattle.std.specs.Str.{byte}
 use Rattle.oc_http.specs.Writing.{head_text}
 use Rattle.oc_http.specs.declared.framing.Framing.TheVariants as framings
 use Rattle.oc_probe.specs.declared.rate.TheConstants.{PROBE_BYTES}
-use Rattle.oc_routes.specs.Manners.{connection_for}
+use Rattle.oc_routes.specs.Connections.{connection_for}
 use Rattle.oc_routes.specs.Responses.{typed}
 use Rattle.oc_routes.specs.declared.manner.Manner.{Manner}
 use Rattle.oc_routes.specs.declared.manner.Manner.TheVariants.{HeadAlone}
@@ -26,7 +26,7 @@ probe_body manner = probe_content
 -- the reply to a probe
 abbrev pub probe_response : Manner → Bool → Response
 probe_response manner last = record {
-  text = head_text (typed []) (framings.Length PROBE_BYTES) (connection_for manner last) ++ probe_body manner;
+  text = head_text (typed []) (framings.Length PROBE_BYTES) (connection_for last) ++ probe_body manner;
   content = None;
-  connection = connection_for manner last;
+  connection = connection_for last;
 }

@@ -1,5 +1,5 @@
 -- A POST of a group: its body is added at the end of the group.
-use Rattle.std.specs.Prelude.{⊤, ℕ, ◌==◌, if◌then◌else◌, List}
+use Rattle.std.specs.Prelude.{⊤, ℕ, Bool, ◌==◌, if◌then◌else◌, List}
 use Rattle.oc_model.specs.declared.answer.Answer.{Answer}
 use Rattle.oc_model.specs.declared.answer.Answer.TheVariants as answers
 use Rattle.oc_routes.specs.Reasons.{publish_line}
@@ -22,6 +22,6 @@ publish_status answers.TooLong = 413
 publish_status refusal = 403
 
 -- the reply to a publish of this group, where the source has this address
-abbrev pub publish_response : Answer → List ℕ → List ℕ → Response
-publish_response answer source group =
-    if publish_status answer == 200 then status_alone 200 else told (publish_status answer) (publish_line answer source group)
+abbrev pub publish_response : Answer → List ℕ → List ℕ → Bool → Response
+publish_response answer source group last =
+    if publish_status answer == 200 then status_alone 200 last else told (publish_status answer) (publish_line answer source group) last

@@ -4,6 +4,7 @@
 use Rattle.std.specs.Prelude.{ℕ, ◌==◌, Bool, true, false, if◌then◌else◌, Some, None, List, [], ◌++◌, codes, decimal, length}
 use Rattle.oc_http.specs.Writing.{response_text, to_head_text}
 use Rattle.oc_http.specs.declared.content_type.ContentType.TheVariants.{Text}
+use Rattle.oc_http.specs.declared.framing.Persistence.{Persistence}
 use Rattle.oc_http.specs.declared.reply.Reply.{Reply}
 use Rattle.oc_model.specs.declared.answer.Answer.{Answer}
 use Rattle.oc_model.specs.declared.answer.Answer.TheVariants as answers
@@ -14,16 +15,16 @@ use Rattle.oc_routes.specs.declared.refused.Refused.TheVariants.{Head, HeadLong,
 
 -- a reply without a body
 abbrev pub bare : ℕ → Reply
-bare status = record { status = status; location = None; content_type = None; content_range = None; body = []; rule = None; group_length = None; mac = None }
+bare status = record { status = status; location = None; content_type = None; body = []; rule = None; content_range = None; etag = None; accepts_ranges = false; group_length = None; mac = None }
 
 -- a reply whose body is this line
 abbrev pub telling : ℕ → List ℕ → Reply
 telling status line = record (bare status) { content_type = Some Text; body = line }
 
--- the text of a reply that ends the connection: to a HEAD its head alone, with the length of the body
-abbrev pub reply_text : Bool → Reply → List ℕ
-reply_text true reply = to_head_text reply
-reply_text false reply = response_text reply
+-- the text of a reply with this fate of its connection: to a HEAD its head alone, with the length of the body
+abbrev pub reply_text : Bool → Reply → Persistence → List ℕ
+reply_text true reply connection = to_head_text reply connection
+reply_text false reply connection = response_text reply connection
 
 -- Lines of requests that are refused
 
@@ -104,3 +105,11 @@ nowhere_line = codes "the node that has more of this group has no address: ask a
 -- the line to a client whose start is past the end of a sealed group of this length
 abbrev pub past_line : ℕ → List ℕ
 past_line length = codes "the group has " ++ bytes_text length ++ codes ", and is sealed: start=" ++ decimal length ++ codes " is the last start\n"
+
+-- the line to a client whose condition does not hold
+abbrev pub condition_line : List ℕ
+condition_line = codes "the group is not what If-Match names: ask for it without this field\n"
+
+-- the line to a client whose range has no byte of a group of this length
+abbrev pub range_line : ℕ → List ℕ
+range_line length = codes "the group has " ++ bytes_text length ++ codes ", and none of them is in the range: ask for one that begins before its end\n"

@@ -1,7 +1,9 @@
 -- The answer to a refused request, and its line.
-use Rattle.std.specs.Prelude.{ℕ, if◌then◌else◌, Option, Some, None, option_map, List, [], ◌++◌, codes, decimal}
+use Rattle.std.specs.Prelude.{ℕ, if◌then◌else◌, Option, Some, None, option_map, List, ◌++◌, codes, decimal}
 use Rattle.oc_http.specs.declared.fault.HttpFault.{HttpFault}
 use Rattle.oc_http.specs.declared.fault.HttpFault.TheVariants as http
+use Rattle.oc_http.specs.declared.framing.Persistence.{Persistence}
+use Rattle.oc_http.specs.declared.framing.Persistence.TheVariants.{Close, Keep}
 use Rattle.oc_http.specs.declared.reply.Reply.{Reply}
 use Rattle.oc_routes.specs.Askers.{gets_head_alone}
 use Rattle.oc_routes.specs.Reasons.{refused_line, reply_text, telling}
@@ -59,13 +61,18 @@ group_length_of refused = None
 abbrev pub refusal : ℕ → Refused → Reply
 refusal status refused = record (telling status (refused_line refused)) { rule = rule_of refused; group_length = group_length_of refused }
 
--- the text of that reply, which ends the connection; a connection that failed or ended gets none
+-- the fate of the connection after a refusal
+abbrev pub fate_of : Option ℕ → Persistence
+fate_of None = Close
+fate_of (Some count) = Keep
+
+-- the text of that reply; a connection that failed or ended gets none
 abbrev pub refusal_text : Refusal → Option (List ℕ)
-refusal_text r = option_map (λ status. reply_text (gets_head_alone r.asker) (refusal status r.why)) (status_of r.why)
+refusal_text r = option_map (λ status. reply_text (gets_head_alone r.asker) (refusal status r.why) (fate_of r.kept)) (status_of r.why)
 
 -- the refusal of a request that is no HEAD, or whose client is told nothing
-abbrev pub refusing : Refused → Refusal
-refusing why = record { why = why; asker = Client }
+abbrev pub refusing : Option ℕ → Refused → Refusal
+refusing kept why = record { why = why; asker = Client; kept = kept }
 
 -- the word for the cause of a refusal
 abbrev pub why_text : Refused → List ℕ

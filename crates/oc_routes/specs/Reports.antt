@@ -4,7 +4,8 @@ use Rattle.oc_http.specs.Writing.{head_text}
 use Rattle.oc_http.specs.declared.content_type.ContentType.{ContentType}
 use Rattle.oc_http.specs.declared.content_type.ContentType.TheVariants as types
 use Rattle.oc_http.specs.declared.framing.Framing.TheVariants as framings
-use Rattle.oc_routes.specs.Manners.{body_for, connection_for}
+use Rattle.oc_routes.specs.Connections.{connection_for}
+use Rattle.oc_routes.specs.Manners.{body_for}
 use Rattle.oc_routes.specs.Metrics.{metrics_text}
 use Rattle.oc_routes.specs.Page.{page_text}
 use Rattle.oc_routes.specs.Responses.{typed_as}
@@ -37,7 +38,7 @@ report_of other s = []
 -- the reply to a request for a report with this text
 abbrev pub report_response : Report → Manner → Bool → List ℕ → Response
 report_response report manner last text = record {
-  text = head_text (typed_as (content_type_of report) []) (framings.Length (length text)) (connection_for manner last) ++ body_for manner text;
+  text = head_text (typed_as (content_type_of report) []) (framings.Length (length text)) (connection_for last) ++ body_for manner text;
   content = None;
-  connection = connection_for manner last;
+  connection = connection_for last;
 }

@@ -3,38 +3,38 @@ use Rattle.std.specs.Prelude.{ℕ, ◌-◌, Bool, true, false, Option, Some, Non
 use Rattle.oc_http.specs.Writing.{response_text}
 use Rattle.oc_http.specs.declared.content_type.ContentType.{ContentType}
 use Rattle.oc_http.specs.declared.content_type.ContentType.TheVariants.{Octets}
-use Rattle.oc_http.specs.declared.framing.Persistence.TheVariants.{Close}
 use Rattle.oc_http.specs.declared.reply.Reply.{Reply}
+use Rattle.oc_routes.specs.Connections.{connection_for}
 use Rattle.oc_routes.specs.Reasons.{bare, reply_text, telling}
 use Rattle.oc_routes.specs.declared.manner.Manner.{Manner}
 use Rattle.oc_routes.specs.declared.manner.Manner.TheVariants.{HeadAlone}
 use Rattle.oc_routes.specs.declared.response.Response.{Response}
 
--- a whole reply, which ends the connection
-abbrev pub whole : Reply → Response
-whole reply = record { text = response_text reply; content = None; connection = Close }
+-- a whole reply; its connection is kept, except after the last request
+abbrev pub whole : Reply → Bool → Response
+whole reply last = record { text = response_text reply (connection_for last); content = None; connection = connection_for last }
 
 -- a status alone
-abbrev pub status_alone : ℕ → Response
-status_alone status = whole (bare status)
+abbrev pub status_alone : ℕ → Bool → Response
+status_alone status last = whole (bare status) last
 
 -- the manner of a HEAD, which gets the head of a reply alone
 abbrev pub is_head_alone : Manner → Bool
 is_head_alone HeadAlone = true
 is_head_alone manner = false
 
-abbrev pub whole_for : Manner → Reply → Response
-whole_for manner reply = record { text = reply_text (is_head_alone manner) reply; content = None; connection = Close }
+abbrev pub whole_for : Manner → Reply → Bool → Response
+whole_for manner reply last = record { text = reply_text (is_head_alone manner) reply (connection_for last); content = None; connection = connection_for last }
 
 -- a status of 400 or above, with its line
-abbrev pub told : ℕ → List ℕ → Response
-told status line = whole (telling status line)
+abbrev pub told : ℕ → List ℕ → Bool → Response
+told status line last = whole (telling status line) last
 
 -- a 200 with a body of this type
 abbrev pub typed_as : ContentType → List ℕ → Reply
 typed_as type body = record (bare 200) { content_type = Some type; body = body }
 
--- a 200 whose body is bytes of a group, or a message
+-- a 200 whose body is a message, or the content of a probe
 abbrev pub typed : List ℕ → Reply
 typed body = typed_as Octets body
 

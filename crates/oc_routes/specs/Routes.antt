@@ -13,6 +13,7 @@ use Rattle.oc_model.specs.declared.answer.Answer.{Answer}
 use Rattle.oc_model.specs.declared.input.Input.{Input}
 use Rattle.oc_model.specs.declared.input.Input.TheVariants as inputs
 use Rattle.oc_model.specs.declared.message.Message.{Message}
+use Rattle.oc_select.specs.declared.selection.Selection.{Selection}
 use Rattle.oc_policy.specs.Rules.{rule_matches, verdict}
 use Rattle.oc_policy.specs.declared.deciding.Decision.{Decision}
 use Rattle.oc_policy.specs.declared.deciding.Decision.TheVariants.{Allowed, Denied}
@@ -186,17 +187,18 @@ Gives (Err faults.Memory) said = Unit {0}
 -- The answer to a request
 
 -- the answer to an operation
-abbrev pub response_to : Operation → Hint → Bool → Answer → Option Message → Holding → List (Option (List ℕ)) → Option (List ℕ) → List ℕ → Response
-response_to operations.Message hint last answer back h addresses key report = message_response key back
-response_to (operations.Publish group at) hint last answer back h addresses key report = publish_response answer (source_in addresses) group
-response_to (operations.Seal group at) hint last answer back h addresses key report = seal_response answer (source_in addresses) group
-response_to (operations.Client group area start manner) hint last answer back h addresses key report =
-    group_response group start manner hint last answer h addresses
-response_to (operations.Probe manner) hint last answer back h addresses key report = probe_response manner last
-response_to (operations.Report what manner) hint last answer back h addresses key report = report_response what manner last report
+abbrev pub response_to : Operation → Hint → Selection → Bool → Answer → Option Message → Holding → List (Option (List ℕ)) → Option (List ℕ) → List ℕ → Response
+response_to operations.Message hint selection last answer back h addresses key report = message_response key back last
+response_to (operations.Publish group at) hint selection last answer back h addresses key report = publish_response answer (source_in addresses) group last
+response_to (operations.Seal group at) hint selection last answer back h addresses key report = seal_response answer (source_in addresses) group last
+response_to (operations.Client group area start manner) hint selection last answer back h addresses key report =
+    group_response (record { group = group; start = start; manner = manner; hint = hint; selection = selection; last = last }) answer h addresses
+response_to (operations.Probe manner) hint selection last answer back h addresses key report = probe_response manner last
+response_to (operations.Report what manner) hint selection last answer back h addresses key report = report_response what manner last report
 
 -- The answer to a request for this answer of its step, with this message that goes back to the sender of a message, by
 -- the node's holding of the group, the addresses and the key of the network, and the report of the node; `last` says
 -- that the request is the last of its connection whatever it asks.
 abbrev pub response_for : Asked → Bool → Answer → Option Message → Holding → List (Option (List ℕ)) → Option (List ℕ) → List ℕ → Response
-response_for asked last answer back h addresses key report = response_to asked.operation asked.hint last answer back h addresses key report
+response_for asked last answer back h addresses key report =
+    response_to asked.operation asked.hint asked.selection last answer back h addresses key report

@@ -1,5 +1,5 @@
 -- A POST of a group with a part `seal` in its query, and without a body: the group is closed.
-use Rattle.std.specs.Prelude.{⊤, ℕ, ◌==◌, if◌then◌else◌, Option, Some, Result, Ok, Err, List, length}
+use Rattle.std.specs.Prelude.{⊤, ℕ, Bool, ◌==◌, if◌then◌else◌, Option, Some, Result, Ok, Err, List, length}
 use Rattle.oc_model.specs.declared.answer.Answer.{Answer}
 use Rattle.oc_model.specs.declared.answer.Answer.TheVariants as answers
 use Rattle.oc_model.specs.declared.input.Input.{Input}
@@ -30,6 +30,6 @@ seal_status answers.NoGroup = 404
 seal_status refusal = 403
 
 -- the reply to a seal of this group, where the source has this address
-abbrev pub seal_response : Answer → List ℕ → List ℕ → Response
-seal_response answer source group =
-    if seal_status answer == 200 then status_alone 200 else told (seal_status answer) (seal_line answer source group)
+abbrev pub seal_response : Answer → List ℕ → List ℕ → Bool → Response
+seal_response answer source group last =
+    if seal_status answer == 200 then status_alone 200 last else told (seal_status answer) (seal_line answer source group) last

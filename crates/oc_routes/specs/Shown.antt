@@ -10,31 +10,31 @@ use Rattle.oc_routes.specs.declared.hint.Hint.TheVariants.{Plain, Here, Of, Know
 use Rattle.oc_routes.specs.declared.holding.Holding.{Holding}
 use Rattle.oc_routes.specs.declared.showing.Shown.{Shown}
 
-abbrev pub shown_as : Answer → Bool → Shown
-shown_as answer sealed = record { answer = answer; sealed = sealed }
+abbrev pub shown_as : Answer → Bool → ℕ → Shown
+shown_as answer sealed length = record { answer = answer; sealed = sealed; length = length }
 
 -- the answer of the node itself, without an input
 abbrev pub here_answer : Holding → ℕ → Answer
 here_answer h start = if h.there then answers.Serve (h.held - start) else answers.NoGroup
 
 -- the answer where the client tells the length: a group that is not sealed here is given up to this length, as one that is sealed
-abbrev pub of_shown : ℕ → Answer → Bool → ℕ → Shown
-of_shown length answer true start = shown_as answer true
-of_shown length (answers.Serve count) false start = shown_as (answers.Serve (length - start)) true
-of_shown length answers.NoGroup false start = shown_as (answers.Serve (length - start)) true
-of_shown length answer false start = shown_as answer false
+abbrev pub of_shown : ℕ → Answer → Bool → ℕ → ℕ → Shown
+of_shown length answer true held start = shown_as answer true held
+of_shown length (answers.Serve count) false held start = shown_as (answers.Serve (length - start)) true length
+of_shown length answers.NoGroup false held start = shown_as (answers.Serve (length - start)) true length
+of_shown length answer false held start = shown_as answer false held
 
 -- a group that is known and not held counts as an open one without a byte
-abbrev pub known_shown : Answer → Bool → Shown
-known_shown answers.NoGroup sealed = shown_as (answers.Serve 0) false
-known_shown answer sealed = shown_as answer sealed
+abbrev pub known_shown : Answer → Bool → ℕ → Shown
+known_shown answers.NoGroup sealed held = shown_as (answers.Serve 0) false held
+known_shown answer sealed held = shown_as answer sealed held
 
--- the answer of a step, and whether the group is sealed, as the client is shown them
+-- the answer of a step, whether the group is sealed, and its length, as the client is shown them
 abbrev pub shown : Hint → Answer → Holding → ℕ → Shown
-shown Plain answer h start = shown_as answer h.sealed
-shown Here answer h start = shown_as (here_answer h start) h.sealed
-shown (Of length) answer h start = of_shown length answer h.sealed start
-shown Known answer h start = known_shown answer h.sealed
+shown Plain answer h start = shown_as answer h.sealed h.held
+shown Here answer h start = shown_as (here_answer h start) h.sealed h.held
+shown (Of length) answer h start = of_shown length answer h.sealed h.held start
+shown Known answer h start = known_shown answer h.sealed h.held
 
 -- Locations
 

@@ -18,12 +18,13 @@ pub record AboutView : Type 0 where
 abbrev pub about_of : About → AboutView
 about_of a = record { version = a.version.now; started = a.started; refused = a.refused }
 
--- the control state of a node, its shelf, and the number of messages in its outbox; the addresses and names of the nodes, by their ids, where
--- they have one, and whether they are retired; the counts of its run; and the program
+-- the control state of a node, its shelf, and the number of messages in its outbox; the greatest id that a node of its network can have; the
+-- addresses and names of the nodes, by their ids, where they have one, and whether they are retired; the counts of its run; and the program
 pub record Sight : Type 0 where
   pub node : Control
   pub shelf : List Shelf
   pub messages : ℕ
+  pub ids : ℕ
   pub addresses : List (Option (List ℕ))
   pub names : List (Option (List ℕ))
   pub retired : List Bool
@@ -35,6 +36,7 @@ sight_of seen = record {
   node = seen.node.now.control;
   shelf = seen.shelf.now;
   messages = seen.messages;
+  ids = seen.ids;
   addresses = map (option_map string_bytes) seen.directory.addresses.now;
   names = map (option_map string_bytes) seen.directory.names.now;
   retired = seen.directory.retired.now;
@@ -74,7 +76,7 @@ ids_from x (suc count) = x ∷ ids_from (x + 1) count
 
 -- the ids of the nodes for which this holds, ascending
 abbrev pub ids_with : (ℕ → Bool) → Sight → List ℕ
-ids_with holds s = filter holds (ids_from 1 s.node.nodes)
+ids_with holds s = filter holds (ids_from 1 s.ids)
 
 -- the nodes in the metrics: those with an address or a row that are not left out
 abbrev pub is_told : Sight → ℕ → Bool

@@ -31,12 +31,12 @@ abbrev pub rank_text : Rank → List ℕ
 rank_text rank = quoted (decimal rank.epoch ++ codes "." ++ decimal rank.depth)
 
 -- the id of the node, and its network
-abbrev pub network_text : Control → List ℕ
-network_text n =
-    codes "\"node\":" ++ number_text n.me
-    ++ codes ",\"nodes\":" ++ number_text n.nodes
-    ++ codes ",\"chain\":" ++ number_text n.chain
-    ++ codes ",\"chunk\":" ++ number_text n.chunk
+abbrev pub network_text : Sight → List ℕ
+network_text s =
+    codes "\"node\":" ++ number_text s.node.me
+    ++ codes ",\"nodes\":" ++ number_text s.ids
+    ++ codes ",\"chain\":" ++ number_text s.node.chain
+    ++ codes ",\"chunk\":" ++ number_text s.node.chunk
 
 -- the place of the node in the tree
 abbrev pub place_text : Control → List ℕ
@@ -100,8 +100,8 @@ unfoldable pub list_text : {A : Type 0} → List ℕ → (A → List ℕ) → Li
 list_text name text xs = codes ",\"" ++ name ++ codes "\":" ++ array_text text xs
 
 -- the node's state: who it is, its place, its counts
-unfoldable pub state_text : Control → List ℕ
-state_text n = network_text n ++ place_text n ++ counts_text n
+unfoldable pub state_text : Sight → List ℕ
+state_text s = network_text s ++ place_text s.node ++ counts_text s.node
 
 -- the program, and its limit of groups
 abbrev pub program_text : AboutView → List ℕ
@@ -135,7 +135,7 @@ end_text s xs =
 -- the status without its end: the state, the ancestors, the groups, these rows of the table, and these leased children
 abbrev pub object_text : Sight → List Row → List Leased → List ℕ
 object_text s rows leased =
-    codes "{" ++ state_text s.node
+    codes "{" ++ state_text s
     ++ list_text (codes "ancestors") number_text s.node.kept.ancestors
     ++ list_text (codes "groups") group_text s.shelf
     ++ list_text (codes "table") (row_text s) rows

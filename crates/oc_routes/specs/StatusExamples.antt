@@ -55,6 +55,7 @@ seen n = record {
   node = n;
   shelf = [];
   messages = 0;
+  ids = 5;
   addresses = None ∷ None ∷ None ∷ None ∷ None ∷ [];
   names = None ∷ None ∷ None ∷ None ∷ None ∷ [];
   retired = false ∷ false ∷ false ∷ false ∷ false ∷ [];

@@ -11,9 +11,10 @@ use Rattle.oc_model.specs.declared.input.Input.{Input}
 use Rattle.oc_policy.specs.Keys.{Keyring}
 use Rattle.oc_policy.specs.declared.rule.Rule.{Rule}
 use Rattle.oc_routes.specs.Askers.{asker_in, asker_of}
-use Rattle.oc_routes.specs.Connections.{awaits_continue, is_last}
+use Rattle.oc_routes.specs.Connections.{awaits_continue, is_last, kept_after, kept_after_head}
 use Rattle.oc_routes.specs.Routes.{input_asked}
-use Rattle.oc_routes.specs.Refusals.{fault_of_http, refusing}
+use Rattle.oc_routes.specs.Refusals.{fault_of_http}
+use Rattle.oc_routes.specs.Selections.{line_of, selectors_for}
 use Rattle.oc_routes.specs.declared.asker.Asker.{Asker}
 use Rattle.oc_routes.specs.declared.asker.Asker.TheVariants.{Client}
 use Rattle.oc_routes.specs.declared.fault.RouteFault.{RouteFault}
@@ -25,7 +26,6 @@ use Rattle.oc_routes.specs.Macs.{is_forged}
 use Rattle.oc_routes.specs.declared.hint.Asked.{Asked}
 use Rattle.oc_routes.specs.declared.hint.Hint.{Hint}
 use Rattle.oc_routes.specs.declared.hint.Hint.TheVariants.{Here}
-use Rattle.oc_routes.specs.declared.verdict.Refusal.{Refusal}
 use Rattle.oc_routes.specs.declared.verdict.Request.{Request}
 use Rattle.oc_routes.specs.declared.verdict.Verdict.{Verdict}
 use Rattle.oc_routes.specs.declared.verdict.Verdict.TheVariants.{Wait, Leave, Permit, Refuse, Ask}
@@ -44,21 +44,21 @@ terms_of me nodes rules keys = record { me = me; nodes = nodes; rules = rules; k
 abbrev pub arrival : ℕ → ℕ → Bool → Coming → Arrival
 arrival c number permitted coming = record { connection = c; number = number; permitted = permitted; coming = coming }
 
--- a request of this sender is refused
-abbrev pub refuse : Asker → Refused → Verdict
-refuse asker why = Refuse (record { why = why; asker = asker })
+-- a request of this sender is refused; `kept` where the connection is kept
+abbrev pub refuse : Asker → Option ℕ → Refused → Verdict
+refuse asker kept why = Refuse (record { why = why; asker = asker; kept = kept })
 
 -- a request is refused for a fault
 abbrev pub refused_for : Asker → RouteFault → Verdict
-refused_for asker (faults.Refused why) = refuse asker why
+refused_for asker (faults.Refused why) = refuse asker None why
 refused_for asker faults.Memory = Wait
 
 -- The verdict on a request of which the bytes so far are a part, `none` where none came. A connection that ended without a byte is left without a
 -- word. Of a connection whose time ran out without a byte a link tells the same, or nothing.
 abbrev pub unfinished : Coming → Bool → Verdict
 unfinished Open none = Wait
-unfinished Ended none = if none then Leave else refuse Client refusals.Ended
-unfinished Failed none = refuse Client refusals.Source
+unfinished Ended none = if none then Leave else refuse Client None refusals.Ended
+unfinished Failed none = refuse Client None refusals.Source
 
 abbrev pub is_none : List ℕ → Bool
 is_none [] = true
@@ -72,11 +72,11 @@ input_for hint input = input
 -- a whole request, with its body
 abbrev pub answered : Head → Request → Result (Option Input) Refused → Verdict
 answered head request (Ok input) = Ask (record request { input = input_for request.asked.hint input })
-answered head request (Err why) = refuse (asker_of head) why
+answered head request (Err why) = refuse (asker_of head) (kept_after request.last request.count) why
 
 abbrev pub whole : NodeTerms → Head → Request → List ℕ → Verdict
 whole t head request body =
-    if is_forged t.keys request.asked.operation head.mac body then refuse (asker_of head) refusals.Mac
+    if is_forged t.keys request.asked.operation head.mac body then refuse (asker_of head) (kept_after request.last request.count) refusals.Mac
     else answered head request (input_asked t.nodes t.me request.asked.operation body)
 
 -- the verdict on a head with this operation, with the bytes that came after it
@@ -87,13 +87,15 @@ with_body t a came head rest said =
     else whole t head (record {
       count = came - length rest + head.length;
       asked = said;
+      line = line_of head;
+      selectors = selectors_for said.operation head.selectors;
       input = None;
       last = is_last head a.number;
     }) (take head.length rest)
 
 abbrev pub routed : NodeTerms → Arrival → ℕ → Head → List ℕ → Result Asked Refused → Verdict
 routed t a came head rest (Ok said) = with_body t a came head rest said
-routed t a came head rest (Err why) = refuse (asker_of head) why
+routed t a came head rest (Err why) = refuse (asker_of head) (kept_after_head head a.number (came - length rest)) why
 
 -- the verdict on a whole head, with the bytes that came after it
 abbrev pub after_head : NodeTerms → Arrival → ℕ → Head → List ℕ → Verdict

@@ -4,7 +4,8 @@ ghost use Rattle.std.specs.Prelude.{◌≡◌, ◌≤◌, length, IfOk};
 ghost use Rattle.oc_base.specs.declared.limits.TheConstants.{MAX_START as START_LIMIT};
 ghost use Rattle.oc_policy.specs.declared.deciding.TheConstants.{MAX_RULES as MOST_RULES};
 ghost use Rattle.oc_routes.specs.Hints.{asked_with_hint, hint_for, hint_in, hint_of};
-ghost use Rattle.oc_routes.specs.Lawful.{IsAsked};
+ghost use Rattle.oc_routes.specs.Lawful.{IsAsking};
+ghost use Rattle.oc_select.specs.declared.selection.Selection.TheVariants as Selected;
 ghost use Rattle.oc_http.specs.Queries.{parts};
 ghost use Rattle.oc_routes.specs.Queries.{first_value, has_part};
 
@@ -12,6 +13,7 @@ use crate::{Operation, Refused, first_value, has_part, number_told, route};
 use oc_base::MAX_START;
 use oc_http::{Head, Method};
 use oc_policy::Rule;
+use oc_select::Selection;
 
 /// The hint of a client that asks for a group: its knowledge of the group.
 #[derive(Clone, Copy, Debug, PartialEq, Eq)]
@@ -26,11 +28,13 @@ pub enum Hint {
     Known,
 }
 
-/// The operation of a head, and its hint.
+/// The operation of a head, its hint, and what it selects of a group's content.
 #[derive(Clone, Copy, Debug)]
 pub struct Asked {
     pub operation: Operation,
     pub hint: Hint,
+    /// All of the content, until a node that holds the group has settled the request.
+    pub selection: Selection,
 }
 
 /// The operation of the head of a request under these access rules, with the hint of its query, or the first
@@ -38,13 +42,15 @@ pub struct Asked {
 pub fn route_with_hint(head: &Head, rules: &[Rule]) -> Result<Asked, Refused>
     requires { length rules.now ≤ MOST_RULES }
     ensures said { result ≡ asked_with_hint head.now rules.now }
-    ensures lawful { IfOk result (λ asked. IsAsked asked.operation) }
+    ensures lawful { IfOk result IsAsking }
+    ensures whole { IfOk result (λ asked. asked.selection ≡ Selected.Whole) }
 {
     match route(head, rules) {
         Ok(operation) => match operation {
             Operation::Client { .. } => Ok(Asked {
                 operation,
                 hint: hint_for(head.method, head.query.items())?,
+                selection: Selection::Whole,
             }),
             Operation::Report { .. } => {
                 let _hint = hint_for(head.method, head.query.items())?;
@@ -62,11 +68,12 @@ pub fn route_with_hint(head: &Head, rules: &[Rule]) -> Result<Asked, Refused>
 
 /// This operation, without a hint.
 fn plain(operation: Operation) -> Asked
-    ensures { result ≡ record { operation = operation; hint = Hint.Plain } }
+    ensures { result ≡ record { operation = operation; hint = Hint.Plain; selection = Selected.Whole } }
 {
     Asked {
         operation,
         hint: Hint::Plain,
+        selection: Selection::Whole,
     }
 }
 

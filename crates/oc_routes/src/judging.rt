@@ -7,9 +7,11 @@ ghost use Rattle.oc_routes.specs.Asks.{IsLawfulVerdict};
 ghost use Rattle.oc_routes.specs.Verdicts.{IsVerdict, after_head, fault_met, input_for, refuse, taken, terms_of, unfinished};
 
 use crate::asker::Asker;
+use crate::connections::{kept_after, kept_after_head};
 use crate::hint::{Hint, route_with_hint};
 use crate::rest::Rest;
 use crate::routes::message::is_forged;
+use crate::selecting::{line_of, selectors_for};
 use crate::terms::Terms;
 use crate::verdict::{Refusal, Request, Verdict};
 use crate::{Refused, RouteFault, awaits_continue, input_of, is_last};
@@ -34,19 +36,12 @@ pub fn judge(
 {
     let mut source = Rest::of(bytes);
     match heads.read_head(&mut source) {
-        Ok(head) => after_head(
-            alloc,
-            terms,
-            arrival,
-            bytes.len() as u64,
-            &head,
-            source.left,
-        ),
+        Ok(head) => after_head(alloc, terms, arrival, bytes.len() as u64, head, source.left),
         Err(fault) => match fault_met(fault) {
             None => Ok(unfinished(arrival.coming, bytes.is_empty())),
             Some(RouteFault::Refused(why)) => {
                 let asker = Asker::of_front(taken(bytes, source.left));
-                Ok(refuse(asker, why))
+                Ok(refuse(asker, None, why))
             }
             Some(RouteFault::Memory) => Err(Memory),
         },
@@ -61,11 +56,11 @@ fn taken<'a>(bytes: &'a [u8], left: &[u8]) -> &'a [u8]
     &bytes[..count]
 }
 
-/// The verdict that refuses a request of this sender.
-fn refuse(asker: Asker, why: Refused) -> Verdict
-    ensures { result ≡ refuse asker why }
+/// The verdict that refuses a request of this sender, with its bytes where the connection is kept.
+fn refuse(asker: Asker, kept: Option<u64>, why: Refused) -> Verdict
+    ensures { result ≡ refuse asker kept why }
 {
-    Verdict::Refuse(Refusal { why, asker })
+    Verdict::Refuse(Refusal { why, asker, kept })
 }
 
 /// The fault by which a reader of heads met no head; `None` where the bytes ended before.
@@ -84,38 +79,47 @@ fn after_head(
     terms: &Terms<'_>,
     arrival: Arrival,
     came: u64,
-    head: &Head,
+    head: Head,
     rest: &[u8],
 ) -> Result<Verdict, Memory>
     requires rules { length terms.now.rules.now ≤ MOST_RULES }
-    requires body { head.now.length ≤ MOST_BODY }
+    requires body { head.length ≤ MOST_BODY }
     ensures verdict { IfOk result (λ verdict. verdict
-        ≡ after_head (terms_of terms.now.me terms.now.nodes terms.now.rules.now (option_map (λ k. k.now) terms.now.keys)) arrival came head.now rest.now) }
+        ≡ after_head (terms_of terms.now.me terms.now.nodes terms.now.rules.now (option_map (λ k. k.now) terms.now.keys)) arrival came head rest.now) }
     ensures lawful { IfOk result (IsLawfulVerdict terms.now.nodes terms.now.me) }
 {
-    let said = match route_with_hint(head, terms.rules) {
+    let front = came.saturating_sub(rest.len() as u64);
+    let said = match route_with_hint(&head, terms.rules) {
         Ok(said) => said,
-        Err(why) => return Ok(refuse(Asker::of(head), why)),
+        Err(why) => {
+            let kept = kept_after_head(&head, arrival.number, front);
+            return Ok(refuse(Asker::of(&head), kept, why));
+        }
     };
-    if awaits_continue(head) && !arrival.permitted {
+    if awaits_continue(&head) && !arrival.permitted {
         return Ok(Verdict::Permit);
     }
     if (rest.len() as u64) < head.length {
         return Ok(unfinished(arrival.coming, false));
     }
     let body = &rest[..head.length as usize];
+    let asker = Asker::of(&head);
+    let count = front + head.length;
+    let last = is_last(&head, arrival.number);
     if is_forged(terms.keys, &said.operation, head.mac.as_ref(), body) {
-        return Ok(refuse(Asker::of(head), Refused::Mac));
+        return Ok(refuse(asker, kept_after(last, count), Refused::Mac));
     }
     let body = copied(alloc, body)?;
     match input_of(alloc, &said.operation, body, terms.me, terms.nodes) {
         Ok(input) => Ok(Verdict::Ask(Request {
-            count: came.saturating_sub(rest.len() as u64) + head.length,
+            count,
             asked: said,
+            line: line_of(&head),
+            selectors: selectors_for(alloc, &said.operation, head.selectors),
             input: input_for(said.hint, input),
-            last: is_last(head, arrival.number),
+            last,
         })),
-        Err(RouteFault::Refused(why)) => Ok(refuse(Asker::of(head), why)),
+        Err(RouteFault::Refused(why)) => Ok(refuse(asker, kept_after(last, count), why)),
         Err(RouteFault::Memory) => Err(Memory),
     }
 }
@@ -137,8 +141,8 @@ fn unfinished(coming: Coming, none: bool) -> Verdict
     match coming {
         Coming::Open => Verdict::Wait,
         Coming::Ended if none => Verdict::Leave,
-        Coming::Ended => refuse(Asker::Client, Refused::Ended),
-        Coming::Failed => refuse(Asker::Client, Refused::Source),
+        Coming::Ended => refuse(Asker::Client, None, Refused::Ended),
+        Coming::Failed => refuse(Asker::Client, None, Refused::Source),
     }
 }
 

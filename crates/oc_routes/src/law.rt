@@ -16,7 +16,7 @@ ghost use Rattle.oc_routes.specs.Examples.{AreAnswered, AreRouted};
 ghost use Rattle.oc_routes.specs.Group.{IsClientAnswer};
 ghost use Rattle.oc_routes.specs.Lines.{IsCounted, IsTellable};
 ghost use Rattle.oc_routes.specs.Publish.{IsPublishAnswer, publish_status};
-ghost use Rattle.oc_routes.specs.Reasons.{no_group_line, nowhere_line, past_line, publish_line, refused_line, seal_line};
+ghost use Rattle.oc_routes.specs.Reasons.{condition_line, no_group_line, nowhere_line, past_line, publish_line, range_line, refused_line, seal_line};
 ghost use Rattle.oc_routes.specs.Refusals.{status_of};
 ghost use Rattle.oc_routes.specs.Routes.{asked};
 ghost use Rattle.oc_routes.specs.Seal.{IsSealAnswer, seal_status};
@@ -51,6 +51,8 @@ pub fn a_refusal_is_one_line()
     ensures absent { IsPlainLine no_group_line }
     ensures nowhere { IsPlainLine nowhere_line }
     ensures past { (length : ℕ) → length < 2 ^ 64 → IsPlainLine (past_line length) }
+    ensures condition { IsPlainLine condition_line }
+    ensures range { (length : ℕ) → length < 2 ^ 64 → IsPlainLine (range_line length) }
 {}
 
 /// The Location by which a client is sent on has the path of its group, in escapes: a node that is asked for its target

@@ -16,7 +16,8 @@
 //! The contracts used above: [`route`] gives exactly `asked`, [`input_of`] exactly `input_asked`, and the
 //! input that it gives is one of this node; [`respond`] gives exactly `response_for` of the answer of the step.
 //! The content of a group is given in the [`Response`] as a [`GroupRange`]; the layer above reads and sends
-//! it. [`is_last`] and [`awaits_continue`] tell the fate of the connection of a request, and
+//! it. A connection is kept after every reply but the last ([`is_last`]), and after a refusal as its [`Refusal`] tells;
+//! [`awaits_continue`] tells of a client that waits for the permission to send a body, and
 //! [`split_reply`] takes the reply out of the messages of a step. [`steps_answer_by_the_table`] says that
 //! a step gives the input of a request one of the answers to which the table has a reply.
 //!
@@ -30,6 +31,11 @@
 //!
 //! A request that publishes or seals may name the length that its group has to have; [`unmet`] tells whether the source
 //! refuses the request for that.
+//!
+//! A GET or HEAD of a group may have conditions and ask for a part (RFC 9110, sections 13 and 14): [`settled`] is the
+//! request as a node answers it that holds the group so, by `oc_select` (`specs/Selections`). A part that is given is those
+//! bytes of the group ([`a_part_is_those_bytes_of_its_group`]), and equal tags of a group mean equal bytes
+//! ([`a_tag_tells_the_bytes_of_a_group`]).
 //!
 //! A content under way ([`UnderWay`]) is a place in a group; the layer above reads its next piece from
 //! the content file. [`pieces_are_the_content`]: piece by piece they are the text of the whole content, whatever came
@@ -82,6 +88,8 @@ mod rest;
 mod routes;
 mod rows;
 mod seen;
+mod selecting;
+mod selection_law;
 mod showing;
 mod sights;
 mod status_law;
@@ -126,6 +134,11 @@ pub use routes::page::{PAGE_NAME, PAGE_PATH, page};
 pub use routes::status::{STATUS_NAME, STATUS_PATH, status};
 pub use routes::{Operation, input_of, respond, route};
 pub use seen::Seen;
+pub use selecting::settled;
+pub use selection_law::{
+    a_client_that_is_told_nothing_knows_the_tag, a_part_is_those_bytes_of_its_group,
+    a_tag_tells_the_bytes_of_a_group,
+};
 pub use status_law::{examples_are_told, names_are_plain};
 pub use tally::{MessageFault, STATUSES, StatusCount, Tally};
 pub use terms::Terms;

@@ -1,7 +1,7 @@
 ghost use Rattle.std.specs.Prelude.{◌≡◌};
-ghost use Rattle.oc_routes.specs.Manners.{body_for, connection_for, content_for, manner_of};
+ghost use Rattle.oc_routes.specs.Manners.{body_for, content_for, manner_of};
 
-use oc_http::{Method, Persistence};
+use oc_http::Method;
 
 /// The manner in which a content is asked for.
 #[derive(Clone, Copy, Debug, PartialEq, Eq)]
@@ -10,7 +10,7 @@ pub enum Manner {
     HeadAlone,
     /// GET, once.
     Once,
-    /// A GET of version 1.1 with a part `follow`: if it is of a group, more is asked for on the same connection.
+    /// A GET of version 1.1 with a part `follow`: if it is of a group, more is asked for later.
     Follow,
 }
 
@@ -44,15 +44,5 @@ pub(crate) fn body_for(manner: Manner, text: &[u8]) -> &[u8]
     match manner {
         Manner::HeadAlone => b"",
         Manner::Once | Manner::Follow => text,
-    }
-}
-
-/// The fate of the connection.
-pub(crate) fn connection_for(manner: Manner, last: bool) -> Persistence
-    ensures { result ≡ connection_for manner last }
-{
-    match manner {
-        Manner::Follow if !last => Persistence::Keep,
-        _ => Persistence::Close,
     }
 }

@@ -4,11 +4,11 @@
 
 ghost use Rattle.std.specs.Prelude.{◌≡◌, ◌++◌, IfOk, OnOk};
 ghost use Rattle.oc_http.specs.Writing.{HasPhrase};
-ghost use Rattle.oc_routes.specs.Reasons.{at_line, bare, bytes_text, coding_line, denied_line, length_line, no_group_line, nowhere_line, past_line, plain_line, publish_line, refused_line, reply_text, seal_line, source_url, telling};
+ghost use Rattle.oc_routes.specs.Reasons.{at_line, bare, bytes_text, coding_line, condition_line, denied_line, length_line, no_group_line, nowhere_line, past_line, plain_line, publish_line, range_line, refused_line, reply_text, seal_line, source_url, telling};
 
 use crate::Refused;
 use oc_base::{Bytes, GroupName, Memory, put, put_with_number};
-use oc_http::{ContentType, Reply, write_response, write_response_to_head};
+use oc_http::{ContentType, Persistence, Reply, write_response, write_response_to_head};
 use oc_model::Answer;
 use std::alloc::Global;
 
@@ -20,9 +20,11 @@ pub(crate) fn bare(alloc: Global, status: u16) -> Reply
         status,
         location: None,
         content_type: None,
-        content_range: None,
         body: Bytes::of(Vec::new(alloc)),
         rule: None,
+        content_range: None,
+        etag: None,
+        accepts_ranges: false,
         group_length: None,
         mac: None,
     }
@@ -36,23 +38,30 @@ pub(crate) fn telling(status: u16, line: Vec<u8>) -> Reply
         status,
         location: None,
         content_type: Some(ContentType::Text),
-        content_range: None,
         body: Bytes::of(line),
         rule: None,
+        content_range: None,
+        etag: None,
+        accepts_ranges: false,
         group_length: None,
         mac: None,
     }
 }
 
-/// The text of a reply, which ends the connection: to a HEAD its head alone, with the length of the body.
-pub(crate) fn reply_text(alloc: Global, head_alone: bool, reply: &Reply) -> Result<Vec<u8>, Memory>
+/// The text of a reply: to a HEAD its head alone, with the length of the body.
+pub(crate) fn reply_text(
+    alloc: Global,
+    head_alone: bool,
+    reply: &Reply,
+    connection: Persistence,
+) -> Result<Vec<u8>, Memory>
     requires { HasPhrase reply.now.status }
-    ensures { IfOk result (λ text. text.items ≡ reply_text head_alone reply.now) }
+    ensures { IfOk result (λ text. text.items ≡ reply_text head_alone reply.now connection) }
 {
     if head_alone {
-        write_response_to_head(alloc, reply)
+        write_response_to_head(alloc, reply, connection)
     } else {
-        write_response(alloc, reply)
+        write_response(alloc, reply, connection)
     }
 }
 
@@ -266,5 +275,31 @@ pub(crate) fn past_line(alloc: Global, length: u64) -> Result<Vec<u8>, Memory>
     put_bytes(&mut line, length)?;
     put_with_number(&mut line, b", and is sealed: start=", length)?;
     put(&mut line, b" is the last start\n")?;
+    Ok(line)
+}
+
+/// The line to a client whose condition does not hold.
+pub(crate) fn condition_line(alloc: Global) -> Result<Vec<u8>, Memory>
+    ensures { IfOk result (λ line. line.items ≡ condition_line) }
+{
+    let mut line = Vec::new(alloc);
+    put(
+        &mut line,
+        b"the group is not what If-Match names: ask for it without this field\n",
+    )?;
+    Ok(line)
+}
+
+/// The line to a client whose range has no byte of a group of this length.
+pub(crate) fn range_line(alloc: Global, length: u64) -> Result<Vec<u8>, Memory>
+    ensures { IfOk result (λ line. line.items ≡ range_line length) }
+{
+    let mut line = Vec::new(alloc);
+    put(&mut line, b"the group has ")?;
+    put_bytes(&mut line, length)?;
+    put(
+        &mut line,
+        b", and none of them is in the range: ask for one that begins before its end\n",
+    )?;
     Ok(line)
 }

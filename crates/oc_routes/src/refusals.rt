@@ -2,16 +2,15 @@
 
 ghost use Rattle.std.specs.Prelude.{◌≡◌, IfOk, IfSome, option_map};
 ghost use Rattle.oc_http.specs.Writing.{HasPhrase};
-ghost use Rattle.oc_routes.specs.Refusals.{group_length_of, refusal, refusal_text, refusing, rule_of, status_of};
+ghost use Rattle.oc_routes.specs.Refusals.{fate_of, group_length_of, refusal, refusal_text, refusing, rule_of, status_of};
 
 use crate::reasons::{refused_line, reply_text, telling};
 use crate::{Asker, Refusal, Refused};
 use oc_base::Memory;
-use oc_http::Reply;
+use oc_http::{Persistence, Reply};
 use std::alloc::Global;
 
-/// The whole reply to a refused request, which ends its connection; none where the connection failed or
-/// ended.
+/// The whole reply to a refused request; none where the connection failed or ended.
 pub fn refusal_reply(alloc: Global, refusal: Refusal) -> Result<Option<Vec<u8>>, Memory>
     ensures { IfOk result (λ reply. option_map (λ text. text.items) reply ≡ refusal_text refusal) }
 {
@@ -19,7 +18,8 @@ pub fn refusal_reply(alloc: Global, refusal: Refusal) -> Result<Option<Vec<u8>>,
         None => Ok(None),
         Some(status) => {
             let reply = reply_of(alloc, status, refusal.why)?;
-            Ok(Some(reply_text(alloc, refusal.asker.gets_head_alone(), &reply)?))
+            let head_alone = refusal.asker.gets_head_alone();
+            Ok(Some(reply_text(alloc, head_alone, &reply, fate_of(refusal.kept))?))
         }
     }
 }
@@ -34,13 +34,24 @@ fn reply_of(alloc: Global, status: u16, refused: Refused) -> Result<Reply, Memor
     Ok(reply)
 }
 
+/// The fate of the connection after a refusal.
+fn fate_of(kept: Option<u64>) -> Persistence
+    ensures { result ≡ fate_of kept }
+{
+    match kept {
+        None => Persistence::Close,
+        Some(_) => Persistence::Keep,
+    }
+}
+
 /// The refusal of a request that is no HEAD, or whose client is told nothing.
-pub(crate) fn refusing(why: Refused) -> Refusal
-    ensures { result ≡ refusing why }
+pub(crate) fn refusing(kept: Option<u64>, why: Refused) -> Refusal
+    ensures { result ≡ refusing kept why }
 {
     Refusal {
         why,
         asker: Asker::Client,
+        kept,
     }
 }
 

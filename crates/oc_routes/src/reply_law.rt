@@ -1,6 +1,6 @@
 //! Laws of verdicts, of pieces and of who waits.
 
-ghost use Rattle.std.specs.Prelude.{◌≡◌, ◌≢◌, ◌↔◌, ℕ, ◌+◌, ◌-◌, ◌<◌, ◌≤◌, Bool, false, true, List, ◌++◌, None, Some, length};
+ghost use Rattle.std.specs.Prelude.{◌≡◌, ◌≢◌, ◌↔◌, ℕ, ◌+◌, ◌-◌, ◌<◌, ◌≤◌, Bool, false, true, List, ◌++◌, None, Option, Some, length};
 ghost use Rattle.oc_base.specs.Groups.{bytes_of, shelf};
 ghost use Rattle.oc_base.specs.declared.group.Group.{Group};
 ghost use Rattle.oc_base.specs.declared.shelf.Shelf.{Shelf};
@@ -10,9 +10,8 @@ ghost use Rattle.oc_link.specs.declared.event.Coming.TheVariants.{Open};
 ghost use Rattle.oc_policy.specs.Keys.{Keyring};
 ghost use Rattle.oc_routes.specs.Conditions.{unmet_at};
 ghost use Rattle.oc_routes.specs.Contents.{IsThere, begun, rest_after, coded, owed, owed_of, part_of, piece_of, piece_text};
-ghost use Rattle.oc_routes.specs.ReplyExamples.{AreConditions, AreHinted, AreJudged, ArePieces, AreShown, AreWaiting};
+ghost use Rattle.oc_routes.specs.ReplyExamples.{AreConditions, AreHinted, AreJudged, ArePieces, AreSelected, AreShown, AreWaiting};
 ghost use Rattle.oc_routes.specs.Macs.{HaveMac};
-ghost use Rattle.oc_routes.specs.Refusals.{refusing};
 ghost use Rattle.oc_routes.specs.Stillness.{HasNothingNew, IsEarly};
 ghost use Rattle.oc_routes.specs.Verdicts.{IsVerdict, NodeTerms, arrival, refuse};
 ghost use Rattle.oc_routes.specs.Shown.{here_answer};
@@ -39,11 +38,11 @@ pub fn a_request_has_one_verdict()
         → IsVerdict t (arrival c number permitted Open) bytes v → v ≢ Wait → IsVerdict t (arrival c number permitted coming) (bytes ++ more) v }
 {}
 
-/// A condition that is met says the length of the group, where a group that is not there has no bytes; the refusal for a
+/// A condition that is met says the length of the group, where a group that is not there has no bytes; the fault of a
 /// condition that is not met says the length of the group, which is another one.
 pub fn a_condition_says_the_length()
     ensures met { (group : List ℕ) (at : ℕ) (groups : List Group) → unmet_at 1 group (Some at) (shelf groups) ≡ None → length (bytes_of group groups) ≡ at }
-    ensures unmet { (group : List ℕ) (at other : ℕ) (groups : List Group) → unmet_at 1 group (Some at) (shelf groups) ≡ Some (refusing (At other))
+    ensures unmet { (group : List ℕ) (at other : ℕ) (groups : List Group) → unmet_at 1 group (Some at) (shelf groups) ≡ Some (At other)
         → (length (bytes_of group groups) ≡ other) × (other ≢ at) }
 {}
 
@@ -52,7 +51,7 @@ pub fn a_condition_says_the_length()
 pub fn a_message_has_its_mac()
     ensures taken { (t : NodeTerms) (a : Arrival) (ring : Keyring) (bytes : List ℕ) (request : Request) → t.keys ≡ Some ring → request.asked.operation ≡ MessageAsked
         → IsVerdict t a bytes (Ask request) → HaveMac ring bytes }
-    ensures read { (t : NodeTerms) (a : Arrival) (ring : Keyring) (bytes : List ℕ) (asker : Asker) → t.keys ≡ Some ring → IsVerdict t a bytes (refuse asker NoMessage) → HaveMac ring bytes }
+    ensures read { (t : NodeTerms) (a : Arrival) (ring : Keyring) (bytes : List ℕ) (asker : Asker) (kept : Option ℕ) → t.keys ≡ Some ring → IsVerdict t a bytes (refuse asker kept NoMessage) → HaveMac ring bytes }
 {}
 
 /// The pieces of a content are its text: the text that is owed before the first is that of the whole, the one before
@@ -99,4 +98,5 @@ pub fn reply_examples_compute()
     ensures pieces { ArePieces }
     ensures waiting { AreWaiting }
     ensures shown { AreShown }
+    ensures selected { AreSelected }
 {}

@@ -4,7 +4,8 @@ ghost use Rattle.std.specs.Prelude.{◌≡◌, IfOk};
 ghost use Rattle.oc_routes.specs.Reports.{content_type_of, report_of, report_response, report_text};
 ghost use Rattle.oc_routes.specs.Sights.{sight_of};
 
-use crate::manner::{Manner, body_for, connection_for};
+use crate::connections::connection_for;
+use crate::manner::{Manner, body_for};
 use crate::response::Response;
 use crate::responses::typed_as;
 use crate::routes::Operation;
@@ -71,7 +72,7 @@ pub(crate) fn report_response(
 ) -> Result<Response, Memory>
     ensures { IfOk result (λ response. response ≡ report_response report manner last text.now) }
 {
-    let connection = connection_for(manner, last);
+    let connection = connection_for(last);
     let reply = typed_as(report.content_type(), Vec::new(alloc));
     let framing = Framing::Length(text.len() as u64);
     let mut reported = write_reply_head(alloc, &reply, framing, connection)?;

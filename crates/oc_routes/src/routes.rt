@@ -9,7 +9,7 @@
 //! | `/-/metrics`, `/!metrics` | GET, HEAD | `metrics` | `Report` | none | its metrics, for Prometheus |
 //! | `/-/`, `/!` | GET, HEAD | `page` | `Report` | none | the page that draws the status |
 //! | any other that is `/-` or begins with `/-/` | all | | | | 404 |
-//! | the name of a group | GET, HEAD | `group` | `Client` | `Client` | the group's bytes, or a redirection |
+//! | the name of a group | GET, HEAD | `group` | `Client` | `Client`; none where a condition answers | the group's bytes, or a redirection |
 //! | the name of a group | POST | `publish` | `Publish` | `Publish` | a status |
 //! | the name of a group | POST with `seal` | `seal` | `Seal` | `Seal` | a status |
 //!
@@ -25,7 +25,7 @@ ghost use Rattle.oc_base.specs.Names.{IsGroupName};
 ghost use Rattle.oc_base.specs.declared.limits.TheConstants.{MAX_AREA as AREA_LIMIT, MAX_START as START_LIMIT, MAX_PUBLISH_BYTES};
 ghost use Rattle.oc_model.specs.Lawful.{IsInput};
 ghost use Rattle.oc_routes.specs.Inputs.{HasLine};
-ghost use Rattle.oc_routes.specs.Lawful.{IsAsked, IsResource};
+ghost use Rattle.oc_routes.specs.Lawful.{IsAsked, IsAsking, IsResource};
 ghost use Rattle.oc_routes.specs.Routes.{Gives, action_of, asked, asked_at, asked_of_group, group_in, input_asked, is_conditional, is_own, name_of, needs_token, permitted, permitted_by, report_name, resource_at, resource_in, resource_named, response_for, would_allow};
 ghost use Rattle.oc_wire.specs.Spelling.{HasSpelling};
 
@@ -385,25 +385,27 @@ pub fn respond(
     answered: &Answered<'_>,
     network: &Directory<'_>,
 ) -> Result<Response, Memory>
-    requires asks { IsAsked asked.operation }
+    requires asks { IsAsking asked }
     requires back { ForSome (option_map (λ m. m.now) answered.now.back) (λ m. HasSpelling m.body) }
     ensures { IfOk result (λ response. response
         ≡ response_for asked last answered.now.answer (option_map (λ m. m.now) answered.now.back) answered.now.holding
         (map (option_map string_bytes) network.now.addresses.now) (option_map (λ k. k.now) network.now.key) answered.now.report.now) }
 {
     match &asked.operation {
-        Operation::Message => to_message(alloc, answered.back, network.key),
+        Operation::Message => to_message(alloc, answered.back, network.key, last),
         Operation::Publish { group, .. } => to_publish(
             alloc,
             answered.answer,
             source_in(network.addresses),
             group,
+            last,
         ),
         Operation::Seal { group, .. } => to_seal(
             alloc,
             answered.answer,
             source_in(network.addresses),
             group,
+            last,
         ),
         Operation::Client {
             group,
@@ -416,6 +418,7 @@ pub fn respond(
                 start: *start,
                 manner: *manner,
                 hint: asked.hint,
+                selection: asked.selection,
                 last,
             };
             to_client(alloc, &client, answered, network.addresses)

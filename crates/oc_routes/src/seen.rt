@@ -14,6 +14,8 @@ pub struct Seen<'a> {
     pub messages: usize,
     /// The nodes of its network, by its configuration.
     pub directory: Directory<'a>,
+    /// The greatest id that a node of it can have.
+    pub ids: u32,
     /// The counts of its run.
     pub tally: &'a Tally,
     pub about: About,

@@ -1,34 +1,41 @@
 //! The answer that a client is shown by its hint.
 
 ghost use Rattle.std.specs.Prelude.{◌≡◌, ◌++◌, IfOk, OnOk, map, option_map, string_bytes};
-ghost use Rattle.oc_routes.specs.Group.{given_response, group_response, here_response, sent_response, served_or_past};
-ghost use Rattle.oc_routes.specs.Shown.{here_answer, known_shown, location_of, of_shown, follow_text, shown, start_text, told_text};
+ghost use Rattle.oc_routes.specs.Group.{chosen, given_response, group_response, here_response, selection_here, sent_response, served_or_past, shown_response};
+ghost use Rattle.oc_routes.specs.Selections.{IsSelection};
+ghost use Rattle.oc_routes.specs.Shown.{here_answer, known_shown, location_of, of_shown, follow_text, shown, shown_as, start_text, told_text};
 
 use crate::hint::Hint;
 use crate::holding::Holding;
-use crate::routes::group::{is_past, no_group, nowhere, past, sent_to, served};
+use crate::routes::group::{
+    known, no_group, not_met, nowhere, out_of_range, part_served, past, sent_to, served,
+};
+use crate::selecting::{content_here, content_of, is_past};
 use crate::{Answered, Manner, Response, address_of};
 use oc_base::{GroupName, Memory, put, put_with_number};
 use oc_http::put_path;
 use oc_model::Answer;
+use oc_select::{Content, Selection};
 use std::alloc::Global;
 
-/// A client that asks for a group, and its hint.
+/// A client that asks for a group, with its hint, and what it selects of the content.
 #[derive(Clone, Copy, Debug)]
 pub(crate) struct Client {
     pub(crate) group: GroupName,
     pub(crate) start: u64,
     pub(crate) manner: Manner,
     pub(crate) hint: Hint,
+    pub(crate) selection: Selection,
     /// Whether its request is the last of its connection whatever it asks.
     pub(crate) last: bool,
 }
 
-/// An answer, and whether its group is sealed, as a client is shown them.
+/// An answer, whether its group is sealed, and the group's length, as a client is shown them.
 #[derive(Clone, Copy, Debug)]
 pub(crate) struct Shown {
     pub answer: Answer,
     pub sealed: bool,
+    pub length: u64,
 }
 
 /// The answer to a client, where the addresses of the nodes are these.
@@ -38,36 +45,89 @@ pub(crate) fn to_client(
     answered: &Answered<'_>,
     addresses: &[Option<String>],
 ) -> Result<Response, Memory>
-    ensures { IfOk result (λ response. response ≡ group_response client.now.group client.now.start client.now.manner client.now.hint client.now.last
-        answered.now.answer answered.now.holding (map (option_map string_bytes) addresses.now)) }
+    requires { IsSelection client.now.selection }
+    ensures { IfOk result (λ response. response
+        ≡ group_response client.now answered.now.answer answered.now.holding (map (option_map string_bytes) addresses.now)) }
 {
     let holding = answered.holding;
-    let Shown { answer, sealed } = as_shown(client.hint, answered.answer, holding, client.start);
+    match client.selection {
+        Selection::NotModified => {
+            let content = content_here(client.hint, holding, client.start);
+            known(alloc, &content, client.last)
+        }
+        Selection::PreconditionFailed => not_met(alloc, client.manner, client.last),
+        Selection::Whole | Selection::Part { .. } | Selection::Unsatisfiable => {
+            let shown = as_shown(client.hint, answered.answer, holding, client.start);
+            as_seen(alloc, client, shown, holding, addresses)
+        }
+    }
+}
+
+/// The answer to a client that is shown this.
+fn as_seen(
+    alloc: Global,
+    client: &Client,
+    shown: Shown,
+    holding: Holding,
+    addresses: &[Option<String>],
+) -> Result<Response, Memory>
+    requires { IsSelection client.now.selection }
+    ensures { IfOk result (λ response. response
+        ≡ shown_response client.now shown holding (map (option_map string_bytes) addresses.now)) }
+{
+    let Shown { answer, .. } = shown;
     match answer {
         Answer::Redirect(node) => sent_on(alloc, client, holding, address_of(addresses, node)),
-        Answer::Serve(count) => served_or_past(alloc, client, holding, sealed, count),
-        _ => no_group(alloc, client.manner),
+        _ => given(alloc, client, shown, holding),
+    }
+}
+
+/// The reply to a client that is not sent elsewhere.
+fn given(alloc: Global, client: &Client, shown: Shown, holding: Holding) -> Result<Response, Memory>
+    requires { IsSelection client.now.selection }
+    ensures { IfOk result (λ response. response ≡ given_response client.now shown.answer shown.sealed shown.length holding) }
+{
+    match shown.answer {
+        Answer::Serve(count) => {
+            let content = content_of(shown.length, shown.sealed);
+            served_or_past(alloc, client, shown.sealed, count, &content, holding)
+        }
+        _ => no_group(alloc, client.manner, client.last),
     }
 }
 
 /// The bytes that are here, for a client where the node to which it would be sent has no address; one that follows,
 /// which would ask without end, is told this.
 fn here(alloc: Global, client: &Client, holding: Holding) -> Result<Response, Memory>
-    ensures { IfOk result (λ response. response ≡ here_response client.now.start client.now.manner client.now.last holding) }
+    requires { IsSelection client.now.selection }
+    ensures { IfOk result (λ response. response ≡ here_response client.now client.now.manner holding) }
 {
     match client.manner {
-        Manner::Follow => nowhere(alloc, client.manner),
-        Manner::Once | Manner::HeadAlone => given(alloc, client, holding),
+        Manner::Follow => nowhere(alloc, client.manner, client.last),
+        Manner::Once | Manner::HeadAlone => {
+            let shown = Shown {
+                answer: here_answer(holding, client.start),
+                sealed: holding.sealed,
+                length: holding.held,
+            };
+            let client = Client {
+                selection: selection_here(client.hint, holding.sealed, client.selection),
+                ..*client
+            };
+            given(alloc, &client, shown, holding)
+        }
     }
 }
 
-/// The reply of the node itself to a client.
-fn given(alloc: Global, client: &Client, holding: Holding) -> Result<Response, Memory>
-    ensures { IfOk result (λ response. response ≡ given_response client.now.start client.now.manner (here_answer holding client.now.start) holding.sealed client.now.last holding) }
+/// What a client selects of the bytes that are here: where it told the length of a group that is not sealed, no part.
+fn selection_here(hint: Hint, sealed: bool, selection: Selection) -> Selection
+    requires { IsSelection selection }
+    ensures is { result ≡ selection_here hint sealed selection }
+    ensures lawful { IsSelection result }
 {
-    match here_answer(holding, client.start) {
-        Answer::Serve(count) => served_or_past(alloc, client, holding, holding.sealed, count),
-        _ => no_group(alloc, client.manner),
+    match hint {
+        Hint::Of(_) if !sealed => Selection::Whole,
+        _ => selection,
     }
 }
 
@@ -78,58 +138,83 @@ fn sent_on(
     holding: Holding,
     address: &str,
 ) -> Result<Response, Memory>
-    ensures { IfOk result (λ response. response
-        ≡ sent_response client.now.group client.now.start client.now.manner (told_text client.now.hint holding) address.now client.now.last holding) }
+    requires { IsSelection client.now.selection }
+    ensures { IfOk result (λ response. response ≡ sent_response client.now address.now holding) }
 {
     if address.is_empty() {
         return here(alloc, client, holding);
     }
     let told = told_text(alloc, client.hint, holding)?;
     let location = location_of(alloc, address, client, &told)?;
-    sent_to(alloc, location)
+    sent_to(alloc, location, client.last)
 }
 
-/// Gives a client `count` bytes of a group that it is shown as sealed or not, or tells it that its start is past the end.
+/// Gives a client what it selected of a content, `count` bytes of which it would be given, or tells it that its start is past
+/// the end.
 fn served_or_past(
     alloc: Global,
     client: &Client,
-    holding: Holding,
     sealed: bool,
     count: u64,
+    content: &Content,
+    holding: Holding,
 ) -> Result<Response, Memory>
-    ensures { IfOk result (λ response. response ≡ served_or_past client.now.manner sealed client.now.last client.now.start count holding) }
+    requires { IsSelection client.now.selection }
+    ensures { IfOk result (λ response. response ≡ served_or_past client.now sealed count content.now holding) }
 {
     if is_past(client.start, holding) {
-        return past(alloc, client.manner, holding.held);
+        return past(alloc, client.manner, holding.held, client.last);
     }
-    served(
-        alloc,
-        client.manner,
-        sealed,
-        client.last,
-        client.start,
-        count,
-    )
+    chosen(alloc, client, sealed, count, content)
 }
 
-/// The answer of a step, and whether the group is sealed, as the client is shown them.
+/// Gives a client what it selected of a content.
+fn chosen(
+    alloc: Global,
+    client: &Client,
+    sealed: bool,
+    count: u64,
+    content: &Content,
+) -> Result<Response, Memory>
+    requires { IsSelection client.now.selection }
+    ensures { IfOk result (λ response. response ≡ chosen client.now client.now.selection sealed count content.now) }
+{
+    match client.selection {
+        Selection::Part { start, count } => part_served(alloc, client, content, start, count),
+        Selection::Unsatisfiable => {
+            out_of_range(alloc, client.manner, content.length, client.last)
+        }
+        Selection::Whole | Selection::NotModified | Selection::PreconditionFailed => {
+            served(alloc, client, sealed, count, content)
+        }
+    }
+}
+
+/// The answer of a step, whether the group is sealed, and its length, as the client is shown them.
 pub(crate) fn as_shown(hint: Hint, answer: Answer, holding: Holding, start: u64) -> Shown
     ensures { result ≡ shown hint answer holding start }
 {
-    let sealed = holding.sealed;
+    let Holding { held, sealed, .. } = holding;
     match hint {
-        Hint::Plain => Shown { answer, sealed },
-        Hint::Here => Shown {
-            answer: here_answer(holding, start),
-            sealed,
-        },
-        Hint::Of(length) => of_shown(length, answer, sealed, start),
-        Hint::Known => known_shown(answer, sealed),
+        Hint::Plain => shown_as(answer, sealed, held),
+        Hint::Here => shown_as(here_answer(holding, start), sealed, held),
+        Hint::Of(length) => of_shown(length, answer, sealed, held, start),
+        Hint::Known => known_shown(answer, sealed, held),
+    }
+}
+
+fn shown_as(answer: Answer, sealed: bool, length: u64) -> Shown
+    ensures { result ≡ shown_as answer sealed length }
+{
+    Shown {
+        answer,
+        sealed,
+        length,
     }
 }
 
 /// The answer of the node itself.
-fn here_answer(holding: Holding, start: u64) -> Answer
+pub(crate) fn here_answer(holding: Holding, start: u64) -> Answer
     ensures { result ≡ here_answer holding start }
 {
     if holding.there {
@@ -141,28 +226,24 @@ fn here_answer(holding: Holding, start: u64) -> Answer
 
 /// The answer to a client that tells the length of the group: a group that is not sealed here is given up to this
 /// length, as one that is sealed.
-fn of_shown(length: u64, answer: Answer, sealed: bool, start: u64) -> Shown
-    ensures { result ≡ of_shown length answer sealed start }
+fn of_shown(length: u64, answer: Answer, sealed: bool, held: u64, start: u64) -> Shown
+    ensures { result ≡ of_shown length answer sealed held start }
 {
     match answer {
-        Answer::Serve(_) | Answer::NoGroup if !sealed => Shown {
-            answer: Answer::Serve(length.saturating_sub(start)),
-            sealed: true,
-        },
-        _ => Shown { answer, sealed },
+        Answer::Serve(_) | Answer::NoGroup if !sealed => {
+            shown_as(Answer::Serve(length.saturating_sub(start)), true, length)
+        }
+        _ => shown_as(answer, sealed, held),
     }
 }
 
 /// A group that is known and not held counts as an open one without a byte.
-fn known_shown(answer: Answer, sealed: bool) -> Shown
-    ensures { result ≡ known_shown answer sealed }
+fn known_shown(answer: Answer, sealed: bool, held: u64) -> Shown
+    ensures { result ≡ known_shown answer sealed held }
 {
     match answer {
-        Answer::NoGroup => Shown {
-            answer: Answer::Serve(0),
-            sealed: false,
-        },
-        _ => Shown { answer, sealed },
+        Answer::NoGroup => shown_as(Answer::Serve(0), false, held),
+        _ => shown_as(answer, sealed, held),
     }
 }
 

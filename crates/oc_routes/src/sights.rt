@@ -105,7 +105,7 @@ pub(crate) fn ids_told(alloc: Global, seen: &Seen<'_>) -> Result<Vec<NodeId>, Me
     ensures { IfOk result (λ ids. ids.items ≡ ids_told (sight_of seen.now)) }
 {
     let mut ids = Vec::new(alloc);
-    for before in 0..seen.node.nodes() {
+    for before in 0..seen.ids {
         let node = NodeId(before + 1);
         if is_told(seen, node) {
             ids.push(node)?;
@@ -130,7 +130,7 @@ fn ids_missing(alloc: Global, seen: &Seen<'_>) -> Result<Vec<MissingNode>, Memor
     ensures { IfOk result (λ ids. ids.items ≡ ids_with (is_missing (sight_of seen.now)) (sight_of seen.now)) }
 {
     let mut ids = Vec::new(alloc);
-    for before in 0..seen.node.nodes() {
+    for before in 0..seen.ids {
         let node = NodeId(before + 1);
         if is_missing(seen, node) {
             ids.push(MissingNode(node))?;

@@ -1,8 +1,9 @@
 use crate::{Asked, Asker, Refused};
 use oc_model::Input;
+use oc_select::{RequestLine, Selectors};
 
 /// The verdict on a connection for the bytes that came on it.
-#[derive(Debug, Drop)]
+#[derive(Drop)]
 pub enum Verdict {
     /// More bytes are waited for.
     Wait,
@@ -17,11 +18,15 @@ pub enum Verdict {
 }
 
 /// A request that is whole: from here on it goes through the node as this one value.
-#[derive(Debug, Drop)]
+#[derive(Drop)]
 pub struct Request {
     /// The number of its bytes.
     pub count: u64,
     pub asked: Asked,
+    /// Its method and its start, as far as they tell whether its Range field counts.
+    pub line: RequestLine,
+    /// The fields by which it selects a content; none where it follows a group, and where it asks for no group.
+    pub selectors: Selectors,
     /// The input that results from the request, if any.
     pub input: Option<Input>,
     /// Whether the request is the last of its connection whatever it asks.
@@ -34,4 +39,7 @@ pub struct Refusal {
     pub why: Refused,
     /// The sender of the request.
     pub asker: Asker,
+    /// The number of the request's bytes where the connection is kept after the reply; `None` where it closes, and all
+    /// that came on it is passed over.
+    pub kept: Option<u64>,
 }

@@ -12,13 +12,14 @@ ghost use Rattle.oc_routes.specs.Routes.{Gives};
 ghost use Rattle.oc_wire.specs.MessageReading.{decoded};
 ghost use Rattle.oc_wire.specs.Spelling.{HasSpelling, spelling};
 
+use crate::connections::connection_for;
 use crate::fault::RouteFault;
 use crate::refused::Refused;
 use crate::response::Response;
-use crate::responses::{status_alone, typed, whole};
+use crate::responses::{status_alone, typed, typed_head, whole};
 use crate::routes::Operation;
 use oc_base::{Memory, NodeId, Text};
-use oc_http::{Persistence, Reply, write_response_head};
+use oc_http::{Framing, Reply};
 use oc_model::{Input, Message};
 use oc_policy::{Key, Keyring};
 use oc_wire::{WireFault, decode, encode, is_authentic, length_with_chunk, mac_for, put_message};
@@ -63,33 +64,40 @@ pub(super) fn to_message(
     alloc: Global,
     reply: Option<&Message>,
     key: Option<&Key>,
+    last: bool,
 ) -> Result<Response, Memory>
     requires { ForSome (option_map (λ m. m.now) reply) (λ m. HasSpelling m.body) }
-    ensures { IfOk result (λ response. response ≡ message_response (option_map (λ k. k.now) key.entry) (option_map (λ m. m.now) reply.entry)) }
+    ensures { IfOk result (λ response. response ≡ message_response (option_map (λ k. k.now) key.entry) (option_map (λ m. m.now) reply.entry) last) }
 {
     let Some(message) = reply else {
-        return status_alone(alloc, 204);
+        return status_alone(alloc, 204, last);
     };
     if let (None, Some(length)) = (key, length_with_chunk(message)) {
-        return with_chunk(alloc, message, length);
+        return with_chunk(alloc, message, length, last);
     }
     let body = encode(alloc, message)?;
     let mac = mac_for(alloc, key, &body)?;
-    whole(alloc, &with_mac(body, mac))
+    whole(alloc, &with_mac(body, mac), last)
 }
 
 /// A 200 with a message of this length, without a MAC. The bytes of its chunk are copied once.
-fn with_chunk(alloc: Global, message: &Message, length_in_bytes: u64) -> Result<Response, Memory>
+fn with_chunk(
+    alloc: Global,
+    message: &Message,
+    length_in_bytes: u64,
+    last: bool,
+) -> Result<Response, Memory>
     requires spelled { HasSpelling message.now.body }
     requires length { length_in_bytes ≡ length (spelling message.now) }
-    ensures { IfOk result (λ response. response ≡ message_response None (Some message.now)) }
+    ensures { IfOk result (λ response. response ≡ message_response None (Some message.now) last) }
 {
-    let mut text = write_response_head(alloc, &typed(Vec::new(alloc)), length_in_bytes)?;
+    let connection = connection_for(last);
+    let mut text = typed_head(alloc, Framing::Length(length_in_bytes), connection)?;
     put_message(&mut text, message)?;
     Ok(Response {
         text: Text::of(text),
         content: None,
-        connection: Persistence::Close,
+        connection,
     })
 }
 

@@ -3,7 +3,8 @@
 ghost use Rattle.std.specs.Prelude.{◌≡◌, ◌++◌, IfOk, OnOk};
 ghost use Rattle.oc_routes.specs.Probe.{copies, probe_body, probe_response};
 
-use crate::manner::{Manner, connection_for};
+use crate::connections::connection_for;
+use crate::manner::Manner;
 use crate::response::Response;
 use crate::responses::typed_head;
 use oc_base::{Memory, Text};
@@ -15,7 +16,7 @@ use std::alloc::Global;
 pub(super) fn to_probe(alloc: Global, manner: Manner, last: bool) -> Result<Response, Memory>
     ensures { IfOk result (λ response. response ≡ probe_response manner last) }
 {
-    let connection = connection_for(manner, last);
+    let connection = connection_for(last);
     let mut text = typed_head(alloc, Framing::Length(PROBE_BYTES), connection)?;
     put_probe_body(&mut text, manner)?;
     Ok(Response {

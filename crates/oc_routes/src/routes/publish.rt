@@ -17,14 +17,20 @@ pub(super) fn to_publish(
     answer: Answer,
     source: &str,
     group: &GroupName,
+    last: bool,
 ) -> Result<Response, Memory>
-    ensures { IfOk result (λ response. response ≡ publish_response answer source.now group.now) }
+    ensures { IfOk result (λ response. response ≡ publish_response answer source.now group.now last) }
 {
     let status = publish_status(answer);
     if status == 200 {
-        return status_alone(alloc, 200);
+        return status_alone(alloc, 200, last);
     }
-    told(alloc, status, publish_line(alloc, answer, source, group)?)
+    told(
+        alloc,
+        status,
+        publish_line(alloc, answer, source, group)?,
+        last,
+    )
 }
 
 /// The status of a reply to a publish.

@@ -17,14 +17,20 @@ pub(super) fn to_seal(
     answer: Answer,
     source: &str,
     group: &GroupName,
+    last: bool,
 ) -> Result<Response, Memory>
-    ensures { IfOk result (λ response. response ≡ seal_response answer source.now group.now) }
+    ensures { IfOk result (λ response. response ≡ seal_response answer source.now group.now last) }
 {
     let status = seal_status(answer);
     if status == 200 {
-        return status_alone(alloc, 200);
+        return status_alone(alloc, 200, last);
     }
-    told(alloc, status, seal_line(alloc, answer, source, group)?)
+    told(
+        alloc,
+        status,
+        seal_line(alloc, answer, source, group)?,
+        last,
+    )
 }
 
 /// The status of a reply to a seal.

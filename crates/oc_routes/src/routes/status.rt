@@ -54,7 +54,7 @@ fn put_object(
     ensures { OnOk result (out.new.items ≡ out.old.items ++ object_text (sight_of seen.now) rows.now leased.now) }
 {
     put(out, b"{")?;
-    put_state(out, seen.node)?;
+    put_state(out, seen)?;
     put_list(out, "ancestors", seen.node.ancestors(), seen)?;
     put_list(out, "groups", seen.shelf, seen)?;
     put_list(out, "table", rows, seen)?;
@@ -105,22 +105,22 @@ fn configuration_word(refused: bool) -> &'static str
 
 /// Puts the id and the network of the node, its place in the tree, and its counts.
 #[tactic(auto, unfolding(crate::specs::Status::state_text))]
-fn put_state(out: &mut Vec<u8>, node: &Node) -> Result<(), Memory>
-    ensures { OnOk result (out.new.items ≡ out.old.items ++ state_text node.now.control) }
+fn put_state(out: &mut Vec<u8>, seen: &Seen<'_>) -> Result<(), Memory>
+    ensures { OnOk result (out.new.items ≡ out.old.items ++ state_text (sight_of seen.now)) }
 {
-    put_network(out, node)?;
-    put_place(out, node)?;
-    put_counts(out, node)
+    put_network(out, seen)?;
+    put_place(out, seen.node)?;
+    put_counts(out, seen.node)
 }
 
 /// Puts the id of the node, and its network.
-fn put_network(out: &mut Vec<u8>, node: &Node) -> Result<(), Memory>
-    ensures { OnOk result (out.new.items ≡ out.old.items ++ network_text node.now.control) }
+fn put_network(out: &mut Vec<u8>, seen: &Seen<'_>) -> Result<(), Memory>
+    ensures { OnOk result (out.new.items ≡ out.old.items ++ network_text (sight_of seen.now)) }
 {
-    put_field(out, "\"node\":", u64::from(node.id().0))?;
-    put_field(out, ",\"nodes\":", u64::from(node.nodes()))?;
-    put_field(out, ",\"chain\":", u64::from(node.chain()))?;
-    put_field(out, ",\"chunk\":", u64::from(node.chunk()))
+    put_field(out, "\"node\":", u64::from(seen.node.id().0))?;
+    put_field(out, ",\"nodes\":", u64::from(seen.ids))?;
+    put_field(out, ",\"chain\":", u64::from(seen.node.chain()))?;
+    put_field(out, ",\"chunk\":", u64::from(seen.node.chunk()))
 }
 
 /// Puts the place of the node in the tree.

@@ -11,4 +11,4 @@ returns-clause-routed c = record { client = refl; head_alone = refl; follows = r
 
 pub returns-clause-answered : goal.returns-clause-answered
 unfolding digits hex_on_literals within_at rejoin_at body_at decoded
-returns-clause-answered c = record { message = refl; message_to_another = refl; no_message = refl; seal_with_a_body = refl; recv_line = refl; publish_line = refl; client_line = refl; denied_line = refl; unauthorized_line = refl; at_line = refl; mac_line = refl; at_reply = refl; at_reply_of_a_byte = refl; mac_reply = refl; denied_reply = refl; unauthorized_reply = refl; method_reply = refl; head_reply = refl; no_reply = refl; reply = refl; others = refl; redirected = refl; follower_redirected = refl; redirected_of_a_sealed_group = refl; past_its_end = refl; head_past_its_end = refl; at_its_end = refl; past_the_end_of_an_open_group = refl; not_the_source = refl; no_address_of_the_source = refl; no_group_to_seal = refl; served = refl; head_alone = refl; followed = refl; sealed = refl; last_of_its_connection = refl; not_held = refl; nothing_back = refl; message_with_a_mac = refl; nothing_back_needs_none = refl; status = refl; metrics_head = refl; page_followed = refl; probe_head = refl; fifteenth = refl; sixteenth = refl; closing = refl; nothing_to_continue = refl }
+returns-clause-answered c = record { message = refl; message_to_another = refl; no_message = refl; seal_with_a_body = refl; recv_line = refl; publish_line = refl; client_line = refl; denied_line = refl; unauthorized_line = refl; at_line = refl; mac_line = refl; at_reply = refl; at_reply_of_a_byte = refl; mac_reply = refl; denied_reply = refl; unauthorized_reply = refl; method_reply = refl; head_reply = refl; kept_reply = refl; no_reply = refl; reply = refl; others = refl; redirected = refl; follower_redirected = refl; redirected_of_a_sealed_group = refl; past_its_end = refl; head_past_its_end = refl; at_its_end = refl; past_the_end_of_an_open_group = refl; not_the_source = refl; no_address_of_the_source = refl; no_group_to_seal = refl; served = refl; head_alone = refl; followed = refl; sealed = refl; last_of_its_connection = refl; not_held = refl; nothing_back = refl; message_with_a_mac = refl; nothing_back_needs_none = refl; status = refl; metrics_head = refl; page_followed = refl; probe_head = refl; selected_whole = refl; selected_part = refl; selected_part_of_an_open_group = refl; selected_none = refl; known = refl; known_to_a_head = refl; refused_condition = refl; refused_condition_of_a_head = refl; part_sent_on = refl; film = refl; not_last = refl; thousandth = refl; of_version_1_0 = refl; closing = refl; nothing_to_continue = refl; kept_without_a_body = refl; closed_by_a_body = refl; closed_by_the_last = refl }

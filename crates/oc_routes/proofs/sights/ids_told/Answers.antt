@@ -8,7 +8,7 @@ pub loop-before-preserved : goal.loop-before-preserved
 loop-before-preserved c =
     let s = sight_of c.args.seen.now in
     let k = c.loop-before.before in
-    let nodes = s.node.nodes in
+    let nodes = s.ids in
     let out = c.loop-before.ids.items in
     let rest : List ℕ = filter (is_told s) (ids_from (k + 1 + 1) (nodes - (k + 1))) in
     elim c.if-is_told.branch [
@@ -23,4 +23,4 @@ loop-before-preserved c =
 pub returns : goal.returns
 returns c =
     let s = sight_of c.args.seen.now in
-    ids_found (is_told s) c.loop-before.before s.node.nodes c.loop-before.ids.items (ids_told s) (omega arith) c.loop-before.invariant
+    ids_found (is_told s) c.loop-before.before s.ids c.loop-before.ids.items (ids_told s) (omega arith) c.loop-before.invariant

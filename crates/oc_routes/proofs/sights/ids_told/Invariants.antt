@@ -5,4 +5,4 @@ use Rattle.oc_routes.proofs.sights.ids_told.Given as goal
 
 abbrev pub invariant-loop-before : goal.invariant-loop-before
 invariant-loop-before l =
-    l.ids.items ++ filter (is_told (sight_of l.seen)) (ids_from (l.before + 1) (l.seen.node.now.control.nodes - l.before)) ≡ ids_with (is_told (sight_of l.seen)) (sight_of l.seen)
+    l.ids.items ++ filter (is_told (sight_of l.seen)) (ids_from (l.before + 1) (l.seen.ids - l.before)) ≡ ids_with (is_told (sight_of l.seen)) (sight_of l.seen)
